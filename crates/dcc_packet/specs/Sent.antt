@@ -1,0 +1,81 @@
+-- The packets that a command station sends, and the instruction that each is.
+use Rattle.std.specs.Prelude.{ℕ, ◌+◌, ◌-◌, ◌*◌, ◌/◌, ◌%◌, Bool, List, [], ◌∷◌, ◌++◌}
+use Rattle.dcc_packet.specs.declared.address.Address.{Address}
+use Rattle.dcc_packet.specs.declared.steps.Steps.{Steps}
+use Rattle.dcc_packet.specs.declared.steps.Steps.TheVariants.{S14, S28, S128}
+use Rattle.dcc_packet.specs.declared.steps.Motion.{Motion}
+use Rattle.dcc_packet.specs.declared.steps.Motion.TheVariants.{Stop, Emergency, Step}
+use Rattle.dcc_packet.specs.declared.instr.Instr.{Instr}
+use Rattle.dcc_packet.specs.declared.instr.Instr.TheVariants.{Speed, Speed128, GroupOne, GroupTwo, Accessory}
+use Rattle.dcc_packet.specs.Address.{address_bytes}
+use Rattle.dcc_packet.specs.Spells.{bit, with_check}
+
+-- S-9.2.1, 2.3.2 and 2.3.3 with 14 steps: 0 stop, 1 emergency stop, n + 1 step n
+abbrev pub code_of : Motion → ℕ
+code_of Stop = 0
+code_of Emergency = 1
+code_of (Step _ n) = n + 1
+
+-- S-9.2.1, 2.3.3 with 28 steps: SSSSC is 0 stop, 2 emergency stop, n + 3 step n
+abbrev pub code_28_of : Motion → ℕ
+code_28_of Stop = 0
+code_28_of Emergency = 2
+code_28_of (Step _ n) = n + 3
+
+-- CSSSS: with 14 steps C is F0; with 28 steps it is the lowest bit of SSSSC
+abbrev pub low_14 : Motion → Bool → ℕ
+low_14 motion f0 = 16 * bit f0 + code_of motion
+
+abbrev pub low_28 : Motion → ℕ
+low_28 motion = 16 * (code_28_of motion % 2) + code_28_of motion / 2
+
+abbrev pub to_decoder : Address → List ℕ → List ℕ
+to_decoder address instruction = with_check (address_bytes address ++ instruction)
+
+-- speed and direction, forward as 1
+abbrev pub speed_instr : Address → Steps → Motion → Bool → Bool → Instr
+speed_instr address S14 motion forward f0 = Speed address forward (low_14 motion f0)
+speed_instr address S28 motion forward f0 = Speed address forward (low_28 motion)
+speed_instr address S128 motion forward f0 = Speed128 address forward (code_of motion)
+
+abbrev pub speed_bytes : Address → Steps → Motion → Bool → Bool → List ℕ
+speed_bytes address S14 motion forward f0 = to_decoder address ((64 + 32 * bit forward + low_14 motion f0) ∷ [])
+speed_bytes address S28 motion forward f0 = to_decoder address ((64 + 32 * bit forward + low_28 motion) ∷ [])
+speed_bytes address S128 motion forward f0 = to_decoder address (63 ∷ (128 * bit forward + code_of motion) ∷ [])
+
+-- F0, F4, F3, F2, F1, where bit k of the functions is Fk
+abbrev pub group_one_bits : ℕ → ℕ
+group_one_bits functions = 16 * (functions % 2) + functions / 2 % 16
+
+abbrev pub group_one_instr : Address → ℕ → Instr
+group_one_instr address functions = GroupOne address (group_one_bits functions)
+
+abbrev pub group_one_bytes : Address → ℕ → List ℕ
+group_one_bytes address functions = to_decoder address ((128 + group_one_bits functions) ∷ [])
+
+-- F8, F7, F6, F5
+abbrev pub group_two_bits : ℕ → ℕ
+group_two_bits functions = functions / 32 % 16
+
+abbrev pub group_two_instr : Address → ℕ → Instr
+group_two_instr address functions = GroupTwo address (group_two_bits functions)
+
+abbrev pub group_two_bytes : Address → ℕ → List ℕ
+group_two_bytes address functions = to_decoder address ((176 + group_two_bits functions) ∷ [])
+
+-- four switches to a module, switch 0 the first of module 1 (own)
+abbrev pub module_of : ℕ → ℕ
+module_of number = number / 4 + 1
+
+abbrev pub accessory_instr : ℕ → Bool → Bool → Instr
+accessory_instr number closed on = Accessory (module_of number) (number % 4) closed on
+
+abbrev pub accessory_bytes : ℕ → Bool → Bool → List ℕ
+accessory_bytes number closed on =
+    with_check ((128 + module_of number % 64) ∷ (128 + 16 * (7 - module_of number / 64) + 8 * bit on + 2 * (number % 4) + bit closed) ∷ [])
+
+abbrev pub idle_bytes : List ℕ
+idle_bytes = 0xFF ∷ 0x00 ∷ 0xFF ∷ []
+
+abbrev pub stop_all_bytes : List ℕ
+stop_all_bytes = 0x00 ∷ 0x51 ∷ 0x51 ∷ []

@@ -1,0 +1,35 @@
+-- What bytes say: one line for each form of packet.
+use Rattle.std.specs.Prelude.{ℕ, ◌≡◌, ◌+◌, ◌-◌, ◌*◌, ◌/◌, ◌%◌, ◌<◌, Bool, if◌then◌else◌, List, [], ◌∷◌, ◌++◌, IsTrue}
+use Rattle.dcc_packet.specs.declared.address.Address.{Address}
+use Rattle.dcc_packet.specs.declared.instr.Instr.{Instr}
+use Rattle.dcc_packet.specs.declared.instr.Instr.TheVariants.{Idle, Reset, StopAll, Speed, Speed128, GroupOne, GroupTwo, Accessory}
+use Rattle.dcc_packet.specs.Address.{is_legal, address_bytes}
+use Rattle.dcc_packet.specs.Module.{is_module}
+use Rattle.dcc_packet.specs.Packet.{xor_of}
+
+-- a truth value as a bit
+abbrev pub bit : Bool → ℕ
+bit b = if b then 1 else 0
+
+-- S-9.2, general packet format: behind its bytes a packet has their exclusive or, the error detection byte
+abbrev pub with_check : List ℕ → List ℕ
+with_check bytes = bytes ++ xor_of bytes ∷ []
+
+-- S-9.2.1, 2.3: the bytes are this instruction for this locomotive decoder
+abbrev pub Tells : List ℕ → Address → List ℕ → Type 0
+Tells bytes address instruction = IsTrue (is_legal address) × (bytes ≡ with_check (address_bytes address ++ instruction))
+
+-- S-9.2, baseline packets: idle 11111111 00000000, reset 00000000 00000000, broadcast stop 00000000 01DC000S,
+-- whose D and C are ignored. S-9.2.1: 2.3.3 speed and direction 01DCSSSS; 2.3.2 128 speed steps 00111111 DSSSSSSS;
+-- 2.3.4 function group one 100DDDDD; 2.3.5 function group two 1011DDDD; 2.4.1 basic accessory 10AAAAAA 1AAACDDD,
+-- the three high bits of its address complemented. No other form is listed (own).
+abbrev pub Spells : List ℕ → Instr → Type 0
+Spells bytes Idle = bytes ≡ with_check (255 ∷ 0 ∷ [])
+Spells bytes Reset = bytes ≡ with_check (0 ∷ 0 ∷ [])
+Spells bytes (StopAll emergency) = (d c : Bool) × (bytes ≡ with_check (0 ∷ (64 + 32 * bit d + 16 * bit c + bit emergency) ∷ []))
+Spells bytes (Speed address d low) = (low < 32) × Tells bytes address ((64 + 32 * bit d + low) ∷ [])
+Spells bytes (Speed128 address d s) = (s < 128) × Tells bytes address (63 ∷ (128 * bit d + s) ∷ [])
+Spells bytes (GroupOne address bits) = (bits < 32) × Tells bytes address ((128 + bits) ∷ [])
+Spells bytes (GroupTwo address bits) = (bits < 16) × Tells bytes address ((176 + bits) ∷ [])
+Spells bytes (Accessory number pair closed on) =
+    IsTrue (is_module number) × (pair < 4) × (bytes ≡ with_check ((128 + number % 64) ∷ (128 + 16 * (7 - number / 64) + 8 * bit on + 2 * pair + bit closed) ∷ []))

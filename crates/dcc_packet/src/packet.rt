@@ -1,0 +1,80 @@
+//! A packet.
+ghost use Rattle.std.specs.Prelude.{◌≡◌, ℕ, ◌≤◌, List, length, Some, None, if◌then◌else◌};
+ghost use Rattle.dcc_packet.specs.Packet.{has_packet_length, is_checked, xor_of, IsPacket};
+ghost use Rattle.dcc_packet.specs.Spells.{with_check};
+
+use arrayvec::ArrayVec;
+use std::marker::Model;
+
+/// The most bytes of a packet.
+pub const MAX_LEN: usize = 6;
+
+/// The bytes of a packet, 3 to 6, whether their check is right or wrong.
+#[derive(Debug, Drop, PartialEq, Eq)]
+pub struct Packet {
+    bytes: ArrayVec<u8, MAX_LEN>,
+}
+
+impl Model for Packet {
+    ghost Value = { List ℕ };
+
+    ghost view = { λ p. p.bytes.items };
+
+    ghost invariant = { λ p. IsPacket p.bytes.items };
+
+    ghost inverse = { λ bytes. record { bytes = record { items = bytes } } };
+}
+
+impl Packet {
+    /// The packet of these bytes, if they are as many as a packet has.
+    pub fn of(bytes: &[u8]) -> Option<Packet>
+        ensures { result ≡ (if has_packet_length bytes.now then Some bytes.now else None) }
+    {
+        match bytes.len() {
+            3..=6 => {
+                let mut packet = ArrayVec::new();
+                for byte in bytes {
+                    packet.push(*byte);
+                }
+                Some(Packet { bytes: packet })
+            }
+            _ => None,
+        }
+    }
+
+    /// The packet of these bytes and their check.
+    pub(crate) fn sealed(body: &[u8]) -> Packet
+        requires some { 2 ≤ length body.now }
+        requires room { length body.now ≤ 5 }
+        ensures { result ≡ with_check body.now }
+    {
+        let mut packet = ArrayVec::new();
+        for byte in body {
+            packet.push(*byte);
+        }
+        packet.push(check_of(body));
+        Packet { bytes: packet }
+    }
+
+    /// The bytes, the check last.
+    pub fn bytes(&self) -> &[u8]
+        ensures value { result.now ≡ self.now }
+        ensures form { IsPacket result.now }
+    {
+        self.bytes.as_slice()
+    }
+
+    /// Whether the bytes together give 0.
+    pub fn is_checked(&self) -> bool
+        ensures { result ≡ is_checked self.now }
+    {
+        check_of(self.bytes.as_slice()) == 0
+    }
+}
+
+/// The exclusive or of the bytes.
+fn check_of(bytes: &[u8]) -> u8
+    ensures { result ≡ xor_of bytes.now }
+{
+    bytes.iter().fold(0, |sum, byte| sum ^ byte)
+}

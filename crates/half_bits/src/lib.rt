@@ -1,0 +1,31 @@
+//! The half-bits of a DCC packet: how long the voltage on the track stands one way and then the other (NMRA S-9.2).
+#![tactic(auto)]
+
+ghost use Rattle.std.specs.Prelude.{◌≡◌, ◌+◌, ◌*◌, length};
+ghost use Rattle.dcc_packet.specs.Packet.{IsPacket};
+ghost use Rattle.dcc_packet.specs.Wave.{IsWave};
+ghost use Rattle.half_bits.specs.Halves.{halves_of};
+
+mod wave;
+
+use dcc_packet::Packet;
+pub use wave::Halves;
+
+#[cfg(test)]
+mod tests;
+
+/// The half-bits of `packet` from its preamble of 14 ones to the one that closes it, in microseconds.
+///
+/// A one is two halves of 58, a zero two of 100: a wave that each receiver of S-9.2 has to take. A packet of `b`
+/// bytes has `2 * (15 + 9 * b)` of them, 84 to 138.
+#[inline]
+pub fn halves(packet: &Packet) -> Halves
+    ensures items { result ≡ halves_of packet.now }
+    ensures wave { IsWave packet.now result }
+    ensures length { length result ≡ 2 * (15 + 9 * length packet.now) }
+
+    // What the type of a packet says, for a caller that hands the wave on.
+    ensures packet { IsPacket packet.now }
+{
+    Halves::new(packet)
+}

@@ -1,0 +1,5 @@
+pub mod Checks
+pub mod Forms
+pub mod Framing
+pub mod Overlaps
+pub mod Positions

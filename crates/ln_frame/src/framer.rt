@@ -1,0 +1,82 @@
+//! The framer.
+ghost use Rattle.std.specs.Prelude.{◌≡◌, ℕ, List, [], ◌∷◌, ◌++◌, IsTrue};
+ghost use Rattle.std.specs.Option.{option_to_list};
+ghost use Rattle.ln_frame.specs.Stream.{is_unfinished, unfinished_of, message_at_end, messages_of, messages_along, NeverOverlap};
+
+use crate::msg::{MAX_LEN, Msg, OPCODE, message_len};
+use arrayvec::ArrayVec;
+use std::marker::Model;
+
+/// Finds the whole messages of a line, byte by byte.
+#[derive(Drop)]
+pub struct Framer {
+    unfinished: ArrayVec<u8, MAX_LEN>,
+}
+
+impl Model for Framer {
+    ghost Value = { List ℕ };
+
+    ghost view = { λ f. f.unfinished.items };
+
+    ghost invariant = { λ f. IsTrue (is_unfinished f.unfinished.items) };
+}
+
+impl Framer {
+    /// A framer that has had no byte.
+    pub fn new() -> Self
+        ensures { result ≡ [] }
+    {
+        Framer {
+            unfinished: ArrayVec::new(),
+        }
+    }
+
+    /// Takes the next byte, and gives the message that it ends.
+    pub fn push(&mut self, byte: u8) -> Option<Msg>
+        // The whole message that the bytes now end in.
+        ensures given { result ≡ message_at_end (self.old ++ byte ∷ []) }
+        ensures unfinished { self.new ≡ unfinished_of (self.old ++ byte ∷ []) }
+
+        ensures open_ended { messages_of self.new ≡ [] }
+
+        // However the bytes go on, no message is lost and none is made up.
+        ensures further { (z : List ℕ) → messages_of (self.old ++ byte ∷ z)
+            ≡ option_to_list result ++ messages_of (self.new ++ z) }
+    {
+        if byte >= OPCODE {
+            self.unfinished.clear();
+            self.unfinished.push(byte);
+            return None;
+        }
+        if self.unfinished.is_empty() {
+            return None;
+        }
+        self.unfinished.push(byte);
+        let Some(len) = message_len(self.unfinished[0], self.unfinished[1]) else {
+            self.unfinished.clear();
+            return None;
+        };
+        if self.unfinished.len() < len {
+            return None;
+        }
+        Msg::checked(self.unfinished.take())
+    }
+}
+
+impl Default for Framer {
+    ghost is_default = { λ f. f ≡ [] };
+
+    fn default() -> Self {
+        Self::new()
+    }
+}
+
+/// Byte by byte, and so in whatever pieces, a line gives the messages in its bytes, and no others.
+pub fn any_cut()
+    ensures { (bytes : List ℕ) → messages_along [] bytes ≡ messages_of bytes }
+{}
+
+/// Two whole messages of the same bytes never overlap.
+pub fn never_overlap()
+    ensures { (bytes : List ℕ) → NeverOverlap bytes }
+{}

@@ -1,0 +1,4 @@
+pub mod Fields
+pub mod Message
+pub mod Reply
+pub mod Slot
