@@ -19,17 +19,22 @@ with_check bytes = bytes ++ xor_of bytes ∷ []
 abbrev pub Tells : List ℕ → Address → List ℕ → Type 0
 Tells bytes address instruction = IsTrue (is_legal address) × (bytes ≡ with_check (address_bytes address ++ instruction))
 
--- S-9.2, baseline packets: idle 11111111 00000000, reset 00000000 00000000, broadcast stop 00000000 01DC000S,
--- whose D and C are ignored. S-9.2.1: 2.3.3 speed and direction 01DCSSSS; 2.3.2 128 speed steps 00111111 DSSSSSSS;
--- 2.3.4 function group one 100DDDDD; 2.3.5 function group two 1011DDDD; 2.4.1 basic accessory 10AAAAAA 1AAACDDD,
--- the three high bits of its address complemented. No other form is listed (own).
+-- the listed forms; no other bytes spell anything
 abbrev pub Spells : List ℕ → Instr → Type 0
+-- S-9.2, idle packet: 11111111 00000000
 Spells bytes Idle = bytes ≡ with_check (255 ∷ 0 ∷ [])
+-- S-9.2, reset packet: 00000000 00000000
 Spells bytes Reset = bytes ≡ with_check (0 ∷ 0 ∷ [])
+-- S-9.2, broadcast stop packet: 00000000 01DC000S, whatever D and C are
 Spells bytes (StopAll emergency) = (d c : Bool) × (bytes ≡ with_check (0 ∷ (64 + 32 * bit d + 16 * bit c + bit emergency) ∷ []))
+-- S-9.2.1, 2.3.3, speed and direction: 01DCSSSS
 Spells bytes (Speed address d low) = (low < 32) × Tells bytes address ((64 + 32 * bit d + low) ∷ [])
+-- S-9.2.1, 2.3.2, 128 speed steps: 00111111 DSSSSSSS
 Spells bytes (Speed128 address d s) = (s < 128) × Tells bytes address (63 ∷ (128 * bit d + s) ∷ [])
+-- S-9.2.1, 2.3.4, function group one: 100DDDDD
 Spells bytes (GroupOne address bits) = (bits < 32) × Tells bytes address ((128 + bits) ∷ [])
+-- S-9.2.1, 2.3.5, function group two: 1011DDDD
 Spells bytes (GroupTwo address bits) = (bits < 16) × Tells bytes address ((176 + bits) ∷ [])
+-- S-9.2.1, 2.4.1, basic accessory: 10AAAAAA 1AAACDDD, the high three bits of the address complemented
 Spells bytes (Accessory number pair closed on) =
     IsTrue (is_module number) × (pair < 4) × (bytes ≡ with_check ((128 + number % 64) ∷ (128 + 16 * (7 - number / 64) + 8 * bit on + 2 * pair + bit closed) ∷ []))

@@ -1,5 +1,5 @@
 -- Speed steps and motions.
-use Rattle.std.specs.Prelude.{ℕ, ◌+◌, ◌-◌, ◌*◌, ◌/◌, ◌==◌, ◌&&◌, ◌||◌, Bool, true, false, if◌then◌else◌, nat_le, Option, Some, None}
+use Rattle.std.specs.Prelude.{ℕ, ◌+◌, ◌-◌, ◌*◌, ◌/◌, ◌%◌, ◌==◌, ◌&&◌, ◌||◌, Bool, true, false, if◌then◌else◌, nat_le, nat_lt, Option, Some, None}
 use Rattle.dcc_packet.specs.declared.steps.Steps.{Steps}
 use Rattle.dcc_packet.specs.declared.steps.Steps.TheVariants.{S14, S28, S128}
 use Rattle.dcc_packet.specs.declared.steps.Motion.{Motion}
@@ -11,12 +11,6 @@ steps_of_kind kind =
     if kind == 2 then Some S14 else
     (if (kind == 0) || (kind == 4) then Some S28 else
     (if (kind == 3) || (kind == 7) then Some S128 else None))
-
--- the highest step
-abbrev pub last_step : Steps → ℕ
-last_step S14 = 14
-last_step S28 = 28
-last_step S128 = 126
 
 -- the step of SPD from 2 to 127, rounded down (own)
 abbrev pub step_of : Steps → ℕ → ℕ
@@ -36,3 +30,13 @@ is_motion S14 (Step S14 n) = nat_le 1 n && nat_le n 14
 is_motion S28 (Step S28 n) = nat_le 1 n && nat_le n 28
 is_motion S128 (Step S128 n) = nat_le 1 n && nat_le n 126
 is_motion _ (Step _ n) = false
+
+-- S-9.2.1, what a decoder makes of the number on the track. 2.3.3 with 28 steps, SSSSC: 0 and 1 stop, 2 and 3 emergency
+-- stop, n + 3 step n. 2.3.2 and 2.3.3 with 14 steps: 0 stop, 1 emergency stop, n + 1 step n.
+abbrev pub motion_told : Steps → ℕ → Motion
+motion_told S28 code = if nat_lt code 2 then Stop else (if nat_lt code 4 then Emergency else Step S28 (code - 3))
+motion_told steps code = if code == 0 then Stop else (if code == 1 then Emergency else Step steps (code - 1))
+
+-- SSSSC of the five bits CSSSS
+abbrev pub number_28 : ℕ → ℕ
+number_28 low = 2 * (low % 16) + low / 16

@@ -6,11 +6,10 @@ ghost use Rattle.dcc_packet.specs.Spells.{Spells};
 ghost use Rattle.dcc_packet.specs.declared.instr.Instr.TheVariants.{Idle, StopAll};
 ghost use Rattle.dcc_packet.specs.Sent.{code_of, code_28_of, to_decoder, speed_instr, speed_bytes, group_one_instr, group_one_bytes, group_two_instr, group_two_bytes, accessory_instr, accessory_bytes, idle_bytes, stop_all_bytes};
 
-use arrayvec::ArrayVec;
-
 use crate::address::Address;
 use crate::packet::{MAX_LEN, Packet};
 use crate::steps::{Motion, Steps};
+use arrayvec::ArrayVec;
 
 /// The packet of an instruction to one locomotive decoder.
 fn to_decoder(address: Address, instruction: &[u8]) -> Packet

@@ -10,15 +10,31 @@ pub enum Instr {
     /// Every locomotive decoder takes its first state.
     Reset,
     /// Every locomotive decoder stops.
-    StopAll { emergency: bool },
+    StopAll {
+        emergency: bool,
+    },
     /// Speed and direction in one byte: direction bit and the five bits below it, which hold 14 or 28 steps.
-    Speed { address: Address, d: bool, low: u8 },
+    Speed {
+        address: Address,
+        d: bool,
+        low: u8,
+    },
     /// Speed and direction in two bytes, 128 steps: direction bit and the seven bits below it.
-    Speed128 { address: Address, d: bool, s: u8 },
+    Speed128 {
+        address: Address,
+        d: bool,
+        s: u8,
+    },
     /// Functions: bit 4 is F0, bits 3 to 0 are F4 to F1.
-    GroupOne { address: Address, bits: u8 },
+    GroupOne {
+        address: Address,
+        bits: u8,
+    },
     /// Functions: bits 3 to 0 are F8 to F5.
-    GroupTwo { address: Address, bits: u8 },
+    GroupTwo {
+        address: Address,
+        bits: u8,
+    },
     /// One of the two outputs of a pair, 0 to 3, of an accessory decoder is switched on or off.
     Accessory {
         module: Module,

@@ -4,13 +4,20 @@
 mod address;
 mod build;
 mod instr;
+mod laws;
 mod module;
 mod packet;
+mod reading;
 mod steps;
 
 pub use address::Address;
 pub use build::{accessory, group_one, group_two, idle, speed, stop_all};
 pub use instr::Instr;
+pub use laws::{one_spelling, sent_packets_spell, speeds_are_told, spellings_are_read};
 pub use module::Module;
 pub use packet::Packet;
+pub use reading::read;
 pub use steps::{Motion, Steps, steps_of};
+
+#[cfg(test)]
+mod tests;

@@ -10,7 +10,7 @@ use std::marker::Model;
 pub const MAX_LEN: usize = 6;
 
 /// The bytes of a packet, 3 to 6, whether their check is right or wrong.
-#[derive(Debug, Drop, PartialEq, Eq)]
+#[derive(Clone, Debug, Drop, PartialEq, Eq)]
 pub struct Packet {
     bytes: ArrayVec<u8, MAX_LEN>,
 }

@@ -1,6 +1,6 @@
 //! Speed steps, and the motion that a locomotive is asked for.
-ghost use Rattle.std.specs.Prelude.{◌≡◌, ◌<◌};
-ghost use Rattle.dcc_packet.specs.Steps.{steps_of_kind, motion_of};
+ghost use Rattle.std.specs.Prelude.{◌≡◌, ◌<◌, IsTrue};
+ghost use Rattle.dcc_packet.specs.Steps.{steps_of_kind, motion_of, is_motion};
 
 /// How many steps a decoder has between standing and full speed.
 #[derive(Clone, Copy, Debug, PartialEq, Eq)]
@@ -39,7 +39,8 @@ impl Steps {
 /// the last, rounded down.
 pub fn steps_of(steps: Steps, spd: u8) -> Motion
     requires { spd < 128 }
-    ensures { result ≡ motion_of steps spd }
+    ensures value { result ≡ motion_of steps spd }
+    ensures fits { IsTrue (is_motion steps result) }
 {
     match spd {
         0 => Motion::Stop,

@@ -1,9 +1,8 @@
 -- The bits of a packet as one number, and what is left of its halves.
-use Rattle.std.proofs.Common.{◌≡◌, ℕ, ◌+◌, ◌-◌, ◌*◌, ◌/◌, ◌%◌, ◌^◌, ◌<◌, ◌≤◌, ◌≢◌, ◌==◌, Bool, true, false, Option, List, [], ◌∷◌, ◌++◌, length, map, replicate, suc, zero, Some, refl, ap, ap₂, subst, sym, ◌∙◌, arith, add-one, append-nil, append_assoc}
-use Rattle.std.proofs.lemmas.List.{length-append, length-map}
+use Rattle.std.proofs.Common.{◌≡◌, ℕ, ◌+◌, ◌-◌, ◌*◌, ◌/◌, ◌%◌, ◌^◌, ◌<◌, ◌≢◌, ◌==◌, Bool, true, false, Option, List, [], ◌∷◌, ◌++◌, length, map, get_or, take, replicate, suc, zero, Some, refl, ap, ap₂, subst, sym, ◌∙◌, arith, add-one, append-nil, append_assoc}
+use Rattle.std.proofs.lemmas.List.{length-append, length-map, take_more}
 use Rattle.std.proofs.lemmas.Nat.{pow-add}
 use Rattle.std.proofs.lemmas.Nat.Bits.{bit_at-suc, bit_at_above}
-use Rattle.std.proofs.Math.Pow.{pow_mono}
 use Rattle.std.specs.Int.{bit_at}
 use Rattle.dcc_packet.specs.Wave.{bit_of, low_bits, bits_of, doubled, IsWave}
 use Rattle.half_bits.specs.Halves.{micros, halves_of}
@@ -32,7 +31,9 @@ remaining-bits (suc count) n =
 -- the first half, and what is left behind it
 pub remaining-first : (bits left : ℕ) → left ≢ 0 → remaining bits left ≡ micros (bit_at bits ((left - 1) / 2) == 1) ∷ remaining bits (left - 1)
 remaining-first bits zero h = absurd (h refl)
-remaining-first bits (suc left) h = refl
+remaining-first bits (suc left) h =
+    let less : left ≡ suc left - 1 = omega arith in
+    ap (λ (n : ℕ). micros (bit_at bits (n / 2) == 1) ∷ remaining bits n) less
 
 pub length-remaining : (bits left : ℕ) → length (remaining bits left) ≡ left
 length-remaining bits zero = refl
@@ -95,11 +96,10 @@ holds_more bytes bits left byte h k =
       image = subst (λ (c : ℕ). low_bits c (bits * 512 + byte) ≡ ones ++ bits_of (bytes ++ byte ∷ [])) (sym size) image;
     }
 
--- of at most six bytes it is a small one
-pub small : (bytes : List ℕ) (bits left : ℕ) → length bytes ≤ 6 → Holds bytes bits left → bits < 2 ^ 68
-small bytes bits left h k =
-    let few : 14 + 9 * length bytes ≤ 68 = omega arith in
-    omega (arith, k.bound, pow_mono few)
+-- the next of these bytes
+pub holds_next : (bytes : List ℕ) (index bits left byte : ℕ) → index < length bytes → byte ≡ get_or bytes index 0 → byte < 256 → Holds (take index bytes) bits left → Holds (take (index + 1) bytes) (bits * 512 + byte) (left + 18)
+holds_next bytes index bits left byte h b l k =
+    subst (λ (bs : List ℕ). Holds bs (bits * 512 + byte) (left + 18)) (ap (λ (x : ℕ). take index bytes ++ x ∷ []) b ∙ sym (take_more bytes index 0 h)) (holds_more (take index bytes) bits left byte l k)
 
 -- with the one that closes it the halves of the packet are left
 pub whole : (packet : List ℕ) (bits left : ℕ) → Holds packet bits left → remaining (2 * bits + 1) (left + 2) ≡ halves_of packet

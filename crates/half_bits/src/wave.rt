@@ -16,13 +16,13 @@ const ZERO: u16 = 100;
 const PREAMBLE: u128 = 0x3FFF;
 
 /// The halves of the preamble.
-const PREAMBLE_HALVES: u16 = 28;
+const PREAMBLE_HALVES: u8 = 28;
 
 /// Room for the zero before a byte and the byte's eight bits.
 const BYTE: u128 = 512;
 
 /// The halves of the zero before a byte and of its eight bits.
-const BYTE_HALVES: u16 = 18;
+const BYTE_HALVES: u8 = 18;
 
 /// The half-bits of a packet that are still to come, in microseconds.
 ///
@@ -30,7 +30,7 @@ const BYTE_HALVES: u16 = 18;
 #[derive(Debug, Drop)]
 pub struct Halves {
     bits: u128,
-    left: u16,
+    left: u8,
 }
 
 impl Model for Halves {
@@ -67,7 +67,7 @@ impl Halves {
     pub fn left(&self) -> u16
         ensures { result ≡ length self.now }
     {
-        self.left
+        u16::from(self.left)
     }
 }
 

@@ -1,7 +1,6 @@
 -- The operation of a message (LocoNet, table of opcodes).
-use Rattle.std.specs.Prelude.{ℕ, ◌+◌, ◌*◌, ◌/◌, ◌%◌, ◌&&◌, ◌==◌, Bool, if◌then◌else◌, nat_le, List, slice_index}
+use Rattle.std.specs.Prelude.{ℕ, ◌+◌, ◌*◌, ◌/◌, ◌%◌, ◌&&◌, ◌==◌, Bool, true, if◌then◌else◌, nat_lt, nat_le, List, slice_index, IsTrue}
 use Rattle.ln_ops.specs.Fields.{SlotBytes}
-use Rattle.ln_ops.specs.declared.op.TheConstants.{OPC_GPOFF, OPC_GPON, OPC_IDLE, OPC_LOCO_SPD, OPC_LOCO_DIRF, OPC_LOCO_SND, OPC_SW_REQ, OPC_LONG_ACK, OPC_SLOT_STAT1, OPC_MOVE_SLOTS, OPC_RQ_SL_DATA, OPC_SW_ACK, OPC_LOCO_ADR, OPC_SL_RD_DATA, OPC_WR_SL_DATA, SLOT_DATA_COUNT}
 use Rattle.ln_ops.specs.declared.op.Op.{Op}
 use Rattle.ln_ops.specs.declared.op.Op.TheVariants.{PowerOff, PowerOn, ForceIdle, Speed, Dirf, Snd, SwReq, SwAck, LongAck, SlotStat, Move, SlotRead, LocoAddr, SlotData, SlotWrite, Other}
 
@@ -33,26 +32,53 @@ fields_of m = record {
   id2 = slice_index m 12;
 }
 
--- messages of four bytes: the opcode and two bytes of data
+-- messages of four bytes, the opcode and two bytes of data: OPC_LOCO_SPD, OPC_LOCO_DIRF, OPC_LOCO_SND, OPC_SW_REQ,
+-- OPC_SW_ACK, OPC_LONG_ACK, OPC_SLOT_STAT1, OPC_MOVE_SLOTS, OPC_RQ_SL_DATA and OPC_LOCO_ADR
 abbrev pub four_of : ℕ → ℕ → ℕ → Op
 four_of opcode first second =
-    if opcode == OPC_LOCO_SPD then Speed first second else
-    (if opcode == OPC_LOCO_DIRF then Dirf first second else
-    (if opcode == OPC_LOCO_SND then Snd first second else
-    (if opcode == OPC_SW_REQ then SwReq (switch_number first second) (is_closed second) (is_on second) else
-    (if opcode == OPC_SW_ACK then SwAck (switch_number first second) (is_closed second) (is_on second) else
-    (if opcode == OPC_LONG_ACK then LongAck first second else
-    (if opcode == OPC_SLOT_STAT1 then SlotStat first second else
-    (if opcode == OPC_MOVE_SLOTS then Move first second else
-    (if opcode == OPC_RQ_SL_DATA then SlotRead first else
-    (if opcode == OPC_LOCO_ADR then LocoAddr first second else Other)))))))))
+    if opcode == 0xA0 then Speed first second else
+    (if opcode == 0xA1 then Dirf first second else
+    (if opcode == 0xA2 then Snd first second else
+    (if opcode == 0xB0 then SwReq (switch_number first second) (is_closed second) (is_on second) else
+    (if opcode == 0xBD then SwAck (switch_number first second) (is_closed second) (is_on second) else
+    (if opcode == 0xB4 then LongAck first second else
+    (if opcode == 0xB5 then SlotStat first second else
+    (if opcode == 0xBA then Move first second else
+    (if opcode == 0xBB then SlotRead first else
+    (if opcode == 0xBF then LocoAddr first second else Other)))))))))
 
--- the operation of a whole message
+-- the operation of a whole message: OPC_GPOFF, OPC_GPON, OPC_IDLE, those of four bytes, OPC_SL_RD_DATA and
+-- OPC_WR_SL_DATA with count 0E. No other message is known (own).
 abbrev pub op_of : List ℕ → Op
 op_of m =
-    if slice_index m 0 == OPC_GPOFF then PowerOff else
-    (if slice_index m 0 == OPC_GPON then PowerOn else
-    (if slice_index m 0 == OPC_IDLE then ForceIdle else
+    if slice_index m 0 == 0x82 then PowerOff else
+    (if slice_index m 0 == 0x83 then PowerOn else
+    (if slice_index m 0 == 0x85 then ForceIdle else
     (if nat_le 160 (slice_index m 0) && nat_le (slice_index m 0) 191 then four_of (slice_index m 0) (slice_index m 1) (slice_index m 2) else
-    (if (slice_index m 0 == OPC_SL_RD_DATA) && (slice_index m 1 == SLOT_DATA_COUNT) then SlotData (fields_of m) else
-    (if (slice_index m 0 == OPC_WR_SL_DATA) && (slice_index m 1 == SLOT_DATA_COUNT) then SlotWrite (fields_of m) else Other)))))
+    (if (slice_index m 0 == 0xE7) && (slice_index m 1 == 14) then SlotData (fields_of m) else
+    (if (slice_index m 0 == 0xEF) && (slice_index m 1 == 14) then SlotWrite (fields_of m) else Other)))))
+
+abbrev pub are_data : ℕ → ℕ → Bool
+are_data first second = nat_lt first 128 && nat_lt second 128
+
+-- what holds of every operation that a whole message is: its bytes are data, and a switch has eleven bits
+abbrev pub is_of_data : Op → Bool
+is_of_data PowerOff = true
+is_of_data PowerOn = true
+is_of_data ForceIdle = true
+is_of_data (Speed slot spd) = are_data slot spd
+is_of_data (Dirf slot dirf) = are_data slot dirf
+is_of_data (Snd slot snd) = are_data slot snd
+is_of_data (SwReq number closed on) = nat_lt number 2048
+is_of_data (SwAck number closed on) = nat_lt number 2048
+is_of_data (LongAck opc ack) = are_data opc ack
+is_of_data (SlotStat slot stat) = are_data slot stat
+is_of_data (Move src dest) = are_data src dest
+is_of_data (SlotRead slot) = nat_lt slot 128
+is_of_data (LocoAddr high low) = are_data high low
+is_of_data (SlotData fields) = true
+is_of_data (SlotWrite fields) = true
+is_of_data Other = true
+
+abbrev pub IsOfData : Op → Type 0
+IsOfData op = IsTrue (is_of_data op)

@@ -2,7 +2,6 @@
 use Rattle.std.specs.Prelude.{ℕ, ◌&&◌, Bool, true, nat_lt, List, [], ◌∷◌, ◌++◌, IsTrue}
 use Rattle.ln_frame.specs.Message.{check_of}
 use Rattle.ln_ops.specs.Fields.{SlotBytes}
-use Rattle.ln_ops.specs.declared.op.TheConstants.{OPC_LONG_ACK, OPC_SL_RD_DATA, SLOT_DATA_COUNT}
 use Rattle.ln_ops.specs.declared.reply.Reply.{Reply}
 use Rattle.ln_ops.specs.declared.reply.Reply.TheVariants.{SlotData, LongAck}
 
@@ -12,8 +11,8 @@ data_bytes f = f.slot ∷ f.stat ∷ f.adr ∷ f.spd ∷ f.dirf ∷ f.trk ∷ f.
 
 -- the bytes of a reply before its check
 abbrev pub body_of : Reply → List ℕ
-body_of (SlotData f) = OPC_SL_RD_DATA ∷ SLOT_DATA_COUNT ∷ data_bytes f
-body_of (LongAck opc ack) = OPC_LONG_ACK ∷ opc ∷ ack ∷ []
+body_of (SlotData f) = 0xE7 ∷ 0x0E ∷ data_bytes f
+body_of (LongAck opc ack) = 0xB4 ∷ opc ∷ ack ∷ []
 
 -- the message of a reply
 abbrev pub reply_bytes : Reply → List ℕ

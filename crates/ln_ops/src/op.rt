@@ -1,6 +1,6 @@
 //! What a message asks or tells.
 ghost use Rattle.std.specs.Prelude.{◌≡◌, ℕ, ◌<◌, ◌≤◌, length, slice_index};
-ghost use Rattle.ln_ops.specs.Message.{fields_of, four_of, is_closed, is_on, op_of, switch_number};
+ghost use Rattle.ln_ops.specs.Message.{fields_of, four_of, is_closed, is_on, IsOfData, op_of, switch_number};
 
 use crate::fields::SlotFields;
 use ln_frame::Msg;
@@ -69,17 +69,9 @@ pub enum Op {
     /// OPC_LOCO_SND, A2: SND of a slot.
     Snd { slot: u8, snd: u8 },
     /// OPC_SW_REQ, B0: switch `number`, 0 to 2047.
-    SwReq {
-        number: u16,
-        closed: bool,
-        on: bool,
-    },
+    SwReq { number: u16, closed: bool, on: bool },
     /// OPC_SW_ACK, BD: the same, with a long acknowledge.
-    SwAck {
-        number: u16,
-        closed: bool,
-        on: bool,
-    },
+    SwAck { number: u16, closed: bool, on: bool },
     /// OPC_LONG_ACK, B4: the opcode with bit 7 clear, and a code.
     LongAck { opc: u8, ack: u8 },
     /// OPC_SLOT_STAT1, B5: STAT1 of a slot.
@@ -100,7 +92,8 @@ pub enum Op {
 
 /// What a message asks or tells: every whole message is one operation, `Other` where no opcode of the table fits.
 pub fn read(message: &Msg) -> Op
-    ensures { result ≡ op_of message.now }
+    ensures op { result ≡ op_of message.now }
+    ensures data { IsOfData result }
 {
     let bytes = message.bytes();
     match bytes[0] {
@@ -116,7 +109,10 @@ pub fn read(message: &Msg) -> Op
 
 // A message of four bytes: opcode, two bytes of data and the check.
 fn read_four(opcode: u8, first: u8, second: u8) -> Op
-    ensures { result ≡ four_of opcode first second }
+    requires first { first < 128 }
+    requires second { second < 128 }
+    ensures op { result ≡ four_of opcode first second }
+    ensures data { IsOfData result }
 {
     match opcode {
         OPC_LOCO_SPD => Op::Speed {
@@ -164,7 +160,9 @@ fn read_four(opcode: u8, first: u8, second: u8) -> Op
 
 /// The switch that SW1 and SW2 name.
 fn switch_number(sw1: u8, sw2: u8) -> u16
-    ensures { result ≡ switch_number sw1 sw2 }
+    requires { sw1 < 128 }
+    ensures number { result ≡ switch_number sw1 sw2 }
+    ensures bits { result < 2048 }
 {
     u16::from(sw2 % 16) * 128 + u16::from(sw1)
 }

@@ -1,0 +1,40 @@
+//! The laws of this crate, each as a function that does nothing and ensures it: a call hands the law to a proof.
+ghost use Rattle.std.specs.Prelude.{◌≡◌, ◌↔◌, ◌≤◌, ◌/◌, ◌%◌, ℕ, Bool, List, Some, IsTrue, true};
+ghost use Rattle.dcc_packet.specs.declared.address.Address.{Address};
+ghost use Rattle.dcc_packet.specs.declared.instr.Instr.{Instr};
+ghost use Rattle.dcc_packet.specs.declared.instr.Instr.TheVariants.{Idle, StopAll};
+ghost use Rattle.dcc_packet.specs.declared.steps.Motion.{Motion};
+ghost use Rattle.dcc_packet.specs.declared.steps.Steps.{Steps};
+ghost use Rattle.dcc_packet.specs.declared.steps.Steps.TheVariants.{S14, S28, S128};
+ghost use Rattle.dcc_packet.specs.Address.{is_legal};
+ghost use Rattle.dcc_packet.specs.Reading.{instruction_of};
+ghost use Rattle.dcc_packet.specs.Sent.{code_of, low_14, low_28, speed_instr, speed_bytes, group_one_instr, group_one_bytes, group_two_instr, group_two_bytes, accessory_instr, accessory_bytes, idle_bytes, stop_all_bytes};
+ghost use Rattle.dcc_packet.specs.Spells.{bit, Spells};
+ghost use Rattle.dcc_packet.specs.Steps.{is_motion, motion_told, number_28};
+
+/// No bytes spell two instructions.
+pub fn one_spelling()
+    ensures { (bytes : List ℕ) (i j : Instr) → Spells bytes i → Spells bytes j → i ≡ j }
+{}
+
+/// The instruction of bytes is the one that they spell.
+pub fn spellings_are_read()
+    ensures { (bytes : List ℕ) (i : Instr) → (instruction_of bytes ≡ Some i) ↔ Spells bytes i }
+{}
+
+/// The packets that a command station sends spell their instructions, whatever it sends them for.
+pub fn sent_packets_spell()
+    ensures speed { (address : Address) (steps : Steps) (motion : Motion) (forward f0 : Bool) → IsTrue (is_legal address) → IsTrue (is_motion steps motion) → Spells (speed_bytes address steps motion forward f0) (speed_instr address steps motion forward f0) }
+    ensures group_one { (address : Address) (functions : ℕ) → IsTrue (is_legal address) → Spells (group_one_bytes address functions) (group_one_instr address functions) }
+    ensures group_two { (address : Address) (functions : ℕ) → IsTrue (is_legal address) → Spells (group_two_bytes address functions) (group_two_instr address functions) }
+    ensures accessory { (number : ℕ) (closed on : Bool) → number ≤ 2039 → Spells (accessory_bytes number closed on) (accessory_instr number closed on) }
+    ensures idle { Spells idle_bytes Idle }
+    ensures stop_all { Spells stop_all_bytes (StopAll true) }
+{}
+
+/// A decoder with the same steps makes of a speed packet the motion that it was built for, and with 14 steps its F0.
+pub fn speeds_are_told()
+    ensures fourteen { (motion : Motion) (f0 : Bool) → IsTrue (is_motion S14 motion) → (motion_told S14 (low_14 motion f0 % 16) ≡ motion) × (low_14 motion f0 / 16 ≡ bit f0) }
+    ensures twenty_eight { (motion : Motion) → IsTrue (is_motion S28 motion) → motion_told S28 (number_28 (low_28 motion)) ≡ motion }
+    ensures in_two_bytes { (motion : Motion) → IsTrue (is_motion S128 motion) → motion_told S128 (code_of motion) ≡ motion }
+{}

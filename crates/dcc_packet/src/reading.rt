@@ -1,0 +1,131 @@
+//! What a packet says.
+ghost use Rattle.std.specs.Prelude.{◌≡◌, ◌↔◌, ◌<◌, ◌≤◌, Some, IsTrue};
+ghost use Rattle.dcc_packet.specs.declared.instr.Instr.{Instr};
+ghost use Rattle.dcc_packet.specs.Reading.{broadcast_of, accessory_of, short_form_of, told_of, long_told_of, other_of, form_of, instruction_of};
+ghost use Rattle.dcc_packet.specs.Spells.{Spells};
+
+use crate::address::Address;
+use crate::instr::Instr;
+use crate::module::Module;
+use crate::packet::Packet;
+
+/// The instruction of a packet, or `None` where its check is wrong or it has no listed form.
+#[tactic(auto, unfolding(crate::specs::Reading::instruction_of))]
+pub fn read(packet: &Packet) -> Option<Instr>
+    ensures value { result ≡ instruction_of packet.now }
+    ensures exact { (i : Instr) → (result ≡ Some i) ↔ Spells packet.now i }
+{
+    if packet.is_checked() {
+        form(packet.bytes())
+    } else {
+        None
+    }
+}
+
+/// What bytes with a right check say, by the address partitions of their first byte (S-9.2.1, 2.1).
+fn form(bytes: &[u8]) -> Option<Instr>
+    ensures { result ≡ form_of bytes.now }
+{
+    match bytes {
+        [first @ 1..=127, told @ ..] => told_to(Address::Short(*first), told),
+        [first @ 192..=231, told @ ..] => told_to_long(*first, told),
+        [first, told @ ..] => other(*first, told),
+        [] => None,
+    }
+}
+
+/// What the bytes behind the first of a two-byte address, the check last, say.
+fn told_to_long(high: u8, told: &[u8]) -> Option<Instr>
+    requires low { 192 ≤ high }
+    requires high { high ≤ 231 }
+    ensures { result ≡ long_told_of high told.now }
+{
+    match told {
+        [low, told @ ..] => told_to(
+            Address::Long(u16::from(high - 192) * 256 + u16::from(*low)),
+            told,
+        ),
+        [] => None,
+    }
+}
+
+/// What the bytes behind a first byte that is no locomotive's, the check last, say.
+fn other(first: u8, told: &[u8]) -> Option<Instr>
+    ensures { result ≡ other_of first told.now }
+{
+    match told {
+        [second, _] => match first {
+            0x00 => broadcast(*second),
+            128..=191 => accessory(first, *second),
+            0xFF if *second == 0 => Some(Instr::Idle),
+            _ => None,
+        },
+        _ => None,
+    }
+}
+
+/// What the byte behind a broadcast address says to every locomotive decoder.
+fn broadcast(byte: u8) -> Option<Instr>
+    ensures { result ≡ broadcast_of byte }
+{
+    match byte {
+        0x00 => Some(Instr::Reset),
+        64..=127 if byte / 2 % 8 == 0 => Some(Instr::StopAll {
+            emergency: byte % 2 == 1,
+        }),
+        _ => None,
+    }
+}
+
+/// What two bytes say to an accessory decoder.
+fn accessory(first: u8, second: u8) -> Option<Instr>
+    ensures { result ≡ accessory_of first second }
+{
+    if second < 128 {
+        return None;
+    }
+    let module = Module::new(u16::from(first % 64) + 64 * u16::from(7 - second / 16 % 8))?;
+    Some(Instr::Accessory {
+        module,
+        pair: second / 2 % 4,
+        closed: second % 2 == 1,
+        on: second / 8 % 2 == 1,
+    })
+}
+
+/// What the bytes behind its address, the check last, say to a locomotive decoder.
+fn told_to(address: Address, told: &[u8]) -> Option<Instr>
+    ensures { result ≡ told_of address told.now }
+{
+    match told {
+        [byte, _] => short_form(address, *byte),
+        [0x3F, speed, _] => Some(Instr::Speed128 {
+            address,
+            d: speed / 128 == 1,
+            s: speed % 128,
+        }),
+        _ => None,
+    }
+}
+
+/// What one byte says to a locomotive decoder.
+fn short_form(address: Address, byte: u8) -> Option<Instr>
+    ensures { result ≡ short_form_of address byte }
+{
+    match byte {
+        64..=127 => Some(Instr::Speed {
+            address,
+            d: byte / 32 % 2 == 1,
+            low: byte % 32,
+        }),
+        128..=159 => Some(Instr::GroupOne {
+            address,
+            bits: byte % 32,
+        }),
+        176..=191 => Some(Instr::GroupTwo {
+            address,
+            bits: byte % 16,
+        }),
+        _ => None,
+    }
+}

@@ -1,0 +1,122 @@
+//! Messages and replies, as the tables of LocoNet have them.
+
+use super::*;
+use ln_frame::{Framer, Msg};
+use std::test::Fail;
+
+// Slot 2 in use at address 4, as a throttle writes it.
+const SLOT_2: SlotFields = SlotFields {
+    slot: 0x02,
+    stat: 0x33,
+    adr: 0x04,
+    spd: 0x20,
+    dirf: 0x10,
+    trk: 0x07,
+    ss2: 0x00,
+    adr2: 0x00,
+    snd: 0x05,
+    id1: 0x00,
+    id2: 0x00,
+};
+
+// The message that the bytes end in.
+fn message(bytes: &[u8]) -> Option<Msg> {
+    let mut framer = Framer::new();
+    let mut last = None;
+    for byte in bytes {
+        last = framer.push(*byte);
+    }
+    last
+}
+
+#[test]
+fn reads_each_message(rt: HostRuntime) -> Result<(), Fail> {
+    let rows: [(&[u8], Op); 20] = [
+        (&[0x82, 0x7D], Op::PowerOff),
+        (&[0x83, 0x7C], Op::PowerOn),
+        (&[0x85, 0x7A], Op::ForceIdle),
+        (&[0xA0, 0x01, 0x40, 0x1E], Op::Speed { slot: 1, spd: 64 }),
+        (&[0xA1, 0x01, 0x20, 0x7F], Op::Dirf { slot: 1, dirf: 32 }),
+        (&[0xA2, 0x01, 0x05, 0x59], Op::Snd { slot: 1, snd: 5 }),
+        (
+            &[0xB0, 0x00, 0x30, 0x7F],
+            Op::SwReq {
+                number: 0,
+                closed: true,
+                on: true,
+            },
+        ),
+        (
+            &[0xB0, 0x77, 0x1F, 0x27],
+            Op::SwReq {
+                number: 2039,
+                closed: false,
+                on: true,
+            },
+        ),
+        (
+            &[0xBD, 0x78, 0x6F, 0x55],
+            Op::SwAck {
+                number: 2040,
+                closed: true,
+                on: false,
+            },
+        ),
+        (&[0xB4, 0x3F, 0x00, 0x74], Op::LongAck { opc: 0x3F, ack: 0 }),
+        (
+            &[0xB5, 0x01, 0x30, 0x7B],
+            Op::SlotStat { slot: 1, stat: 48 },
+        ),
+        (&[0xBA, 0x01, 0x05, 0x41], Op::Move { src: 1, dest: 5 }),
+        (&[0xBB, 0x05, 0x00, 0x41], Op::SlotRead { slot: 5 }),
+        (
+            &[0xBF, 0x4F, 0x7F, 0x70],
+            Op::LocoAddr { high: 79, low: 127 },
+        ),
+        (
+            &[
+                0xE7, 0x0E, 0x02, 0x33, 0x04, 0x20, 0x10, 0x07, 0x00, 0x00, 0x05, 0x00, 0x00, 0x11,
+            ],
+            Op::SlotData(SLOT_2),
+        ),
+        (
+            &[
+                0xEF, 0x0E, 0x02, 0x33, 0x04, 0x20, 0x10, 0x07, 0x00, 0x00, 0x05, 0x00, 0x00, 0x19,
+            ],
+            Op::SlotWrite(SLOT_2),
+        ),
+        (&[0xE7, 0x04, 0x00, 0x1C], Op::Other),
+        (&[0x81, 0x7E], Op::Other),
+        (&[0xB1, 0x00, 0x00, 0x4E], Op::Other),
+        (&[0xD0, 0x00, 0x00, 0x00, 0x00, 0x2F], Op::Other),
+    ];
+    for (bytes, op) in rows {
+        let message = message(bytes).ok_or("no message")?;
+        assert_eq!(rt; read(&message), op, "in {bytes:?}");
+    }
+    Ok(())
+}
+
+#[test]
+fn writes_and_reads_replies(rt: HostRuntime) {
+    let data = Reply::SlotData(SLOT_2);
+    let accepted = Reply::LongAck {
+        opc: 0x6F,
+        ack: 0x7F,
+    };
+    let rows: [(Msg, &[u8], Reply); 2] = [
+        (
+            to_msg(&data),
+            &[
+                0xE7, 0x0E, 0x02, 0x33, 0x04, 0x20, 0x10, 0x07, 0x00, 0x00, 0x05, 0x00, 0x00, 0x11,
+            ],
+            data,
+        ),
+        (to_msg(&accepted), &[0xB4, 0x6F, 0x7F, 0x5B], accepted),
+    ];
+    for (message, bytes, reply) in rows {
+        assert_eq!(rt; message.bytes(), bytes);
+        assert_eq!(rt; read_reply(&message), Some(reply));
+    }
+    assert_eq!(rt; read_reply(&Msg::sealed(&[0x83])), None);
+}

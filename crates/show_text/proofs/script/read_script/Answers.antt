@@ -1,0 +1,13 @@
+use Rattle.std.proofs.Common.{◌≢◌, ◌+◌, ap, ◌∙◌}
+use Rattle.std.specs.Str.Lines.{lines}
+use Rattle.show_text.specs.declared.command.ScriptFault.{ScriptFault}
+use Rattle.show_text.specs.declared.command.Why.TheVariants.{NoMemory}
+use Rattle.show_text.proofs.Reading.{line_stops, script_within}
+use Rattle.show_text.proofs.script.read_script.Goals as goal
+
+pub returns-in-Err-clause-fault : goal.returns-in-Err-clause-fault
+returns-in-Err-clause-fault c known =
+    let fault = c.fault_at-in-Err.ensures in
+    let not_memory : c.in-Err.why ≢ NoMemory = λ e. known (ap (λ (f : ScriptFault). f.why) (fault.memory e)) in
+    let within = script_within c.args.lines c.args.text.now c.if-text-gt-LONGEST_TEXT.false in
+    rw (fault.known not_memory) (within ∙ line_stops c.args.lines (c.loop-line.number + 1) c.loop-line.commands.items c.in-Some.line.now (lines c.next.new.self.0.now) _ _ _ c.in-Some.ensures.steps (c.in-Err.ensures not_memory) c.loop-line.invariant.read)

@@ -1,0 +1,44 @@
+//! What a script holds, and why a text is none.
+ghost use Rattle.std.specs.Prelude.{◌≡◌};
+ghost use Rattle.show_text.specs.declared.command.Why.TheVariants.{NoMemory};
+
+use std::alloc::AllocFailed;
+
+/// What a script asks for.
+#[derive(Clone, Copy, Debug, PartialEq, Eq)]
+pub enum Command {
+    /// A byte comes on a line.
+    Byte { line: u8, byte: u8 },
+}
+
+/// What is wrong with a script.
+#[derive(Clone, Copy, Debug, PartialEq, Eq)]
+pub enum Why {
+    /// Another first word, or a missing or superfluous word.
+    BadWord,
+    /// Not two hexadecimal digits.
+    BadHex,
+    /// Not one to seven decimal digits.
+    BadNumber,
+    /// No such line.
+    BadLine,
+    /// More than 1,048,576 bytes.
+    TooLong,
+    /// A growth was refused.
+    NoMemory,
+}
+
+/// The first fault of a script, and its line, from 1. `TooLong` and `NoMemory` have line 0.
+#[derive(Clone, Copy, Debug, PartialEq, Eq)]
+pub struct ScriptFault {
+    pub why: Why,
+    pub line: u64,
+}
+
+impl<T: Drop> From<AllocFailed<T>> for Why {
+    ghost from_gives = { λ _ why. why ≡ NoMemory };
+
+    fn from(_error: AllocFailed<T>) -> Why {
+        Why::NoMemory
+    }
+}

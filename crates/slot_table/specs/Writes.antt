@@ -1,0 +1,85 @@
+-- What a throttle asks of a slot by OPC_LOCO_ADR, OPC_LOCO_SPD, OPC_LOCO_DIRF, OPC_LOCO_SND, OPC_SLOT_STAT1 and OPC_WR_SL_DATA.
+-- Each refusal is this project's own profile.
+use Rattle.std.specs.Prelude.{ℕ, ◌==◌, ◌&&◌, ◌||◌, ◌%◌, Bool, false, not, if◌then◌else◌, Option, Some, None, Result, Ok, Err, is_ok}
+use Rattle.ln_ops.specs.declared.row.State.TheVariants.{Idle}
+use Rattle.ln_ops.specs.declared.fields.SlotFields.{SlotFields}
+use Rattle.ln_ops.specs.Slot.{is_held, is_slot, is_address, is_stat, state_of, kind_of, address_of}
+use Rattle.slot_table.specs.declared.fault.SlotFault.{SlotFault}
+use Rattle.slot_table.specs.declared.fault.SlotFault.TheVariants.{NoFree, Illegal, Held}
+use Rattle.slot_table.specs.Entry.{Entry}
+use Rattle.slot_table.specs.Desk.{Desk}
+use Rattle.slot_table.specs.Reading.{slot_of, free_slot, is_placed}
+use Rattle.slot_table.specs.Changes.{entered, cleared, changed}
+
+-- ---- OPC_LOCO_ADR: an address is loaded
+
+-- an address that nobody has asked anything for (own): idle, 128 steps, stopped, forward, functions off
+abbrev pub new_entry : Entry
+new_entry = record { state = Idle; kind = 3; spd = 0; dirf = 0; snd = 0; ss2 = 0; id1 = 0; id2 = 0 }
+
+abbrev pub take_answer_at : Option ℕ → Option ℕ → Result ℕ SlotFault
+take_answer_at (Some n) free = Ok n
+take_answer_at None (Some n) = Ok n
+take_answer_at None None = Err NoFree
+
+-- the slot that holds the address, or else the least free one
+abbrev pub take_answer : Desk → ℕ → Result ℕ SlotFault
+take_answer desk a = if is_address a then take_answer_at (slot_of desk a) (free_slot desk) else Err Illegal
+
+abbrev pub take_at : Desk → ℕ → Option ℕ → Option ℕ → Desk
+take_at desk a (Some n) free = desk
+take_at desk a None (Some n) = entered desk n a new_entry
+take_at desk a None None = desk
+
+abbrev pub after_take : Desk → ℕ → Desk
+after_take desk a = if is_address a then take_at desk a (slot_of desk a) (free_slot desk) else desk
+
+-- ---- OPC_LOCO_SPD, OPC_LOCO_DIRF, OPC_LOCO_SND: one field of a slot that is not free
+
+abbrev pub after_speed : Desk → ℕ → ℕ → Desk
+after_speed desk n spd = changed desk n (λ e. record e { spd = spd })
+
+-- DIRF keeps its low six bits (own)
+abbrev pub after_dirf : Desk → ℕ → ℕ → Desk
+after_dirf desk n dirf = changed desk n (λ e. record e { dirf = dirf % 64 })
+
+-- SND keeps its low four bits (own)
+abbrev pub after_snd : Desk → ℕ → ℕ → Desk
+after_snd desk n snd = changed desk n (λ e. record e { snd = snd % 16 })
+
+-- ---- OPC_SLOT_STAT1: state and decoder type of a slot that is not free
+
+abbrev pub can_stat : Desk → ℕ → ℕ → Bool
+can_stat desk n stat = is_placed desk n && is_stat stat
+
+-- the state free clears the slot and a mark on it; any other leaves the mark
+abbrev pub after_stat : Desk → ℕ → ℕ → Desk
+after_stat desk n stat =
+    if can_stat desk n stat then
+    (if is_held (state_of stat) then changed desk n (λ e. record e { state = state_of stat; kind = kind_of stat }) else cleared desk n)
+    else desk
+
+-- ---- OPC_WR_SL_DATA: a whole slot
+
+-- the entry that the bytes ask for; TRK is ignored
+abbrev pub entry_from : SlotFields → Entry
+entry_from f = record { state = state_of f.stat; kind = kind_of f.stat; spd = f.spd; dirf = f.dirf % 64; snd = f.snd % 16; ss2 = f.ss2; id1 = f.id1; id2 = f.id2 }
+
+-- whether the address stands in another slot
+abbrev pub is_elsewhere : Option ℕ → ℕ → Bool
+is_elsewhere None n = false
+is_elsewhere (Some m) n = not (m == n)
+
+-- a legal slot and STAT1, and an address that is legal and stands in no other slot; with the state free any address
+abbrev pub write_answer : Desk → SlotFields → Result (Unit {0}) SlotFault
+write_answer desk f =
+    if is_slot f.slot && is_stat f.stat && (not (is_held (state_of f.stat)) || is_address (address_of f)) then
+    (if is_held (state_of f.stat) && is_elsewhere (slot_of desk (address_of f)) f.slot then Err Held else Ok tt)
+    else Err Illegal
+
+-- the slot is cleared with a mark on it, and gets what the bytes ask for
+abbrev pub after_write : Desk → SlotFields → Desk
+after_write desk f =
+    if is_ok (write_answer desk f) then
+    (let bare = cleared desk f.slot in if is_held (state_of f.stat) then entered bare f.slot (address_of f) (entry_from f) else bare)
+    else desk
