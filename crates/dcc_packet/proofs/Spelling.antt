@@ -1,6 +1,6 @@
 -- The relation `Spells` and the function `instruction_of` say the same.
-use Rattle.std.proofs.Common.{◌≡◌, ◌⊎◌, ◌↔◌, ℕ, ◌+◌, ◌-◌, ◌*◌, ◌/◌, ◌%◌, ◌^◌, ◌<◌, ◌≤◌, ◌==◌, ◌&&◌, nat_le, nat_lt, Bool, true, false, if◌then◌else◌, List, [], ◌∷◌, ◌++◌, length, Option, Some, None, bit_xor, IsTrue, refl, sym, ap, ap₂, subst, ◌∙◌, arith, inl, inr, eq-eqb, ne_eqb, eqb-true, suc, zero}
-use Rattle.std.proofs.lemmas.Bool.{and_parts, and_from, and_left, cases_Bool, cases_eq, eqb-false, lt-leb, le-leb, lt-ltb, ltb-true, leb-true}
+use Rattle.std.proofs.Common.{◌≡◌, IsTrue, ◌⊎◌, ◌↔◌, ℕ, ◌+◌, ◌-◌, ◌*◌, ◌/◌, ◌%◌, ◌<◌, ◌≤◌, ◌==◌, ◌&&◌, nat_le, nat_lt, Bool, true, false, if◌then◌else◌, List, [], ◌∷◌, Option, Some, None, bit_xor, refl, sym, ap, ap₂, subst, ◌∙◌, arith, inl, inr, eq-eqb, ne_eqb, eqb-true}
+use Rattle.std.proofs.lemmas.Bool.{and_parts, and_from, cases_eq, lt-leb, le-leb, lt-ltb, ltb-true, leb-true}
 use Rattle.std.specs.List.{list_all}
 use Rattle.dcc_packet.proofs.Bytes.{packet-with_check}
 use Rattle.std.specs.Int.Bits.{xor_assoc, xor_self, xor_zero_l, xor_zero_r}
@@ -8,7 +8,7 @@ use Rattle.dcc_packet.specs.declared.address.Address.{Address}
 use Rattle.dcc_packet.specs.declared.address.Address.TheVariants.{Short, Long}
 use Rattle.dcc_packet.specs.declared.instr.Instr.{Instr}
 use Rattle.dcc_packet.specs.declared.instr.Instr.TheVariants.{Idle, Reset, StopAll, Speed, Speed128, GroupOne, GroupTwo, Accessory}
-use Rattle.dcc_packet.specs.Address.{is_legal, address_bytes}
+use Rattle.dcc_packet.specs.Address.{is_legal}
 use Rattle.dcc_packet.specs.Module.{is_module}
 use Rattle.dcc_packet.specs.Packet.{has_packet_length, xor_of, is_checked, is_packet}
 use Rattle.dcc_packet.specs.Spells.{bit, with_check, Tells, Spells}
@@ -319,3 +319,11 @@ sound bytes i = by_test (is_packet bytes && is_checked bytes) refl where
 -- what an answer that is the instruction says
 pub exact : (bytes : List ℕ) (answer : Option Instr) → answer ≡ instruction_of bytes → (i : Instr) → (answer ≡ Some i) ↔ Spells bytes i
 exact bytes answer is i = (λ e. sound bytes i (sym is ∙ e), λ s. is ∙ complete bytes i s)
+
+-- bytes that spell an instruction are a packet with a right check
+pub spelled_checked : (bytes : List ℕ) (i : Instr) → Spells bytes i → IsTrue (is_packet bytes) × IsTrue (is_checked bytes)
+unfolding instruction_of
+spelled_checked bytes i s = by_test (is_packet bytes && is_checked bytes) refl (complete bytes i s) where
+  by_test : (t : Bool) → (is_packet bytes && is_checked bytes) ≡ t → (if t then form_of bytes else None) ≡ Some i → IsTrue (is_packet bytes) × IsTrue (is_checked bytes)
+  by_test false t e = absurd (not_none i e)
+  by_test true t e = let parts = and_parts (is_packet bytes) (is_checked bytes) t in (parts.0, parts.1)

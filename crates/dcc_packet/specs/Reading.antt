@@ -1,4 +1,5 @@
--- The instruction of a packet as a function of its bytes; that it is the relation `Spells` is a law of this crate.
+-- The instruction of a packet as a function of its bytes, for those who fold over packets. What it means is `Spells`: that
+-- the two agree is a law of this crate (`spellings_are_read`).
 use Rattle.std.specs.Prelude.{ℕ, ◌+◌, ◌-◌, ◌*◌, ◌/◌, ◌%◌, ◌==◌, ◌&&◌, nat_le, Bool, if◌then◌else◌, List, [], ◌∷◌, Option, Some, None}
 use Rattle.dcc_packet.specs.declared.address.Address.{Address}
 use Rattle.dcc_packet.specs.declared.address.Address.TheVariants.{Short, Long}

@@ -1,5 +1,5 @@
 -- The packets that a command station sends, and the instruction that each is.
-use Rattle.std.specs.Prelude.{ℕ, ◌+◌, ◌-◌, ◌*◌, ◌/◌, ◌%◌, Bool, List, [], ◌∷◌, ◌++◌}
+use Rattle.std.specs.Prelude.{ℕ, ◌+◌, ◌-◌, ◌*◌, ◌/◌, ◌%◌, Bool, List, [], ◌∷◌}
 use Rattle.dcc_packet.specs.declared.address.Address.{Address}
 use Rattle.dcc_packet.specs.declared.steps.Steps.{Steps}
 use Rattle.dcc_packet.specs.declared.steps.Steps.TheVariants.{S14, S28, S128}
@@ -7,10 +7,9 @@ use Rattle.dcc_packet.specs.declared.steps.Motion.{Motion}
 use Rattle.dcc_packet.specs.declared.steps.Motion.TheVariants.{Stop, Emergency, Step}
 use Rattle.dcc_packet.specs.declared.instr.Instr.{Instr}
 use Rattle.dcc_packet.specs.declared.instr.Instr.TheVariants.{Speed, Speed128, GroupOne, GroupTwo, Accessory}
-use Rattle.dcc_packet.specs.Address.{address_bytes}
-use Rattle.dcc_packet.specs.Spells.{bit, with_check}
+use Rattle.dcc_packet.specs.Spells.{bit, with_check, to_decoder}
 
--- S-9.2.1, 2.3.2 and 2.3.3 with 14 steps: 0 stop, 1 emergency stop, n + 1 step n
+-- S-9.2.1, 2.3.2 with 128 steps and 2.3.3 with 14: 0 stop, 1 emergency stop, n + 1 step n
 abbrev pub code_of : Motion → ℕ
 code_of Stop = 0
 code_of Emergency = 1
@@ -29,9 +28,6 @@ low_14 motion f0 = 16 * bit f0 + code_of motion
 abbrev pub low_28 : Motion → ℕ
 low_28 motion = 16 * (code_28_of motion % 2) + code_28_of motion / 2
 
-abbrev pub to_decoder : Address → List ℕ → List ℕ
-to_decoder address instruction = with_check (address_bytes address ++ instruction)
-
 -- speed and direction, forward as 1
 abbrev pub speed_instr : Address → Steps → Motion → Bool → Bool → Instr
 speed_instr address S14 motion forward f0 = Speed address forward (low_14 motion f0)
@@ -41,7 +37,7 @@ speed_instr address S128 motion forward f0 = Speed128 address forward (code_of m
 abbrev pub speed_bytes : Address → Steps → Motion → Bool → Bool → List ℕ
 speed_bytes address S14 motion forward f0 = to_decoder address ((64 + 32 * bit forward + low_14 motion f0) ∷ [])
 speed_bytes address S28 motion forward f0 = to_decoder address ((64 + 32 * bit forward + low_28 motion) ∷ [])
-speed_bytes address S128 motion forward f0 = to_decoder address (63 ∷ (128 * bit forward + code_of motion) ∷ [])
+speed_bytes address S128 motion forward f0 = to_decoder address (0x3F ∷ (128 * bit forward + code_of motion) ∷ [])
 
 -- F0, F4, F3, F2, F1, where bit k of the functions is Fk
 abbrev pub group_one_bits : ℕ → ℕ
@@ -67,6 +63,7 @@ group_two_bytes address functions = to_decoder address ((176 + group_two_bits fu
 abbrev pub module_of : ℕ → ℕ
 module_of number = number / 4 + 1
 
+-- the output of a switch, closed or thrown, on or off
 abbrev pub accessory_instr : ℕ → Bool → Bool → Instr
 accessory_instr number closed on = Accessory (module_of number) (number % 4) closed on
 
@@ -74,8 +71,10 @@ abbrev pub accessory_bytes : ℕ → Bool → Bool → List ℕ
 accessory_bytes number closed on =
     with_check ((128 + module_of number % 64) ∷ (128 + 16 * (7 - module_of number / 64) + 8 * bit on + 2 * (number % 4) + bit closed) ∷ [])
 
+-- S-9.2, idle packet
 abbrev pub idle_bytes : List ℕ
 idle_bytes = 0xFF ∷ 0x00 ∷ 0xFF ∷ []
 
+-- S-9.2, broadcast stop packet with D 0, C 1 and S 1
 abbrev pub stop_all_bytes : List ℕ
 stop_all_bytes = 0x00 ∷ 0x51 ∷ 0x51 ∷ []

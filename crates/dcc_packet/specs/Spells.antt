@@ -15,22 +15,25 @@ bit b = if b then 1 else 0
 abbrev pub with_check : List ℕ → List ℕ
 with_check bytes = bytes ++ xor_of bytes ∷ []
 
--- S-9.2.1, 2.3: the bytes are this instruction for this locomotive decoder
+-- S-9.2.1, 2.3: an address, an instruction and the check
+abbrev pub to_decoder : Address → List ℕ → List ℕ
+to_decoder address instruction = with_check (address_bytes address ++ instruction)
+
 abbrev pub Tells : List ℕ → Address → List ℕ → Type 0
-Tells bytes address instruction = IsTrue (is_legal address) × (bytes ≡ with_check (address_bytes address ++ instruction))
+Tells bytes address instruction = IsTrue (is_legal address) × (bytes ≡ to_decoder address instruction)
 
 -- the listed forms; no other bytes spell anything
 abbrev pub Spells : List ℕ → Instr → Type 0
 -- S-9.2, idle packet: 11111111 00000000
-Spells bytes Idle = bytes ≡ with_check (255 ∷ 0 ∷ [])
+Spells bytes Idle = bytes ≡ with_check (0xFF ∷ 0x00 ∷ [])
 -- S-9.2, reset packet: 00000000 00000000
-Spells bytes Reset = bytes ≡ with_check (0 ∷ 0 ∷ [])
--- S-9.2, broadcast stop packet: 00000000 01DC000S, whatever D and C are
-Spells bytes (StopAll emergency) = (d c : Bool) × (bytes ≡ with_check (0 ∷ (64 + 32 * bit d + 16 * bit c + bit emergency) ∷ []))
+Spells bytes Reset = bytes ≡ with_check (0x00 ∷ 0x00 ∷ [])
+-- S-9.2, broadcast stop packet: 00000000 01DC000S, whatever D and C are (own)
+Spells bytes (StopAll emergency) = (d c : Bool) × (bytes ≡ with_check (0x00 ∷ (64 + 32 * bit d + 16 * bit c + bit emergency) ∷ []))
 -- S-9.2.1, 2.3.3, speed and direction: 01DCSSSS
 Spells bytes (Speed address d low) = (low < 32) × Tells bytes address ((64 + 32 * bit d + low) ∷ [])
 -- S-9.2.1, 2.3.2, 128 speed steps: 00111111 DSSSSSSS
-Spells bytes (Speed128 address d s) = (s < 128) × Tells bytes address (63 ∷ (128 * bit d + s) ∷ [])
+Spells bytes (Speed128 address d s) = (s < 128) × Tells bytes address (0x3F ∷ (128 * bit d + s) ∷ [])
 -- S-9.2.1, 2.3.4, function group one: 100DDDDD
 Spells bytes (GroupOne address bits) = (bits < 32) × Tells bytes address ((128 + bits) ∷ [])
 -- S-9.2.1, 2.3.5, function group two: 1011DDDD

@@ -32,7 +32,7 @@ is_motion S128 (Step S128 n) = nat_le 1 n && nat_le n 126
 is_motion _ (Step _ n) = false
 
 -- S-9.2.1, what a decoder makes of the number on the track. 2.3.3 with 28 steps, SSSSC: 0 and 1 stop, 2 and 3 emergency
--- stop, n + 3 step n. 2.3.2 and 2.3.3 with 14 steps: 0 stop, 1 emergency stop, n + 1 step n.
+-- stop, n + 3 step n. 2.3.2 with 128 steps and 2.3.3 with 14: 0 stop, 1 emergency stop, n + 1 step n.
 abbrev pub motion_told : Steps → ℕ → Motion
 motion_told S28 code = if nat_lt code 2 then Stop else (if nat_lt code 4 then Emergency else Step S28 (code - 3))
 motion_told steps code = if code == 0 then Stop else (if code == 1 then Emergency else Step steps (code - 1))

@@ -7,6 +7,7 @@ ghost use Rattle.dcc_packet.specs.declared.steps.Motion.{Motion};
 ghost use Rattle.dcc_packet.specs.declared.steps.Steps.{Steps};
 ghost use Rattle.dcc_packet.specs.declared.steps.Steps.TheVariants.{S14, S28, S128};
 ghost use Rattle.dcc_packet.specs.Address.{is_legal};
+ghost use Rattle.dcc_packet.specs.Packet.{is_checked, IsPacket};
 ghost use Rattle.dcc_packet.specs.Reading.{instruction_of};
 ghost use Rattle.dcc_packet.specs.Sent.{code_of, low_14, low_28, speed_instr, speed_bytes, group_one_instr, group_one_bytes, group_two_instr, group_two_bytes, accessory_instr, accessory_bytes, idle_bytes, stop_all_bytes};
 ghost use Rattle.dcc_packet.specs.Spells.{bit, Spells};
@@ -17,9 +18,10 @@ pub fn one_spelling()
     ensures { (bytes : List ℕ) (i j : Instr) → Spells bytes i → Spells bytes j → i ≡ j }
 {}
 
-/// The instruction of bytes is the one that they spell.
+/// The instruction of bytes is the one that they spell, and bytes that spell one are a packet with a right check.
 pub fn spellings_are_read()
-    ensures { (bytes : List ℕ) (i : Instr) → (instruction_of bytes ≡ Some i) ↔ Spells bytes i }
+    ensures packet { (bytes : List ℕ) (i : Instr) → Spells bytes i → IsPacket bytes × IsTrue (is_checked bytes) }
+    ensures read { (bytes : List ℕ) (i : Instr) → (instruction_of bytes ≡ Some i) ↔ Spells bytes i }
 {}
 
 /// The packets that a command station sends spell their instructions, whatever it sends them for.

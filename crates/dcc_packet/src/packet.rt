@@ -1,4 +1,4 @@
-//! A packet.
+//! The bytes of a packet.
 ghost use Rattle.std.specs.Prelude.{◌≡◌, ℕ, ◌≤◌, List, length, Some, None, if◌then◌else◌};
 ghost use Rattle.dcc_packet.specs.Packet.{has_packet_length, is_checked, xor_of, IsPacket};
 ghost use Rattle.dcc_packet.specs.Spells.{with_check};
@@ -7,9 +7,10 @@ use arrayvec::ArrayVec;
 use std::marker::Model;
 
 /// The most bytes of a packet.
-pub const MAX_LEN: usize = 6;
+pub(crate) const MAX_LEN: usize = 6;
 
-/// The bytes of a packet, 3 to 6, whether their check is right or wrong.
+/// The bytes of a packet of the track, 3 to 6, the last of them the error detection byte (S-9.2, general packet format),
+/// whether that is right or wrong.
 #[derive(Clone, Debug, Drop, PartialEq, Eq)]
 pub struct Packet {
     bytes: ArrayVec<u8, MAX_LEN>,
@@ -26,7 +27,8 @@ impl Model for Packet {
 }
 
 impl Packet {
-    /// The packet of these bytes, if they are as many as a packet has.
+    /// The packet of these bytes, the check last, or `None` where they are fewer than 3 or more than 6.
+    #[inline]
     pub fn of(bytes: &[u8]) -> Option<Packet>
         ensures { result ≡ (if has_packet_length bytes.now then Some bytes.now else None) }
     {
@@ -42,7 +44,7 @@ impl Packet {
         }
     }
 
-    /// The packet of these bytes and their check.
+    /// The packet of 2 to 5 bytes and their check.
     pub(crate) fn sealed(body: &[u8]) -> Packet
         requires some { 2 ≤ length body.now }
         requires room { length body.now ≤ 5 }
@@ -57,6 +59,7 @@ impl Packet {
     }
 
     /// The bytes, the check last.
+    #[inline]
     pub fn bytes(&self) -> &[u8]
         ensures value { result.now ≡ self.now }
         ensures form { IsPacket result.now }
@@ -64,11 +67,12 @@ impl Packet {
         self.bytes.as_slice()
     }
 
-    /// Whether the bytes together give 0.
+    /// Whether the check is right: the exclusive or of all bytes is 0.
+    #[inline]
     pub fn is_checked(&self) -> bool
         ensures { result ≡ is_checked self.now }
     {
-        check_of(self.bytes.as_slice()) == 0
+        check_of(self.bytes()) == 0
     }
 }
 

@@ -9,7 +9,8 @@ use crate::instr::Instr;
 use crate::module::Module;
 use crate::packet::Packet;
 
-/// The instruction of a packet, or `None` where its check is wrong or it has no listed form.
+/// The instruction of a packet, or `None` where its check is wrong or its form is none of those of [`Instr`].
+#[inline]
 #[tactic(auto, unfolding(crate::specs::Reading::instruction_of))]
 pub fn read(packet: &Packet) -> Option<Instr>
     ensures value { result ≡ instruction_of packet.now }

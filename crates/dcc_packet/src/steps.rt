@@ -5,8 +5,11 @@ ghost use Rattle.dcc_packet.specs.Steps.{steps_of_kind, motion_of, is_motion};
 /// How many steps a decoder has between standing and full speed.
 #[derive(Clone, Copy, Debug, PartialEq, Eq)]
 pub enum Steps {
+    /// 14 steps, in four bits beside F0.
     S14,
+    /// 28 steps, in five bits.
     S28,
+    /// 126 steps in seven bits, which the standards call 128.
     S128,
 }
 

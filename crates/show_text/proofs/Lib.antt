@@ -4,3 +4,4 @@ pub mod Reading
 pub mod Sequences
 pub mod Examples
 pub mod Texts
+pub mod OnLines

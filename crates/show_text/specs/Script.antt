@@ -1,8 +1,8 @@
 -- What a script says. Each part is read from left to right, and the first fault decides.
-use Rattle.std.specs.Prelude.{ℕ, ◌+◌, ◌≡◌, ◌≢◌, List, [], ◌∷◌, Option, Some, None, Result, Ok, Err, nat_eq, nat_lt, if◌then◌else◌, length, codes}
+use Rattle.std.specs.Prelude.{ℕ, ◌+◌, ◌≡◌, ◌≢◌, Bool, IsTrue, List, [], ◌∷◌, Option, Some, None, Result, Ok, Err, nat_eq, nat_lt, if◌then◌else◌, length, codes}
 use Rattle.std.specs.Str.{bytes_eq}
 use Rattle.std.specs.Str.Lines.{lines}
-use Rattle.std.specs.List.{starts_with}
+use Rattle.std.specs.List.{starts_with, list_all}
 use Rattle.show_text.specs.declared.command.Command.{Command}
 use Rattle.show_text.specs.declared.command.Command.TheVariants.{Byte}
 use Rattle.show_text.specs.declared.command.Why.{Why}
@@ -83,6 +83,13 @@ commands_of lines n (line ∷ more) = followed_by (at_line n (line_commands line
 
 abbrev pub script_of : ℕ → List ℕ → Result (List Command) ScriptFault
 script_of count text = if nat_lt LONGEST_TEXT (length text) then Err (fault_at TooLong 0) else commands_of count 1 (lines text)
+
+-- each command names one of the lines
+abbrev pub is_on_line : ℕ → Command → Bool
+is_on_line lines (Byte line byte) = nat_lt line lines
+
+abbrev pub AreOnLines : ℕ → List Command → Type 0
+AreOnLines lines commands = IsTrue (list_all (is_on_line lines) commands)
 
 -- What a function answers that puts commands after the old ones: what reading gives, unless memory runs out.
 abbrev pub Adds : {Y : Type 0} → List Command → List Command → Result Y Why → Result (List Command) Why → Type 0

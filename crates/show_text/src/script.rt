@@ -2,7 +2,7 @@
 ghost use Rattle.std.specs.Prelude.{◌≡◌, ◌≢◌, IfOk, IfErr, Ok, Err, codes};
 ghost use Rattle.show_text.specs.declared.command.Why.TheVariants.{NoMemory};
 ghost use Rattle.show_text.specs.Words.{words_of};
-ghost use Rattle.show_text.specs.Script.{Adds, number_of, below, byte_command, bytes_of, line_of, command_of, line_commands, fault_at, script_of};
+ghost use Rattle.show_text.specs.Script.{Adds, AreOnLines, number_of, below, byte_command, bytes_of, line_of, command_of, line_commands, fault_at, script_of};
 
 use crate::command::{Command, ScriptFault, Why};
 use crate::cursors::{Lines, Words};
@@ -101,6 +101,7 @@ pub fn read_script(alloc: Global, text: &[u8], lines: u8) -> Result<Vec<Command>
     // The fault is the first of the text, unless memory ran out.
     ensures fault { IfErr result (λ e. e.why ≢ NoMemory → script_of lines text.now ≡ Err e) }
     ensures memory { IfErr result (λ e. e.why ≡ NoMemory → e.line ≡ 0) }
+    ensures lines { IfOk result (λ v. AreOnLines lines v.items) }
 {
     if text.len() > LONGEST_TEXT {
         return Err(fault_at(Why::TooLong, 0));

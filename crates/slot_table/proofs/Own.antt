@@ -1,21 +1,20 @@
 -- What a call makes of the rows of its own slots.
-use Rattle.std.proofs.Common.{◌≡◌, ◌≢◌, ℕ, ◌&&◌, ◌||◌, ◌%◌, not, Bool, true, false, if◌then◌else◌, Option, Some, None, IsSome, IsSomeAnd, Ok, Err, is_ok, is_some, refl, ap, sym, subst, ◌∙◌}
+use Rattle.std.proofs.Common.{◌≡◌, ◌≢◌, ℕ, ◌&&◌, ◌%◌, not, Bool, true, false, Option, Some, None, is_ok, is_some, refl, ap, sym, subst, ◌∙◌}
 use Rattle.std.proofs.lemmas.Bool.{and_parts, both_ways}
 use Rattle.std.specs.Ordering.{nat_cmp}
 use Rattle.std.specs.FinMap.{FinMap, get, insert, remove}
 use Rattle.ln_ops.specs.declared.row.Row.{Row}
 use Rattle.ln_ops.specs.declared.row.State.TheVariants.{Common, InUse}
-use Rattle.ln_ops.specs.declared.fields.SlotFields.{SlotFields}
+use Rattle.ln_ops.specs.Fields.{SlotBytes}
 use Rattle.ln_ops.specs.Slot.{is_held, is_slot, is_address, is_stat, state_of, kind_of, address_of, free_row}
-use Rattle.slot_table.specs.declared.fault.SlotFault.TheVariants.{Illegal, Held}
-use Rattle.slot_table.specs.Entry.{Entry, IsEntry, row_with}
+use Rattle.slot_table.specs.Entry.{Entry, row_with}
 use Rattle.slot_table.specs.Desk.{Desk, IsDesk}
 use Rattle.slot_table.specs.Reading.{row_of, row_at, entry_at, slot_of, free_slot, is_placed}
 use Rattle.slot_table.specs.Changes.{entered, cleared, changed}
-use Rattle.slot_table.specs.Writes.{after_take, new_entry, after_speed, after_dirf, after_snd, can_stat, after_stat, is_elsewhere, write_answer, entry_from, after_write}
+use Rattle.slot_table.specs.Writes.{after_take, new_entry, after_speed, after_dirf, after_snd, can_stat, after_stat, write_answer, entry_from, after_write}
 use Rattle.slot_table.specs.Moves.{after_null_move, after_dispatch_put, dispatch_get_at, after_dispatch_get, may_move, can_shift, after_shift}
-use Rattle.slot_table.specs.Laws.{Holds, OwnSlots, RowsAreLegal}
-use Rattle.slot_table.proofs.Maps.{same, insert_at, insert_off, remove_at}
+use Rattle.slot_table.specs.Laws.{Becomes, Holds, OwnSlots}
+use Rattle.slot_table.proofs.Maps.{insert_at, insert_off, remove_at}
 use Rattle.slot_table.proofs.Desks.{taken, changed-at, cleared-none}
 use Rattle.slot_table.proofs.Leaves.{the_entry}
 use Rattle.slot_table.proofs.Shown.{rows_are_legal}
@@ -58,19 +57,19 @@ module _ (desk : Desk) (is : IsDesk desk) where
         ),
       )
 
-  own-speed : (n spd : ℕ) → is_placed desk n ≡ true → (let row = row_of desk n in row_of (after_speed desk n spd) n ≡ record row { spd = spd })
+  own-speed : (n spd : ℕ) → is_placed desk n ≡ true → Becomes desk (after_speed desk n spd) n (λ row. record row { spd = spd })
   own-speed n spd some = let k = row-changed n (λ e. record e { spd = spd }) some in k.1.1.1 ∙ ap (λ (row : Row). record row { spd = spd }) (sym k.1.1.0)
 
-  own-dirf : (n dirf : ℕ) → is_placed desk n ≡ true → (let row = row_of desk n in row_of (after_dirf desk n dirf) n ≡ record row { dirf = dirf % 64 })
+  own-dirf : (n dirf : ℕ) → is_placed desk n ≡ true → Becomes desk (after_dirf desk n dirf) n (λ row. record row { dirf = dirf % 64 })
   own-dirf n dirf some = let k = row-changed n (λ e. record e { dirf = dirf % 64 }) some in k.1.1.1 ∙ ap (λ (row : Row). record row { dirf = dirf % 64 }) (sym k.1.1.0)
 
-  own-snd : (n snd : ℕ) → is_placed desk n ≡ true → (let row = row_of desk n in row_of (after_snd desk n snd) n ≡ record row { snd = snd % 16 })
+  own-snd : (n snd : ℕ) → is_placed desk n ≡ true → Becomes desk (after_snd desk n snd) n (λ row. record row { snd = snd % 16 })
   own-snd n snd some = let k = row-changed n (λ e. record e { snd = snd % 16 }) some in k.1.1.1 ∙ ap (λ (row : Row). record row { snd = snd % 16 }) (sym k.1.1.0)
 
-  own-null_move : (n : ℕ) → is_placed desk n ≡ true → (let row = row_of desk n in row_of (after_null_move desk n) n ≡ record row { state = InUse })
+  own-null_move : (n : ℕ) → is_placed desk n ≡ true → Becomes desk (after_null_move desk n) n (λ row. record row { state = InUse })
   own-null_move n some = let k = row-changed n (λ e. record e { state = InUse }) some in k.1.1.1 ∙ ap (λ (row : Row). record row { state = InUse }) (sym k.1.1.0)
 
-  own-stat : (n stat : ℕ) → can_stat desk n stat ≡ true → is_held (state_of stat) ≡ true → (let row = row_of desk n in row_of (after_stat desk n stat) n ≡ record row { state = state_of stat; kind = kind_of stat })
+  own-stat : (n stat : ℕ) → can_stat desk n stat ≡ true → is_held (state_of stat) ≡ true → Becomes desk (after_stat desk n stat) n (λ row. record row { state = state_of stat; kind = kind_of stat })
   own-stat n stat can held =
       let k = row-changed n (λ e. record e { state = state_of stat; kind = kind_of stat }) (and_parts (is_placed desk n) (is_stat stat) can).0 in
       rw (can, held) (k.1.1.1 ∙ ap (λ (row : Row). record row { state = state_of stat; kind = kind_of stat }) (sym k.1.1.0))
@@ -78,19 +77,19 @@ module _ (desk : Desk) (is : IsDesk desk) where
   own-stat_free : (n stat : ℕ) → can_stat desk n stat ≡ true → is_held (state_of stat) ≡ false → row_of (after_stat desk n stat) n ≡ free_row
   own-stat_free n stat can free = rw (can, free) (row_free (cleared desk n) n (cleared-none desk n))
 
-  own-dispatch_put : (n : ℕ) → is_placed desk n ≡ true → (let row = row_of desk n in row_of (after_dispatch_put desk n) n ≡ record row { state = Common })
+  own-dispatch_put : (n : ℕ) → is_placed desk n ≡ true → Becomes desk (after_dispatch_put desk n) n (λ row. record row { state = Common })
   own-dispatch_put n some =
       let k = row-changed n (λ e. record e { state = Common }) some in
       rw some (k.1.1.1 ∙ ap (λ (row : Row). record row { state = Common }) (sym k.1.1.0))
 
-  own-dispatch_get : (n : ℕ) → desk.mark ≡ Some n → (let row = row_of desk n in row_of (after_dispatch_get desk) n ≡ record row { state = InUse })
+  own-dispatch_get : (n : ℕ) → desk.mark ≡ Some n → Becomes desk (after_dispatch_get desk) n (λ row. record row { state = InUse })
   own-dispatch_get n mark = by_mark desk.mark mark
     where
-      by_mark : (o : Option ℕ) → o ≡ Some n → (let row = row_of desk n in row_of (dispatch_get_at desk o) n ≡ record row { state = InUse })
+      by_mark : (o : Option ℕ) → o ≡ Some n → Becomes desk (dispatch_get_at desk o) n (λ row. record row { state = InUse })
       by_mark None e = cc
       by_mark (Some m) e =
           let same : m ≡ n = cc in
-          subst (λ (k : ℕ). let row = row_of desk n in row_of (dispatch_get_at desk (Some k)) n ≡ record row { state = InUse }) (sym same) (own-null_move n (is.marked n mark))
+          subst (λ (k : ℕ). Becomes desk (dispatch_get_at desk (Some k)) n (λ row. record row { state = InUse })) (sym same) (own-null_move n (is.marked n mark))
 
   own-take_new : (a n : ℕ) → is_address a ≡ true → slot_of desk a ≡ None → free_slot desk ≡ Some n → row_of (after_take desk a) n ≡ row_with a new_entry
   own-take_new a n legal none free = ap (λ (d : Desk). row_of d n) (taken desk a n none free legal) ∙ row-entered desk n a new_entry
@@ -98,10 +97,10 @@ module _ (desk : Desk) (is : IsDesk desk) where
   own-take_held : (a n : ℕ) → is_address a ≡ true → Holds desk n a → after_take desk a ≡ desk
   own-take_held a n legal holds = let found : slot_of desk a ≡ Some n = ((rows_are_legal desk is).found n a).1 holds in rw (legal, found) refl
 
-  own-write : (f : SlotFields) → is_ok (write_answer desk f) ≡ true → is_held (state_of f.stat) ≡ true → row_of (after_write desk f) f.slot ≡ row_with (address_of f) (entry_from f)
+  own-write : (f : SlotBytes) → is_ok (write_answer desk f) ≡ true → is_held (state_of f.stat) ≡ true → row_of (after_write desk f) f.slot ≡ row_with (address_of f) (entry_from f)
   own-write f ok held = rw (ok, held) (row-entered (cleared desk f.slot) f.slot (address_of f) (entry_from f))
 
-  own-write_free : (f : SlotFields) → is_ok (write_answer desk f) ≡ true → is_held (state_of f.stat) ≡ false → row_of (after_write desk f) f.slot ≡ free_row
+  own-write_free : (f : SlotBytes) → is_ok (write_answer desk f) ≡ true → is_held (state_of f.stat) ≡ false → row_of (after_write desk f) f.slot ≡ free_row
   own-write_free f ok free = rw (ok, free) (row_free (cleared desk f.slot) f.slot (cleared-none desk f.slot))
 
   -- a slot that may move has a place, and goes to one that has none

@@ -1,11 +1,11 @@
 -- What the slots of a desk read as.
-use Rattle.std.proofs.Common.{◌≡◌, ◌↔◌, ℕ, ◌≤◌, Bool, true, false, Option, Some, None, IsSome, IsSomeAnd, refl, ap, sym, subst, ◌∙◌, arith}
+use Rattle.std.proofs.Common.{◌≡◌, ℕ, true, Option, Some, None, IsSome, IsSomeAnd, refl, ap}
 use Rattle.std.specs.Ordering.{nat_cmp}
 use Rattle.std.specs.FinMap.{FinMap, get}
-use Rattle.ln_ops.specs.Slot.{is_held, free_row}
+use Rattle.ln_ops.specs.Slot.{is_held}
 use Rattle.slot_table.specs.Entry.{Entry, IsAddress, IsEntry, IsRow, row_with}
 use Rattle.slot_table.specs.Desk.{Desk, IsDesk}
-use Rattle.slot_table.specs.Reading.{row_of, row_at, entry_at, slot_of, is_same}
+use Rattle.slot_table.specs.Reading.{row_of, row_at, entry_at, slot_of}
 use Rattle.slot_table.specs.Laws.{Holds, RowsAreLegal}
 use Rattle.slot_table.proofs.Legal.{legal_row, free_row-IsRow}
 use Rattle.slot_table.proofs.Desks.{slot_of-at, slot_of-none}

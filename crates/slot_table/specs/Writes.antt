@@ -2,7 +2,7 @@
 -- Each refusal is this project's own profile.
 use Rattle.std.specs.Prelude.{ℕ, ◌==◌, ◌&&◌, ◌||◌, ◌%◌, Bool, false, not, if◌then◌else◌, Option, Some, None, Result, Ok, Err, is_ok}
 use Rattle.ln_ops.specs.declared.row.State.TheVariants.{Idle}
-use Rattle.ln_ops.specs.declared.fields.SlotFields.{SlotFields}
+use Rattle.ln_ops.specs.Fields.{SlotBytes}
 use Rattle.ln_ops.specs.Slot.{is_held, is_slot, is_address, is_stat, state_of, kind_of, address_of}
 use Rattle.slot_table.specs.declared.fault.SlotFault.{SlotFault}
 use Rattle.slot_table.specs.declared.fault.SlotFault.TheVariants.{NoFree, Illegal, Held}
@@ -62,7 +62,7 @@ after_stat desk n stat =
 -- ---- OPC_WR_SL_DATA: a whole slot
 
 -- the entry that the bytes ask for; TRK is ignored
-abbrev pub entry_from : SlotFields → Entry
+abbrev pub entry_from : SlotBytes → Entry
 entry_from f = record { state = state_of f.stat; kind = kind_of f.stat; spd = f.spd; dirf = f.dirf % 64; snd = f.snd % 16; ss2 = f.ss2; id1 = f.id1; id2 = f.id2 }
 
 -- whether the address stands in another slot
@@ -71,14 +71,14 @@ is_elsewhere None n = false
 is_elsewhere (Some m) n = not (m == n)
 
 -- a legal slot and STAT1, and an address that is legal and stands in no other slot; with the state free any address
-abbrev pub write_answer : Desk → SlotFields → Result (Unit {0}) SlotFault
+abbrev pub write_answer : Desk → SlotBytes → Result (Unit {0}) SlotFault
 write_answer desk f =
     if is_slot f.slot && is_stat f.stat && (not (is_held (state_of f.stat)) || is_address (address_of f)) then
     (if is_held (state_of f.stat) && is_elsewhere (slot_of desk (address_of f)) f.slot then Err Held else Ok tt)
     else Err Illegal
 
 -- the slot is cleared with a mark on it, and gets what the bytes ask for
-abbrev pub after_write : Desk → SlotFields → Desk
+abbrev pub after_write : Desk → SlotBytes → Desk
 after_write desk f =
     if is_ok (write_answer desk f) then
     (let bare = cleared desk f.slot in if is_held (state_of f.stat) then entered bare f.slot (address_of f) (entry_from f) else bare)

@@ -1,0 +1,2 @@
+//! Configuration variables.
+#![tactic(auto)]

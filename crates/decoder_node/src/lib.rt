@@ -1,0 +1,2 @@
+//! Decoders.
+#![tactic(auto)]

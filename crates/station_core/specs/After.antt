@@ -1,0 +1,66 @@
+-- The desk after an operation.
+use Rattle.std.specs.Prelude.{ℕ, ◌==◌, if◌then◌else◌}
+use Rattle.ln_ops.specs.Slot.{address_with}
+use Rattle.ln_ops.specs.declared.op.Op.{Op}
+use Rattle.ln_ops.specs.declared.op.Op.TheVariants.{PowerOff, PowerOn, ForceIdle, Speed, Dirf, Snd, SwReq, SwAck, LongAck, SlotStat, Move, SlotRead, LocoAddr, SlotData, SlotWrite, Other}
+use Rattle.slot_table.specs.Desk.{Desk}
+use Rattle.slot_table.specs.Moves.{after_null_move, after_dispatch_put, after_dispatch_get, after_shift}
+use Rattle.slot_table.specs.Writes.{after_take, after_speed, after_dirf, after_snd, after_stat, after_write}
+use Rattle.station_core.specs.declared.power.Power.{Power}
+use Rattle.station_core.specs.declared.power.Power.TheVariants.{Off, Running, Paused}
+use Rattle.station_core.specs.Seen.{PoweredDesk}
+
+-- OPC_IDLE pauses a running track, and has no effect on another (own)
+abbrev pub paused : Power → Power
+paused Off = Off
+paused Running = Paused
+paused Paused = Paused
+
+-- OPC_MOVE_SLOTS: dispatch get, null move, dispatch put and move, tried in this order
+abbrev pub after_move : Desk → ℕ → ℕ → Desk
+after_move desk src dest =
+    if src == 0 then after_dispatch_get desk else
+    (if src == dest then after_null_move desk src else
+    (if dest == 0 then after_dispatch_put desk src else after_shift desk src dest))
+
+-- the slots after an operation
+abbrev pub desk_after : Desk → Op → Desk
+desk_after desk PowerOff = desk
+desk_after desk PowerOn = desk
+desk_after desk ForceIdle = desk
+desk_after desk (Speed slot spd) = after_speed desk slot spd
+desk_after desk (Dirf slot dirf) = after_dirf desk slot dirf
+desk_after desk (Snd slot snd) = after_snd desk slot snd
+desk_after desk (SwReq number closed on) = desk
+desk_after desk (SwAck number closed on) = desk
+desk_after desk (LongAck opc ack) = desk
+desk_after desk (SlotStat slot stat) = after_stat desk slot stat
+desk_after desk (Move src dest) = after_move desk src dest
+desk_after desk (SlotRead slot) = desk
+desk_after desk (LocoAddr high low) = after_take desk (address_with high low)
+desk_after desk (SlotData fields) = desk
+desk_after desk (SlotWrite fields) = after_write desk fields
+desk_after desk Other = desk
+
+-- the power after an operation
+abbrev pub power_after : Power → Op → Power
+power_after power PowerOff = Off
+power_after power PowerOn = Running
+power_after power ForceIdle = paused power
+power_after power (Speed slot spd) = power
+power_after power (Dirf slot dirf) = power
+power_after power (Snd slot snd) = power
+power_after power (SwReq number closed on) = power
+power_after power (SwAck number closed on) = power
+power_after power (LongAck opc ack) = power
+power_after power (SlotStat slot stat) = power
+power_after power (Move src dest) = power
+power_after power (SlotRead slot) = power
+power_after power (LocoAddr high low) = power
+power_after power (SlotData fields) = power
+power_after power (SlotWrite fields) = power
+power_after power Other = power
+
+-- the desk with its power after an operation
+abbrev pub after : PoweredDesk → Op → PoweredDesk
+after powered op = record { power = power_after powered.power op; desk = desk_after powered.desk op }

@@ -1,0 +1,4 @@
+pub mod After
+pub mod Answer
+pub mod Moved
+pub mod Seen

@@ -1,0 +1,401 @@
+//! Messages and replies of whole conversations, byte by byte.
+
+use crate::{Power, Station, StationFault};
+use ln_ops::to_msg;
+use std::process::Abort;
+use std::test::Fail;
+
+// What a throttle sends, and what it is answered; nothing where the list is empty.
+type Conversation = &'static [(&'static [u8], &'static [u8])];
+
+// Address 3 is taken, the track gets power, and a null move puts slot 1 in use.
+const IN_USE: Conversation = &[
+    (
+        &[0xBF, 0x00, 0x03, 0x43],
+        &[
+            0xE7, 0x0E, 0x01, 0x23, 0x03, 0x00, 0x00, 0x06, 0x00, 0x00, 0x00, 0x00, 0x00, 0x31,
+        ],
+    ),
+    (&[0x83, 0x7C], &[]),
+    (
+        &[0xBA, 0x01, 0x01, 0x45],
+        &[
+            0xE7, 0x0E, 0x01, 0x33, 0x03, 0x00, 0x00, 0x07, 0x00, 0x00, 0x00, 0x00, 0x00, 0x20,
+        ],
+    ),
+];
+
+// On a new station.
+const AT_FIRST: [(&str, Conversation); 6] = [
+    (
+        "addresses 10239, 10240 and 0",
+        &[
+            (
+                &[0xBF, 0x4F, 0x7F, 0x70],
+                &[
+                    0xE7, 0x0E, 0x01, 0x23, 0x7F, 0x00, 0x00, 0x06, 0x00, 0x4F, 0x00, 0x00, 0x00,
+                    0x02,
+                ],
+            ),
+            (&[0xBF, 0x50, 0x00, 0x10], &[0xB4, 0x3F, 0x00, 0x74]),
+            (&[0xBF, 0x00, 0x00, 0x40], &[0xB4, 0x3F, 0x00, 0x74]),
+        ],
+    ),
+    (
+        "address 1234",
+        &[(
+            &[0xBF, 0x09, 0x52, 0x1B],
+            &[
+                0xE7, 0x0E, 0x01, 0x23, 0x52, 0x00, 0x00, 0x06, 0x00, 0x09, 0x00, 0x00, 0x00, 0x69,
+            ],
+        )],
+    ),
+    (
+        "an opcode in mid-message",
+        &[
+            (&[0xA0, 0x01, 0x83, 0x7C], &[]),
+            (
+                &[0xBB, 0x01, 0x00, 0x45],
+                &[
+                    0xE7, 0x0E, 0x01, 0x00, 0x00, 0x00, 0x00, 0x07, 0x00, 0x00, 0x00, 0x00, 0x00,
+                    0x10,
+                ],
+            ),
+        ],
+    ),
+    (
+        "a count below 3",
+        &[
+            (&[0xE7, 0x02, 0x83, 0x7C], &[]),
+            (
+                &[0xBB, 0x01, 0x00, 0x45],
+                &[
+                    0xE7, 0x0E, 0x01, 0x00, 0x00, 0x00, 0x00, 0x07, 0x00, 0x00, 0x00, 0x00, 0x00,
+                    0x10,
+                ],
+            ),
+        ],
+    ),
+    (
+        "slot reads",
+        &[
+            (&[0xBB, 0x7F, 0x00, 0x3B], &[0xB4, 0x3B, 0x00, 0x70]),
+            (
+                &[0xBB, 0x05, 0x00, 0x41],
+                &[
+                    0xE7, 0x0E, 0x05, 0x00, 0x00, 0x00, 0x00, 0x06, 0x00, 0x00, 0x00, 0x00, 0x00,
+                    0x15,
+                ],
+            ),
+        ],
+    ),
+    (
+        "messages that a throttle does not send",
+        &[
+            (
+                &[
+                    0xE7, 0x0E, 0x01, 0x33, 0x03, 0x00, 0x00, 0x07, 0x00, 0x00, 0x00, 0x00, 0x00,
+                    0x20,
+                ],
+                &[],
+            ),
+            (&[0xB4, 0x3F, 0x00, 0x74], &[]),
+            (&[0x81, 0x7E], &[]),
+            (
+                &[0xBB, 0x05, 0x00, 0x41],
+                &[
+                    0xE7, 0x0E, 0x05, 0x00, 0x00, 0x00, 0x00, 0x06, 0x00, 0x00, 0x00, 0x00, 0x00,
+                    0x15,
+                ],
+            ),
+        ],
+    ),
+];
+
+// With slot 1 in use.
+const WITH_A_LOCOMOTIVE: [(&str, Conversation); 8] = [
+    (
+        "a wrong check",
+        &[
+            (&[0xA0, 0x01, 0x40, 0x1F], &[]),
+            (
+                &[0xBB, 0x01, 0x00, 0x45],
+                &[
+                    0xE7, 0x0E, 0x01, 0x33, 0x03, 0x00, 0x00, 0x07, 0x00, 0x00, 0x00, 0x00, 0x00,
+                    0x20,
+                ],
+            ),
+            (&[0xA0, 0x01, 0x40, 0x1E], &[]),
+            (
+                &[0xBB, 0x01, 0x00, 0x45],
+                &[
+                    0xE7, 0x0E, 0x01, 0x33, 0x03, 0x40, 0x00, 0x07, 0x00, 0x00, 0x00, 0x00, 0x00,
+                    0x60,
+                ],
+            ),
+        ],
+    ),
+    (
+        "dispatch put and get",
+        &[
+            (&[0xBA, 0x00, 0x00, 0x45], &[0xB4, 0x3A, 0x00, 0x71]),
+            (
+                &[0xBA, 0x01, 0x00, 0x44],
+                &[
+                    0xE7, 0x0E, 0x01, 0x13, 0x03, 0x00, 0x00, 0x07, 0x00, 0x00, 0x00, 0x00, 0x00,
+                    0x00,
+                ],
+            ),
+            (
+                &[0xBA, 0x00, 0x00, 0x45],
+                &[
+                    0xE7, 0x0E, 0x01, 0x33, 0x03, 0x00, 0x00, 0x07, 0x00, 0x00, 0x00, 0x00, 0x00,
+                    0x20,
+                ],
+            ),
+            (&[0xBA, 0x00, 0x00, 0x45], &[0xB4, 0x3A, 0x00, 0x71]),
+        ],
+    ),
+    (
+        "a move takes the mark along",
+        &[
+            (
+                &[0xBA, 0x01, 0x00, 0x44],
+                &[
+                    0xE7, 0x0E, 0x01, 0x13, 0x03, 0x00, 0x00, 0x07, 0x00, 0x00, 0x00, 0x00, 0x00,
+                    0x00,
+                ],
+            ),
+            (
+                &[0xBA, 0x01, 0x05, 0x41],
+                &[
+                    0xE7, 0x0E, 0x05, 0x13, 0x03, 0x00, 0x00, 0x07, 0x00, 0x00, 0x00, 0x00, 0x00,
+                    0x04,
+                ],
+            ),
+            (
+                &[0xBA, 0x00, 0x00, 0x45],
+                &[
+                    0xE7, 0x0E, 0x05, 0x33, 0x03, 0x00, 0x00, 0x07, 0x00, 0x00, 0x00, 0x00, 0x00,
+                    0x24,
+                ],
+            ),
+            (&[0xBA, 0x05, 0x06, 0x46], &[0xB4, 0x3A, 0x00, 0x71]),
+        ],
+    ),
+    (
+        "whole-slot writes",
+        &[
+            (
+                &[
+                    0xEF, 0x0E, 0x02, 0x33, 0x03, 0x00, 0x00, 0x07, 0x00, 0x00, 0x00, 0x00, 0x00,
+                    0x2B,
+                ],
+                &[0xB4, 0x6F, 0x00, 0x24],
+            ),
+            (
+                &[
+                    0xEF, 0x0E, 0x02, 0x33, 0x04, 0x20, 0x10, 0x07, 0x00, 0x00, 0x05, 0x00, 0x00,
+                    0x19,
+                ],
+                &[0xB4, 0x6F, 0x7F, 0x5B],
+            ),
+            (
+                &[0xBB, 0x02, 0x00, 0x46],
+                &[
+                    0xE7, 0x0E, 0x02, 0x33, 0x04, 0x20, 0x10, 0x07, 0x00, 0x00, 0x05, 0x00, 0x00,
+                    0x11,
+                ],
+            ),
+        ],
+    ),
+    (
+        "a trinary status",
+        &[
+            (&[0xB5, 0x01, 0x31, 0x7A], &[]),
+            (
+                &[0xBB, 0x01, 0x00, 0x45],
+                &[
+                    0xE7, 0x0E, 0x01, 0x33, 0x03, 0x00, 0x00, 0x07, 0x00, 0x00, 0x00, 0x00, 0x00,
+                    0x20,
+                ],
+            ),
+        ],
+    ),
+    (
+        "a pause",
+        &[
+            (&[0x85, 0x7A], &[]),
+            (
+                &[0xBB, 0x01, 0x00, 0x45],
+                &[
+                    0xE7, 0x0E, 0x01, 0x33, 0x03, 0x00, 0x00, 0x05, 0x00, 0x00, 0x00, 0x00, 0x00,
+                    0x22,
+                ],
+            ),
+            (&[0x83, 0x7C], &[]),
+            (
+                &[0xBB, 0x01, 0x00, 0x45],
+                &[
+                    0xE7, 0x0E, 0x01, 0x33, 0x03, 0x00, 0x00, 0x07, 0x00, 0x00, 0x00, 0x00, 0x00,
+                    0x20,
+                ],
+            ),
+        ],
+    ),
+    (
+        "a freed slot refuses a status",
+        &[
+            (&[0xB5, 0x01, 0x00, 0x4B], &[]),
+            (
+                &[0xBB, 0x01, 0x00, 0x45],
+                &[
+                    0xE7, 0x0E, 0x01, 0x00, 0x00, 0x00, 0x00, 0x07, 0x00, 0x00, 0x00, 0x00, 0x00,
+                    0x10,
+                ],
+            ),
+            (&[0xB5, 0x01, 0x33, 0x78], &[]),
+            (
+                &[0xBB, 0x01, 0x00, 0x45],
+                &[
+                    0xE7, 0x0E, 0x01, 0x00, 0x00, 0x00, 0x00, 0x07, 0x00, 0x00, 0x00, 0x00, 0x00,
+                    0x10,
+                ],
+            ),
+        ],
+    ),
+    (
+        "a freed slot takes its mark away",
+        &[
+            (
+                &[0xBA, 0x01, 0x00, 0x44],
+                &[
+                    0xE7, 0x0E, 0x01, 0x13, 0x03, 0x00, 0x00, 0x07, 0x00, 0x00, 0x00, 0x00, 0x00,
+                    0x00,
+                ],
+            ),
+            (&[0xB5, 0x01, 0x00, 0x4B], &[]),
+            (&[0xBA, 0x00, 0x00, 0x45], &[0xB4, 0x3A, 0x00, 0x71]),
+        ],
+    ),
+];
+
+// Sends the bytes on line 0, and says whether they are answered by the reply, at the last byte.
+fn is_answered(rt: &impl Abort, station: &mut Station, bytes: &[u8], reply: &[u8]) -> bool {
+    let mut last = None;
+    for byte in bytes {
+        assert!(rt; last.is_none());
+        assert!(rt; station.lines() > 0);
+        if let Some(answer) = station.byte(0, *byte) {
+            last = Some(to_msg(&answer));
+        }
+    }
+    match last {
+        None => reply.is_empty(),
+        Some(message) => message.bytes() == reply,
+    }
+}
+
+#[test]
+fn answers_each_message(rt: HostRuntime) -> Result<(), Fail> {
+    for (name, conversation) in AT_FIRST {
+        let mut station = Station::new(1)?;
+        for (bytes, reply) in conversation {
+            assert!(rt;
+                is_answered(&rt, &mut station, bytes, reply),
+                "{name}: {bytes:?}"
+            );
+        }
+    }
+    for (name, conversation) in WITH_A_LOCOMOTIVE {
+        let mut station = Station::new(1)?;
+        for (bytes, reply) in IN_USE {
+            assert!(rt;
+                is_answered(&rt, &mut station, bytes, reply),
+                "{name}: {bytes:?}"
+            );
+        }
+        for (bytes, reply) in conversation {
+            assert!(rt;
+                is_answered(&rt, &mut station, bytes, reply),
+                "{name}: {bytes:?}"
+            );
+        }
+        assert_eq!(rt; station.mark(), None, "{name}");
+    }
+    Ok(())
+}
+
+#[test]
+fn has_one_to_eight_lines(rt: HostRuntime) -> Result<(), Fail> {
+    for lines in [0, 9] {
+        assert_eq!(rt; Station::new(lines).err(), Some(StationFault::BadLines));
+    }
+    let station = Station::new(8)?;
+    assert_eq!(rt; station.lines(), 8);
+    assert_eq!(rt; station.power(), Power::Off);
+    Ok(())
+}
+
+// The bytes of two messages interleave on two lines.
+#[test]
+fn lines_share_nothing(rt: HostRuntime) -> Result<(), Fail> {
+    let mut station = Station::new(2)?;
+    let bytes = [
+        (0, 0xBF),
+        (1, 0x83),
+        (0, 0x00),
+        (1, 0x7C),
+        (0, 0x03),
+        (0, 0x43),
+    ];
+    let mut replies = 0;
+    for (line, byte) in bytes {
+        assert!(rt; line < station.lines());
+        let Some(reply) = station.byte(line, byte) else {
+            continue;
+        };
+        replies = line + 1;
+        assert_eq!(rt;
+            to_msg(&reply).bytes(),
+            [
+                0xE7, 0x0E, 0x01, 0x23, 0x03, 0x00, 0x00, 0x07, 0x00, 0x00, 0x00, 0x00, 0x00, 0x30
+            ]
+            .as_slice()
+        );
+    }
+    assert_eq!(rt; replies, 1);
+    Ok(())
+}
+
+#[test]
+fn addresses_fill_the_slots_in_order(rt: HostRuntime) -> Result<(), Fail> {
+    let mut station = Station::new(1)?;
+    for address in 1..=119u8 {
+        let message = [0xBF, 0x00, address, 0x40 ^ address];
+        for byte in message {
+            assert!(rt; station.lines() > 0);
+            station.byte(0, byte);
+        }
+        assert_eq!(rt; station.row(address).address, u16::from(address));
+    }
+    assert!(rt;
+        is_answered(
+            &rt,
+            &mut station,
+            &[0xBF, 0x00, 0x78, 0x38],
+            &[0xB4, 0x3F, 0x00, 0x74]
+        )
+    );
+    assert!(rt;
+        is_answered(
+            &rt,
+            &mut station,
+            &[0xBF, 0x00, 0x01, 0x41],
+            &[
+                0xE7, 0x0E, 0x01, 0x23, 0x01, 0x00, 0x00, 0x06, 0x00, 0x00, 0x00, 0x00, 0x00, 0x33
+            ]
+        )
+    );
+    Ok(())
+}
