@@ -1,9 +1,13 @@
 -- The bits of a packet as one number, and what is left of its halves.
-use Rattle.std.proofs.Common.{◌≡◌, ℕ, ◌+◌, ◌-◌, ◌*◌, ◌/◌, ◌%◌, ◌^◌, ◌<◌, ◌≢◌, ◌==◌, Bool, true, false, Option, List, [], ◌∷◌, ◌++◌, length, map, get_or, take, replicate, suc, zero, Some, refl, ap, ap₂, subst, sym, ◌∙◌, arith, add-one, append-nil, append_assoc}
-use Rattle.std.proofs.lemmas.List.{length-append, length-map, take_more}
+use Rattle.std.proofs.Common.{◌≡◌, ℕ, ◌+◌, ◌-◌, ◌*◌, ◌/◌, ◌%◌, ◌^◌, ◌<◌, ◌≤◌, nat_lt, nat_le, ◌≢◌, ◌==◌, Bool, true, false, not, Option, List, [], ◌∷◌, ◌++◌, length, map, get_or, take, replicate, suc, zero, Some, refl, ap, ap₂, subst, sym, ◌∙◌, arith, add-one, append-nil, append_assoc}
+use Rattle.std.proofs.lemmas.Bool.{and_parts, leb-true}
+use Rattle.std.proofs.lemmas.List.{length-append, length-map, length-take-le, map-append, take_more}
 use Rattle.std.proofs.lemmas.Nat.{pow-add}
-use Rattle.std.proofs.lemmas.Nat.Bits.{bit_at-suc, bit_at_above}
+use Rattle.std.proofs.Math.Pow.{pow_mono}
+use Rattle.std.proofs.lemmas.Nat.Bits.{bit_at-suc}
 use Rattle.std.specs.Int.{bit_at}
+use Rattle.std.specs.List.{list_all}
+use Rattle.dcc_packet.specs.Packet.{IsPacket, has_packet_length}
 use Rattle.dcc_packet.specs.Wave.{bit_of, low_bits, bits_of, doubled, IsWave}
 use Rattle.half_bits.specs.Halves.{micros, halves_of}
 use Rattle.half_bits.specs.Remaining.{remaining}
@@ -16,24 +20,24 @@ low_bits-head (suc count) n =
     ∙ ap (λ (b : ℕ). (b == 1) ∷ low_bits (suc count) n) (sym (bit_at-suc n count))
 
 -- what is left of so many bits
-remaining-bits : (count n : ℕ) → remaining n (2 * count) ≡ map micros (doubled (low_bits count n))
+remaining-bits : (count n : ℕ) → remaining n (2 * count) ≡ map micros (doubled (map not (low_bits count n)))
 remaining-bits zero n = refl
 remaining-bits (suc count) n =
     let twice : 2 * suc count ≡ suc (suc (2 * count)) = omega arith in
     let first : suc (2 * count) / 2 ≡ count = omega arith in
     let second : 2 * count / 2 ≡ count = omega arith in
-    let b = bit_at n count == 1 in
+    let b = not (bit_at n count == 1) in
     ap (remaining n) twice
-    ∙ ap₂ (λ (i j : ℕ). micros (bit_at n i == 1) ∷ micros (bit_at n j == 1) ∷ remaining n (2 * count)) first second
+    ∙ ap₂ (λ (i j : ℕ). micros (not (bit_at n i == 1)) ∷ micros (not (bit_at n j == 1)) ∷ remaining n (2 * count)) first second
     ∙ ap (λ (hs : List ℕ). micros b ∷ micros b ∷ hs) (remaining-bits count n)
-    ∙ ap (λ (bs : List Bool). map micros (doubled bs)) (sym (low_bits-head count n))
+    ∙ ap (λ (bs : List Bool). map micros (doubled (map not bs))) (sym (low_bits-head count n))
 
 -- the first half, and what is left behind it
-pub remaining-first : (bits left : ℕ) → left ≢ 0 → remaining bits left ≡ micros (bit_at bits ((left - 1) / 2) == 1) ∷ remaining bits (left - 1)
-remaining-first bits zero h = absurd (h refl)
-remaining-first bits (suc left) h =
+pub remaining-first : (n left : ℕ) → left ≢ 0 → remaining n left ≡ micros (not (bit_at n ((left - 1) / 2) == 1)) ∷ remaining n (left - 1)
+remaining-first n zero h = absurd (h refl)
+remaining-first n (suc left) h =
     let less : left ≡ suc left - 1 = omega arith in
-    ap (λ (n : ℕ). micros (bit_at bits (n / 2) == 1) ∷ remaining bits n) less
+    ap (λ (k : ℕ). micros (not (bit_at n (k / 2) == 1)) ∷ remaining n k) less
 
 pub length-remaining : (bits left : ℕ) → length (remaining bits left) ≡ left
 length-remaining bits zero = refl
@@ -56,9 +60,28 @@ low_bits-append (suc more) count n b h =
     ∙ ap (λ (bs : List Bool). bs ++ (b % 2 == 1) ∷ []) (low_bits-append more count n (b / 2) (omega arith))
     ∙ append_assoc (low_bits count n) (low_bits more (b / 2)) ((b % 2 == 1) ∷ [])
 
+flips : (a b : ℕ) → a + b ≡ 1 → not (b == 1) ≡ (a == 1)
+flips zero zero h = absurd (omega arith)
+flips zero (suc zero) h = refl
+flips zero (suc (suc b)) h = absurd (omega arith)
+flips (suc zero) zero h = refl
+flips (suc (suc a)) zero h = absurd (omega arith)
+flips (suc a) (suc b) h = absurd (omega arith)
+
+-- two numbers that together have all bits have other bits
+low_bits-not : (count n m : ℕ) → n + m + 1 ≡ 2 ^ count → map not (low_bits count m) ≡ low_bits count n
+low_bits-not zero n m h = refl
+low_bits-not (suc count) n m h =
+    let power : 2 ^ suc count ≡ 2 * 2 ^ count = ap (λ (k : ℕ). 2 ^ k) (sym (add-one count)) ∙ pow-add 2 count 1 ∙ omega arith in
+    map-append not (low_bits count (m / 2)) ((m % 2 == 1) ∷ [])
+    ∙ ap₂ (λ (us : List Bool) (u : Bool). us ++ u ∷ []) (low_bits-not count (n / 2) (m / 2) (omega arith)) (flips (n % 2) (m % 2) (omega arith))
+
 -- a byte behind its zero
-low_bits-byte : (byte : ℕ) → byte < 256 → low_bits 9 byte ≡ false ∷ low_bits 8 byte
-low_bits-byte byte h = low_bits-head 8 byte ∙ ap (λ (b : ℕ). (b == 1) ∷ low_bits 8 byte) (bit_at_above byte 8 8 h (omega arith))
+low_bits-byte : (byte : ℕ) → byte < 256 → map not (low_bits 9 (256 + (255 - byte))) ≡ false ∷ low_bits 8 byte
+low_bits-byte byte h =
+    let front : 256 + (255 - byte) ≡ 1 * 2 ^ 8 + (255 - byte) = omega arith in
+    ap (λ (n : ℕ). map not (low_bits 9 n)) front ∙ ap (map not) (low_bits-append 8 1 1 (255 - byte) (omega arith))
+    ∙ ap (λ (bs : List Bool). false ∷ bs) (low_bits-not 8 byte (255 - byte) (omega arith))
 
 bits_of-append : (xs ys : List ℕ) → bits_of (xs ++ ys) ≡ bits_of xs ++ bits_of ys
 bits_of-append [] ys = refl
@@ -68,49 +91,65 @@ bits_of-append (x ∷ xs) ys = ap (λ (bs : List Bool). (false ∷ low_bits 8 x)
 abbrev ones : List Bool
 ones = replicate 14 true
 
--- the number has the bits of these bytes behind the preamble, and twice as many halves
-pub record Holds (bytes : List ℕ) (bits left : ℕ) : Type 0 where
+-- the set bits of the number are the zeros of these bytes behind the preamble, with so many halves
+pub record Holds (bytes : List ℕ) (zeros left : ℕ) : Type 0 where
   pub halves : left ≡ 28 + 18 * length bytes
-  pub bound : bits < 2 ^ (14 + 9 * length bytes)
-  pub image : low_bits (14 + 9 * length bytes) bits ≡ replicate 14 true ++ bits_of bytes
+  pub bound : zeros < 2 ^ (9 * length bytes)
+  pub image : map not (low_bits (14 + 9 * length bytes) zeros) ≡ ones ++ bits_of bytes
 
-pub holds_none : Holds [] 0x3FFF 28
+pub holds_none : Holds [] 0 28
 holds_none = record { halves = refl; bound = omega arith; image = refl }
 
-pub holds_more : (bytes : List ℕ) (bits left byte : ℕ) → byte < 256 → Holds bytes bits left → Holds (bytes ++ byte ∷ []) (bits * 512 + byte) (left + 18)
-holds_more bytes bits left byte h k =
+pub holds_more : (bytes : List ℕ) (zeros left byte : ℕ) → byte < 256 → Holds bytes zeros left → Holds (bytes ++ byte ∷ []) (zeros * 512 + (256 + (255 - byte))) (left + 18)
+holds_more bytes zeros left byte h k =
     let count = 14 + 9 * length bytes in
+    let next = zeros * 512 + (256 + (255 - byte)) in
     let more : length (bytes ++ byte ∷ []) ≡ length bytes + 1 = length-append bytes (byte ∷ []) in
-    let size : 14 + 9 * length (bytes ++ byte ∷ []) ≡ count + 9 = omega arith in
-    let swapped : count + 9 ≡ 9 + count = omega arith in
-    let power : 2 ^ (count + 9) ≡ 2 ^ count * 2 ^ 9 = pow-add 2 count 9 in
-    let bound : bits * 512 + byte < 2 ^ (count + 9) = omega (arith, k.bound) in
-    let image : low_bits (count + 9) (bits * 512 + byte) ≡ ones ++ bits_of (bytes ++ byte ∷ []) =
-    ap (λ (c : ℕ). low_bits c (bits * 512 + byte)) swapped ∙ low_bits-append 9 count bits byte (omega arith)
+    let size : 14 + 9 * length (bytes ++ byte ∷ []) ≡ 9 + count = omega arith in
+    let room : 9 * length (bytes ++ byte ∷ []) ≡ 9 * length bytes + 9 = omega arith in
+    let power : 2 ^ (9 * length bytes + 9) ≡ 2 ^ (9 * length bytes) * 2 ^ 9 = pow-add 2 (9 * length bytes) 9 in
+    let bound : next < 2 ^ (9 * length bytes + 9) = omega (arith, k.bound) in
+    let image : map not (low_bits (9 + count) next) ≡ ones ++ bits_of (bytes ++ byte ∷ []) =
+    ap (map not) (low_bits-append 9 count zeros (256 + (255 - byte)) (omega arith))
+    ∙ map-append not (low_bits count zeros) (low_bits 9 (256 + (255 - byte)))
     ∙ ap₂ (λ (us vs : List Bool). us ++ vs) k.image (low_bits-byte byte h)
     ∙ append_assoc ones (bits_of bytes) (false ∷ low_bits 8 byte)
     ∙ ap (λ (bs : List Bool). ones ++ bs) (ap (λ (bs : List Bool). bits_of bytes ++ bs) (sym (append-nil (false ∷ low_bits 8 byte))) ∙ sym (bits_of-append bytes (byte ∷ []))) in
     record {
       halves = omega (arith, k.halves);
-      bound = subst (λ (c : ℕ). bits * 512 + byte < 2 ^ c) (sym size) bound;
-      image = subst (λ (c : ℕ). low_bits c (bits * 512 + byte) ≡ ones ++ bits_of (bytes ++ byte ∷ [])) (sym size) image;
+      bound = subst (λ (c : ℕ). next < 2 ^ c) (sym room) bound;
+      image = subst (λ (c : ℕ). map not (low_bits c next) ≡ ones ++ bits_of (bytes ++ byte ∷ [])) (sym size) image;
     }
 
+-- before the last of six bytes the number is a small one
+pub small : (bytes : List ℕ) (index number left : ℕ) → length bytes ≤ 6 → index < length bytes → Holds (take index bytes) number left → number < 2 ^ 45
+small bytes index number left six h k =
+    let few : 9 * length (take index bytes) ≤ 45 = omega (arith, length-take-le index bytes (omega arith)) in
+    omega (arith, k.bound, pow_mono few)
+
+pub at_most_six : (packet : List ℕ) → IsPacket packet → length packet ≤ 6
+at_most_six packet h =
+    let p = and_parts (has_packet_length packet) (list_all (λ b. nat_lt b 256) packet) h in
+    leb-true (length packet) 6 (and_parts (nat_le 3 (length packet)) (nat_le (length packet) 6) p.0).1
+
 -- the next of these bytes
-pub holds_next : (bytes : List ℕ) (index bits left byte : ℕ) → index < length bytes → byte ≡ get_or bytes index 0 → byte < 256 → Holds (take index bytes) bits left → Holds (take (index + 1) bytes) (bits * 512 + byte) (left + 18)
-holds_next bytes index bits left byte h b l k =
-    subst (λ (bs : List ℕ). Holds bs (bits * 512 + byte) (left + 18)) (ap (λ (x : ℕ). take index bytes ++ x ∷ []) b ∙ sym (take_more bytes index 0 h)) (holds_more (take index bytes) bits left byte l k)
+pub holds_next : (bytes : List ℕ) (index zeros left others : ℕ) → index < length bytes → get_or bytes index 0 < 256 → others ≡ 255 - get_or bytes index 0 → Holds (take index bytes) zeros left → Holds (take (index + 1) bytes) (zeros * 512 + 256 + others) (left + 18)
+holds_next bytes index zeros left others h l e k =
+    let byte = get_or bytes index 0 in
+    let all : zeros * 512 + 256 + others ≡ zeros * 512 + (256 + (255 - byte)) = omega arith in
+    rw all (subst (λ (bs : List ℕ). Holds bs (zeros * 512 + (256 + (255 - byte))) (left + 18)) (sym (take_more bytes index 0 h)) (holds_more (take index bytes) zeros left byte l k))
 
 -- with the one that closes it the halves of the packet are left
-pub whole : (packet : List ℕ) (bits left : ℕ) → Holds packet bits left → remaining (2 * bits + 1) (left + 2) ≡ halves_of packet
+pub whole : (packet : List ℕ) (zeros left : ℕ) → Holds packet zeros left → remaining (2 * zeros) (left + 2) ≡ halves_of packet
 unfolding halves_of
-whole packet bits left k =
+whole packet zeros left k =
     let count = 14 + 9 * length packet in
     let size : left + 2 ≡ 2 * (1 + count) = omega (arith, k.halves) in
-    let same : 2 * bits + 1 ≡ bits * 2 ^ 1 + 1 = omega arith in
-    let image : low_bits (1 + count) (bits * 2 ^ 1 + 1) ≡ ones ++ (bits_of packet ++ true ∷ []) =
-    low_bits-append 1 count bits 1 (omega arith) ∙ ap (λ (bs : List Bool). bs ++ true ∷ []) k.image ∙ append_assoc ones (bits_of packet) (true ∷ []) in
-    ap₂ remaining same size ∙ remaining-bits (1 + count) (bits * 2 ^ 1 + 1) ∙ ap (λ (bs : List Bool). map micros (doubled bs)) image
+    let same : 2 * zeros ≡ zeros * 2 ^ 1 + 0 = omega arith in
+    let image : map not (low_bits (1 + count) (zeros * 2 ^ 1 + 0)) ≡ ones ++ (bits_of packet ++ true ∷ []) =
+    ap (map not) (low_bits-append 1 count zeros 0 (omega arith)) ∙ map-append not (low_bits count zeros) (low_bits 1 0)
+    ∙ ap (λ (bs : List Bool). bs ++ true ∷ []) k.image ∙ append_assoc ones (bits_of packet) (true ∷ []) in
+    ap₂ remaining same size ∙ remaining-bits (1 + count) (zeros * 2 ^ 1 + 0) ∙ ap (λ (bs : List Bool). map micros (doubled bs)) image
 
 length-doubled : (bs : List Bool) → length (doubled bs) ≡ 2 * length bs
 length-doubled [] = refl

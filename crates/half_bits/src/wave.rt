@@ -1,5 +1,6 @@
 //! The iterator of half-bits.
-ghost use Rattle.std.specs.Prelude.{◌≡◌, length};
+ghost use Rattle.std.specs.Prelude.{◌≡◌, ◌==◌, length, not};
+ghost use Rattle.std.specs.Int.{bit_at};
 ghost use Rattle.dcc_packet.specs.Packet.{IsPacket};
 ghost use Rattle.half_bits.specs.Halves.{halves_of, micros};
 
@@ -12,24 +13,25 @@ const ONE: u16 = 58;
 /// The microseconds of each half of a zero.
 const ZERO: u16 = 100;
 
-/// The ones of the preamble, as bits of a number.
-const PREAMBLE: u128 = 0x3FFF;
-
 /// The halves of the preamble.
 const PREAMBLE_HALVES: u8 = 28;
 
 /// Room for the zero before a byte and the byte's eight bits.
-const BYTE: u128 = 512;
+const BYTE: u64 = 512;
+
+/// The zero before a byte, in that room.
+const START: u64 = 256;
 
 /// The halves of the zero before a byte and of its eight bits.
 const BYTE_HALVES: u8 = 18;
 
 /// The half-bits of a packet that are still to come, in microseconds.
 ///
-/// It holds the bits of the packet as one number, so that a step is a shift and no byte is looked up.
+/// It holds the bits of the packet as one number, so that a step is a shift and no byte is looked up. A set bit stands
+/// for a zero: then 64 bits are enough, since the ones of the preamble are above the highest of them.
 #[derive(Debug, Drop)]
 pub struct Halves {
-    bits: u128,
+    zeros: u64,
     left: u8,
 }
 
@@ -39,7 +41,7 @@ impl Model for Halves {
 
     ghost Value = { List ℕ };
 
-    ghost view = { λ halves. remaining halves.bits halves.left };
+    ghost view = { λ halves. remaining halves.zeros halves.left };
 
     ghost invariant = { λ halves. halves.left ≤ 138 };
 }
@@ -49,15 +51,15 @@ impl Halves {
         ensures items { result ≡ halves_of packet.now }
         ensures packet { IsPacket packet.now }
     {
-        let mut bits = PREAMBLE;
+        let mut zeros: u64 = 0;
         let mut left = PREAMBLE_HALVES;
         for byte in packet.bytes() {
-            bits = bits * BYTE + u128::from(*byte);
+            zeros = zeros * BYTE + START + u64::from(!*byte);
             left += BYTE_HALVES;
         }
         // The one that closes the packet.
         Halves {
-            bits: 2 * bits + 1,
+            zeros: 2 * zeros,
             left: left + 2,
         }
     }
@@ -87,14 +89,18 @@ impl Iterator for Halves {
             return None;
         }
         self.left -= 1;
-        Some(half_of((self.bits >> (self.left / 2)) & 1 == 1))
+        Some(half_at(self.zeros, self.left / 2))
     }
 }
 
-/// A half of this bit.
+/// A half of the bit at this place.
 #[inline]
-fn half_of(bit: bool) -> u16
-    ensures { result ≡ micros bit }
+fn half_at(zeros: u64, place: u8) -> u16
+    ensures { result ≡ micros (not (bit_at zeros place == 1)) }
 {
-    if bit { ONE } else { ZERO }
+    if place >= 64 {
+        // Above all zeros is the preamble.
+        return ONE;
+    }
+    if (zeros >> place) & 1 == 0 { ONE } else { ZERO }
 }

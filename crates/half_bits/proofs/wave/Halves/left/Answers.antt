@@ -3,4 +3,4 @@ use Rattle.half_bits.proofs.Numbers.{length-remaining}
 use Rattle.half_bits.proofs.wave.Halves.left.Goals as goal
 
 pub returns : goal.returns
-returns c = c.from.ensures ∙ sym (ap length (sym c.self.view_is) ∙ length-remaining c.self.inside.bits c.self.inside.left)
+returns c = c.from.ensures ∙ sym (ap length (sym c.self.view_is) ∙ length-remaining c.self.inside.zeros c.self.inside.left)

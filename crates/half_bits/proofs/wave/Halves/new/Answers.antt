@@ -1,14 +1,29 @@
-use Rattle.std.proofs.Common.{◌∙◌, ℕ, List, subst, arith}
+use Rattle.std.proofs.Common.{◌<◌, ◌^◌, ◌∙◌, ℕ, List, subst, arith}
 use Rattle.std.proofs.lemmas.List.{take_all}
-use Rattle.half_bits.proofs.Numbers.{Holds, holds_next, whole}
+use Rattle.half_bits.proofs.Numbers.{Holds, at_most_six, holds_next, small, whole}
 use Rattle.half_bits.proofs.wave.Halves.new.Goals as goal
+
+-- the number is small before the next byte
+low : (c : goal.In-loop-byte) → c.loop-byte.zeros < 2 ^ 45
+low c = small c.bytes-byte-items.result.now c.loop-byte.byte-index c.loop-byte.zeros c.loop-byte.left (at_most_six c.bytes-byte-items.result.now c.bytes-byte-items.ensures.form) c.loop-byte-test.true c.loop-byte.invariant
+
+pub overflow_mul-zeros : goal.overflow_mul-zeros
+overflow_mul-zeros c = omega (arith, low c)
+
+pub overflow_add-zeros : goal.overflow_add-zeros
+overflow_add-zeros c = omega (arith, low c)
+
+pub overflow_add-zeros-in-loop-byte : goal.overflow_add-zeros-in-loop-byte
+overflow_add-zeros-in-loop-byte c =
+    let below = small c.bytes-byte-items.result.now c.loop-byte.byte-index c.loop-byte.zeros c.loop-byte.left (at_most_six c.bytes-byte-items.result.now c.bytes-byte-items.ensures.form) c.loop-byte-test.true c.loop-byte.invariant in
+    omega (arith, below, c.from.ensures)
 
 pub loop-byte-preserved : goal.loop-byte-preserved
 loop-byte-preserved c =
-    holds_next c.bytes-byte-items.result.now c.loop-byte.byte-index c.loop-byte.bits c.loop-byte.left c.from.result c.loop-byte-test.true c.from.ensures (omega (arith, c.type_inv.byte-items c.loop-byte.byte-index)) c.loop-byte.invariant
+    holds_next c.bytes-byte-items.result.now c.loop-byte.byte-index c.loop-byte.zeros c.loop-byte.left c.from.result c.loop-byte-test.true (omega (arith, c.type_inv.byte-items c.loop-byte.byte-index)) c.from.ensures c.loop-byte.invariant
 
 pub returns-clause-items : goal.returns-clause-items
 returns-clause-items c =
     let all = take_all c.loop-byte.byte-index c.bytes-byte-items.result.now c.loop-byte-test.false ∙ c.bytes-byte-items.ensures.value in
-    let P : List ℕ → Type 0 = λ bytes. Holds bytes c.loop-byte.bits c.loop-byte.left in
-    whole c.args.packet.now c.loop-byte.bits c.loop-byte.left (subst P all c.loop-byte.invariant)
+    let P : List ℕ → Type 0 = λ bytes. Holds bytes c.loop-byte.zeros c.loop-byte.left in
+    whole c.args.packet.now c.loop-byte.zeros c.loop-byte.left (subst P all c.loop-byte.invariant)

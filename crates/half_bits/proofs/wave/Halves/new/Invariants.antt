@@ -3,4 +3,4 @@ use Rattle.half_bits.proofs.Numbers.{Holds}
 use Rattle.half_bits.proofs.wave.Halves.new.Given as goal
 
 abbrev pub invariant-loop-byte : goal.invariant-loop-byte
-invariant-loop-byte l = Holds (take l.byte-index l.byte-items) l.bits l.left
+invariant-loop-byte l = Holds (take l.byte-index l.byte-items) l.zeros l.left
