@@ -1,4 +1,5 @@
 pub mod After
 pub mod Answer
 pub mod Moved
+pub mod Packets
 pub mod Seen

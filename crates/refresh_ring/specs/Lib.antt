@@ -1,0 +1,6 @@
+pub mod Places
+pub mod Jobs
+pub mod Scheduled
+pub mod Picked
+pub mod Left
+pub mod Sent

@@ -1,0 +1,45 @@
+-- What is sent: of switch requests, and where it goes.
+use Rattle.std.specs.Prelude.{ℕ, ◌≡◌, ◌+◌, ◌*◌, ◌≤◌, Bool, true, false, List, [], ◌∷◌, ◌++◌, Option, Some, None}
+use Rattle.std.specs.List.{list_any}
+use Rattle.refresh_ring.specs.Places.{IsSlot, is_refreshed}
+use Rattle.refresh_ring.specs.Jobs.{sends_in}
+use Rattle.refresh_ring.specs.Scheduled.{Scheduled}
+use Rattle.refresh_ring.specs.Left.{jobs_wait}
+use Rattle.refresh_ring.specs.Picked.{Picked, address_of, module_of, is_last}
+use Rattle.refresh_ring.specs.declared.job.Job.{Job}
+use Rattle.refresh_ring.specs.declared.job.Job.TheVariants.{Place, Request}
+use Rattle.refresh_ring.specs.declared.job.Destination.{Destination}
+use Rattle.refresh_ring.specs.declared.job.Destination.TheVariants.{Loco, Module}
+use Rattle.refresh_ring.specs.declared.pick.Pick.{Pick}
+use Rattle.refresh_ring.specs.declared.pick.Pick.TheVariants.{Off, StopAll, Idle, Place as PlacePick, Switch}
+
+-- the switch packets that are still to send, each request twice, or once where it was sent once
+abbrev pub sends_left : Job → List Pick
+sends_left (Place slot kind) = []
+sends_left (Request number closed on true) = Switch number closed on ∷ Switch number closed on ∷ []
+sends_left (Request number closed on false) = Switch number closed on ∷ []
+
+abbrev pub to_send : List Job → List Pick
+to_send [] = []
+to_send (job ∷ jobs) = sends_left job ++ to_send jobs
+
+-- the switch packet of a turn, if it sends one
+abbrev pub switch_in : Pick → List Pick
+switch_in Off = []
+switch_in StopAll = []
+switch_in Idle = []
+switch_in (PlacePick slot kind) = []
+switch_in (Switch number closed on) = Switch number closed on ∷ []
+
+-- where a packet goes, if it goes to one decoder
+abbrev pub goes_to : List ℕ → Pick → Option Destination
+goes_to addresses Off = None
+goes_to addresses StopAll = None
+goes_to addresses Idle = None
+goes_to addresses (PlacePick slot kind) = Some (Loco (address_of addresses slot))
+goes_to addresses (Switch number closed on) = Some (Module (module_of number))
+
+-- a packet does not go where the last one went
+abbrev pub IsApart : Option Destination → Option Destination → Type 0
+IsApart last None = Unit {0}
+IsApart last (Some there) = is_last last there ≡ false

@@ -1,0 +1,30 @@
+//! What a command station sends next.
+//!
+//! A place is a slot with one of three kinds of packet. The ring goes round the places of the refreshed slots, jobs
+//! are what was changed or asked for and waits to be sent at once, and ring and jobs take turns.
+#![tactic(auto)]
+
+mod fault;
+mod job;
+mod kind;
+mod laws;
+mod pick;
+mod plain;
+mod queue;
+mod ring;
+mod schedule;
+mod turn;
+mod view;
+
+pub use fault::{Full, NoMemory};
+pub use job::{Destination, Job};
+pub use kind::Kind;
+pub use laws::{changes_first, four_turns, neighbours, picks_are_due, slots_stay, switches_in_order};
+pub use pick::{Pick, Power};
+pub use plain::PlainRing;
+pub use ring::Ring;
+pub use schedule::Schedule;
+pub use view::View;
+
+#[cfg(test)]
+mod tests;
