@@ -9,121 +9,122 @@ use std::test::Fail;
 /// An address, steps, SPD, forward and F0, and the bytes of the packet.
 type SpeedRow = (Address, Steps, u8, bool, bool, &'static [u8]);
 
+const SPEED_ROWS: [SpeedRow; 13] = [
+    // The last of 128 steps, forward, and a stop in reverse.
+    (
+        Address::Short(3),
+        Steps::S128,
+        127,
+        true,
+        false,
+        &[0x03, 0x3F, 0xFF, 0xC3],
+    ),
+    (
+        Address::Short(3),
+        Steps::S128,
+        0,
+        false,
+        false,
+        &[0x03, 0x3F, 0x00, 0x3C],
+    ),
+    // 28 steps: emergency stop, the first step and the last.
+    (
+        Address::Short(3),
+        Steps::S28,
+        1,
+        true,
+        false,
+        &[0x03, 0x61, 0x62],
+    ),
+    (
+        Address::Short(3),
+        Steps::S28,
+        2,
+        true,
+        false,
+        &[0x03, 0x62, 0x61],
+    ),
+    (
+        Address::Short(3),
+        Steps::S28,
+        127,
+        true,
+        false,
+        &[0x03, 0x7F, 0x7C],
+    ),
+    // 14 steps: the last with F0.
+    (
+        Address::Short(3),
+        Steps::S14,
+        127,
+        true,
+        true,
+        &[0x03, 0x7F, 0x7C],
+    ),
+    // The standard's example: address 55 at step 6 of 28, forward.
+    (
+        Address::Short(55),
+        Steps::S28,
+        25,
+        true,
+        false,
+        &[0x37, 0x74, 0x43],
+    ),
+    // Two-byte addresses.
+    (
+        Address::Long(10239),
+        Steps::S128,
+        0,
+        true,
+        false,
+        &[0xE7, 0xFF, 0x3F, 0x80, 0xA7],
+    ),
+    (
+        Address::Long(1234),
+        Steps::S128,
+        64,
+        true,
+        false,
+        &[0xC4, 0xD2, 0x3F, 0xC0, 0xE9],
+    ),
+    // One SPD with 128, 28 and 14 steps.
+    (
+        Address::Short(3),
+        Steps::S128,
+        64,
+        true,
+        false,
+        &[0x03, 0x3F, 0xC0, 0xFC],
+    ),
+    (
+        Address::Short(3),
+        Steps::S28,
+        64,
+        true,
+        false,
+        &[0x03, 0x78, 0x7B],
+    ),
+    (
+        Address::Short(3),
+        Steps::S14,
+        64,
+        true,
+        false,
+        &[0x03, 0x68, 0x6B],
+    ),
+    (
+        Address::Short(3),
+        Steps::S14,
+        64,
+        true,
+        true,
+        &[0x03, 0x78, 0x7B],
+    ),
+];
+
 #[test]
 fn speed_packets_have_the_bytes_of_the_standard(rt: HostRuntime) {
-    let rows: [SpeedRow; 13] = [
-        // The last of 128 steps, forward, and a stop in reverse.
-        (
-            Address::Short(3),
-            Steps::S128,
-            127,
-            true,
-            false,
-            &[0x03, 0x3F, 0xFF, 0xC3],
-        ),
-        (
-            Address::Short(3),
-            Steps::S128,
-            0,
-            false,
-            false,
-            &[0x03, 0x3F, 0x00, 0x3C],
-        ),
-        // 28 steps: emergency stop, the first step and the last.
-        (
-            Address::Short(3),
-            Steps::S28,
-            1,
-            true,
-            false,
-            &[0x03, 0x61, 0x62],
-        ),
-        (
-            Address::Short(3),
-            Steps::S28,
-            2,
-            true,
-            false,
-            &[0x03, 0x62, 0x61],
-        ),
-        (
-            Address::Short(3),
-            Steps::S28,
-            127,
-            true,
-            false,
-            &[0x03, 0x7F, 0x7C],
-        ),
-        // 14 steps: the last with F0.
-        (
-            Address::Short(3),
-            Steps::S14,
-            127,
-            true,
-            true,
-            &[0x03, 0x7F, 0x7C],
-        ),
-        // The standard's example: address 55 at step 6 of 28, forward.
-        (
-            Address::Short(55),
-            Steps::S28,
-            25,
-            true,
-            false,
-            &[0x37, 0x74, 0x43],
-        ),
-        // Two-byte addresses.
-        (
-            Address::Long(10239),
-            Steps::S128,
-            0,
-            true,
-            false,
-            &[0xE7, 0xFF, 0x3F, 0x80, 0xA7],
-        ),
-        (
-            Address::Long(1234),
-            Steps::S128,
-            64,
-            true,
-            false,
-            &[0xC4, 0xD2, 0x3F, 0xC0, 0xE9],
-        ),
-        // One SPD with 128, 28 and 14 steps.
-        (
-            Address::Short(3),
-            Steps::S128,
-            64,
-            true,
-            false,
-            &[0x03, 0x3F, 0xC0, 0xFC],
-        ),
-        (
-            Address::Short(3),
-            Steps::S28,
-            64,
-            true,
-            false,
-            &[0x03, 0x78, 0x7B],
-        ),
-        (
-            Address::Short(3),
-            Steps::S14,
-            64,
-            true,
-            false,
-            &[0x03, 0x68, 0x6B],
-        ),
-        (
-            Address::Short(3),
-            Steps::S14,
-            64,
-            true,
-            true,
-            &[0x03, 0x78, 0x7B],
-        ),
-    ];
-    for (address, steps, spd, forward, f0, bytes) in rows {
+    for (address, steps, spd, forward, f0, bytes) in SPEED_ROWS {
         assert!(rt; address.is_legal());
         assert!(rt; spd < 128);
         let packet = speed(address, steps, steps_of(steps, spd), forward, f0);

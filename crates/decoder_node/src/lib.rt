@@ -1,2 +1,17 @@
-//! Decoders.
+//! The DCC decoders of a layout: what they make of the half-bits that they hear (NMRA S-9.2, S-9.2.1, S-9.2.2).
 #![tactic(auto)]
+
+mod accessory;
+mod loco;
+mod node;
+mod obey;
+mod running;
+mod switch;
+
+pub use accessory::Accessory;
+pub use loco::Loco;
+pub use node::{NodeList, NodeSpec};
+pub use running::Running;
+
+#[cfg(test)]
+mod tests;

@@ -29,68 +29,69 @@ fn message(bytes: &[u8]) -> Option<Msg> {
     last
 }
 
+const MESSAGES: [(&'static [u8], Op); 20] = [
+    (&[0x82, 0x7D], Op::PowerOff),
+    (&[0x83, 0x7C], Op::PowerOn),
+    (&[0x85, 0x7A], Op::ForceIdle),
+    (&[0xA0, 0x01, 0x40, 0x1E], Op::Speed { slot: 1, spd: 64 }),
+    (&[0xA1, 0x01, 0x20, 0x7F], Op::Dirf { slot: 1, dirf: 32 }),
+    (&[0xA2, 0x01, 0x05, 0x59], Op::Snd { slot: 1, snd: 5 }),
+    (
+        &[0xB0, 0x00, 0x30, 0x7F],
+        Op::SwReq {
+            number: 0,
+            closed: true,
+            on: true,
+        },
+    ),
+    (
+        &[0xB0, 0x77, 0x1F, 0x27],
+        Op::SwReq {
+            number: 2039,
+            closed: false,
+            on: true,
+        },
+    ),
+    (
+        &[0xBD, 0x78, 0x6F, 0x55],
+        Op::SwAck {
+            number: 2040,
+            closed: true,
+            on: false,
+        },
+    ),
+    (&[0xB4, 0x3F, 0x00, 0x74], Op::LongAck { opc: 0x3F, ack: 0 }),
+    (
+        &[0xB5, 0x01, 0x30, 0x7B],
+        Op::SlotStat { slot: 1, stat: 48 },
+    ),
+    (&[0xBA, 0x01, 0x05, 0x41], Op::Move { src: 1, dest: 5 }),
+    (&[0xBB, 0x05, 0x00, 0x41], Op::SlotRead { slot: 5 }),
+    (
+        &[0xBF, 0x4F, 0x7F, 0x70],
+        Op::LocoAddr { high: 79, low: 127 },
+    ),
+    (
+        &[
+            0xE7, 0x0E, 0x02, 0x33, 0x04, 0x20, 0x10, 0x07, 0x00, 0x00, 0x05, 0x00, 0x00, 0x11,
+        ],
+        Op::SlotData(SLOT_2),
+    ),
+    (
+        &[
+            0xEF, 0x0E, 0x02, 0x33, 0x04, 0x20, 0x10, 0x07, 0x00, 0x00, 0x05, 0x00, 0x00, 0x19,
+        ],
+        Op::SlotWrite(SLOT_2),
+    ),
+    (&[0xE7, 0x04, 0x00, 0x1C], Op::Other),
+    (&[0x81, 0x7E], Op::Other),
+    (&[0xB1, 0x00, 0x00, 0x4E], Op::Other),
+    (&[0xD0, 0x00, 0x00, 0x00, 0x00, 0x2F], Op::Other),
+];
+
 #[test]
 fn reads_each_message(rt: HostRuntime) -> Result<(), Fail> {
-    let rows: [(&[u8], Op); 20] = [
-        (&[0x82, 0x7D], Op::PowerOff),
-        (&[0x83, 0x7C], Op::PowerOn),
-        (&[0x85, 0x7A], Op::ForceIdle),
-        (&[0xA0, 0x01, 0x40, 0x1E], Op::Speed { slot: 1, spd: 64 }),
-        (&[0xA1, 0x01, 0x20, 0x7F], Op::Dirf { slot: 1, dirf: 32 }),
-        (&[0xA2, 0x01, 0x05, 0x59], Op::Snd { slot: 1, snd: 5 }),
-        (
-            &[0xB0, 0x00, 0x30, 0x7F],
-            Op::SwReq {
-                number: 0,
-                closed: true,
-                on: true,
-            },
-        ),
-        (
-            &[0xB0, 0x77, 0x1F, 0x27],
-            Op::SwReq {
-                number: 2039,
-                closed: false,
-                on: true,
-            },
-        ),
-        (
-            &[0xBD, 0x78, 0x6F, 0x55],
-            Op::SwAck {
-                number: 2040,
-                closed: true,
-                on: false,
-            },
-        ),
-        (&[0xB4, 0x3F, 0x00, 0x74], Op::LongAck { opc: 0x3F, ack: 0 }),
-        (
-            &[0xB5, 0x01, 0x30, 0x7B],
-            Op::SlotStat { slot: 1, stat: 48 },
-        ),
-        (&[0xBA, 0x01, 0x05, 0x41], Op::Move { src: 1, dest: 5 }),
-        (&[0xBB, 0x05, 0x00, 0x41], Op::SlotRead { slot: 5 }),
-        (
-            &[0xBF, 0x4F, 0x7F, 0x70],
-            Op::LocoAddr { high: 79, low: 127 },
-        ),
-        (
-            &[
-                0xE7, 0x0E, 0x02, 0x33, 0x04, 0x20, 0x10, 0x07, 0x00, 0x00, 0x05, 0x00, 0x00, 0x11,
-            ],
-            Op::SlotData(SLOT_2),
-        ),
-        (
-            &[
-                0xEF, 0x0E, 0x02, 0x33, 0x04, 0x20, 0x10, 0x07, 0x00, 0x00, 0x05, 0x00, 0x00, 0x19,
-            ],
-            Op::SlotWrite(SLOT_2),
-        ),
-        (&[0xE7, 0x04, 0x00, 0x1C], Op::Other),
-        (&[0x81, 0x7E], Op::Other),
-        (&[0xB1, 0x00, 0x00, 0x4E], Op::Other),
-        (&[0xD0, 0x00, 0x00, 0x00, 0x00, 0x2F], Op::Other),
-    ];
-    for (bytes, op) in rows {
+    for (bytes, op) in MESSAGES {
         let message = message(bytes).ok_or("no message")?;
         assert_eq!(rt; read(&message), op, "in {bytes:?}");
     }

@@ -53,8 +53,6 @@ pub record IsQueue (jobs : List Job) : Type 0 where
   pub legal : AllByRecursion IsJob jobs
   pub once : IsDistinct nat_eq (places_in jobs)
   pub few : requests_in jobs ≤ 32
-  -- so there are at most 357 places and 32 requests of two sends each
-  pub bound : sends_in jobs ≤ 421
 
 -- a switch request waits always, a place while its slot is refreshed
 abbrev pub is_live : List Bool → Job → Bool
@@ -76,3 +74,8 @@ after_send [] = []
 after_send (Place slot kind ∷ rest) = rest
 after_send (Request number closed on true ∷ rest) = Request number closed on false ∷ rest
 after_send (Request number closed on false ∷ rest) = rest
+
+-- a queue stands in a buffer with a place for each of its jobs
+pub record IsBuffered (jobs : List Job) (capacity : ℕ) : Type 0 where
+  pub queue : IsQueue jobs
+  pub room : capacity ≡ 389

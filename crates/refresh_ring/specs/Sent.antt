@@ -1,6 +1,6 @@
 -- What is sent: of switch requests, and where it goes.
 use Rattle.std.specs.Prelude.{ℕ, ◌≡◌, ◌+◌, ◌*◌, ◌≤◌, Bool, true, false, List, [], ◌∷◌, ◌++◌, Option, Some, None}
-use Rattle.std.specs.List.{list_any}
+use Rattle.std.specs.List.{Contains}
 use Rattle.refresh_ring.specs.Places.{IsSlot, is_refreshed}
 use Rattle.refresh_ring.specs.Jobs.{sends_in}
 use Rattle.refresh_ring.specs.Scheduled.{Scheduled}
@@ -43,3 +43,19 @@ goes_to addresses (Switch number closed on) = Some (Module (module_of number))
 abbrev pub IsApart : Option Destination → Option Destination → Type 0
 IsApart last None = Unit {0}
 IsApart last (Some there) = is_last last there ≡ false
+
+-- what a running turn may send: idle, the packet of a refreshed slot, or that of a switch request that waits
+abbrev pub IsDue : Scheduled → Pick → Type 0
+IsDue s Off = ⊥
+IsDue s StopAll = ⊥
+IsDue s Idle = Unit {0}
+IsDue s (PlacePick slot kind) = is_refreshed s.slots slot ≡ true
+IsDue s (Switch number closed on) = Contains (to_send s.jobs) (Switch number closed on)
+
+-- slots are 1 to 119, switch numbers at most 2039
+abbrev pub IsLegalPick : Pick → Type 0
+IsLegalPick Off = Unit {0}
+IsLegalPick StopAll = Unit {0}
+IsLegalPick Idle = Unit {0}
+IsLegalPick (PlacePick slot kind) = IsSlot slot
+IsLegalPick (Switch number closed on) = number ≤ 2039

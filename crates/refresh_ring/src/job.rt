@@ -56,9 +56,4 @@ impl Job {
             }
         }
     }
-
-    // Whether the job is a switch request.
-    pub(crate) fn is_request(&self) -> bool {
-        matches!(self, Job::Request { .. })
-    }
 }

@@ -37,6 +37,7 @@ below-small limit n why word h = small (number_of word) h
         let same : m ≡ n = cc in
         omega (arith, ltb-true m limit e)
     kept m false e k = cc
+
     small : (r : Result ℕ Why) → (r >>= (λ m. if nat_lt m limit then Ok m else Err why)) ≡ Ok n → n < limit
     small (Ok m) k = kept m (nat_lt m limit) refl k
     small (Err e) k = cc

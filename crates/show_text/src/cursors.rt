@@ -62,7 +62,7 @@ fn cut_piece(text: &[u8]) -> (&[u8], &[u8])
 
 /// The lines still to come. Each ends with a line feed, but for the last, which may lack it.
 #[derive(Drop)]
-pub struct Lines<'a>(pub &'a [u8]);
+pub(crate) struct Lines<'a>(pub(crate) &'a [u8]);
 
 impl<'a> Iterator for Lines<'a> {
     type Item = &'a [u8];
@@ -83,11 +83,11 @@ impl<'a> Iterator for Lines<'a> {
 
 /// The words still to come, separated by spaces and tabs.
 #[derive(Drop)]
-pub struct Words<'a>(pub &'a [u8]);
+pub(crate) struct Words<'a>(pub(crate) &'a [u8]);
 
 impl Words<'_> {
     #[tactic(auto, using(crate::proofs::Cuts::only_blanks))]
-    pub fn is_empty(&self) -> bool
+    pub(crate) fn is_empty(&self) -> bool
         ensures { result ≡ is_empty (words_of self.now.0.now) }
     {
         are_blank(self.0)

@@ -32,7 +32,7 @@ fn decimal_value(word: &[u8]) -> u32
 }
 
 /// The number that one to seven decimal digits write.
-pub fn decimal(word: &[u8]) -> Option<u32>
+pub(crate) fn decimal(word: &[u8]) -> Option<u32>
     ensures { result ≡ decimal_of word.now }
 {
     if is_decimal(word) {
@@ -54,7 +54,7 @@ fn hex_digit(digit: u8) -> Option<u8>
 }
 
 /// The byte that two hexadecimal digits write.
-pub fn hex_pair(word: &[u8]) -> Option<u8>
+pub(crate) fn hex_pair(word: &[u8]) -> Option<u8>
     ensures { result ≡ pair_of word.now }
 {
     match word {

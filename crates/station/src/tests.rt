@@ -46,44 +46,54 @@ impl Read for Spaces {
     }
 }
 
+// Words, standard input, and then the status, standard output and standard error.
+type Run = (
+    &'static [&'static str],
+    &'static [u8],
+    u8,
+    &'static [u8],
+    &'static [u8],
+);
+
+const RUNS: [Run; 7] = [
+    (&[], EXAMPLE, 0, REPLIES, b""),
+    (&["replay"], EXAMPLE, 0, REPLIES, b""),
+    (&[], b"", 0, b"", b""),
+    // The bytes of a message may stand in several lines of the script.
+    (
+        &[],
+        b"line 0 BF 00\nline 0 03\nline 0 43 83\nline 0 7C",
+        0,
+        b"reply 0 E7 0E 01 23 03 00 00 06 00 00 00 00 00 31\n",
+        b"",
+    ),
+    (
+        &["serve"],
+        EXAMPLE,
+        1,
+        b"",
+        b"station: unknown command\nusage: station [replay]\n",
+    ),
+    // A fault prints no result, whatever stands before it.
+    (
+        &[],
+        b"line 0 BF 00 03 43\nline 0 8\n",
+        5,
+        b"",
+        b"station: script fault 2 at line 2\n",
+    ),
+    (
+        &[],
+        b"line 1 83",
+        5,
+        b"",
+        b"station: script fault 4 at line 1\n",
+    ),
+];
+
 #[test]
 fn runs_end_with_their_status(rt: HostRuntime) {
-    let rows: [(&[&str], &[u8], u8, &[u8], &[u8]); 7] = [
-        (&[], EXAMPLE, 0, REPLIES, b""),
-        (&["replay"], EXAMPLE, 0, REPLIES, b""),
-        (&[], b"", 0, b"", b""),
-        // The bytes of a message may stand in several lines of the script.
-        (
-            &[],
-            b"line 0 BF 00\nline 0 03\nline 0 43 83\nline 0 7C",
-            0,
-            b"reply 0 E7 0E 01 23 03 00 00 06 00 00 00 00 00 31\n",
-            b"",
-        ),
-        (
-            &["serve"],
-            EXAMPLE,
-            1,
-            b"",
-            b"station: unknown command\nusage: station [replay]\n",
-        ),
-        // A fault prints no result, whatever stands before it.
-        (
-            &[],
-            b"line 0 BF 00 03 43\nline 0 8\n",
-            5,
-            b"",
-            b"station: script fault 2 at line 2\n",
-        ),
-        (
-            &[],
-            b"line 1 83",
-            5,
-            b"",
-            b"station: script fault 4 at line 1\n",
-        ),
-    ];
-    for (words, text, status, printed, fault) in rows {
+    for (words, text, status, printed, fault) in RUNS {
         let mut input = text;
         let mut output = Vec::new(rt.alloc());
         let mut faults = Vec::new(rt.alloc());

@@ -1,0 +1,37 @@
+-- What an accessory decoder makes of whole waves.
+use Rattle.std.proofs.Common.{◌≡◌, ℕ, List, [], ◌∷◌, fold, refl, ap, ◌∙◌}
+use Rattle.decoder_rx.specs.Table.{after_all, answers, is_hunting}
+use Rattle.decoder_node.specs.Heard.{told}
+use Rattle.decoder_node.specs.Accessory.{AccessoryDecoder, heard, heard_all, HearsAccessory}
+use Rattle.decoder_node.specs.Switched.{switch, switched_if}
+use Rattle.decoder_node.proofs.Waves.{Laws, Ignores, spells_none, obeyed, ran}
+
+number_after : (halves : List ℕ) (d : AccessoryDecoder) → (heard_all d halves).number ≡ d.number
+number_after [] d = refl
+number_after (x ∷ xs) d = number_after xs (heard d x)
+
+receiver_after : (halves : List ℕ) (d : AccessoryDecoder) → (heard_all d halves).receiver ≡ after_all d.receiver halves
+receiver_after [] d = refl
+receiver_after (x ∷ xs) d = receiver_after xs (heard d x)
+
+outputs_after : (halves : List ℕ) (d : AccessoryDecoder) → (heard_all d halves).outputs ≡ fold (told (switch d.number)) d.outputs (answers d.receiver halves)
+outputs_after [] d = refl
+outputs_after (x ∷ xs) d = outputs_after xs (heard d x)
+
+ignores : (number : ℕ) → Ignores (switch number)
+unfolding switch
+ignores number outputs packet h = ap (switched_if number outputs) (spells_none packet h)
+
+pub hears : Laws → (old : AccessoryDecoder) (halves : List ℕ) (new : AccessoryDecoder) → new ≡ heard_all old halves → HearsAccessory old halves new
+hears laws old halves new h =
+    let outputs : new.outputs ≡ fold (told (switch old.number)) old.outputs (answers old.receiver halves) = ap (λ (d : AccessoryDecoder). d.outputs) h ∙ outputs_after halves old in
+    let hunting : is_hunting new.receiver ≡ is_hunting (after_all old.receiver halves) = ap (λ (d : AccessoryDecoder). is_hunting d.receiver) h ∙ ap is_hunting (receiver_after halves old) in
+    record {
+      in_turn = h;
+      kept = ap (λ (d : AccessoryDecoder). d.number) h ∙ number_after halves old;
+      settles = λ packet p w. hunting ∙ laws.settles old.receiver packet halves p w;
+      obeys = λ packet p w b. outputs ∙ obeyed (switch old.number) (ignores old.number) laws old.outputs old.receiver packet halves p w b;
+      runs = λ packets w b.
+          let all = ran (switch old.number) (ignores old.number) laws packets halves old.outputs old.receiver w b in
+          (outputs ∙ all.0, hunting ∙ all.1);
+    }

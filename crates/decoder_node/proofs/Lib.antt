@@ -1,0 +1,5 @@
+pub mod Able
+pub mod Accessories
+pub mod Locos
+pub mod Outputs
+pub mod Waves

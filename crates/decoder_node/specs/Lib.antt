@@ -1,0 +1,5 @@
+pub mod Accessory
+pub mod Heard
+pub mod Loco
+pub mod Obey
+pub mod Switched

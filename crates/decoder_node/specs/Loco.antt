@@ -1,0 +1,47 @@
+-- What a locomotive decoder makes of the half-bits that it hears.
+use Rattle.std.specs.Prelude.{ℕ, ◌≡◌, List, fold, IsTrue}
+use Rattle.dcc_packet.specs.Packet.{IsPacket}
+use Rattle.dcc_packet.specs.Wave.{IsWave}
+use Rattle.decoder_rx.specs.Table.{Place, Hunting, after, given, is_hunting}
+use Rattle.decoder_cv.specs.Settings.{Settings}
+use Rattle.decoder_node.specs.declared.running.Running.{Running}
+use Rattle.decoder_node.specs.Heard.{told, AreWaves}
+use Rattle.decoder_node.specs.Obey.{IsAble, first_running, obey, runs}
+
+-- what it is set to, how it runs, and where its receiver is
+pub record LocoDecoder : Type 0 where
+  pub cv : Settings
+  pub running : Running
+  pub receiver : Place
+
+-- no packet is under way
+abbrev pub IsBetween : LocoDecoder → Type 0
+IsBetween loco = IsTrue (is_hunting loco.receiver)
+
+-- as it is made, and after the track was without power: its receiver hunts, with no one half counted
+abbrev pub fresh : Settings → LocoDecoder
+fresh cv = record { cv = cv; running = first_running; receiver = Hunting 0 }
+
+-- after one half, and after many
+abbrev pub heard : LocoDecoder → ℕ → LocoDecoder
+heard loco half = record {
+  cv = loco.cv;
+  running = told (obey loco.cv) loco.running (given loco.receiver half);
+  receiver = after loco.receiver half;
+}
+
+abbrev pub heard_all : LocoDecoder → List ℕ → LocoDecoder
+heard_all = fold heard
+
+-- What hearing these halves does: what hearing each in turn does. Where they are a wave of a packet, no packet is
+-- under way then, whatever was heard before; and where none was under way before, the decoder obeyed that packet and
+-- nothing else. So with waves of packets, one behind the other.
+pub record HearsLoco (old : LocoDecoder) (halves : List ℕ) (new : LocoDecoder) : Type 0 where
+  pub in_turn : new ≡ heard_all old halves
+  pub kept : new.cv ≡ old.cv
+  pub able : IsAble old.running → IsAble new.running
+  pub settles : (packet : List ℕ) → IsPacket packet → IsWave packet halves → IsBetween new
+  pub obeys : (packet : List ℕ) → IsPacket packet → IsWave packet halves → IsBetween old
+      → new.running ≡ obey old.cv old.running packet
+  pub runs : (packets : List (List ℕ)) → AreWaves packets halves → IsBetween old
+      → (new.running ≡ runs old.cv old.running packets) × IsBetween new

@@ -1,0 +1,35 @@
+-- What packets do to an accessory decoder.
+use Rattle.std.specs.Prelude.{ℕ, ◌+◌, ◌*◌, ◌%◌, ◌==◌, Bool, if◌then◌else◌, List, fold, Option, Some, None}
+use Rattle.dcc_packet.specs.declared.instr.Instr.{Instr}
+use Rattle.dcc_packet.specs.declared.instr.Instr.TheVariants.{Idle, Reset, StopAll, Speed, Speed128, GroupOne, GroupTwo, Accessory}
+use Rattle.dcc_packet.specs.Reading.{instruction_of}
+use Rattle.decoder_node.specs.Obey.{with_bits}
+
+-- S-9.2.1, 2.4.1: the output DDD, which is the pair and whether its second output, closed, is meant
+abbrev pub output_of : ℕ → Bool → ℕ
+output_of pair closed = 2 * (pair % 4) + (if closed then 1 else 0)
+
+-- What one instruction does to the outputs of the decoder of this module: bit j of `outputs` is output j. It obeys
+-- the accessory packets of its module alone, and no Reset (own).
+abbrev pub switched : ℕ → ℕ → Instr → ℕ
+switched number outputs (Accessory sent pair closed on) =
+    if sent == number then with_bits outputs (output_of pair closed) 1 (if on then 1 else 0) else outputs
+switched number outputs Idle = outputs
+switched number outputs Reset = outputs
+switched number outputs (StopAll emergency) = outputs
+switched number outputs (Speed address d low) = outputs
+switched number outputs (Speed128 address d s) = outputs
+switched number outputs (GroupOne address bits) = outputs
+switched number outputs (GroupTwo address bits) = outputs
+
+abbrev pub switched_if : ℕ → ℕ → Option Instr → ℕ
+switched_if number outputs None = outputs
+switched_if number outputs (Some instr) = switched number outputs instr
+
+-- What one packet does: what the instruction does that its bytes spell, and nothing where they spell none.
+unfoldable pub switch : ℕ → ℕ → List ℕ → ℕ
+switch number outputs packet = switched_if number outputs (instruction_of packet)
+
+-- what packets do, one after another
+abbrev pub switches : ℕ → ℕ → List (List ℕ) → ℕ
+switches number outputs packets = fold (switch number) outputs packets

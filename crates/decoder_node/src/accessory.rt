@@ -1,0 +1,77 @@
+//! An accessory decoder.
+ghost use Rattle.std.specs.Prelude.{◌≡◌, ℕ, List, None};
+ghost use Rattle.std.specs.Iterator.{IsFinite, Drains};
+
+use crate::switch::after_packet;
+use dcc_packet::Module;
+use decoder_rx::{Rx, complete, settles};
+use std::marker::Model;
+
+/// An accessory decoder on the track, with eight outputs in four pairs, which hears it half by half.
+///
+/// Contracts see it as an `AccessoryDecoder`: its module, its outputs, and the place of its receiver.
+#[derive(Debug, Drop)]
+pub struct Accessory {
+    module: Module,
+    rx: Rx,
+    outputs: u8,
+}
+
+impl Model for Accessory {
+    ghost use Rattle.decoder_node.specs.Accessory.{AccessoryDecoder};
+
+    ghost Value = { AccessoryDecoder };
+
+    ghost view = { λ accessory. record { number = accessory.«module»; outputs = accessory.outputs; receiver = accessory.rx } };
+}
+
+impl Accessory {
+    ghost use Rattle.decoder_rx.specs.Table.{given};
+    ghost use Rattle.decoder_node.specs.Accessory.{HearsAccessory, fresh, heard};
+
+    /// The decoder of this module, with all outputs off, which has heard nothing.
+    pub fn new(module: Module) -> Accessory
+        ensures { result ≡ fresh «module» }
+    {
+        Accessory {
+            module,
+            rx: Rx::new(),
+            outputs: 0,
+        }
+    }
+
+    /// Hears the next half of the track, of this many microseconds, and obeys the packet that it ends, if it ends one.
+    #[inline]
+    pub fn hear(&mut self, half: u16)
+        ensures heard { self.new ≡ heard self.old half }
+        ensures quiet { given self.old.receiver half ≡ None → self.new.outputs ≡ self.old.outputs }
+    {
+        if let Some(packet) = self.rx.hear(half) {
+            self.outputs = after_packet(self.module, self.outputs, &packet);
+        }
+    }
+
+    /// Hears each item in order.
+    ///
+    /// A decoder with no packet under way that hears a wave obeys its packet; any decoder that hears a wave has no
+    /// packet under way then.
+    pub fn hear_all<I: Iterator<Item = u16> + Drop>(&mut self, halves: I)
+        requires can { I.can_next halves }
+        requires ends { IsFinite (I.remaining halves) }
+        ensures { (items : List ℕ) × Drains I.next_gives halves items × HearsAccessory self.old items self.new }
+    {
+        complete();
+        settles();
+        for half in halves {
+            self.hear(half);
+        }
+    }
+
+    /// Its outputs: bit j is output j, the pair j / 2, closed where j is odd.
+    #[inline]
+    pub fn outputs(&self) -> u8
+        ensures { result ≡ self.now.outputs }
+    {
+        self.outputs
+    }
+}

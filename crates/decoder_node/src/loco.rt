@@ -1,0 +1,88 @@
+//! A locomotive decoder.
+ghost use Rattle.std.specs.Prelude.{◌≡◌, ℕ, List, None};
+ghost use Rattle.std.specs.Iterator.{IsFinite, Drains};
+
+use crate::obey::obey_packet;
+use crate::running::{FIRST, Running};
+use decoder_cv::CvSet;
+use decoder_rx::{Rx, complete, settles};
+use std::marker::Model;
+
+/// A locomotive decoder on the track, which hears it half by half.
+///
+/// Contracts see it as a `LocoDecoder`: its settings, how it runs, and the place of its receiver.
+#[derive(Debug, Drop)]
+pub struct Loco {
+    cv: CvSet,
+    rx: Rx,
+    running: Running,
+}
+
+impl Model for Loco {
+    ghost use Rattle.decoder_node.specs.Loco.{LocoDecoder};
+
+    ghost Value = { LocoDecoder };
+
+    ghost view = { λ loco. record { cv = loco.cv; running = loco.running; receiver = loco.rx } };
+}
+
+impl Loco {
+    ghost use Rattle.decoder_rx.specs.Table.{given};
+    ghost use Rattle.decoder_node.specs.Obey.{IsAble};
+    ghost use Rattle.decoder_node.specs.Loco.{HearsLoco, fresh, heard};
+
+    /// A decoder with these settings, which stands, forward, with all functions off, and has heard nothing.
+    pub fn new(cv: CvSet) -> Loco
+        ensures { result ≡ fresh cv }
+    {
+        Loco {
+            cv,
+            rx: Rx::new(),
+            running: FIRST,
+        }
+    }
+
+    /// Hears the next half of the track, of this many microseconds, and obeys the packet that it ends, if it ends one.
+    #[inline]
+    pub fn hear(&mut self, half: u16)
+        ensures heard { self.new ≡ heard self.old half }
+        ensures quiet { given self.old.receiver half ≡ None → self.new.running ≡ self.old.running }
+        ensures able { IsAble self.old.running → IsAble self.new.running }
+    {
+        if let Some(packet) = self.rx.hear(half) {
+            obey_packet(&self.cv, &mut self.running, &packet);
+        }
+    }
+
+    /// Hears each item in order.
+    ///
+    /// A decoder with no packet under way that hears a wave obeys its packet; any decoder that hears a wave has no
+    /// packet under way then.
+    pub fn hear_all<I: Iterator<Item = u16> + Drop>(&mut self, halves: I)
+        requires can { I.can_next halves }
+        requires ends { IsFinite (I.remaining halves) }
+        ensures { (items : List ℕ) × Drains I.next_gives halves items × HearsLoco self.old items self.new }
+    {
+        complete();
+        settles();
+        for half in halves {
+            self.hear(half);
+        }
+    }
+
+    /// How it runs.
+    #[inline]
+    pub fn running(&self) -> Running
+        ensures { result ≡ self.now.running }
+    {
+        self.running
+    }
+
+    /// The track lost its power: the decoder stands, forward, with all functions off, and has heard nothing.
+    pub fn power_lost(&mut self)
+        ensures { self.new ≡ fresh self.old.cv }
+    {
+        self.rx = Rx::new();
+        self.running = FIRST;
+    }
+}

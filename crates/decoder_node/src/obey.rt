@@ -1,0 +1,133 @@
+//! What a packet does to a locomotive decoder.
+ghost use Rattle.std.specs.Prelude.{◌≡◌, ◌<◌, ◌/◌, ◌%◌};
+ghost use Rattle.decoder_node.specs.Obey.{obey, obeyed, driven, lit, is_own, own_forward, motion_in, motion_in_28, with_bits};
+
+use crate::running::{FIRST, Running};
+use dcc_packet::{Address, Instr, Motion, Packet, Steps, read};
+use decoder_cv::CvSet;
+
+/// A decoder with these settings, which runs so, obeys a packet.
+#[inline(never)]
+#[tactic(auto, unfolding(crate::specs::Obey::obey))]
+pub(crate) fn obey_packet(cv: &CvSet, running: &mut Running, packet: &Packet)
+    ensures { running.new ≡ obey cv.now running.old packet.now }
+{
+    if let Some(instr) = read(packet) {
+        *running = after_instr(cv, *running, instr);
+    }
+}
+
+/// How it runs after an instruction.
+fn after_instr(cv: &CvSet, running: Running, instr: Instr) -> Running
+    ensures { result ≡ obeyed cv.now running instr }
+{
+    match instr {
+        Instr::Reset => FIRST,
+        Instr::StopAll { emergency } => Running {
+            motion: if emergency {
+                Motion::Emergency
+            } else {
+                Motion::Stop
+            },
+            ..running
+        },
+        Instr::Speed { address, d, low } if is_own(cv, address) => drive(cv, running, d, low),
+        Instr::Speed128 { address, d, s } if is_own(cv, address) => Running {
+            motion: motion_in(Steps::S128, s),
+            forward: own_forward(cv, d),
+            ..running
+        },
+        Instr::GroupOne { address, bits } if is_own(cv, address) => Running {
+            functions: light(cv, running.functions, bits),
+            ..running
+        },
+        Instr::GroupTwo { address, bits } if is_own(cv, address) => Running {
+            functions: running.functions / 512 * 512
+                + 32 * u16::from(bits % 16)
+                + running.functions % 32,
+            ..running
+        },
+        _ => running,
+    }
+}
+
+/// Whether an address is the decoder's own.
+fn is_own(cv: &CvSet, address: Address) -> bool
+    ensures { result ≡ is_own cv.now.address address }
+{
+    cv.address() == address
+}
+
+/// The decoder's own forward, where D of the packet is `d`.
+fn own_forward(cv: &CvSet, d: bool) -> bool
+    ensures { result ≡ own_forward cv.now d }
+{
+    d != cv.reversed()
+}
+
+/// How it runs after a speed packet with these five bits CSSSS.
+fn drive(cv: &CvSet, running: Running, d: bool, low: u8) -> Running
+    ensures { result ≡ driven cv.now running d low }
+{
+    let forward = own_forward(cv, d);
+    if cv.fourteen() {
+        Running {
+            motion: motion_in(Steps::S14, low % 16),
+            forward,
+            functions: with_light(running.functions, low),
+        }
+    } else {
+        Running {
+            motion: motion_in_28(2 * (low % 16) + low / 16 % 2),
+            forward,
+            ..running
+        }
+    }
+}
+
+/// The motion of a number of 14 or 128 steps.
+fn motion_in(steps: Steps, code: u8) -> Motion
+    ensures { result ≡ motion_in steps code }
+{
+    match code {
+        0 => Motion::Stop,
+        1 => Motion::Emergency,
+        _ => Motion::Step {
+            of: steps,
+            n: code - 1,
+        },
+    }
+}
+
+/// The motion of a number of 28 steps.
+fn motion_in_28(code: u8) -> Motion
+    ensures { result ≡ motion_in_28 code }
+{
+    match code {
+        0 | 1 => Motion::Stop,
+        2 | 3 => Motion::Emergency,
+        _ => Motion::Step {
+            of: Steps::S28,
+            n: code - 3,
+        },
+    }
+}
+
+/// The functions with F0 as in bit 4.
+fn with_light(functions: u16, bits: u8) -> u16
+    ensures { result ≡ with_bits functions 0 1 (bits / 16 % 2) }
+{
+    functions / 2 * 2 + u16::from(bits / 16 % 2)
+}
+
+/// The functions after a packet of group one.
+fn light(cv: &CvSet, functions: u16, bits: u8) -> u16
+    ensures { result ≡ lit cv.now functions bits }
+{
+    let others = functions / 32 * 32 + 2 * u16::from(bits % 16) + functions % 2;
+    if cv.fourteen() {
+        others
+    } else {
+        with_light(others, bits)
+    }
+}

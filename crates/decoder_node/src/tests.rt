@@ -1,0 +1,144 @@
+//! What decoders make of packets that were worked out by hand from S-9.2 and S-9.2.1.
+
+use crate::{Accessory, Loco, NodeList, NodeSpec, Running};
+use arrayvec::ArrayVec;
+use dcc_packet::{Module, Motion, Steps};
+use decoder_cv::CvSet;
+use std::test::Fail;
+
+/// Halves of 58 and 100 microseconds.
+type Wave = ArrayVec<u16, 138>;
+
+/// Two like halves more.
+fn push_bit(wave: &mut Wave, bit: bool) {
+    for _ in 0..2 {
+        if !wave.is_full() {
+            wave.push(if bit { 58 } else { 100 });
+        }
+    }
+}
+
+/// A wave of these bytes behind 14 ones.
+fn wave_of(bytes: &[u8]) -> Wave {
+    let mut wave = Wave::new();
+    for _ in 0..14 {
+        push_bit(&mut wave, true);
+    }
+    for byte in bytes {
+        push_bit(&mut wave, false);
+        for place in 0..8_u8 {
+            push_bit(&mut wave, (*byte << place) & 0x80 != 0);
+        }
+    }
+    push_bit(&mut wave, true);
+    wave
+}
+
+fn step(of: Steps, n: u8) -> Motion {
+    Motion::Step { of, n }
+}
+
+fn running(motion: Motion, forward: bool, functions: u16) -> Running {
+    Running {
+        motion,
+        forward,
+        functions,
+    }
+}
+
+/// A packet, and how the decoder runs then.
+type Row = (&'static [u8], Running);
+
+fn first() -> Running {
+    running(Motion::Stop, true, 0)
+}
+
+#[test]
+fn a_locomotive_obeys_packets_in_turn(rt: HostRuntime) -> Result<(), Fail> {
+    let fourteen: [Row; 3] = [
+        (&[0x03, 0x68, 0x6B], running(step(Steps::S14, 7), true, 0)),
+        // The light is a bit of the speed packet.
+        (&[0x03, 0x78, 0x7B], running(step(Steps::S14, 7), true, 1)),
+        // And group one leaves it.
+        (&[0x03, 0x81, 0x82], running(step(Steps::S14, 7), true, 3)),
+    ];
+    let twenty_eight: [Row; 3] = [
+        (&[0x03, 0x78, 0x7B], running(step(Steps::S28, 14), true, 0)),
+        (&[0x03, 0x90, 0x93], running(step(Steps::S28, 14), true, 1)),
+        (&[0x03, 0x81, 0x82], running(step(Steps::S28, 14), true, 2)),
+    ];
+    let reversed: [Row; 3] = [
+        (
+            &[0x03, 0x3F, 0xC0, 0xFC],
+            running(step(Steps::S128, 63), false, 0),
+        ),
+        // A broadcast stop leaves the direction, and Reset does not.
+        (&[0x00, 0x51, 0x51], running(Motion::Emergency, false, 0)),
+        (&[0x00, 0x00, 0x00], first()),
+    ];
+    // No listed form, another address, a wrong check.
+    let not_for_it: [Row; 3] = [
+        (&[0x03, 0x20, 0x23], first()),
+        (&[0x04, 0x3F, 0xC0, 0xFB], first()),
+        (&[0x03, 0x3F, 0xC0, 0xFD], first()),
+    ];
+    for (cv29, rows) in [
+        (0, fourteen),
+        (2, twenty_eight),
+        (3, reversed),
+        (2, not_for_it),
+    ] {
+        let mut loco = Loco::new(CvSet::new(3, 0, 0, cv29)?);
+        assert_eq!(rt; loco.running(), first());
+        for (bytes, then) in rows {
+            loco.hear_all(wave_of(bytes).iter().copied());
+            assert_eq!(rt; loco.running(), then, "{cv29} {bytes:?}");
+        }
+    }
+    Ok(())
+}
+
+#[test]
+fn lost_power_forgets_all(rt: HostRuntime) -> Result<(), Fail> {
+    let mut loco = Loco::new(CvSet::new(3, 0, 0, 2)?);
+    loco.hear_all(wave_of(&[0x03, 0x3F, 0xC0, 0xFC]).iter().copied());
+    assert_eq!(rt; loco.running(), running(step(Steps::S128, 63), true, 0));
+    // The one that closed the packet would count for the next preamble.
+    loco.power_lost();
+    assert_eq!(rt; loco.running(), first());
+    for half in wave_of(&[0x03, 0x3F, 0xC0, 0xFC]).iter().skip(10) {
+        loco.hear(*half);
+    }
+    assert_eq!(rt; loco.running(), first());
+    Ok(())
+}
+
+#[test]
+fn an_accessory_decoder_switches_its_outputs(rt: HostRuntime) -> Result<(), Fail> {
+    let mut accessory = Accessory::new(Module::new(1).ok_or("no module")?);
+    assert_eq!(rt; accessory.outputs(), 0);
+    // Pair 0 closed on, pair 1 not closed on, pair 0 closed off, another module, the emergency stop of locomotives.
+    let rows: [(&'static [u8], u8); 5] = [
+        (&[0x81, 0xF9, 0x78], 0x02),
+        (&[0x81, 0xFA, 0x7B], 0x06),
+        (&[0x81, 0xF1, 0x70], 0x04),
+        (&[0x82, 0xF9, 0x7B], 0x04),
+        (&[0x00, 0x51, 0x51], 0x04),
+    ];
+    for (bytes, outputs) in rows {
+        accessory.hear_all(wave_of(bytes).iter().copied());
+        assert_eq!(rt; accessory.outputs(), outputs, "{bytes:?}");
+    }
+    Ok(())
+}
+
+#[test]
+fn a_list_of_decoders_is_filled_by_default(rt: HostRuntime) -> Result<(), Fail> {
+    let list = NodeList::new();
+    assert_eq!(rt; list.len(), 0);
+    assert_eq!(rt;
+        NodeSpec::default(),
+        NodeSpec::Loco(CvSet::new(3, 0, 0, 0)?)
+    );
+    Ok(())
+}

@@ -1,0 +1,1 @@
+//! What holds of every turn and every call, for the crates above.

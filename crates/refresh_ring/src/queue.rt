@@ -1,0 +1,165 @@
+//! The jobs that wait, in a buffer that is made once.
+ghost use Rattle.std.specs.Prelude.{◌≡◌, ◌<◌, ◌≤◌, ◌+◌, ◌++◌, [], ◌∷◌, false, true, if◌then◌else◌, IfOk, IfSome};
+ghost use Rattle.refresh_ring.specs.Places.{IsSlot, is_refreshed};
+ghost use Rattle.refresh_ring.specs.Jobs.{IsJob, IsQueue, waits, requests_in, sends_ahead, is_live, live_jobs, first_of, after_send};
+ghost use Rattle.refresh_ring.specs.declared.job.Job.TheVariants.{Place, Request};
+
+use crate::fault::NoMemory;
+use crate::job::Job;
+use crate::kind::Kind;
+use crate::ring::Ring;
+use circular_buffer::HeapCircularBuffer;
+use std::alloc::Global;
+use std::marker::Model;
+
+// A place waits at most once, and there are at most 32 switch requests.
+const MOST_JOBS: usize = 357 + 32;
+
+/// The jobs that wait, in order. Each place waits at most once, and at most 32 switch requests wait.
+#[derive(Drop)]
+pub(crate) struct JobQueue {
+    jobs: HeapCircularBuffer<Job>,
+}
+
+impl Model for JobQueue {
+    ghost use Rattle.std.specs.Prelude.{List};
+    ghost use Rattle.refresh_ring.specs.declared.job.Job.{Job as JobOf};
+
+    ghost Value = { List JobOf };
+
+    ghost use Rattle.refresh_ring.specs.Jobs.{IsBuffered};
+
+    ghost view = { λ q. q.jobs.items };
+
+    ghost invariant = { λ q. IsBuffered q.jobs.items q.jobs.capacity };
+}
+
+impl JobQueue {
+    // No job waits.
+    pub(crate) fn new(alloc: Global) -> Result<JobQueue, NoMemory>
+        ensures empty { IfOk result (λ q. q ≡ []) }
+        ensures queue { IfOk result IsQueue }
+    {
+        match HeapCircularBuffer::with_capacity(alloc, MOST_JOBS) {
+            Ok(jobs) => Ok(JobQueue { jobs }),
+            Err(_) => Err(NoMemory),
+        }
+    }
+
+    // Whether a place waits.
+    pub(crate) fn waits(&self, slot: u8, kind: Kind) -> bool
+        ensures { result ≡ waits slot kind self.now }
+    {
+        self.jobs.iter().any(|job| job.is_place(slot, kind))
+    }
+
+    // How many switch requests wait.
+    pub(crate) fn requests(&self) -> u8
+        ensures count { result ≡ requests_in self.now }
+        ensures queue { IsQueue self.now }
+    {
+        let mut count = 0;
+        for job in self.jobs.iter() {
+            if let Job::Request { .. } = *job {
+                count += 1;
+            }
+        }
+        count
+    }
+
+    // The sends that wait ahead of a place, where the place waits.
+    pub(crate) fn sends_ahead(&self, slot: u8, kind: Kind) -> Option<u32>
+        ensures { result ≡ sends_ahead slot kind self.now }
+    {
+        let mut ahead = 0;
+        for job in self.jobs.iter() {
+            if job.is_place(slot, kind) {
+                return Some(ahead);
+            }
+            ahead += job.sends();
+        }
+        None
+    }
+
+    // A place waits behind all others.
+    pub(crate) fn push_place(&mut self, slot: u8, kind: Kind)
+        requires slot { IsSlot slot }
+        requires absent { waits slot kind self.old ≡ false }
+        ensures jobs { self.new ≡ self.old ++ Place slot kind ∷ [] }
+        ensures queue { IsQueue self.new }
+    {
+        self.jobs.push_back(Job::Place { slot, kind });
+    }
+
+    // A switch request waits behind all others, and is sent twice.
+    pub(crate) fn push_request(&mut self, number: u16, closed: bool, on: bool)
+        requires number { number ≤ 2039 }
+        requires room { requests_in self.old < 32 }
+        ensures jobs { self.new ≡ self.old ++ Request number closed on true ∷ [] }
+        ensures queue { IsQueue self.new }
+    {
+        self.jobs.push_back(Job::Request {
+            number,
+            closed,
+            on,
+            again: true,
+        });
+    }
+
+    // The first job.
+    pub(crate) fn first(&self) -> Option<Job>
+        ensures first { result ≡ first_of self.now }
+        ensures legal { IfSome result IsJob }
+        ensures queue { IsQueue self.now }
+    {
+        self.jobs.front().copied()
+    }
+
+    // Drops the jobs at the head whose slot is not refreshed.
+    pub(crate) fn drop_stale<R: Ring>(&mut self, ring: &R)
+        ensures jobs { self.new ≡ live_jobs (R.slots ring.now) self.old }
+        ensures queue { IsQueue self.new }
+    {
+        while let Some(job) = self.first() {
+            if is_live(job, ring) {
+                return;
+            }
+            self.jobs.pop_front();
+        }
+    }
+
+    // The first job was sent: it leaves, or waits at the head to be sent once more.
+    pub(crate) fn note_sent(&mut self)
+        ensures jobs { self.new ≡ after_send self.old }
+        ensures queue { IsQueue self.new }
+    {
+        self.jobs.len();
+        if let Some(Job::Request {
+            number,
+            closed,
+            on,
+            again,
+        }) = self.jobs.pop_front()
+        {
+            if again {
+                self.jobs.push_front(Job::Request {
+                    number,
+                    closed,
+                    on,
+                    again: false,
+                });
+            }
+        }
+    }
+}
+
+// Whether the job still waits to be sent: a switch request always, a place while its slot is refreshed.
+fn is_live<R: Ring>(job: Job, ring: &R) -> bool
+    requires { IsJob job }
+    ensures { result ≡ is_live (R.slots ring.now) job }
+{
+    match job {
+        Job::Place { slot, .. } => ring.has(slot),
+        Job::Request { .. } => true,
+    }
+}

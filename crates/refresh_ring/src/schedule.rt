@@ -1,0 +1,212 @@
+//! The schedule of a command station: what waits, where the ring stands, and what is sent next.
+ghost use Rattle.std.specs.Prelude.{◌≡◌, ◌≤◌, ◌<◌, ◌-◌, Some, IfOk, IfSome, if◌then◌else◌};
+ghost use Rattle.refresh_ring.specs.Places.{IsSlot, IsPlace, next_place};
+ghost use Rattle.refresh_ring.specs.Jobs.{IsJob, requests_in, sends_ahead, first_of};
+ghost use Rattle.refresh_ring.specs.Scheduled.{IsScheduled, first_schedule, after_refresh, after_changed, after_switch, switch_answer};
+ghost use Rattle.refresh_ring.specs.Picked.{picked, turned, sent, idle};
+ghost use Rattle.refresh_ring.specs.Sent.{IsDue, IsLegalPick};
+ghost use Rattle.refresh_ring.specs.declared.turn.Candidate.TheVariants.{FromJobs, FromRing};
+
+use crate::fault::{Full, NoMemory};
+use crate::job::{Destination, Job};
+use crate::kind::Kind;
+use crate::pick::{Pick, Power};
+use crate::queue::JobQueue;
+use crate::ring::Ring;
+use crate::turn::{Candidate, choose, destination_of, is_last, kind_of, pick_of, slot_of};
+use crate::view::View;
+use std::alloc::Global;
+use std::marker::Model;
+
+/// The most switch requests that wait at one time.
+const MOST_REQUESTS: u8 = 32;
+
+/// The refreshed slots, the jobs that wait, and where ring and turns stand.
+///
+/// Each place waits at most once, and at most 32 switch requests wait, so its memory is taken once, by `new`.
+#[derive(Drop)]
+pub struct Schedule<R: Ring> {
+    ring: R,
+    queue: JobQueue,
+    cursor: u16,
+    last: Option<Destination>,
+    prefers_jobs: bool,
+}
+
+impl<R: Ring> Model for Schedule<R> {
+    ghost use Rattle.refresh_ring.specs.Scheduled.{Scheduled, IsScheduled};
+
+    ghost Value = { Scheduled };
+
+    ghost view = { λ s. record { jobs = s.queue; slots = R.slots s.ring; cursor = s.cursor; last = s.last; prefers_jobs = s.prefers_jobs } };
+
+    ghost invariant = { λ s. IsScheduled (record { jobs = s.queue; slots = R.slots s.ring; cursor = s.cursor; last = s.last; prefers_jobs = s.prefers_jobs }) };
+}
+
+impl<R: Ring> Schedule<R> {
+    /// No slot is refreshed and nothing waits. It is refused where there is no memory for 389 jobs.
+    pub fn new(alloc: Global) -> Result<Schedule<R>, NoMemory>
+        ensures first { IfOk result (λ s. s ≡ first_schedule) }
+        ensures legal { IfOk result IsScheduled }
+    {
+        Ok(Schedule {
+            ring: R::empty(),
+            queue: JobQueue::new(alloc)?,
+            cursor: 0,
+            last: None,
+            prefers_jobs: true,
+        })
+    }
+
+    /// Says whether a slot, 1 to 119, is refreshed from now on.
+    pub fn refresh(&mut self, slot: u8, on: bool)
+        requires { IsSlot slot }
+        ensures state { self.new ≡ after_refresh slot on self.old }
+        ensures legal { IsScheduled self.new }
+    {
+        self.ring.set(slot, on);
+    }
+
+    /// What this packet of a slot, 1 to 119, says was changed or asked for: the place waits behind all jobs, unless it
+    /// waits already or its slot is not refreshed.
+    pub fn changed(&mut self, slot: u8, kind: Kind)
+        requires { IsSlot slot }
+        ensures state { self.new ≡ after_changed slot kind self.old }
+        ensures legal { IsScheduled self.new }
+    {
+        if self.ring.has(slot) && !self.queue.waits(slot, kind) {
+            self.queue.push_place(slot, kind);
+        }
+    }
+
+    /// A request to close or throw a switch, number 0 to 2039, its output on or off, waits behind all jobs, and is then
+    /// sent twice. It is refused, and nothing changes, exactly where 32 requests wait.
+    pub fn switch(&mut self, number: u16, closed: bool, on: bool) -> Result<(), Full>
+        requires { number ≤ 2039 }
+        ensures answer { result ≡ switch_answer self.old }
+        ensures state { self.new ≡ after_switch number closed on self.old }
+        ensures legal { IsScheduled self.new }
+    {
+        if self.queue.requests() >= MOST_REQUESTS {
+            return Err(Full);
+        }
+        self.queue.push_request(number, closed, on);
+        Ok(())
+    }
+
+    /// How many sends wait ahead of a place, those of slots that are not refreshed too. None where it does not wait.
+    pub fn sends_ahead(&self, slot: u8, kind: Kind) -> Option<u32>
+        requires { IsSlot slot }
+        ensures ahead { result ≡ sends_ahead slot kind self.now.jobs }
+        ensures legal { IsScheduled self.now }
+    {
+        self.queue.sends_ahead(slot, kind)
+    }
+
+    /// How many switch requests still have a packet to send.
+    pub fn switches_waiting(&self) -> u8
+        ensures count { result ≡ requests_in self.now.jobs }
+        ensures legal { IsScheduled self.now }
+    {
+        self.queue.requests()
+    }
+
+    /// What this turn sends. While off nothing changes, and while paused only the last destination is forgotten.
+    pub fn pick<V: View>(&mut self, view: &V, power: Power) -> Pick
+        ensures state { self.new ≡ (turned power (V.addresses view.now) self.old).state }
+        ensures answer { result ≡ (turned power (V.addresses view.now) self.old).answer }
+        ensures due { power ≡ Power.Running → IsDue self.old result }
+        ensures range { IsLegalPick result }
+        ensures legal { IsScheduled self.new }
+    {
+        // A turn while off leaves a schedule as it is.
+        let _ = &self.last;
+        match power {
+            Power::Off => Pick::Off,
+            Power::Running => self.pick_running(view),
+            Power::Paused => {
+                self.last = None;
+                Pick::StopAll
+            }
+        }
+    }
+
+    // What a turn sends while power runs.
+    #[tactic(auto, unfolding(crate::specs::Picked::picked))]
+    fn pick_running<V: View>(&mut self, view: &V) -> Pick
+        ensures state { self.new ≡ (picked (V.addresses view.now) self.old).state }
+        ensures answer { result ≡ (picked (V.addresses view.now) self.old).answer }
+        ensures due { IsDue self.old result }
+        ensures range { IsLegalPick result }
+        ensures legal { IsScheduled self.new }
+    {
+        self.queue.drop_stale(&self.ring);
+        let job = self.queue.first();
+        let place = self.next_place();
+        match choose(self.prefers_jobs, job, place) {
+            Some(Candidate::FromJobs { job }) => self.offer_job(view, job),
+            Some(Candidate::FromRing { place }) => self.offer_place(view, place),
+            None => self.stay_idle(),
+        }
+    }
+
+    // The place that the ring sends next.
+    fn next_place(&self) -> Option<u16>
+        ensures next { result ≡ next_place self.now.slots self.now.cursor }
+        ensures within { IfSome result IsPlace }
+    {
+        self.ring.next(self.cursor)
+    }
+
+    // Sends the first job, or idle where the last packet went to the same decoder.
+    fn offer_job<V: View>(&mut self, view: &V, job: Job) -> Pick
+        requires { IsJob job }
+        ensures state { self.new ≡ (sent (V.addresses view.now) self.old (Some (FromJobs job))).state }
+        ensures answer { result ≡ (sent (V.addresses view.now) self.old (Some (FromJobs job))).answer }
+        ensures range { IsLegalPick result }
+        ensures legal { IsScheduled self.new }
+    {
+        let there = destination_of(view, job);
+        if is_last(self.last, there) {
+            return self.stay_idle();
+        }
+        self.queue.note_sent();
+        self.last = Some(there);
+        self.prefers_jobs = false;
+        pick_of(job)
+    }
+
+    // Sends a place of the ring, or idle where the last packet went to the same decoder.
+    fn offer_place<V: View>(&mut self, view: &V, place: u16) -> Pick
+        requires { IsPlace place }
+        ensures state { self.new ≡ (sent (V.addresses view.now) self.old (Some (FromRing place))).state }
+        ensures answer { result ≡ (sent (V.addresses view.now) self.old (Some (FromRing place))).answer }
+        ensures range { IsLegalPick result }
+        ensures legal { IsScheduled self.new }
+    {
+        let slot = slot_of(place);
+        let there = Destination::Loco {
+            address: view.address(slot),
+        };
+        if is_last(self.last, there) {
+            return self.stay_idle();
+        }
+        self.cursor = place;
+        self.last = Some(there);
+        self.prefers_jobs = true;
+        Pick::Place {
+            slot,
+            kind: kind_of(place),
+        }
+    }
+
+    // Sends the idle packet.
+    fn stay_idle(&mut self) -> Pick
+        ensures state { self.new ≡ (idle self.old).state }
+        ensures answer { result ≡ (idle self.old).answer }
+        ensures legal { IsScheduled self.new }
+    {
+        self.last = None;
+        Pick::Idle
+    }
+}

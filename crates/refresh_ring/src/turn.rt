@@ -1,0 +1,98 @@
+//! What a turn chooses from, and where it goes.
+ghost use Rattle.std.specs.Prelude.{◌≡◌, ◌≤◌, IfSome};
+ghost use Rattle.refresh_ring.specs.Places.{IsSlot, IsPlace, slot_of, kind_of};
+ghost use Rattle.refresh_ring.specs.Jobs.{IsJob};
+ghost use Rattle.refresh_ring.specs.Sent.{IsLegalPick};
+ghost use Rattle.refresh_ring.specs.Picked.{IsCandidate, candidate, destination_of, pick_of, is_last};
+
+use crate::job::{Destination, Job};
+use crate::kind::Kind;
+use crate::pick::Pick;
+use crate::view::View;
+
+// What a turn may send.
+#[derive(Clone, Copy)]
+pub(crate) enum Candidate {
+    FromJobs { job: Job },
+    FromRing { place: u16 },
+}
+
+// The preferred one, or else the other.
+pub(crate) fn choose(prefers_jobs: bool, job: Option<Job>, place: Option<u16>) -> Option<Candidate>
+    requires job { IfSome job IsJob }
+    requires place { IfSome place IsPlace }
+    ensures chosen { result ≡ candidate prefers_jobs job place }
+    ensures legal { IfSome result IsCandidate }
+{
+    match (job, place) {
+        (Some(job), Some(place)) => {
+            if prefers_jobs {
+                Some(Candidate::FromJobs { job })
+            } else {
+                Some(Candidate::FromRing { place })
+            }
+        }
+        (Some(job), None) => Some(Candidate::FromJobs { job }),
+        (None, Some(place)) => Some(Candidate::FromRing { place }),
+        (None, None) => None,
+    }
+}
+
+// Where a job's packet goes.
+pub(crate) fn destination_of<V: View>(view: &V, job: Job) -> Destination
+    requires { IsJob job }
+    ensures { result ≡ destination_of (V.addresses view.now) job }
+{
+    match job {
+        Job::Place { slot, .. } => Destination::Loco {
+            address: view.address(slot),
+        },
+        Job::Request { number, .. } => Destination::Module {
+            number: number / 4 + 1,
+        },
+    }
+}
+
+// Whether the last packet went there.
+pub(crate) fn is_last(last: Option<Destination>, there: Destination) -> bool
+    ensures { result ≡ is_last last there }
+{
+    match (last, there) {
+        (Some(Destination::Loco { address: was }), Destination::Loco { address }) => was == address,
+        (Some(Destination::Module { number: was }), Destination::Module { number }) => was == number,
+        _ => false,
+    }
+}
+
+// The packet of a job.
+pub(crate) fn pick_of(job: Job) -> Pick
+    requires { IsJob job }
+    ensures pick { result ≡ pick_of job }
+    ensures range { IsLegalPick result }
+{
+    match job {
+        Job::Place { slot, kind } => Pick::Place { slot, kind },
+        Job::Request {
+            number, closed, on, ..
+        } => Pick::Switch { number, closed, on },
+    }
+}
+
+pub(crate) fn slot_of(place: u16) -> u8
+    requires { 1 ≤ place }
+    ensures slot { result ≡ slot_of place }
+    ensures range { IsSlot result }
+{
+    ((place - 1) % 119 + 1) as u8
+}
+
+pub(crate) fn kind_of(place: u16) -> Kind
+    requires { 1 ≤ place }
+    ensures { result ≡ kind_of place }
+{
+    match (place - 1) / 119 {
+        0 => Kind::Speed,
+        1 => Kind::GroupOne,
+        _ => Kind::GroupTwo,
+    }
+}
