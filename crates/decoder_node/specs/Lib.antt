@@ -1,3 +1,4 @@
+pub use Rattle.decoder_rx.specs.Table
 pub mod Accessory
 pub mod Heard
 pub mod Loco

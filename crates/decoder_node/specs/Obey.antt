@@ -1,4 +1,4 @@
--- What packets do to a locomotive decoder.
+-- What packets do to a locomotive decoder. Where the standard leaves a rule open, (own) marks this project's profile.
 use Rattle.std.specs.Prelude.{ℕ, ◌+◌, ◌-◌, ◌*◌, ◌/◌, ◌%◌, ◌^◌, ◌==◌, ◌<◌, nat_lt, Bool, true, false, not, if◌then◌else◌, List, fold, Option, Some, None}
 use Rattle.dcc_packet.specs.declared.address.Address.{Address}
 use Rattle.dcc_packet.specs.declared.address.Address.TheVariants.{Short, Long}

@@ -6,6 +6,7 @@ use Rattle.std.proofs.lemmas.Bool.{or_cases, and_from, both_ways, cond_both}
 use Rattle.std.proofs.lemmas.Map.Keys.{IsDistinct-cons, IsDistinct-push, IsDistinct-tail}
 use Rattle.std.proofs.lemmas.List.{take_all, append-nil}
 use Rattle.std.proofs.lemmas.Map.Steps.{length-le_from_distinct_below}
+use Rattle.circular_buffer.specs.Buffer.{Buffer, buffer}
 use Rattle.refresh_ring.specs.Places.{IsSlot, place_of, number_of}
 use Rattle.refresh_ring.specs.Jobs.{IsJob, is_place, waits, places_in, requests_in, sends_of, sends_in, IsQueue, IsBuffered, is_live, live_jobs, first_of, after_send}
 use Rattle.refresh_ring.specs.declared.kind.Kind.{Kind}
@@ -163,3 +164,8 @@ buffered jobs items capacity e full queue = record { queue = rw e queue; room = 
 
 pub pushed : (jobs : List Job) (capacity : ℕ) → capacity ≡ 389 → IsQueue jobs → drop (length jobs - capacity) jobs ≡ jobs
 pushed jobs capacity full queue = keeps_all capacity jobs (omega (arith, room jobs queue))
+
+pub popped : (old new : Buffer Job) → new ≡ buffer (drop 1 old.items) old.capacity → IsBuffered old.items old.capacity → IsBuffered new.items new.capacity
+popped old new e was =
+    let items : new.items ≡ drop 1 old.items = ap (λ b. b.items) e in
+    record { queue = rw items (queue-drop old.items was.queue); room = ap (λ b. b.capacity) e ∙ was.room }

@@ -31,14 +31,18 @@ abbrev pub after_refresh : ℕ → Bool → Scheduled → Scheduled
 after_refresh slot on s = record s { slots = slice_set s.slots (slot - 1) on }
 
 -- a changed place of a refreshed slot waits at the end, unless it waits already
-abbrev pub after_changed : ℕ → Kind → Scheduled → Scheduled
-after_changed slot kind s =
-    if is_refreshed s.slots slot && not (waits slot kind s.jobs) then record s { jobs = s.jobs ++ Place slot kind ∷ [] } else s
+abbrev pub with_place : List Bool → ℕ → Kind → List Job → List Job
+with_place slots slot kind jobs = if is_refreshed slots slot && not (waits slot kind jobs) then jobs ++ Place slot kind ∷ [] else jobs
 
--- a switch request waits at the end, unless 32 wait already
+abbrev pub after_changed : ℕ → Kind → Scheduled → Scheduled
+after_changed slot kind s = record s { jobs = with_place s.slots slot kind s.jobs }
+
+-- a switch request waits at the end, to be sent twice, unless 32 wait already
+abbrev pub with_request : ℕ → Bool → Bool → List Job → List Job
+with_request number closed on jobs = if nat_lt (requests_in jobs) 32 then jobs ++ Request number closed on true ∷ [] else jobs
+
 abbrev pub after_switch : ℕ → Bool → Bool → Scheduled → Scheduled
-after_switch number closed on s =
-    if nat_lt (requests_in s.jobs) 32 then record s { jobs = s.jobs ++ Request number closed on true ∷ [] } else s
+after_switch number closed on s = record s { jobs = with_request number closed on s.jobs }
 
 abbrev pub switch_answer : Scheduled → Result (Unit {0}) Full
 switch_answer s = if nat_lt (requests_in s.jobs) 32 then Ok tt else Err (record {})

@@ -59,3 +59,10 @@ IsLegalPick StopAll = Unit {0}
 IsLegalPick Idle = Unit {0}
 IsLegalPick (PlacePick slot kind) = IsSlot slot
 IsLegalPick (Switch number closed on) = number ≤ 2039
+
+-- of the jobs in front, what is left after a turn; what they still had to send was sent or is left, and fewer turns are left
+pub record LessLeft (front back : List Job) (turns : ℕ) (m : Picked) : Type 0 where
+  pub left : List Job
+  pub jobs_are : m.state.jobs ≡ left ++ back
+  pub sends : switch_in m.answer ++ to_send left ≡ to_send front
+  pub falls : 4 * sends_in left + jobs_wait m.state.prefers_jobs m.state.last + 1 ≤ turns

@@ -19,6 +19,7 @@ mod view;
 pub use fault::{Full, NoMemory};
 pub use job::{Destination, Job};
 pub use kind::Kind;
+pub use laws::{changes_first, four_turns, neighbours, picks_are_due, switches_in_order};
 
 pub use pick::{Pick, Power};
 pub use plain::PlainRing;

@@ -136,7 +136,6 @@ impl<R: Ring> Schedule<R> {
     fn pick_running<V: View>(&mut self, view: &V) -> Pick
         ensures state { self.new ≡ (picked (V.addresses view.now) self.old).state }
         ensures answer { result ≡ (picked (V.addresses view.now) self.old).answer }
-        ensures due { IsDue self.old result }
         ensures range { IsLegalPick result }
         ensures legal { IsScheduled self.new }
     {

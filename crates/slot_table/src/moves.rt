@@ -1,5 +1,5 @@
 //! What OPC_MOVE_SLOTS does: null move, dispatch put, dispatch get, and the move of a slot.
-ghost use Rattle.std.specs.Prelude.{◌≡◌, IfOk};
+ghost use Rattle.std.specs.Prelude.{◌≡◌, IfOk, OnErr};
 ghost use Rattle.slot_table.specs.Entry.{IsSlot};
 ghost use Rattle.slot_table.specs.Desk.{IsDesk};
 ghost use Rattle.slot_table.specs.Reading.{is_placed};
@@ -19,6 +19,7 @@ impl SlotTable {
         ensures answer { result ≡ slot_if (is_placed self.old n) n }
         ensures slot { IfOk result IsSlot }
         ensures after { self.new ≡ after_null_move self.old n }
+        ensures refused { OnErr result (self.new ≡ self.old) }
         ensures desk { IsDesk self.new }
     {
         let row = self.held(n)?;
@@ -34,6 +35,7 @@ impl SlotTable {
         ensures answer { result ≡ slot_if (is_placed self.old src) src }
         ensures slot { IfOk result IsSlot }
         ensures after { self.new ≡ after_dispatch_put self.old src }
+        ensures refused { OnErr result (self.new ≡ self.old) }
         ensures desk { IsDesk self.new }
     {
         let row = self.held(src)?;
@@ -50,6 +52,7 @@ impl SlotTable {
         ensures answer { result ≡ dispatch_get_answer self.old.mark }
         ensures slot { IfOk result IsSlot }
         ensures after { self.new ≡ after_dispatch_get self.old }
+        ensures refused { OnErr result (self.new ≡ self.old) }
         ensures desk { IsDesk self.new }
     {
         let Some(n) = self.mark() else {
@@ -68,6 +71,7 @@ impl SlotTable {
         ensures answer { result ≡ slot_if (can_shift self.old src dest) dest }
         ensures slot { IfOk result IsSlot }
         ensures after { self.new ≡ after_shift self.old src dest }
+        ensures refused { OnErr result (self.new ≡ self.old) }
         ensures desk { IsDesk self.new }
     {
         let row = self.held(src)?;

@@ -1,5 +1,5 @@
 //! What a throttle loads and writes: an address, one field, or a whole slot.
-ghost use Rattle.std.specs.Prelude.{◌≡◌, ◌<◌, IfOk, OnOk};
+ghost use Rattle.std.specs.Prelude.{◌≡◌, ◌<◌, IfOk, OnOk, OnErr};
 ghost use Rattle.slot_table.specs.{address_of};
 ghost use Rattle.slot_table.specs.Entry.{IsSlot, row_with};
 ghost use Rattle.slot_table.specs.Desk.{IsDesk};
@@ -22,6 +22,7 @@ impl SlotTable {
         ensures answer { result ≡ take_answer self.old address }
         ensures slot { IfOk result IsSlot }
         ensures after { self.new ≡ after_take self.old address }
+        ensures refused { OnErr result (self.new ≡ self.old) }
         ensures desk { IsDesk self.new }
     {
         let found = self.find(address);
@@ -50,6 +51,7 @@ impl SlotTable {
         ensures answer { result ≡ done_if (is_placed self.old n) }
         ensures slot { OnOk result (IsSlot n) }
         ensures after { self.new ≡ after_speed self.old n spd }
+        ensures refused { OnErr result (self.new ≡ self.old) }
         ensures desk { IsDesk self.new }
     {
         let row = self.held(n)?;
@@ -64,6 +66,7 @@ impl SlotTable {
         ensures answer { result ≡ done_if (is_placed self.old n) }
         ensures slot { OnOk result (IsSlot n) }
         ensures after { self.new ≡ after_dirf self.old n dirf }
+        ensures refused { OnErr result (self.new ≡ self.old) }
         ensures desk { IsDesk self.new }
     {
         let row = self.held(n)?;
@@ -79,6 +82,7 @@ impl SlotTable {
         ensures answer { result ≡ done_if (is_placed self.old n) }
         ensures slot { OnOk result (IsSlot n) }
         ensures after { self.new ≡ after_snd self.old n snd }
+        ensures refused { OnErr result (self.new ≡ self.old) }
         ensures desk { IsDesk self.new }
     {
         let row = self.held(n)?;
@@ -95,6 +99,7 @@ impl SlotTable {
         ensures answer { result ≡ done_if (can_stat self.old n stat) }
         ensures slot { OnOk result (IsSlot n) }
         ensures after { self.new ≡ after_stat self.old n stat }
+        ensures refused { OnErr result (self.new ≡ self.old) }
         ensures desk { IsDesk self.new }
     {
         let row = self.held(n)?;
@@ -120,6 +125,7 @@ impl SlotTable {
         ensures answer { result ≡ write_answer self.old fields.now }
         ensures slot { OnOk result (IsSlot fields.now.slot) }
         ensures after { self.new ≡ after_write self.old fields.now }
+        ensures refused { OnErr result (self.new ≡ self.old) }
         ensures desk { IsDesk self.new }
     {
         let row = row_from(fields);

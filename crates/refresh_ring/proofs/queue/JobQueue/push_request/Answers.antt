@@ -1,4 +1,4 @@
-use Rattle.std.proofs.Common.{◌≡◌, ◌++◌, ◌∷◌, [], ap, ◌∙◌}
+use Rattle.std.proofs.Common.{◌≡◌, ◌++◌, ◌∷◌, [], ap, ◌∙◌, true}
 use Rattle.refresh_ring.specs.Jobs.{IsQueue}
 use Rattle.refresh_ring.specs.declared.job.Job.TheVariants.{Request}
 use Rattle.refresh_ring.proofs.Waiting.{queue-request, pushed}
