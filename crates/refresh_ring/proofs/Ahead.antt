@@ -1,11 +1,11 @@
 -- Jobs: a place that waits is sent, and in its turn.
-use Rattle.std.proofs.Common.{◌≡◌, ℕ, ◌+◌, ◌*◌, ◌<◌, ◌≤◌, ◌==◌, ◌&&◌, nat_lt, Bool, true, false, not, if◌then◌else◌, List, [], ◌∷◌, ◌++◌, Option, Some, None, option_map, refl, ap, ap₂, sym, ◌∙◌, arith, inl, inr, ◌⊎◌, eqb-true, eq-eqb}
+use Rattle.std.proofs.Common.{◌≡◌, ℕ, ◌+◌, ◌*◌, ◌≤◌, ◌==◌, ◌&&◌, nat_lt, Bool, true, false, not, if◌then◌else◌, List, [], ◌∷◌, ◌++◌, Option, Some, None, option_map, refl, ap, ap₂, arith, inl, inr, ◌⊎◌, eqb-true, eq-eqb}
 use Rattle.std.proofs.lemmas.Bool.{cond_both, and_parts, and_from}
 use Rattle.refresh_ring.specs.Places.{number_of, is_refreshed, slot_of, next_place}
-use Rattle.refresh_ring.specs.Jobs.{is_place, waits, requests_in, sends_of, sends_ahead, is_live, live_jobs, first_of, after_send}
+use Rattle.refresh_ring.specs.Jobs.{is_place, waits, requests_in, sends_of, sends_ahead, live_jobs, first_of, after_send}
 use Rattle.refresh_ring.specs.Scheduled.{Scheduled, after_changed, after_switch}
-use Rattle.refresh_ring.specs.Picked.{Picked, picked, live, candidate, sent, idle, job_sent, place_sent, is_last, destination_of, address_of, pick_of}
-use Rattle.refresh_ring.specs.Left.{ring_wait, jobs_wait, turns_ahead}
+use Rattle.refresh_ring.specs.Picked.{Picked, picked, live, candidate, sent, idle, is_last, destination_of, address_of, pick_of}
+use Rattle.refresh_ring.specs.Left.{jobs_wait, turns_ahead}
 use Rattle.refresh_ring.specs.declared.kind.Kind.{Kind}
 use Rattle.refresh_ring.specs.declared.kind.Kind.TheVariants.{Speed, GroupOne, GroupTwo}
 use Rattle.refresh_ring.specs.declared.job.Job.{Job}
@@ -107,7 +107,7 @@ wait_jobs false (Some there) = omega arith
 wait_jobs true None = omega arith
 wait_jobs true (Some there) = omega arith
 
-wait_most : (b : Bool) (last : Option Destination) → jobs_wait b last ≤ 4
+pub wait_most : (b : Bool) (last : Option Destination) → jobs_wait b last ≤ 4
 wait_most false None = omega arith
 wait_most false (Some there) = omega arith
 wait_most true None = omega arith

@@ -1,8 +1,8 @@
 -- No two neighbouring packets go to one decoder, and each is due.
-use Rattle.std.proofs.Common.{◌≡◌, ℕ, ◌<◌, ◌≤◌, Bool, true, false, if◌then◌else◌, List, [], ◌∷◌, Option, Some, None, MatchOption, min, length, refl, sym, ◌∙◌, ap, arith}
+use Rattle.std.proofs.Common.{◌≡◌, ℕ, Bool, true, false, if◌then◌else◌, List, [], ◌∷◌, Option, Some, None, MatchOption, min, refl, sym, ◌∙◌, ap, arith}
 use Rattle.std.specs.List.{Contains}
-use Rattle.std.proofs.lemmas.Bool.{cond_both, both_ways}
-use Rattle.refresh_ring.specs.Places.{is_refreshed, is_place_on, slot_of, next_place}
+use Rattle.std.proofs.lemmas.Bool.{cond_both}
+use Rattle.refresh_ring.specs.Places.{is_place_on, slot_of, next_place}
 use Rattle.refresh_ring.specs.Jobs.{is_live, live_jobs, first_of}
 use Rattle.refresh_ring.specs.Scheduled.{Scheduled}
 use Rattle.refresh_ring.specs.Picked.{Picked, picked, live, candidate, sent, idle, job_sent, place_sent, is_last, destination_of, address_of, pick_of}

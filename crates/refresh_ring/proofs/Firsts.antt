@@ -1,7 +1,6 @@
 -- The place that the law of the ring names is the one that is computed.
-use Rattle.std.proofs.Common.{◌≡◌, ℕ, zero, suc, ◌+◌, ◌-◌, ◌<◌, ◌≤◌, Bool, true, false, Option, Some, None, List, refl, arith, add-one, rules, inl, inr, ◌⊎◌, IfSome}
-use Rattle.std.specs.Option.{option_or}
-use Rattle.std.proofs.lemmas.Bool.{cases_lt, cases_eq}
+use Rattle.std.proofs.Common.{◌≡◌, ℕ, zero, suc, ◌+◌, ◌-◌, ◌<◌, ◌≤◌, Bool, true, false, Option, Some, None, List, refl, arith, inl, inr, IfSome}
+use Rattle.std.proofs.lemmas.Bool.{cases_eq}
 use Rattle.refresh_ring.specs.Places.{IsPlace, IsRefreshed, IsNext, is_place_on, first_from, next_place}
 
 off : (b : Bool) → ¬ (b ≡ true) → b ≡ false

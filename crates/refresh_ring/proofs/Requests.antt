@@ -2,10 +2,10 @@
 use Rattle.std.proofs.Common.{◌≡◌, ℕ, ◌+◌, ◌*◌, ◌<◌, ◌≤◌, Bool, true, false, not, if◌then◌else◌, nat_lt, lt-ltb, le-ltb, ◌&&◌, List, [], ◌∷◌, ◌++◌, Option, Some, None, refl, sym, ap, arith, inl, inr, ◌⊎◌, ◌∙◌, append_assoc, append-nil}
 use Rattle.std.proofs.lemmas.Bool.{cond_both}
 use Rattle.refresh_ring.specs.Places.{is_refreshed, slot_of, next_place}
-use Rattle.refresh_ring.specs.Jobs.{sends_of, sends_in, is_live, live_jobs, first_of, after_send, waits, requests_in}
+use Rattle.refresh_ring.specs.Jobs.{IsQueue, sends_of, sends_in, live_jobs, first_of, after_send, waits, requests_in}
 use Rattle.refresh_ring.specs.Scheduled.{Scheduled, after_changed, after_switch}
 use Rattle.refresh_ring.specs.Picked.{Picked, picked, live, candidate, sent, idle, job_sent, place_sent, is_last, destination_of, address_of, pick_of}
-use Rattle.refresh_ring.specs.Left.{jobs_wait}
+use Rattle.refresh_ring.specs.Left.{jobs_wait, turns_for}
 use Rattle.refresh_ring.specs.Sent.{sends_left, to_send, switch_in, LessLeft}
 use Rattle.refresh_ring.specs.declared.kind.Kind.{Kind}
 use Rattle.refresh_ring.specs.declared.job.Job.{Job}
@@ -15,7 +15,8 @@ use Rattle.refresh_ring.specs.declared.job.Destination.TheVariants.{Loco}
 use Rattle.refresh_ring.specs.declared.turn.Candidate.TheVariants.{FromJobs, FromRing}
 use Rattle.refresh_ring.specs.declared.pick.Pick.{Pick}
 use Rattle.refresh_ring.specs.declared.pick.Pick.TheVariants.{Switch}
-use Rattle.refresh_ring.proofs.Ahead.{wait_jobs, wait_idle, wait_ring}
+use Rattle.refresh_ring.proofs.Waiting.{few_sends}
+use Rattle.refresh_ring.proofs.Ahead.{wait_jobs, wait_most, wait_idle, wait_ring}
 
 pub to_send-append : (jobs more : List Job) → to_send (jobs ++ more) ≡ to_send jobs ++ to_send more
 to_send-append [] more = refl
@@ -82,6 +83,11 @@ switch-appends number closed on s = cond_both (nat_lt (requests_in s.jobs) 32) (
 
 -- ---- all that was to send is sent
 
+sends_of-pos : (job : Job) → 1 ≤ sends_of job
+sends_of-pos (Place slot kind) = omega arith
+sends_of-pos (Request number closed on true) = omega arith
+sends_of-pos (Request number closed on false) = omega arith
+
 sends_in-live : (slots : List Bool) (jobs : List Job) → sends_in (live_jobs slots jobs) ≤ sends_in jobs
 sends_in-live slots [] = omega arith
 sends_in-live slots (Request number closed on again ∷ jobs) = omega arith
@@ -144,8 +150,8 @@ less_by addresses s front back [] e f = inl (sym (to_send-live s.slots front) �
 less_by addresses s front back (job ∷ rest) e f = inr (LessLeft-wider front (job ∷ rest) back (4 * sends_in (job ∷ rest) + jobs_wait s.prefers_jobs s.last) (4 * sends_in front + jobs_wait s.prefers_jobs s.last) (picked addresses s)
     (sym (ap to_send e) ∙ to_send-live s.slots front)
     (let h : sends_in (live_jobs s.slots front) ≤ sends_in front = sends_in-live s.slots front in
-     let h' : sends_in (job ∷ rest) ≤ sends_in front = rw e at h in
-     omega arith)
+    let h' : sends_in (job ∷ rest) ≤ sends_in front = rw e at h in
+    omega arith)
     less) where
       less : LessLeft (job ∷ rest) back (4 * sends_in (job ∷ rest) + jobs_wait s.prefers_jobs s.last) (picked addresses s)
       less =
@@ -157,3 +163,11 @@ turn_less addresses s front back e = elim (live-append s.slots front back) [
   | inl none ↦ inl (sym (to_send-live s.slots front) ∙ ap to_send none)
   | inr parts ↦ less_by addresses s front back (live_jobs s.slots front) refl (ap (live_jobs s.slots) e ∙ parts)
 ]
+
+-- where no more than 4 turns are left, all was sent
+pub done : (s : Scheduled) (front : List Job) → turns_for front s ≤ 4 → to_send front ≡ []
+done s [] few = refl
+done s (job ∷ front) few = absurd (omega (arith, sends_of-pos job, wait_jobs s.prefers_jobs s.last))
+
+pub turns_for-most : (s : Scheduled) → IsQueue s.jobs → turns_for s.jobs s ≤ 1684 + 4
+turns_for-most s queue = omega (arith, few_sends s.jobs queue, wait_most s.prefers_jobs s.last)

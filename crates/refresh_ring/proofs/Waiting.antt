@@ -1,14 +1,14 @@
 -- A queue stays one, and has room.
-use Rattle.std.proofs.Common.{◌≡◌, ℕ, zero, suc, ◌+◌, ◌-◌, ◌*◌, ◌<◌, ◌≤◌, ◌==◌, Bool, true, false, ◌||◌, List, [], ◌∷◌, ◌++◌, length, Option, Some, None, slice_get, drop, take, refl, ap, sym, ◌∙◌, arith, eqb, inl, inr, eqb-true, ne_eqb, eq-eqb}
+use Rattle.std.proofs.Common.{◌≡◌, ℕ, ◌+◌, ◌-◌, ◌*◌, ◌<◌, ◌≤◌, ◌==◌, Bool, true, false, ◌||◌, List, [], ◌∷◌, ◌++◌, length, Some, slice_get, drop, take, refl, ap, ◌∙◌, arith, eqb, inl, inr, eqb-true, ne_eqb, eq-eqb}
 use Rattle.std.specs.List.{IsDistinct, AllByRecursion, list_any}
 use Rattle.std.specs.Cmp.{nat_eq_equiv}
-use Rattle.std.proofs.lemmas.Bool.{or_cases, and_from, both_ways, cond_both}
+use Rattle.std.proofs.lemmas.Bool.{or_cases, and_from, both_ways}
 use Rattle.std.proofs.lemmas.Map.Keys.{IsDistinct-cons, IsDistinct-push, IsDistinct-tail}
 use Rattle.std.proofs.lemmas.List.{take_all, append-nil}
 use Rattle.std.proofs.lemmas.Map.Steps.{length-le_from_distinct_below}
 use Rattle.circular_buffer.specs.Buffer.{Buffer, buffer}
 use Rattle.refresh_ring.specs.Places.{IsSlot, place_of, number_of}
-use Rattle.refresh_ring.specs.Jobs.{IsJob, is_place, waits, places_in, requests_in, sends_of, sends_in, IsQueue, IsBuffered, is_live, live_jobs, first_of, after_send}
+use Rattle.refresh_ring.specs.Jobs.{IsJob, is_place, waits, places_in, requests_in, sends_in, IsQueue, IsBuffered, is_live, live_jobs, first_of, after_send}
 use Rattle.refresh_ring.specs.declared.kind.Kind.{Kind}
 use Rattle.refresh_ring.specs.declared.kind.Kind.TheVariants.{Speed, GroupOne, GroupTwo}
 use Rattle.refresh_ring.specs.declared.job.Job.{Job}
@@ -88,9 +88,9 @@ requests_in-append (Request number closed on again ∷ jobs) more = omega (arith
 place_of-other : (slot : ℕ) (kind : Kind) (other : ℕ) (other_kind : Kind) → IsSlot slot → IsSlot other → is_place slot kind (Place other other_kind) ≡ false → eqb (place_of slot kind) (place_of other other_kind) ≡ false
 place_of-other slot kind other other_kind in_range other_in h =
     ne_eqb (place_of slot kind) (place_of other other_kind) (λ e.
-      let same_kind : number_of other_kind ≡ number_of kind = omega (arith, number_of-le kind, number_of-le other_kind) in
-      let same : other ≡ slot = omega arith in
-      both_ways (is_place slot kind (Place other other_kind)) h (and_from (other == slot) (number_of other_kind == number_of kind) (eq-eqb other slot same) (eq-eqb (number_of other_kind) (number_of kind) same_kind)))
+    let same_kind : number_of other_kind ≡ number_of kind = omega (arith, number_of-le kind, number_of-le other_kind) in
+    let same : other ≡ slot = omega arith in
+    both_ways (is_place slot kind (Place other other_kind)) h (and_from (other == slot) (number_of other_kind == number_of kind) (eq-eqb other slot same) (eq-eqb (number_of other_kind) (number_of kind) same_kind)))
 
 or_false : (a b : Bool) → (a || b) ≡ false → (a ≡ false) × (b ≡ false)
 or_false true b h = cc

@@ -1,11 +1,12 @@
 -- How many running turns are left, at most, until a packet is sent (the four-turn argument). Messages change none of it.
-use Rattle.std.specs.Prelude.{ℕ, ◌+◌, ◌-◌, ◌*◌, Bool, true, false, not, nat_lt, min, if◌then◌else◌, Option, Some, None}
+use Rattle.std.specs.Prelude.{ℕ, ◌+◌, ◌-◌, ◌*◌, Bool, true, false, not, nat_lt, min, if◌then◌else◌, List, Option, Some, None}
 use Rattle.std.proofs.Common.{zero, suc}
 use Rattle.std.specs.Option.{option_map}
 use Rattle.refresh_ring.specs.Places.{slot_of, place_of}
-use Rattle.refresh_ring.specs.Jobs.{sends_ahead}
+use Rattle.refresh_ring.specs.Jobs.{sends_ahead, sends_in}
 use Rattle.refresh_ring.specs.Scheduled.{Scheduled}
 use Rattle.refresh_ring.specs.declared.kind.Kind.{Kind}
+use Rattle.refresh_ring.specs.declared.job.Job.{Job}
 use Rattle.refresh_ring.specs.declared.job.Destination.{Destination}
 
 -- how many of the numbers from 1 to n pass the test
@@ -44,3 +45,7 @@ turns_left ever slot kind s = turns_from ever (place_of slot kind) s.cursor s.la
 -- turns until a place that waits is sent as a job
 abbrev pub turns_ahead : ℕ → Kind → Scheduled → Option ℕ
 turns_ahead slot kind s = option_map (λ n. 4 * n + jobs_wait s.prefers_jobs s.last) (sends_ahead slot kind s.jobs)
+
+-- turns until all of these jobs, which stand in front, were sent, and 4 more at most
+abbrev pub turns_for : List Job → Scheduled → ℕ
+turns_for jobs s = 4 * sends_in jobs + jobs_wait s.prefers_jobs s.last

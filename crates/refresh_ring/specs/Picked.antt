@@ -1,5 +1,5 @@
--- What a turn sends, and what it makes of a schedule.
-use Rattle.std.specs.Prelude.{ℕ, ◌≡◌, ◌≤◌, ◌+◌, ◌-◌, ◌/◌, ◌==◌, Bool, true, false, if◌then◌else◌, List, [], ◌∷◌, Option, Some, None, slice_index}
+-- What a turn sends, and what it makes of a schedule. The order of sending is the project's own profile.
+use Rattle.std.specs.Prelude.{ℕ, ◌+◌, ◌-◌, ◌/◌, ◌==◌, Bool, true, false, if◌then◌else◌, List, Option, Some, None, slice_index}
 use Rattle.refresh_ring.specs.Places.{IsPlace, slot_of, kind_of, next_place}
 use Rattle.refresh_ring.specs.Jobs.{IsJob, live_jobs, first_of, after_send}
 use Rattle.refresh_ring.specs.Scheduled.{Scheduled}

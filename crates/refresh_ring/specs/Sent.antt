@@ -1,10 +1,9 @@
 -- What is sent: of switch requests, and where it goes.
-use Rattle.std.specs.Prelude.{ℕ, ◌≡◌, ◌+◌, ◌*◌, ◌≤◌, Bool, true, false, List, [], ◌∷◌, ◌++◌, Option, Some, None}
+use Rattle.std.specs.Prelude.{ℕ, ◌≡◌, ◌+◌, ◌≤◌, true, false, List, [], ◌∷◌, ◌++◌, Option, Some, None}
 use Rattle.std.specs.List.{Contains}
 use Rattle.refresh_ring.specs.Places.{IsSlot, is_refreshed}
-use Rattle.refresh_ring.specs.Jobs.{sends_in}
 use Rattle.refresh_ring.specs.Scheduled.{Scheduled}
-use Rattle.refresh_ring.specs.Left.{jobs_wait}
+use Rattle.refresh_ring.specs.Left.{turns_for}
 use Rattle.refresh_ring.specs.Picked.{Picked, address_of, module_of, is_last}
 use Rattle.refresh_ring.specs.declared.job.Job.{Job}
 use Rattle.refresh_ring.specs.declared.job.Job.TheVariants.{Place, Request}
@@ -65,4 +64,4 @@ pub record LessLeft (front back : List Job) (turns : ℕ) (m : Picked) : Type 0 
   pub left : List Job
   pub jobs_are : m.state.jobs ≡ left ++ back
   pub sends : switch_in m.answer ++ to_send left ≡ to_send front
-  pub falls : 4 * sends_in left + jobs_wait m.state.prefers_jobs m.state.last + 1 ≤ turns
+  pub falls : turns_for left m.state + 1 ≤ turns

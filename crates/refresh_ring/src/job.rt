@@ -8,7 +8,10 @@ use crate::kind::Kind;
 #[derive(Clone, Copy, Debug, PartialEq, Eq)]
 pub enum Job {
     /// The packet of this kind for what stands in the slot, 1 to 119, at the moment of sending.
-    Place { slot: u8, kind: Kind },
+    Place {
+        slot: u8,
+        kind: Kind,
+    },
     /// A switch request, number 0 to 2039, which is sent once more, or twice more where `again` is true.
     Request {
         number: u16,
@@ -47,13 +50,7 @@ impl Job {
     {
         match *self {
             Job::Place { .. } => 1,
-            Job::Request { again, .. } => {
-                if again {
-                    2
-                } else {
-                    1
-                }
-            }
+            Job::Request { again, .. } => { if again { 2 } else { 1 } }
         }
     }
 }

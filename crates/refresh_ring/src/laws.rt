@@ -1,10 +1,10 @@
 //! What holds of every running turn, whatever messages come in between, for the crates above.
 ghost use Rattle.std.specs.Prelude.{◌≡◌, ◌+◌, ◌*◌, ◌<◌, ◌≤◌, ◌⊎◌, ◌++◌, [], ◌∷◌, ℕ, Bool, true, List, Some};
 ghost use Rattle.refresh_ring.specs.Places.{IsSlot, is_refreshed};
-ghost use Rattle.refresh_ring.specs.Jobs.{IsQueue, requests_in, sends_ahead, sends_in};
+ghost use Rattle.refresh_ring.specs.Jobs.{IsQueue, requests_in, sends_ahead};
 ghost use Rattle.refresh_ring.specs.Scheduled.{Scheduled, after_changed, after_switch};
 ghost use Rattle.refresh_ring.specs.Picked.{picked};
-ghost use Rattle.refresh_ring.specs.Left.{count_to, turns_left, turns_ahead, jobs_wait};
+ghost use Rattle.refresh_ring.specs.Left.{count_to, turns_left, turns_ahead, turns_for};
 ghost use Rattle.refresh_ring.specs.Sent.{to_send, switch_in, goes_to, IsApart, IsDue, LessLeft};
 ghost use Rattle.refresh_ring.specs.declared.kind.Kind.{Kind as KindOf};
 ghost use Rattle.refresh_ring.specs.declared.job.Job.{Job as JobOf};
@@ -31,7 +31,8 @@ pub fn changes_first()
     ensures switch { (slot : ℕ) (kind : KindOf) (number : ℕ) (closed on : Bool) (s : Scheduled) (n : ℕ) → turns_ahead slot kind s ≡ Some n → turns_ahead slot kind (after_switch number closed on s) ≡ Some n }
     ensures refresh { (slot : ℕ) (kind : KindOf) (s : Scheduled) (slots : List Bool) → turns_ahead slot kind (record s { slots = slots }) ≡ turns_ahead slot kind s }
 
-    // What was changed in a refreshed slot waits.
+    // What comes behind leaves the sends ahead as they are, and what was changed in a refreshed slot waits.
+    ensures behind { (slot : ℕ) (kind : KindOf) (jobs more : List JobOf) (q : ℕ) → sends_ahead slot kind jobs ≡ Some q → sends_ahead slot kind (jobs ++ more) ≡ Some q }
     ensures waits { (slot : ℕ) (kind : KindOf) (s : Scheduled) → is_refreshed s.slots slot ≡ true → (q : ℕ) × (sends_ahead slot kind (after_changed slot kind s).jobs ≡ Some q) }
 {}
 
@@ -45,12 +46,13 @@ pub fn switches_in_order()
 
     // Of the jobs in front nothing is left to send, or a turn leaves fewer turns for them. The others stand behind, and
     // so do those that messages add.
-    ensures falls { (addresses : List ℕ) (s : Scheduled) (front back : List JobOf) → s.jobs ≡ front ++ back → (to_send front ≡ []) ⊎ LessLeft front back (4 * sends_in front + jobs_wait s.prefers_jobs s.last) (picked addresses s) }
+    ensures falls { (addresses : List ℕ) (s : Scheduled) (front back : List JobOf) → s.jobs ≡ front ++ back → (to_send front ≡ []) ⊎ LessLeft front back (turns_for front s) (picked addresses s) }
+    ensures done { (s : Scheduled) (front : List JobOf) → turns_for front s ≤ 4 → to_send front ≡ [] }
     ensures changed_behind { (slot : ℕ) (kind : KindOf) (s : Scheduled) → (more : List JobOf) × ((after_changed slot kind s).jobs ≡ s.jobs ++ more) }
     ensures asked_behind { (number : ℕ) (closed on : Bool) (s : Scheduled) → (more : List JobOf) × ((after_switch number closed on s).jobs ≡ s.jobs ++ more) }
 
-    // A queue holds the sends of 357 places and 32 requests at most.
-    ensures most { (jobs : List JobOf) → IsQueue jobs → sends_in jobs ≤ 421 }
+    // A queue holds the sends of 357 places and 32 requests at most: 4 * (357 + 2 * 32) turns, and 4 more.
+    ensures most { (s : Scheduled) → IsQueue s.jobs → turns_for s.jobs s ≤ 1684 + 4 }
 {}
 
 /// A packet does not go to the decoders that the last one went to, and the last destination is kept.

@@ -20,10 +20,11 @@ pub use fault::{Full, NoMemory};
 pub use job::{Destination, Job};
 pub use kind::Kind;
 pub use laws::{changes_first, four_turns, neighbours, picks_are_due, switches_in_order};
-
 pub use pick::{Pick, Power};
 pub use plain::PlainRing;
 pub use ring::Ring;
 pub use schedule::Schedule;
 pub use view::View;
 
+#[cfg(test)]
+mod tests;

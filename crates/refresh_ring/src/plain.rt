@@ -10,9 +10,9 @@ pub struct PlainRing {
 }
 
 impl Default for PlainRing {
-    fn default() -> Self
-        ensures { result.slots ≡ replicate 119 false }
-    {
+    ghost is_default = { λ ring. ring.slots ≡ replicate 119 false };
+
+    fn default() -> Self {
         PlainRing::empty()
     }
 }

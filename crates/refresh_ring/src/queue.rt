@@ -107,6 +107,7 @@ impl JobQueue {
     }
 
     // The first job.
+    #[inline]
     pub(crate) fn first(&self) -> Option<Job>
         ensures first { result ≡ first_of self.now }
         ensures legal { IfSome result IsJob }
@@ -129,17 +130,20 @@ impl JobQueue {
     }
 
     // The first job was sent: it leaves, or waits at the head to be sent once more.
+    #[inline]
     pub(crate) fn note_sent(&mut self)
         ensures jobs { self.new ≡ after_send self.old }
         ensures queue { IsQueue self.new }
     {
         self.jobs.len();
-        if let Some(Job::Request {
-            number,
-            closed,
-            on,
-            again,
-        }) = self.jobs.pop_front()
+        if let Some(
+            Job::Request {
+                number,
+                closed,
+                on,
+                again,
+            },
+        ) = self.jobs.pop_front()
         {
             if again {
                 self.jobs.push_front(Job::Request {

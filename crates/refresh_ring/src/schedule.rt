@@ -96,7 +96,6 @@ impl<R: Ring> Schedule<R> {
 
     /// How many sends wait ahead of a place, those of slots that are not refreshed too. None where it does not wait.
     pub fn sends_ahead(&self, slot: u8, kind: Kind) -> Option<u32>
-        requires { IsSlot slot }
         ensures ahead { result ≡ sends_ahead slot kind self.now.jobs }
         ensures legal { IsScheduled self.now }
     {
@@ -119,7 +118,7 @@ impl<R: Ring> Schedule<R> {
         ensures range { IsLegalPick result }
         ensures legal { IsScheduled self.new }
     {
-        // A turn while off leaves a schedule as it is.
+        // A turn while off reads nothing else, and is to leave a legal schedule too.
         let _ = &self.last;
         match power {
             Power::Off => Pick::Off,

@@ -18,6 +18,7 @@ pub(crate) enum Candidate {
 }
 
 // The preferred one, or else the other.
+#[inline]
 pub(crate) fn choose(prefers_jobs: bool, job: Option<Job>, place: Option<u16>) -> Option<Candidate>
     requires job { IfSome job IsJob }
     requires place { IfSome place IsPlace }
@@ -54,17 +55,20 @@ pub(crate) fn destination_of<V: View>(view: &V, job: Job) -> Destination
 }
 
 // Whether the last packet went there.
+#[inline]
 pub(crate) fn is_last(last: Option<Destination>, there: Destination) -> bool
     ensures { result ≡ is_last last there }
 {
     match (last, there) {
         (Some(Destination::Loco { address: was }), Destination::Loco { address }) => was == address,
-        (Some(Destination::Module { number: was }), Destination::Module { number }) => was == number,
+        (Some(Destination::Module { number: was }), Destination::Module { number }) => was
+            == number,
         _ => false,
     }
 }
 
 // The packet of a job.
+#[inline]
 pub(crate) fn pick_of(job: Job) -> Pick
     requires { IsJob job }
     ensures pick { result ≡ pick_of job }
@@ -73,11 +77,15 @@ pub(crate) fn pick_of(job: Job) -> Pick
     match job {
         Job::Place { slot, kind } => Pick::Place { slot, kind },
         Job::Request {
-            number, closed, on, ..
+            number,
+            closed,
+            on,
+            ..
         } => Pick::Switch { number, closed, on },
     }
 }
 
+#[inline]
 pub(crate) fn slot_of(place: u16) -> u8
     requires { 1 ≤ place }
     ensures slot { result ≡ slot_of place }
@@ -86,6 +94,7 @@ pub(crate) fn slot_of(place: u16) -> u8
     ((place - 1) % 119 + 1) as u8
 }
 
+#[inline]
 pub(crate) fn kind_of(place: u16) -> Kind
     requires { 1 ≤ place }
     ensures { result ≡ kind_of place }

@@ -1,5 +1,5 @@
 //! What OPC_MOVE_SLOTS does: null move, dispatch put, dispatch get, and the move of a slot.
-ghost use Rattle.std.specs.Prelude.{◌≡◌, IfOk, OnErr};
+ghost use Rattle.std.specs.Prelude.{◌≡◌, ◌≢◌, IfOk, OnOk, OnErr};
 ghost use Rattle.slot_table.specs.Entry.{IsSlot};
 ghost use Rattle.slot_table.specs.Desk.{IsDesk};
 ghost use Rattle.slot_table.specs.Reading.{is_placed};
@@ -69,6 +69,8 @@ impl SlotTable {
     /// Refused as `Illegal` unless both slots are in 1 to 119, the one common or idle, the other free.
     pub fn shift(&mut self, src: u8, dest: u8) -> Result<u8, SlotFault>
         ensures answer { result ≡ slot_if (can_shift self.old src dest) dest }
+        ensures source { OnOk result (IsSlot src) }
+        ensures apart { OnOk result (src ≢ dest) }
         ensures slot { IfOk result IsSlot }
         ensures after { self.new ≡ after_shift self.old src dest }
         ensures refused { OnErr result (self.new ≡ self.old) }

@@ -3,6 +3,8 @@ use Rattle.std.specs.Prelude.{ℕ}
 use Rattle.show_text.specs.declared.command.Why.{Why}
 use Rattle.show_text.specs.declared.command.Why.TheVariants.{BadWord, BadHex, BadNumber, BadLine, TooLong, NoMemory as WantOfMemory}
 use Rattle.show_text.specs.declared.command.ScriptFault.{ScriptFault}
+use Rattle.station_core.specs.declared.station.StationFault.{StationFault}
+use Rattle.station_core.specs.declared.station.StationFault.TheVariants.{BadLines, NoMemory as WantOfRoom}
 use Rattle.station.specs.declared.fault.RunFault.{RunFault}
 use Rattle.station.specs.declared.fault.RunFault.TheVariants.{Usage, Unreadable, Output, Script, NoMemory}
 
@@ -23,3 +25,7 @@ fault_with WantOfMemory line = NoMemory
 
 abbrev pub fault_of : ScriptFault → RunFault
 fault_of fault = fault_with fault.why fault.line
+
+abbrev pub station_fault_of : StationFault → RunFault
+station_fault_of BadLines = Usage
+station_fault_of WantOfRoom = NoMemory

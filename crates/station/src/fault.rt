@@ -1,8 +1,9 @@
 //! Why a run ends with a status other than 0.
 ghost use Rattle.std.specs.Prelude.{◌≡◌};
-ghost use Rattle.station.specs.Fault.{fault_of, status_of};
+ghost use Rattle.station.specs.Fault.{fault_of, station_fault_of, status_of};
 
 use show_text::{ScriptFault, Why};
+use station_core::StationFault;
 use thiserror::Error;
 
 /// Why a run ends with a status other than 0. Its text is what follows `station: ` on standard error.
@@ -36,6 +37,17 @@ impl RunFault {
             RunFault::Output => 4,
             RunFault::Script { .. } => 5,
             RunFault::NoMemory => 6,
+        }
+    }
+}
+
+impl From<StationFault> for RunFault {
+    ghost from_gives = { λ station run. run ≡ station_fault_of station };
+
+    fn from(fault: StationFault) -> RunFault {
+        match fault {
+            StationFault::BadLines => RunFault::Usage,
+            StationFault::NoMemory => RunFault::NoMemory,
         }
     }
 }

@@ -20,9 +20,7 @@ pub(crate) fn replay<I: Read, O: Write>(
 ) -> Result<(), RunFault> {
     let text = read_most(alloc, input, LONGEST_TEXT + 1)?;
     let commands = read_script(alloc, text.as_slice(), LINES)?;
-    let Ok(mut station) = Station::new(LINES) else {
-        return Err(RunFault::Usage);
-    };
+    let mut station = Station::new(alloc, LINES)?;
     let Ok(mut buffered) = BufWriter::new(alloc, output) else {
         return Err(RunFault::NoMemory);
     };

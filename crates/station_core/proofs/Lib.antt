@@ -1,0 +1,5 @@
+pub mod Follows
+pub mod Picks
+pub mod Rounds
+pub mod Sent
+pub mod Steps

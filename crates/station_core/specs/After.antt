@@ -6,8 +6,8 @@ use Rattle.ln_ops.specs.declared.op.Op.TheVariants.{PowerOff, PowerOn, ForceIdle
 use Rattle.slot_table.specs.Desk.{Desk}
 use Rattle.slot_table.specs.Moves.{after_null_move, after_dispatch_put, after_dispatch_get, after_shift}
 use Rattle.slot_table.specs.Writes.{after_take, after_speed, after_dirf, after_snd, after_stat, after_write}
-use Rattle.station_core.specs.declared.power.Power.{Power}
-use Rattle.station_core.specs.declared.power.Power.TheVariants.{Off, Running, Paused}
+use Rattle.refresh_ring.specs.declared.pick.Power.{Power}
+use Rattle.refresh_ring.specs.declared.pick.Power.TheVariants.{Off, Running, Paused}
 use Rattle.station_core.specs.Seen.{PoweredDesk}
 
 -- OPC_IDLE pauses a running track, and has no effect on another (own)

@@ -1,5 +1,5 @@
 -- What a station answers to an operation. Each refusal, and the code of each long acknowledge, is this project's own.
-use Rattle.std.specs.Prelude.{ℕ, ◌==◌, ◌/◌, ◌%◌, if◌then◌else◌, Option, Some, None, Result, Ok, Err}
+use Rattle.std.specs.Prelude.{ℕ, ◌==◌, ◌/◌, ◌%◌, ◌&&◌, Bool, nat_le, nat_lt, if◌then◌else◌, Option, Some, None, Result, Ok, Err}
 use Rattle.ln_ops.specs.Fields.{SlotBytes}
 use Rattle.ln_ops.specs.Slot.{address_with, is_slot, stat_with}
 use Rattle.ln_ops.specs.declared.op.Op.{Op}
@@ -13,8 +13,8 @@ use Rattle.slot_table.specs.Moves.{dispatch_get_answer, can_shift}
 use Rattle.slot_table.specs.Reading.{row_of, is_placed}
 use Rattle.slot_table.specs.Writes.{take_answer, write_answer}
 use Rattle.slot_table.specs.declared.fault.SlotFault.{SlotFault}
-use Rattle.station_core.specs.declared.power.Power.{Power}
-use Rattle.station_core.specs.declared.power.Power.TheVariants.{Off, Running, Paused}
+use Rattle.refresh_ring.specs.declared.pick.Power.{Power}
+use Rattle.refresh_ring.specs.declared.pick.Power.TheVariants.{Off, Running, Paused}
 use Rattle.station_core.specs.Seen.{PoweredDesk}
 use Rattle.station_core.specs.After.{after}
 
@@ -61,20 +61,25 @@ move_answer desk src dest =
     (if src == dest then slot_if (is_placed desk src) src else
     (if dest == 0 then slot_if (is_placed desk src) src else slot_if (can_shift desk src dest) dest))
 
-abbrev pub answer : PoweredDesk → Op → Option Reply
-answer powered PowerOff = None
-answer powered PowerOn = None
-answer powered ForceIdle = None
-answer powered (Speed slot spd) = None
-answer powered (Dirf slot dirf) = None
-answer powered (Snd slot snd) = None
-answer powered (SwReq number closed on) = None
-answer powered (SwAck number closed on) = None
-answer powered (LongAck opc ack) = None
-answer powered (SlotStat slot stat) = None
-answer powered (Move src dest) = Some (slot_or_refusal 0x3A (after powered (Move src dest)) (move_answer powered.desk src dest))
-answer powered (SlotRead slot) = Some (if is_slot slot then slot_data powered slot else reply.LongAck 0x3B 0)
-answer powered (LocoAddr high low) = Some (slot_or_refusal 0x3F (after powered (LocoAddr high low)) (take_answer powered.desk (address_with high low)))
-answer powered (SlotData fields) = None
-answer powered (SlotWrite fields) = Some (write_reply (write_answer powered.desk fields))
-answer powered Other = None
+-- switches that can be asked for (own): four of each of the modules 1 to 510, and fewer than 32 requests that wait
+abbrev pub is_taken : ℕ → ℕ → Bool
+is_taken number waiting = nat_le number 2039 && nat_lt waiting 32
+
+-- the answer to an operation, where so many switch requests wait
+abbrev pub answer : PoweredDesk → Op → ℕ → Option Reply
+answer powered PowerOff waiting = None
+answer powered PowerOn waiting = None
+answer powered ForceIdle waiting = None
+answer powered (Speed slot spd) waiting = None
+answer powered (Dirf slot dirf) waiting = None
+answer powered (Snd slot snd) waiting = None
+answer powered (SwReq number closed on) waiting = if is_taken number waiting then None else Some (reply.LongAck 0x30 0)
+answer powered (SwAck number closed on) waiting = Some (reply.LongAck 0x3D (if is_taken number waiting then 0x7F else 0))
+answer powered (LongAck opc ack) waiting = None
+answer powered (SlotStat slot stat) waiting = None
+answer powered (Move src dest) waiting = Some (slot_or_refusal 0x3A (after powered (Move src dest)) (move_answer powered.desk src dest))
+answer powered (SlotRead slot) waiting = Some (if is_slot slot then slot_data powered slot else reply.LongAck 0x3B 0)
+answer powered (LocoAddr high low) waiting = Some (slot_or_refusal 0x3F (after powered (LocoAddr high low)) (take_answer powered.desk (address_with high low)))
+answer powered (SlotData fields) waiting = None
+answer powered (SlotWrite fields) waiting = Some (write_reply (write_answer powered.desk fields))
+answer powered Other waiting = None

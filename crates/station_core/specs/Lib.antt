@@ -1,5 +1,10 @@
 pub mod After
 pub mod Answer
+pub mod Asked
+pub mod Kept
 pub mod Moved
 pub mod Packets
+pub mod Refreshed
+pub mod Runs
 pub mod Seen
+pub mod Sent

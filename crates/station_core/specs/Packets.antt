@@ -1,5 +1,5 @@
 -- The packets of an entry: from the bytes of a slot to what is sent on the track (S-9.2.1).
-use Rattle.std.specs.Prelude.{ℕ, ◌+◌, ◌*◌, ◌/◌, ◌%◌, ◌==◌, Bool, if◌then◌else◌, nat_lt, unwrap_or, List}
+use Rattle.std.specs.Prelude.{ℕ, ◌≡◌, ◌≤◌, true, ◌+◌, ◌*◌, ◌/◌, ◌%◌, ◌==◌, Bool, if◌then◌else◌, nat_lt, unwrap_or, List}
 use Rattle.dcc_packet.specs.declared.address.Address.{Address}
 use Rattle.dcc_packet.specs.declared.address.Address.TheVariants.{Short, Long}
 use Rattle.dcc_packet.specs.declared.steps.Steps.{Steps}
@@ -7,7 +7,14 @@ use Rattle.dcc_packet.specs.declared.steps.Steps.TheVariants.{S128}
 use Rattle.dcc_packet.specs.declared.steps.Motion.{Motion}
 use Rattle.dcc_packet.specs.Steps.{steps_of_kind, motion_of}
 use Rattle.dcc_packet.specs.Sent.{speed_bytes, group_one_bytes, group_two_bytes}
-use Rattle.slot_table.specs.Entry.{Entry}
+use Rattle.refresh_ring.specs.declared.kind.Kind.{Kind}
+use Rattle.refresh_ring.specs.declared.kind.Kind.TheVariants.{Speed, GroupOne, GroupTwo}
+use Rattle.refresh_ring.specs.declared.pick.Pick.{Pick}
+use Rattle.refresh_ring.specs.declared.pick.Pick.TheVariants.{Off, StopAll, Idle, Place, Switch}
+use Rattle.slot_table.specs.Desk.{Desk}
+use Rattle.slot_table.specs.Entry.{Entry, IsSlot, entry_of}
+use Rattle.ln_ops.specs.Slot.{is_held}
+use Rattle.slot_table.specs.Reading.{row_of}
 
 -- an address of a slot is sent as a short one up to 127, and as a long one from 128 on (own)
 abbrev pub address_sent : ℕ → Address
@@ -41,3 +48,21 @@ group_one_packet a e = group_one_bytes (address_sent a) (functions_asked e)
 
 abbrev pub group_two_packet : ℕ → Entry → List ℕ
 group_two_packet a e = group_two_bytes (address_sent a) (functions_asked e)
+
+-- the packet of each kind
+abbrev pub entry_packet : Kind → ℕ → Entry → List ℕ
+entry_packet Speed a e = speed_packet a e
+entry_packet GroupOne a e = group_one_packet a e
+entry_packet GroupTwo a e = group_two_packet a e
+
+-- the packet of a place, for what stands in the slot
+abbrev pub place_packet : Desk → ℕ → Kind → List ℕ
+place_packet desk slot kind = let row = row_of desk slot in entry_packet kind row.address (entry_of row)
+
+-- what can be sent: a slot that is not free, a switch that there is
+abbrev pub IsPickOf : Desk → Pick → Type 0
+IsPickOf desk Off = Unit {0}
+IsPickOf desk StopAll = Unit {0}
+IsPickOf desk Idle = Unit {0}
+IsPickOf desk (Place slot kind) = IsSlot slot × (is_held (row_of desk slot).state ≡ true)
+IsPickOf desk (Switch number closed on) = number ≤ 2039

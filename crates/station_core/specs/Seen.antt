@@ -1,24 +1,54 @@
 -- A station, as contracts see it.
-use Rattle.std.specs.Prelude.{ℕ, ◌≡◌, Bool, List, [], replicate, slice_index_or, ◌&&◌, nat_le, refl}
-use Rattle.std.proofs.Common.{zero, suc}
-use Rattle.std.specs.Coded.{Coded, code_by, coded×, coded_ℕ, coded_list}
-use Rattle.slot_table.specs.Desk.{Desk, desk_code, first_desk}
-use Rattle.station_core.specs.declared.power.Power.{Power}
-use Rattle.station_core.specs.declared.power.Power.TheVariants.{Off, Running, Paused}
+use Rattle.std.specs.Prelude.{ℕ, Bool, true, List, [], replicate, slice_index_or, Option, None, ◌&&◌, nat_le}
+use Rattle.slot_table.specs.Desk.{Desk, first_desk}
+use Rattle.refresh_ring.specs.Scheduled.{Scheduled}
+use Rattle.refresh_ring.specs.declared.job.Job.{Job}
+use Rattle.refresh_ring.specs.declared.job.Destination.{Destination}
+use Rattle.refresh_ring.specs.declared.pick.Power.{Power}
+use Rattle.refresh_ring.specs.declared.pick.Power.TheVariants.{Off}
+use Rattle.station_core.specs.Refreshed.{refreshed_slots}
 
 -- the desk with its power
 pub record PoweredDesk : Type 0 where
   pub power : Power
   pub desk : Desk
 
--- the unfinished bytes of each line, and the desk
+-- The unfinished bytes of each line, the desk, and what decides which packet is sent next: the jobs that wait, the
+-- place that the ring sent last, where the last packet went, and whether jobs are preferred. Which slots are
+-- refreshed is the desk's.
 pub record Seen : Type 0 where
   pub lines : List (List ℕ)
   pub powered : PoweredDesk
+  pub jobs : List Job
+  pub cursor : ℕ
+  pub last : Option Destination
+  pub prefers_jobs : Bool
 
--- a new station: nothing unfinished, power off, all slots free
+-- the schedule of a station
+abbrev pub scheduled : Seen → Scheduled
+scheduled seen = record {
+  jobs = seen.jobs;
+  slots = refreshed_slots seen.powered.desk;
+  cursor = seen.cursor;
+  last = seen.last;
+  prefers_jobs = seen.prefers_jobs;
+}
+
+-- the station of these lines, this desk and this schedule
+abbrev pub seen_with : List (List ℕ) → PoweredDesk → Scheduled → Seen
+seen_with lines powered s =
+    record { lines = lines; powered = powered; jobs = s.jobs; cursor = s.cursor; last = s.last; prefers_jobs = s.prefers_jobs }
+
+-- a new station: nothing unfinished, power off, all slots free, nothing waits
 abbrev pub first_seen : ℕ → Seen
-first_seen count = record { lines = replicate count []; powered = record { power = Off; desk = first_desk } }
+first_seen count = record {
+  lines = replicate count [];
+  powered = record { power = Off; desk = first_desk };
+  jobs = [];
+  cursor = 0;
+  last = None;
+  prefers_jobs = true;
+}
 
 -- the unfinished bytes of a line
 abbrev pub line_of : Seen → ℕ → List ℕ
@@ -27,26 +57,3 @@ line_of seen line = slice_index_or seen.lines line []
 -- how many lines a station may have (own)
 abbrev pub is_line_count : ℕ → Bool
 is_line_count count = nat_le 1 count && nat_le count 8
-
-abbrev pub power_number : Power → ℕ
-power_number Off = 0
-power_number Running = 1
-power_number Paused = 2
-
-abbrev pub power_of_number : ℕ → Power
-power_of_number zero = Off
-power_of_number (suc zero) = Running
-power_of_number (suc (suc n)) = Paused
-
-pub power_of_number-power_number : (p : Power) → power_of_number (power_number p) ≡ p
-power_of_number-power_number Off = refl
-power_of_number-power_number Running = refl
-power_of_number-power_number Paused = refl
-
-abbrev pub seen_code : Coded Seen
-seen_code =
-    code_by (List (List ℕ) × (Power × Desk))
-    (coded× (coded_list (coded_list coded_ℕ)) (coded× (code_by ℕ coded_ℕ power_number power_of_number power_of_number-power_number) desk_code))
-    (λ s. (s.lines, (s.powered.power, s.powered.desk)))
-    (λ p. record { lines = p.0; powered = record { power = p.1.0; desk = p.1.1 } })
-    (λ _. refl)

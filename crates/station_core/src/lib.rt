@@ -1,12 +1,17 @@
-//! The command station: the bytes of its lines to replies, and the slots of its locomotives.
+//! The command station: the bytes of its lines to replies, and turns of the track to packets.
 #![tactic(auto)]
 
+mod call;
+mod laws;
 mod messages;
-mod power;
+mod packets;
+mod schedule;
 mod slot_data;
 mod station;
 
-pub use power::Power;
+pub use call::{Call, Step};
+pub use laws::{coverage, packets_of_the_desk};
+pub use refresh_ring::{Kind, Power};
 pub use station::{Station, StationFault};
 
 #[cfg(test)]

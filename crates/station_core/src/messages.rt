@@ -1,23 +1,34 @@
 //! What the messages of a line make of the station, and what it answers.
-ghost use Rattle.std.specs.Prelude.{◌≡◌, ◌<◌, IfSome};
+ghost use Rattle.std.specs.Prelude.{◌≡◌, ◌<◌, [], IfSome, IfOk};
 ghost use Rattle.std.specs.Result.{ForOk};
 ghost use Rattle.ln_ops.specs.Message.{IsOfData};
 ghost use Rattle.ln_ops.specs.Reply.{IsSendable};
+ghost use Rattle.refresh_ring.specs.Jobs.{requests_in};
+ghost use Rattle.slot_table.specs.Changes.{slot_if};
 ghost use Rattle.slot_table.specs.Entry.{IsSlot};
-ghost use Rattle.slot_table.specs.Writes.{after_take, after_write, take_answer, write_answer};
-ghost use Rattle.station_core.specs.After.{after, paused};
-ghost use Rattle.station_core.specs.Answer.{answer, slot_data, slot_or_refusal, write_reply};
+ghost use Rattle.slot_table.specs.Moves.{after_null_move, after_dispatch_put, after_dispatch_get, after_shift, can_shift, dispatch_get_answer};
+ghost use Rattle.slot_table.specs.Reading.{is_placed};
+ghost use Rattle.slot_table.specs.Writes.{after_take, take_answer};
+ghost use Rattle.station_core.specs.After.{paused};
+ghost use Rattle.station_core.specs.Answer.{answer, is_taken, slot_data, slot_or_refusal};
+ghost use Rattle.station_core.specs.Asked.{of_slot};
+ghost use Rattle.station_core.specs.Moved.{after_change, after_op};
 
-use crate::power::Power;
+use crate::schedule::{Change, follow, note};
 use crate::slot_data::slot_fields;
 use crate::station::Station;
 use ln_ops::{Op, Reply, SlotFields};
-use slot_table::SlotFault;
+use refresh_ring::Power;
+use slot_table::{SlotFault, others_stay};
 
 // What OPC_LONG_ACK answers to: opcodes with bit 7 clear.
+const SW_REQ: u8 = 0x30;
+
 const MOVE_SLOTS: u8 = 0x3A;
 
 const RQ_SL_DATA: u8 = 0x3B;
+
+const SW_ACK: u8 = 0x3D;
 
 const LOCO_ADR: u8 = 0x3F;
 
@@ -28,40 +39,31 @@ const ACCEPTED: u8 = 0x7F;
 
 const REFUSED: u8 = 0x00;
 
+/// The last switch that can be asked for.
+const LAST_SWITCH: u16 = 2039;
+
 impl Station {
     // Carries out a message.
     pub(crate) fn obey(&mut self, op: Op) -> Option<Reply>
         requires { IsOfData op }
-        ensures reply { result ≡ answer self.old.powered op }
-        ensures state { self.new ≡ record self.old { powered = after self.old.powered op } }
+        ensures reply { result ≡ answer self.old.powered op (requests_in self.old.jobs) }
+        ensures state { self.new ≡ after_op self.old op }
         ensures sendable { IfSome result IsSendable }
     {
         match op {
             Op::PowerOff => self.set_power(Power::Off),
             Op::PowerOn => self.set_power(Power::Running),
             Op::ForceIdle => self.pause(),
-            Op::Speed { slot, spd } => {
-                let _ = self.table.set_speed(slot, spd);
-                None
-            }
-            Op::Dirf { slot, dirf } => {
-                let _ = self.table.set_dirf(slot, dirf);
-                None
-            }
-            Op::Snd { slot, snd } => {
-                let _ = self.table.set_snd(slot, snd);
-                None
-            }
-            Op::SlotStat { slot, stat } => {
-                let _ = self.table.set_stat(slot, stat);
-                None
-            }
+            Op::Speed { slot, spd } => self.set_speed(slot, spd),
+            Op::Dirf { slot, dirf } => self.set_dirf(slot, dirf),
+            Op::Snd { slot, snd } => self.set_snd(slot, snd),
+            Op::SlotStat { slot, stat } => self.set_stat(slot, stat),
             Op::Move { src, dest } => self.move_slot(src, dest),
-            Op::LocoAddr { high, low } => self.load(u16::from(high) * 128 + u16::from(low)),
+            Op::LocoAddr { high, low } => self.load(high, low),
             Op::SlotWrite(fields) => self.write(&fields),
             Op::SlotRead { slot } => self.read_slot(slot),
-            // Switches are not served yet.
-            Op::SwReq { .. } | Op::SwAck { .. } => None,
+            Op::SwReq { number, closed, on } => self.request_switch(number, closed, on),
+            Op::SwAck { number, closed, on } => self.acknowledge_switch(number, closed, on),
             // A master tells these, and a throttle does not.
             Op::LongAck { .. } | Op::SlotData(_) => None,
             Op::Other => None,
@@ -87,59 +89,214 @@ impl Station {
         None
     }
 
+    // OPC_LOCO_SPD.
+    fn set_speed(&mut self, slot: u8, spd: u8) -> Option<Reply>
+        requires { spd < 128 }
+        ensures reply { result ≡ None }
+        ensures state { self.new ≡ after_op self.old (Op.Speed slot spd) }
+    {
+        others_stay();
+        if self.table.set_speed(slot, spd).is_err() {
+            return None;
+        }
+        note(&self.table, &mut self.schedule, slot, Change::Speed);
+        None
+    }
+
+    // OPC_LOCO_DIRF.
+    fn set_dirf(&mut self, slot: u8, dirf: u8) -> Option<Reply>
+        requires { dirf < 128 }
+        ensures reply { result ≡ None }
+        ensures state { self.new ≡ after_op self.old (Op.Dirf slot dirf) }
+    {
+        others_stay();
+        if self.table.set_dirf(slot, dirf).is_err() {
+            return None;
+        }
+        note(
+            &self.table,
+            &mut self.schedule,
+            slot,
+            Change::SpeedAndGroupOne,
+        );
+        None
+    }
+
+    // OPC_LOCO_SND.
+    fn set_snd(&mut self, slot: u8, snd: u8) -> Option<Reply>
+        requires { snd < 128 }
+        ensures reply { result ≡ None }
+        ensures state { self.new ≡ after_op self.old (Op.Snd slot snd) }
+    {
+        others_stay();
+        if self.table.set_snd(slot, snd).is_err() {
+            return None;
+        }
+        note(&self.table, &mut self.schedule, slot, Change::GroupTwo);
+        None
+    }
+
+    // OPC_SLOT_STAT1.
+    fn set_stat(&mut self, slot: u8, stat: u8) -> Option<Reply>
+        requires { stat < 128 }
+        ensures reply { result ≡ None }
+        ensures state { self.new ≡ after_op self.old (Op.SlotStat slot stat) }
+    {
+        others_stay();
+        if self.table.set_stat(slot, stat).is_err() {
+            return None;
+        }
+        note(&self.table, &mut self.schedule, slot, Change::All);
+        None
+    }
+
     // OPC_MOVE_SLOTS: dispatch get, null move, dispatch put or move, tried in this order.
     fn move_slot(&mut self, src: u8, dest: u8) -> Option<Reply>
-        ensures reply { result ≡ answer self.old.powered (Op.Move src dest) }
-        ensures state { self.new ≡ record self.old { powered = after self.old.powered (Op.Move src dest) } }
+        ensures reply { result ≡ answer self.old.powered (Op.Move src dest) 0 }
+        ensures state { self.new ≡ after_op self.old (Op.Move src dest) }
         ensures sendable { IfSome result IsSendable }
     {
         let slot = if src == 0 {
-            self.table.dispatch_get()
+            self.dispatch_get()
         } else if src == dest {
-            self.table.null_move(src)
+            self.null_move(src)
         } else if dest == 0 {
-            self.table.dispatch_put(src)
+            self.dispatch_put(src)
         } else {
-            self.table.shift(src, dest)
+            self.shift(src, dest)
         };
         Some(self.slot_or_refusal(MOVE_SLOTS, slot))
     }
 
+    fn dispatch_get(&mut self) -> Result<u8, SlotFault>
+        ensures answer { result ≡ dispatch_get_answer self.old.powered.desk.mark }
+        ensures slot { IfOk result IsSlot }
+        ensures state { self.new ≡ after_change self.old (after_dispatch_get self.old.powered.desk) (of_slot result) }
+    {
+        others_stay();
+        let slot = self.table.dispatch_get()?;
+        note(&self.table, &mut self.schedule, slot, Change::All);
+        Ok(slot)
+    }
+
+    fn null_move(&mut self, slot: u8) -> Result<u8, SlotFault>
+        ensures answer { result ≡ slot_if (is_placed self.old.powered.desk slot) slot }
+        ensures slot { IfOk result IsSlot }
+        ensures state { self.new ≡ after_change self.old (after_null_move self.old.powered.desk slot) (of_slot result) }
+    {
+        others_stay();
+        let slot = self.table.null_move(slot)?;
+        note(&self.table, &mut self.schedule, slot, Change::All);
+        Ok(slot)
+    }
+
+    fn dispatch_put(&mut self, src: u8) -> Result<u8, SlotFault>
+        ensures answer { result ≡ slot_if (is_placed self.old.powered.desk src) src }
+        ensures slot { IfOk result IsSlot }
+        ensures state { self.new ≡ after_change self.old (after_dispatch_put self.old.powered.desk src) (of_slot result) }
+    {
+        others_stay();
+        let slot = self.table.dispatch_put(src)?;
+        note(&self.table, &mut self.schedule, slot, Change::All);
+        Ok(slot)
+    }
+
+    fn shift(&mut self, src: u8, dest: u8) -> Result<u8, SlotFault>
+        ensures answer { result ≡ slot_if (can_shift self.old.powered.desk src dest) dest }
+        ensures slot { IfOk result IsSlot }
+        ensures state { self.new ≡ after_change self.old (after_shift self.old.powered.desk src dest) (of_slot result) }
+    {
+        others_stay();
+        let slot = self.table.shift(src, dest)?;
+        follow(&self.table, &mut self.schedule, src);
+        note(&self.table, &mut self.schedule, slot, Change::All);
+        Ok(slot)
+    }
+
     // OPC_LOCO_ADR: the slot of an address.
-    fn load(&mut self, address: u16) -> Option<Reply>
-        ensures reply { result ≡ Some (slot_or_refusal 0x3F self.new.powered (take_answer self.old.powered.desk address)) }
-        ensures state { self.new ≡ record self.old { powered = record self.old.powered { desk = after_take self.old.powered.desk address } } }
+    fn load(&mut self, high: u8, low: u8) -> Option<Reply>
+        requires { IsOfData (Op.LocoAddr high low) }
+        ensures reply { result ≡ answer self.old.powered (Op.LocoAddr high low) 0 }
+        ensures state { self.new ≡ after_op self.old (Op.LocoAddr high low) }
         ensures sendable { IfSome result IsSendable }
     {
-        let slot = self.table.take(address);
+        let slot = self.take(u16::from(high) * 128 + u16::from(low));
         Some(self.slot_or_refusal(LOCO_ADR, slot))
+    }
+
+    fn take(&mut self, address: u16) -> Result<u8, SlotFault>
+        ensures answer { result ≡ take_answer self.old.powered.desk address }
+        ensures slot { IfOk result IsSlot }
+        ensures state { self.new ≡ after_change self.old (after_take self.old.powered.desk address) [] }
+    {
+        others_stay();
+        let slot = self.table.take(address)?;
+        note(&self.table, &mut self.schedule, slot, Change::Nothing);
+        Ok(slot)
     }
 
     // OPC_WR_SL_DATA: a whole slot.
     fn write(&mut self, fields: &SlotFields) -> Option<Reply>
-        ensures reply { result ≡ Some (write_reply (write_answer self.old.powered.desk fields.now)) }
-        ensures state { self.new ≡ record self.old { powered = record self.old.powered { desk = after_write self.old.powered.desk fields.now } } }
+        ensures reply { result ≡ answer self.old.powered (Op.SlotWrite fields.now) 0 }
+        ensures state { self.new ≡ after_op self.old (Op.SlotWrite fields.now) }
         ensures sendable { IfSome result IsSendable }
     {
-        let ack = match self.table.write_row(fields) {
-            Ok(()) => ACCEPTED,
-            Err(_) => REFUSED,
-        };
+        others_stay();
+        if self.table.write_row(fields).is_err() {
+            return Some(refusal(WR_SL_DATA));
+        }
+        note(&self.table, &mut self.schedule, fields.slot, Change::All);
         Some(Reply::LongAck {
             opc: WR_SL_DATA,
-            ack,
+            ack: ACCEPTED,
         })
     }
 
     // OPC_RQ_SL_DATA: what a slot reads as.
     fn read_slot(&self, slot: u8) -> Option<Reply>
-        ensures reply { result ≡ answer self.now.powered (Op.SlotRead slot) }
+        ensures reply { result ≡ answer self.now.powered (Op.SlotRead slot) 0 }
         ensures sendable { IfSome result IsSendable }
     {
         if slot < 1 || slot > 119 {
             return Some(refusal(RQ_SL_DATA));
         }
         Some(self.slot_data(slot))
+    }
+
+    // OPC_SW_REQ: answered only where it is refused.
+    fn request_switch(&mut self, number: u16, closed: bool, on: bool) -> Option<Reply>
+        ensures reply { result ≡ answer self.old.powered (Op.SwReq number closed on) (requests_in self.old.jobs) }
+        ensures state { self.new ≡ after_op self.old (Op.SwReq number closed on) }
+        ensures sendable { IfSome result IsSendable }
+    {
+        if self.switch(number, closed, on) {
+            None
+        } else {
+            Some(refusal(SW_REQ))
+        }
+    }
+
+    // OPC_SW_ACK: always answered.
+    fn acknowledge_switch(&mut self, number: u16, closed: bool, on: bool) -> Option<Reply>
+        ensures reply { result ≡ answer self.old.powered (Op.SwAck number closed on) (requests_in self.old.jobs) }
+        ensures state { self.new ≡ after_op self.old (Op.SwAck number closed on) }
+        ensures sendable { IfSome result IsSendable }
+    {
+        let ack = if self.switch(number, closed, on) {
+            ACCEPTED
+        } else {
+            REFUSED
+        };
+        Some(Reply::LongAck { opc: SW_ACK, ack })
+    }
+
+    // Whether the request was taken.
+    fn switch(&mut self, number: u16, closed: bool, on: bool) -> bool
+        ensures taken { result ≡ is_taken number (requests_in self.old.jobs) }
+        ensures state { self.new ≡ after_op self.old (Op.SwReq number closed on) }
+    {
+        let _ = &self.power;
+        number <= LAST_SWITCH && self.schedule.switch(number, closed, on).is_ok()
     }
 
     // The slot data of the slot that a message gives, or a refusal of that message.

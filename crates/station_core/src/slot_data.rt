@@ -4,8 +4,8 @@ ghost use Rattle.ln_ops.specs.Slot.{state_number};
 ghost use Rattle.slot_table.specs.Entry.{IsRow, IsSlot};
 ghost use Rattle.station_core.specs.Answer.{slot_bytes, track_status};
 
-use crate::power::Power;
 use ln_ops::{Row, SlotFields, State};
+use refresh_ring::Power;
 
 // The slot data of a row.
 pub(crate) fn slot_fields(slot: u8, row: &Row, power: Power) -> SlotFields

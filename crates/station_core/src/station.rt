@@ -1,18 +1,29 @@
 //! The station.
-ghost use Rattle.std.specs.Prelude.{◌≡◌, ℕ, ◌<◌, ◌∷◌, ◌++◌, [], List, IfSome, if◌then◌else◌, length};
+ghost use Rattle.std.specs.Prelude.{◌≡◌, ℕ, ◌<◌, ◌∷◌, ◌++◌, [], List, IfOk, IfErr, IfSome, length, true, false, IsTrue};
 ghost use Rattle.std.specs.Option.{option_to_list};
 ghost use Rattle.ln_frame.specs.Stream.{messages_of};
 ghost use Rattle.ln_ops.specs.Reply.{IsSendable};
+ghost use Rattle.refresh_ring.specs.Jobs.{requests_in, sends_ahead};
+ghost use Rattle.slot_table.specs.Desk.{IsDesk};
 ghost use Rattle.slot_table.specs.Entry.{IsRow, IsSlot};
 ghost use Rattle.slot_table.specs.Reading.{row_of};
+ghost use Rattle.station_core.specs.Packets.{IsPickOf};
+ghost use Rattle.station_core.specs.Runs.{AreCalls, Covers, answer_of, answers, is_call, state_after, state_of};
 ghost use Rattle.station_core.specs.Seen.{first_seen, is_line_count, line_of};
-ghost use Rattle.station_core.specs.Moved.{after_byte, answer_to_byte, message_ended};
+ghost use Rattle.station_core.specs.Sent.{IsPacketOfDesk};
+ghost use Rattle.station_core.specs.Moved.{after_byte, after_turn, answer_to_byte, message_ended, packet_of, packet_of_turn};
 
-use crate::power::Power;
+use crate::call::{Call, Step};
+use crate::laws::{coverage, packets_of_the_desk};
+use crate::packets::entry_packet;
+use crate::schedule::Addresses;
 use arrayvec::ArrayVec;
+use dcc_packet::{Packet, accessory, idle, stop_all};
 use ln_frame::Framer;
 use ln_ops::{Reply, Row, read};
+use refresh_ring::{Kind, Pick, PlainRing, Power, Schedule, picks_are_due};
 use slot_table::SlotTable;
+use std::alloc::Global;
 use std::marker::Model;
 
 /// The most lines of a station.
@@ -23,35 +34,45 @@ const MOST_LINES: usize = 8;
 pub enum StationFault {
     /// A station has 1 to 8 lines.
     BadLines,
+    /// There was no memory for the jobs that wait.
+    NoMemory,
 }
 
-/// A command station: up to eight LocoNet lines, whose bytes share nothing but the slots.
+/// A command station: up to eight LocoNet lines, whose bytes share nothing but the slots, and what is sent on the
+/// track for the slots that are in use or common.
 #[derive(Drop)]
 pub struct Station {
     framers: ArrayVec<Framer, MOST_LINES>,
     pub(crate) table: SlotTable,
     pub(crate) power: Power,
+    pub(crate) schedule: Schedule<PlainRing>,
 }
 
 impl Model for Station {
-    ghost use Rattle.std.specs.Prelude.{◌≤◌, length};
-    ghost use Rattle.station_core.specs.Seen.{Seen, seen_code};
+    ghost use Rattle.std.specs.Coded.{codes};
+    ghost use Rattle.slot_table.specs.Desk.{desk_code};
+    ghost use Rattle.station_core.specs.Seen.{Seen};
 
     ghost Value = { Seen };
 
-    ghost coded = { seen_code };
+    ghost coded = { Prim.hlevel (codes, desk_code) };
 
-    ghost view = { λ s. record { lines = s.framers.items; powered = record { power = s.power; desk = s.table } } };
+    ghost use Rattle.station_core.specs.Seen.{seen_with};
+    ghost use Rattle.station_core.specs.Kept.{IsStation};
 
-    ghost invariant = { λ s. length s.framers.items ≤ 8 };
+    ghost view = { λ s. seen_with s.framers.items (record { power = s.power; desk = s.table }) s.schedule };
+
+    ghost invariant = { λ s. IsStation s.framers.items s.table s.schedule };
 }
 
 impl Station {
-    /// A station with so many lines: power off, all slots free, nothing heard on a line.
+    /// A station with so many lines: power off, all slots free, nothing heard on a line, nothing to send.
     ///
-    /// Refused as `BadLines` unless the lines are 1 to 8.
-    pub fn new(lines: u8) -> Result<Station, StationFault>
-        ensures { result ≡ (if is_line_count lines then Ok (first_seen lines) else Err StationFault.BadLines) }
+    /// Refused as `BadLines` unless the lines are 1 to 8, and else where there is no memory for the jobs.
+    pub fn new(alloc: Global, lines: u8) -> Result<Station, StationFault>
+        ensures lines { is_line_count lines ≡ false → result ≡ Err StationFault.BadLines }
+        ensures made { IfOk result (λ s. (is_line_count lines ≡ true) × (s ≡ first_seen lines)) }
+        ensures memory { IfErr result (λ e. is_line_count lines ≡ true → e ≡ StationFault.NoMemory) }
     {
         if lines < 1 || lines > 8 {
             return Err(StationFault::BadLines);
@@ -60,16 +81,21 @@ impl Station {
         for _ in 0..lines {
             framers.push(Framer::new());
         }
-        Ok(Station {
-            framers,
-            table: SlotTable::new(),
-            power: Power::Off,
-        })
+        match Schedule::new(alloc) {
+            Ok(schedule) => Ok(Station {
+                framers,
+                table: SlotTable::new(),
+                power: Power::Off,
+                schedule,
+            }),
+            Err(_) => Err(StationFault::NoMemory),
+        }
     }
 
     /// How many lines there are, 1 to 8.
     pub fn lines(&self) -> u8
-        ensures { result ≡ length self.now.lines }
+        ensures lines { result ≡ length self.now.lines }
+        ensures desk { IsDesk self.now.powered.desk }
     {
         self.framers.len() as u8
     }
@@ -81,7 +107,7 @@ impl Station {
         self.power
     }
 
-    /// What a slot reads as; zeros with the state free where no locomotive stands in it.
+    /// What a slot, 1 to 119, reads as; zeros with the state free where no locomotive stands in it.
     pub fn row(&self, slot: u8) -> Row
         requires { IsSlot slot }
         ensures row { result ≡ row_of self.now.powered.desk slot }
@@ -97,12 +123,28 @@ impl Station {
         self.table.mark()
     }
 
+    /// How many sends wait ahead of a packet of a slot, 1 to 119, that waits. None where it does not wait.
+    pub fn sends_ahead(&self, slot: u8, kind: Kind) -> Option<u32>
+        requires { IsSlot slot }
+        ensures { result ≡ sends_ahead slot kind self.now.jobs }
+    {
+        self.schedule.sends_ahead(slot, kind)
+    }
+
+    /// How many switch requests still have a packet to send, at most 32.
+    pub fn switches_waiting(&self) -> u8
+        ensures { result ≡ requests_in self.now.jobs }
+    {
+        self.schedule.switches_waiting()
+    }
+
     /// Hears a byte on a line, and answers on that line where the byte ends a message that is answered.
     #[inline]
     pub fn byte(&mut self, line: u8, byte: u8) -> Option<Reply>
         requires { line < length self.old.lines }
         ensures reply { result ≡ answer_to_byte self.old line byte }
         ensures state { self.new ≡ after_byte self.old line byte }
+        ensures lines { length self.new.lines ≡ length self.old.lines }
         ensures sendable { IfSome result IsSendable }
         // However the line goes on, no message is lost and none is made up.
         ensures further { (z : List ℕ) → messages_of (line_of self.old line ++ byte ∷ z)
@@ -111,5 +153,67 @@ impl Station {
         let framer = &mut self.framers[line as usize];
         let message = framer.push(byte)?;
         self.obey(read(&message))
+    }
+
+    /// The packet that is sent now. None exactly while the power is off.
+    pub fn turn(&mut self) -> Option<Packet>
+        ensures packet { result ≡ packet_of_turn self.old }
+        ensures state { self.new ≡ after_turn self.old }
+        // Made of the slots at this moment, and never of an older value.
+        ensures of_the_desk { IsPacketOfDesk self.old.powered.power self.old result }
+    {
+        picks_are_due();
+        packets_of_the_desk();
+        let view = Addresses { table: &self.table };
+        let pick = self.schedule.pick(&view, self.power);
+        self.packet_of(pick)
+    }
+
+    /// Each call in order, its answer written at its place. A list of calls may be cut anywhere.
+    pub fn run(&mut self, calls: &[Call], steps: &mut [Step])
+        requires places { length calls.now ≡ length steps.old }
+        requires lines { AreCalls (length self.old.lines) calls.now }
+        ensures state { self.new ≡ state_after self.old calls.now }
+        ensures answers { steps.new ≡ answers self.old calls.now }
+        ensures coverage { Covers self.old calls.now }
+    {
+        coverage();
+        for (i, call) in calls.iter().enumerate() {
+            steps[i] = self.call(*call);
+        }
+    }
+
+    // One call.
+    #[tactic(auto, unfolding(crate::specs::Moved::moved))]
+    fn call(&mut self, call: Call) -> Step
+        requires { IsTrue (is_call (length self.old.lines) call) }
+        ensures state { self.new ≡ state_of self.old call }
+        ensures answer { result ≡ answer_of self.old call }
+        ensures lines { length self.new.lines ≡ length self.old.lines }
+    {
+        match call {
+            Call::Byte { line, byte } => match self.byte(line, byte) {
+                Some(reply) => Step::Reply(reply),
+                None => Step::Quiet,
+            },
+            Call::Turn => match self.turn() {
+                Some(packet) => Step::Packet(packet),
+                None => Step::Off,
+            },
+        }
+    }
+
+    // The packet of what is sent next.
+    fn packet_of(&self, pick: Pick) -> Option<Packet>
+        requires { IsPickOf self.now.powered.desk pick }
+        ensures { result ≡ packet_of self.now.powered.desk pick }
+    {
+        match pick {
+            Pick::Off => None,
+            Pick::StopAll => Some(stop_all()),
+            Pick::Idle => Some(idle()),
+            Pick::Place { slot, kind } => Some(entry_packet(kind, &self.table.row(slot))),
+            Pick::Switch { number, closed, on } => Some(accessory(number, closed, on)),
+        }
     }
 }

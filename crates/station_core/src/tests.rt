@@ -1,7 +1,8 @@
 //! Messages and replies of whole conversations, byte by byte.
 
-use crate::{Power, Station, StationFault};
+use crate::{Call, Power, Station, StationFault, Step};
 use ln_ops::to_msg;
+use refresh_ring::Kind;
 use std::process::Abort;
 use std::test::Fail;
 
@@ -26,7 +27,14 @@ const IN_USE: Conversation = &[
 ];
 
 // On a new station.
-const AT_FIRST: [(&str, Conversation); 6] = [
+const AT_FIRST: [(&str, Conversation); 7] = [
+    (
+        "switch 2040",
+        &[
+            (&[0xB0, 0x78, 0x1F, 0x28], &[0xB4, 0x30, 0x00, 0x7B]),
+            (&[0xBD, 0x78, 0x1F, 0x25], &[0xB4, 0x3D, 0x00, 0x76]),
+        ],
+    ),
     (
         "addresses 10239, 10240 and 0",
         &[
@@ -299,7 +307,7 @@ fn is_answered(rt: &impl Abort, station: &mut Station, bytes: &[u8], reply: &[u8
 #[test]
 fn answers_each_message(rt: HostRuntime) -> Result<(), Fail> {
     for (name, conversation) in AT_FIRST {
-        let mut station = Station::new(1)?;
+        let mut station = Station::new(rt.alloc(), 1)?;
         for (bytes, reply) in conversation {
             assert!(rt;
                 is_answered(&rt, &mut station, bytes, reply),
@@ -308,7 +316,7 @@ fn answers_each_message(rt: HostRuntime) -> Result<(), Fail> {
         }
     }
     for (name, conversation) in WITH_A_LOCOMOTIVE {
-        let mut station = Station::new(1)?;
+        let mut station = Station::new(rt.alloc(), 1)?;
         for (bytes, reply) in IN_USE {
             assert!(rt;
                 is_answered(&rt, &mut station, bytes, reply),
@@ -329,9 +337,12 @@ fn answers_each_message(rt: HostRuntime) -> Result<(), Fail> {
 #[test]
 fn has_one_to_eight_lines(rt: HostRuntime) -> Result<(), Fail> {
     for lines in [0, 9] {
-        assert_eq!(rt; Station::new(lines).err(), Some(StationFault::BadLines));
+        assert_eq!(rt;
+            Station::new(rt.alloc(), lines).err(),
+            Some(StationFault::BadLines)
+        );
     }
-    let station = Station::new(8)?;
+    let station = Station::new(rt.alloc(), 8)?;
     assert_eq!(rt; station.lines(), 8);
     assert_eq!(rt; station.power(), Power::Off);
     Ok(())
@@ -340,7 +351,7 @@ fn has_one_to_eight_lines(rt: HostRuntime) -> Result<(), Fail> {
 // The bytes of two messages interleave on two lines.
 #[test]
 fn lines_share_nothing(rt: HostRuntime) -> Result<(), Fail> {
-    let mut station = Station::new(2)?;
+    let mut station = Station::new(rt.alloc(), 2)?;
     let bytes = [
         (0, 0xBF),
         (1, 0x83),
@@ -370,7 +381,7 @@ fn lines_share_nothing(rt: HostRuntime) -> Result<(), Fail> {
 
 #[test]
 fn addresses_fill_the_slots_in_order(rt: HostRuntime) -> Result<(), Fail> {
-    let mut station = Station::new(1)?;
+    let mut station = Station::new(rt.alloc(), 1)?;
     for address in 1..=119u8 {
         let message = [0xBF, 0x00, address, 0x40 ^ address];
         for byte in message {
@@ -397,5 +408,267 @@ fn addresses_fill_the_slots_in_order(rt: HostRuntime) -> Result<(), Fail> {
             ]
         )
     );
+    Ok(())
+}
+
+/// What a throttle sends, or the packet of the next turn, nothing where the list is empty.
+#[derive(Clone, Copy)]
+enum Part {
+    Says(&'static [u8]),
+    Sends(&'static [u8]),
+}
+
+// Whether slot 1 is in use before, and what then comes.
+const DRIVES: [(&str, bool, &[Part]); 11] = [
+    (
+        "the speed of a new locomotive",
+        true,
+        &[
+            Part::Says(&[0xA0, 0x01, 0x40, 0x1E]),
+            Part::Sends(&[0x03, 0x3F, 0xC0, 0xFC]),
+            Part::Says(&[0xB5, 0x01, 0x30, 0x7B]),
+            Part::Sends(&[0xFF, 0x00, 0xFF]),
+            Part::Sends(&[0x03, 0x78, 0x7B]),
+        ],
+    ),
+    (
+        "the same bytes with 14 steps",
+        true,
+        &[
+            Part::Says(&[0xB5, 0x01, 0x32, 0x79]),
+            Part::Says(&[0xA0, 0x01, 0x40, 0x1E]),
+            Part::Sends(&[0x03, 0x68, 0x6B]),
+            Part::Says(&[0xA1, 0x01, 0x10, 0x4F]),
+            Part::Sends(&[0xFF, 0x00, 0xFF]),
+            Part::Sends(&[0x03, 0x78, 0x7B]),
+        ],
+    ),
+    (
+        "direction and reverse",
+        true,
+        &[
+            Part::Says(&[0xA0, 0x01, 0x40, 0x1E]),
+            Part::Says(&[0xA1, 0x01, 0x20, 0x7F]),
+            Part::Sends(&[0x03, 0x3F, 0x40, 0x7C]),
+        ],
+    ),
+    (
+        "a pause, power on and off",
+        true,
+        &[
+            Part::Says(&[0x85, 0x7A]),
+            Part::Sends(&[0x00, 0x51, 0x51]),
+            Part::Says(&[0x83, 0x7C]),
+            Part::Sends(&[0x03, 0x3F, 0x80, 0xBC]),
+            Part::Says(&[0x82, 0x7D]),
+            Part::Sends(&[]),
+        ],
+    ),
+    (
+        "the twelve turns of two locomotives",
+        false,
+        &[
+            Part::Says(&[0xBF, 0x00, 0x03, 0x43]),
+            Part::Says(&[0xBF, 0x00, 0x04, 0x44]),
+            Part::Says(&[0x83, 0x7C]),
+            Part::Says(&[0xBA, 0x01, 0x01, 0x45]),
+            Part::Says(&[0xBA, 0x02, 0x02, 0x45]),
+            Part::Sends(&[0x03, 0x3F, 0x80, 0xBC]),
+            Part::Sends(&[0xFF, 0x00, 0xFF]),
+            Part::Sends(&[0x03, 0x3F, 0x80, 0xBC]),
+            Part::Sends(&[0xFF, 0x00, 0xFF]),
+            Part::Sends(&[0x03, 0x80, 0x83]),
+            Part::Sends(&[0x04, 0x3F, 0x80, 0xBB]),
+            Part::Sends(&[0x03, 0xB0, 0xB3]),
+            Part::Sends(&[0xFF, 0x00, 0xFF]),
+            Part::Sends(&[0x03, 0x80, 0x83]),
+            Part::Sends(&[0x04, 0x3F, 0x80, 0xBB]),
+            Part::Sends(&[0xFF, 0x00, 0xFF]),
+            Part::Sends(&[0x04, 0x80, 0x84]),
+        ],
+    ),
+    (
+        "an idle slot is not refreshed",
+        false,
+        &[
+            Part::Says(&[0x83, 0x7C]),
+            Part::Says(&[0xBF, 0x00, 0x03, 0x43]),
+            Part::Sends(&[0xFF, 0x00, 0xFF]),
+            Part::Sends(&[0xFF, 0x00, 0xFF]),
+        ],
+    ),
+    (
+        "one switch request",
+        false,
+        &[
+            Part::Says(&[0x83, 0x7C]),
+            Part::Says(&[0xB0, 0x00, 0x30, 0x7F]),
+            Part::Sends(&[0x81, 0xF9, 0x78]),
+            Part::Sends(&[0xFF, 0x00, 0xFF]),
+            Part::Sends(&[0x81, 0xF9, 0x78]),
+            Part::Sends(&[0xFF, 0x00, 0xFF]),
+        ],
+    ),
+    (
+        "the last switch, thrown",
+        false,
+        &[
+            Part::Says(&[0x83, 0x7C]),
+            Part::Says(&[0xB0, 0x77, 0x1F, 0x27]),
+            Part::Sends(&[0xBE, 0x8E, 0x30]),
+        ],
+    ),
+    (
+        "two switch requests",
+        false,
+        &[
+            Part::Says(&[0x83, 0x7C]),
+            Part::Says(&[0xB0, 0x00, 0x30, 0x7F]),
+            Part::Says(&[0xB0, 0x04, 0x30, 0x7B]),
+            Part::Sends(&[0x81, 0xF9, 0x78]),
+            Part::Sends(&[0xFF, 0x00, 0xFF]),
+            Part::Sends(&[0x81, 0xF9, 0x78]),
+            Part::Sends(&[0x82, 0xF9, 0x7B]),
+            Part::Sends(&[0xFF, 0x00, 0xFF]),
+            Part::Sends(&[0x82, 0xF9, 0x7B]),
+            Part::Sends(&[0xFF, 0x00, 0xFF]),
+        ],
+    ),
+    (
+        "the long address 10239",
+        false,
+        &[
+            Part::Says(&[0x83, 0x7C]),
+            Part::Says(&[0xBF, 0x4F, 0x7F, 0x70]),
+            Part::Says(&[0xBA, 0x01, 0x01, 0x45]),
+            Part::Sends(&[0xE7, 0xFF, 0x3F, 0x80, 0xA7]),
+        ],
+    ),
+    (
+        "the long address 1234",
+        false,
+        &[
+            Part::Says(&[0x83, 0x7C]),
+            Part::Says(&[0xBF, 0x09, 0x52, 0x1B]),
+            Part::Says(&[0xBA, 0x01, 0x01, 0x45]),
+            Part::Says(&[0xA0, 0x01, 0x40, 0x1E]),
+            Part::Sends(&[0xC4, 0xD2, 0x3F, 0xC0, 0xE9]),
+        ],
+    ),
+];
+
+fn say(rt: &impl Abort, station: &mut Station, bytes: &[u8]) {
+    for byte in bytes {
+        assert!(rt; station.lines() > 0);
+        station.byte(0, *byte);
+    }
+}
+
+#[test]
+fn turns_send_what_was_asked(rt: HostRuntime) -> Result<(), Fail> {
+    for (name, in_use, parts) in DRIVES {
+        let mut station = Station::new(rt.alloc(), 1)?;
+        if in_use {
+            for (bytes, _) in IN_USE {
+                say(&rt, &mut station, bytes);
+            }
+        }
+        for part in parts {
+            match part {
+                Part::Says(bytes) => say(&rt, &mut station, bytes),
+                Part::Sends(bytes) => match station.turn() {
+                    Some(packet) => assert_eq!(rt; packet.bytes(), *bytes, "{name}"),
+                    None => assert!(rt; bytes.is_empty(), "{name}"),
+                },
+            }
+        }
+    }
+    Ok(())
+}
+
+#[test]
+fn counts_what_waits(rt: HostRuntime) -> Result<(), Fail> {
+    let mut station = Station::new(rt.alloc(), 1)?;
+    assert_eq!(rt; station.sends_ahead(1, Kind::Speed), None);
+    for (bytes, _) in IN_USE {
+        say(&rt, &mut station, bytes);
+    }
+    say(&rt, &mut station, &[0xA0, 0x01, 0x40, 0x1E]);
+    assert_eq!(rt; station.sends_ahead(1, Kind::Speed), Some(0));
+    assert_eq!(rt; station.sends_ahead(1, Kind::GroupTwo), Some(2));
+
+    let mut station = Station::new(rt.alloc(), 1)?;
+    say(&rt, &mut station, &[0x83, 0x7C]);
+    say(&rt, &mut station, &[0xB0, 0x00, 0x30, 0x7F]);
+    say(&rt, &mut station, &[0xB0, 0x04, 0x30, 0x7B]);
+    for waiting in [2, 2, 2, 1, 1, 1, 0] {
+        assert_eq!(rt; station.switches_waiting(), waiting);
+        station.turn();
+    }
+    Ok(())
+}
+
+#[test]
+fn takes_thirty_two_switch_requests(rt: HostRuntime) -> Result<(), Fail> {
+    let mut station = Station::new(rt.alloc(), 1)?;
+    assert!(rt;
+        is_answered(
+            &rt,
+            &mut station,
+            &[0xBD, 0x00, 0x30, 0x72],
+            &[0xB4, 0x3D, 0x7F, 0x09]
+        )
+    );
+    let mut station = Station::new(rt.alloc(), 1)?;
+    for _ in 0..32 {
+        assert!(rt; is_answered(&rt, &mut station, &[0xB0, 0x00, 0x30, 0x7F], &[]));
+    }
+    assert!(rt;
+        is_answered(
+            &rt,
+            &mut station,
+            &[0xB0, 0x00, 0x30, 0x7F],
+            &[0xB4, 0x30, 0x00, 0x7B]
+        )
+    );
+    assert!(rt;
+        is_answered(
+            &rt,
+            &mut station,
+            &[0xBD, 0x00, 0x30, 0x72],
+            &[0xB4, 0x3D, 0x00, 0x76]
+        )
+    );
+    assert_eq!(rt; station.switches_waiting(), 32);
+    Ok(())
+}
+
+// The list may be cut anywhere.
+#[test]
+fn runs_lists_of_calls(rt: HostRuntime) -> Result<(), Fail> {
+    let mut station = Station::new(rt.alloc(), 1)?;
+    let calls = [
+        Call::Byte {
+            line: 0,
+            byte: 0x83,
+        },
+        Call::Turn,
+        Call::Byte {
+            line: 0,
+            byte: 0x7C,
+        },
+        Call::Turn,
+    ];
+    let mut steps = [Step::Quiet, Step::Quiet, Step::Quiet, Step::Quiet];
+    station.run(&calls[..1], &mut steps[..1]);
+    assert_eq!(rt; station.lines(), 1);
+    station.run(&calls[1..], &mut steps[1..]);
+    assert_eq!(rt; station.power(), Power::Running);
+    assert!(rt; steps[1] == Step::Off);
+    assert!(rt; steps[2] == Step::Quiet);
+    match &steps[3] {
+        Step::Packet(packet) => assert_eq!(rt; packet.bytes(), [0xFF, 0x00, 0xFF].as_slice()),
+        _ => assert!(rt; false),
+    }
     Ok(())
 }

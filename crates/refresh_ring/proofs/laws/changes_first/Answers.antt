@@ -1,5 +1,5 @@
 use Rattle.std.proofs.Common.{refl}
-use Rattle.refresh_ring.proofs.Ahead.{turns_ahead-falls, turns_ahead-least, turns_ahead-most, turns_ahead-changed, turns_ahead-switch, changed-waits}
+use Rattle.refresh_ring.proofs.Ahead.{sends_ahead-append, turns_ahead-falls, turns_ahead-least, turns_ahead-most, turns_ahead-changed, turns_ahead-switch, changed-waits}
 use Rattle.refresh_ring.proofs.laws.changes_first.Goals as goal
 
 pub returns : goal.returns
@@ -10,5 +10,6 @@ returns c = record {
   changed = turns_ahead-changed;
   switch = turns_ahead-switch;
   refresh = λ slot kind s slots. refl;
+  behind = sends_ahead-append;
   waits = changed-waits;
 }

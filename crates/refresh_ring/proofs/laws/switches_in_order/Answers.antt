@@ -1,5 +1,4 @@
-use Rattle.refresh_ring.proofs.Waiting.{few_sends}
-use Rattle.refresh_ring.proofs.Requests.{picked-kept, changed-kept, switch-asked, switch-refused, turn_less, changed-appends, switch-appends}
+use Rattle.refresh_ring.proofs.Requests.{picked-kept, changed-kept, switch-asked, switch-refused, turn_less, done, turns_for-most, changed-appends, switch-appends}
 use Rattle.refresh_ring.proofs.laws.switches_in_order.Goals as goal
 
 pub returns : goal.returns
@@ -9,7 +8,8 @@ returns c = record {
   asked = switch-asked;
   refused = switch-refused;
   falls = turn_less;
+  done = done;
   changed_behind = changed-appends;
   asked_behind = switch-appends;
-  most = few_sends;
+  most = turns_for-most;
 }

@@ -1,4 +1,4 @@
-use Rattle.std.proofs.Common.{ℕ, ◌<◌, ◌≤◌}
+use Rattle.std.proofs.Common.{ℕ, ◌<◌}
 use Rattle.refresh_ring.specs.Places.{IsRefreshed}
 use Rattle.refresh_ring.proofs.plain.PlainRingRing.next.Given as goal
 

@@ -1,4 +1,4 @@
-use Rattle.std.proofs.Common.{◌≡◌, ◌≤◌, ap, ◌∙◌, sym, take, drop, ◌∷◌, false, true, Some, slice_get, length, arith}
+use Rattle.std.proofs.Common.{◌≡◌, ◌≤◌, ap, ◌∙◌, take, drop, ◌∷◌, false, true, Some, slice_get, length, arith}
 use Rattle.refresh_ring.specs.Jobs.{after_send}
 use Rattle.refresh_ring.specs.declared.job.Job.TheVariants.{Request}
 use Rattle.refresh_ring.proofs.Waiting.{popped, queue-sent, sent_once}

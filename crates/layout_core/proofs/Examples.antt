@@ -1,0 +1,44 @@
+-- What is asked of decoders by the bytes of some slots, worked out by hand.
+use Rattle.std.proofs.Common.{◌≡◌, ℕ, true, false, refl}
+use Rattle.dcc_packet.specs.declared.steps.Steps.TheVariants.{S14, S28, S128}
+use Rattle.dcc_packet.specs.declared.steps.Motion.TheVariants.{Stop, Emergency, Step}
+use Rattle.slot_table.specs.Entry.{Entry, state_of_number}
+use Rattle.layout_core.specs.Wanted.{wanted}
+
+entry : (kind spd dirf snd : ℕ) → Entry
+entry kind spd dirf snd = record { state = state_of_number 3; kind = kind; spd = spd; dirf = dirf; snd = snd; ss2 = 0; id1 = 0; id2 = 0 }
+
+-- SPD 40 is step 63 of 128, 14 of 28 and 7 of 14
+in_128_steps : wanted (entry 3 0x40 0 0) false ≡ record { motion = Step S128 63; forward = true; functions = 0 }
+unfolding entry
+in_128_steps = refl
+
+in_28_steps : wanted (entry 0 0x40 0 0) false ≡ record { motion = Step S28 14; forward = true; functions = 0 }
+unfolding entry
+in_28_steps = refl
+
+in_14_steps : wanted (entry 2 0x40 0x10 0) false ≡ record { motion = Step S14 7; forward = true; functions = 1 }
+unfolding entry
+in_14_steps = refl
+
+-- bit 5 of DIRF is the other direction, which a reversed decoder turns round
+backward : wanted (entry 7 0x7F 0x20 0) false ≡ record { motion = Step S128 126; forward = false; functions = 0 }
+unfolding entry
+backward = refl
+
+turned_round : wanted (entry 4 0x7F 0x20 0) true ≡ record { motion = Step S28 28; forward = true; functions = 0 }
+unfolding entry
+turned_round = refl
+
+standing : wanted (entry 3 0 0 0) true ≡ record { motion = Stop; forward = false; functions = 0 }
+unfolding entry
+standing = refl
+
+at_once : wanted (entry 2 1 0x1A 0) false ≡ record { motion = Emergency; forward = true; functions = 0b10101 }
+unfolding entry
+at_once = refl
+
+-- F0, F5 and F7
+functions_of_both : wanted (entry 3 0x20 0x10 5) false ≡ record { motion = Step S128 31; forward = true; functions = 0b10100001 }
+unfolding entry
+functions_of_both = refl

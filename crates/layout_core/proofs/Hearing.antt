@@ -1,0 +1,39 @@
+-- How a node is made, and what it makes of the half-bits of a packet.
+use Rattle.std.proofs.Common.{ℕ, List, All, map, ap, subst, arith}
+use Rattle.std.proofs.lemmas.List.Elements.{All-map}
+use Rattle.std.specs.List.{slice_index_or}
+use Rattle.std.specs.Iterator.{Drains, YieldsFirst}
+use Rattle.dcc_packet.specs.Packet.{IsPacket}
+use Rattle.dcc_packet.specs.Wave.{IsWave}
+use Rattle.decoder_node.specs.declared.node.NodeSpec.{NodeSpec}
+use Rattle.decoder_node.specs.declared.node.NodeSpec.TheVariants.{Loco as LocoSpec, Accessory as AccessorySpec}
+use Rattle.decoder_node.specs.Loco.{LocoDecoder, HearsLoco}
+use Rattle.decoder_node.specs.Accessory.{AccessoryDecoder, HearsAccessory}
+use Rattle.layout_core.specs.declared.node.Node.TheVariants.{Loco, Accessory}
+use Rattle.layout_core.specs.Nodes.{node_of, IsAbleNode, HearsPacket}
+use Rattle.layout_core.proofs.Drained.{drained}
+
+module _ (packet halves items : List ℕ) (form : IsPacket packet) (wave : IsWave packet halves) (all : Drains (YieldsFirst (λ (left : List ℕ). left)) halves items) where
+  wave_heard : IsWave packet items
+  wave_heard = subst (λ (hs : List ℕ). IsWave packet hs) (drained halves items all) wave
+
+  pub loco_hears : (old new : LocoDecoder) → HearsLoco old items new → HearsPacket packet (Loco old) (Loco new)
+  loco_hears old new h = record {
+    kept = ap LocoSpec h.kept;
+    settles = h.settles packet form wave_heard;
+    obeys = λ between. h.obeys packet form wave_heard between;
+  }
+
+  pub accessory_hears : (old new : AccessoryDecoder) → HearsAccessory old items new → HearsPacket packet (Accessory old) (Accessory new)
+  accessory_hears old new h = record {
+    kept = ap AccessorySpec h.kept;
+    settles = h.settles packet form wave_heard;
+    obeys = λ between. h.obeys packet form wave_heard between;
+  }
+
+made_able : (spec : NodeSpec) → IsAbleNode (node_of spec)
+made_able (LocoSpec cv) = omega arith
+made_able (AccessorySpec number) = tt
+
+pub all_made_able : (specs : List NodeSpec) → All IsAbleNode (map node_of specs)
+all_made_able specs = All-map IsAbleNode node_of specs (λ k d h. made_able (slice_index_or specs k d))

@@ -1,0 +1,74 @@
+//! A decoder on the track.
+ghost use Rattle.std.specs.Prelude.{◌≡◌};
+
+use dcc_packet::Packet;
+use decoder_cv::CvSet;
+use decoder_node::{Accessory, Loco, NodeSpec, Running};
+use half_bits::halves;
+
+/// A decoder on the track, which hears packets half by half.
+#[derive(Debug, Drop)]
+pub(crate) enum Node {
+    /// A locomotive decoder.
+    Loco(Loco),
+    /// An accessory decoder.
+    Accessory(Accessory),
+}
+
+impl Node {
+    ghost use Rattle.layout_core.specs.Nodes.{node_of, running_of, outputs_of, IsAbleNode, HearsPacket};
+
+    /// A decoder in its first state, which has heard nothing.
+    pub(crate) fn new(spec: NodeSpec) -> Node
+        ensures { result ≡ node_of spec }
+    {
+        match spec {
+            NodeSpec::Loco(cv) => Node::Loco(Loco::new(cv)),
+            NodeSpec::Accessory(module) => Node::Accessory(Accessory::new(module)),
+        }
+    }
+
+    /// Hears a packet, half by half through its receiver.
+    pub(crate) fn hear(&mut self, packet: &Packet)
+        ensures hears { HearsPacket packet.now self.old self.new }
+        ensures able { IsAbleNode self.old → IsAbleNode self.new }
+    {
+        match self {
+            Node::Loco(loco) => loco.hear_all(halves(packet)),
+            Node::Accessory(accessory) => accessory.hear_all(halves(packet)),
+        }
+    }
+
+    /// How it runs, or `None` for an accessory decoder.
+    pub(crate) fn running(&self) -> Option<Running>
+        ensures { result ≡ running_of self.now }
+    {
+        match self {
+            Node::Loco(loco) => Some(loco.running()),
+            Node::Accessory(_) => None,
+        }
+    }
+
+    /// Its outputs, bit j for output j, or `None` for a locomotive decoder.
+    pub(crate) fn outputs(&self) -> Option<u8>
+        ensures { result ≡ outputs_of self.now }
+    {
+        match self {
+            Node::Loco(_) => None,
+            Node::Accessory(accessory) => Some(accessory.outputs()),
+        }
+    }
+}
+
+impl Default for Node {
+    ghost use Rattle.decoder_cv.specs.Settings.{settings};
+    ghost use Rattle.decoder_node.specs.Loco.{fresh};
+    ghost use Rattle.layout_core.specs.declared.node.Node.TheVariants.{Loco};
+
+    ghost is_default = { λ node. node ≡ Loco (fresh (settings 3 0 0 0)) };
+
+    /// The locomotive decoder of the default settings.
+    fn default() -> Node {
+        Node::Loco(Loco::new(CvSet::default()))
+    }
+}

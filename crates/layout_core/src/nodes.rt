@@ -1,0 +1,113 @@
+//! The decoders of a layout.
+ghost use Rattle.std.specs.Prelude.{◌≡◌, ◌==◌, ℕ, ◌<◌, ◌≤◌, List, All, length, map};
+ghost use Rattle.std.specs.List.{slice_index_or};
+ghost use Rattle.layout_core.specs.declared.node.Node.{Node as NodeValue};
+ghost use Rattle.layout_core.specs.Nodes.{node_of, spec_of, running_of, outputs_of, is_missed, IsAbleNode, AfterPacket};
+
+use crate::node::Node;
+use arrayvec::ArrayVec;
+use dcc_packet::Packet;
+use decoder_node::{NodeList, Running};
+use std::marker::Model;
+
+/// The most nodes of a layout, one for each bit of a set of those that miss a packet.
+const MAX_NODES: usize = 64;
+
+/// The decoders of a layout, at most 64.
+///
+/// Contracts see them as the list of its nodes.
+#[derive(Debug, Drop)]
+pub struct Nodes {
+    nodes: ArrayVec<Node, MAX_NODES>,
+}
+
+impl Model for Nodes {
+    ghost use Rattle.std.specs.Prelude.{List, All};
+    ghost use Rattle.layout_core.specs.declared.node.Node.{Node};
+    ghost use Rattle.layout_core.specs.Nodes.{IsAbleNode};
+
+    ghost Value = { List Node };
+
+    ghost view = { λ nodes. nodes.nodes.items };
+
+    ghost invariant = { λ nodes. All IsAbleNode nodes.nodes.items };
+}
+
+impl Nodes {
+    /// These decoders, each in its first state, having heard nothing.
+    pub fn new(specs: &NodeList) -> Nodes
+        ensures made { result ≡ map node_of specs.now.items }
+        ensures able { All IsAbleNode result }
+    {
+        let mut nodes = ArrayVec::new();
+        for spec in specs.as_slice() {
+            nodes.push(Node::new(*spec));
+        }
+        Nodes { nodes }
+    }
+
+    /// Each node hears this packet, but for node i where bit i of `missed` is set. Bits past the last node mean nothing.
+    pub fn hear(&mut self, packet: &Packet, missed: u64)
+        ensures count { length self.new ≡ length self.old }
+        ensures specs { map spec_of self.new ≡ map spec_of self.old }
+        ensures able { All IsAbleNode self.new }
+        ensures each { (i : ℕ) (none : NodeValue) → i < length self.old → AfterPacket (is_missed missed i) packet.now (slice_index_or self.old i none) (slice_index_or self.new i none) }
+    {
+        hear_each(self.nodes.as_mut_slice(), packet, missed);
+    }
+
+    /// How many there are.
+    pub fn len(&self) -> usize
+        ensures count { result ≡ length self.now }
+        ensures most { result ≤ 64 }
+        ensures able { All IsAbleNode self.now }
+    {
+        self.nodes.len()
+    }
+
+    /// Whether there is none.
+    pub fn is_empty(&self) -> bool
+        ensures { result ≡ (length self.now == 0) }
+    {
+        self.nodes.is_empty()
+    }
+
+    /// How node i runs, or `None` for an accessory decoder.
+    pub fn running(&self, i: usize) -> Option<Running>
+        requires { i < length self.now }
+        ensures { (none : NodeValue) → result ≡ running_of (slice_index_or self.now i none) }
+    {
+        self.nodes.as_slice()[i].running()
+    }
+
+    /// The outputs of node i, or `None` for a locomotive decoder.
+    pub fn outputs(&self, i: usize) -> Option<u8>
+        requires { i < length self.now }
+        ensures { (none : NodeValue) → result ≡ outputs_of (slice_index_or self.now i none) }
+    {
+        self.nodes.as_slice()[i].outputs()
+    }
+}
+
+/// Each of these nodes hears the packet, but for those whose bit is set.
+fn hear_each(nodes: &mut [Node], packet: &Packet, missed: u64)
+    requires fits { length nodes.old ≤ 64 }
+    requires able { All IsAbleNode nodes.old }
+    ensures specs { map spec_of nodes.new ≡ map spec_of nodes.old }
+    ensures able { All IsAbleNode nodes.new }
+    ensures each { (i : ℕ) (none : NodeValue) → i < length nodes.old → AfterPacket (is_missed missed i) packet.now (slice_index_or nodes.old i none) (slice_index_or nodes.new i none) }
+{
+    for (i, node) in nodes.iter_mut().enumerate() {
+        if !is_missed(missed, i) {
+            node.hear(packet);
+        }
+    }
+}
+
+/// Whether node i misses the packet.
+fn is_missed(missed: u64, i: usize) -> bool
+    requires { i < 64 }
+    ensures { result ≡ is_missed missed i }
+{
+    (missed >> i) & 1 == 1
+}

@@ -1,0 +1,128 @@
+//! The ring's wrap, the turns of two locomotives and of two switch requests, and a queue that is full.
+ghost use Rattle.std.specs.Prelude.{◌≡◌, length};
+
+use crate::{Full, Kind, NoMemory, Pick, PlainRing, Power, Ring, Schedule, View};
+
+// A table of addresses.
+#[derive(Drop)]
+struct Addresses {
+    rows: [u16; 119],
+    ghost whole: { length rows ≡ 119 },
+}
+
+impl View for Addresses {
+    ghost addresses = { λ view. view.rows };
+
+    fn address(&self, slot: u8) -> u16 {
+        self.rows[(slot - 1) as usize]
+    }
+
+    ghost many = { λ view. view.whole };
+}
+
+// Address 3 in slot 1, address 4 in slot 2.
+fn two_addresses() -> Addresses {
+    let mut rows = [0; 119];
+    rows[0] = 3;
+    rows[1] = 4;
+    Addresses { rows }
+}
+
+const KINDS: [Kind; 3] = [Kind::Speed, Kind::GroupOne, Kind::GroupTwo];
+
+#[test]
+fn the_ring_wraps_after_the_last_place(rt: HostRuntime) {
+    let mut ring = PlainRing::default();
+    assert_eq!(rt; ring.next(0), None);
+    ring.set(1, true);
+    ring.set(119, true);
+    for (cursor, place) in [(1, 119), (119, 120), (357, 1)] {
+        assert_eq!(rt; ring.next(cursor), Some(place));
+    }
+}
+
+#[test]
+fn a_new_schedule_has_nothing_waiting(rt: HostRuntime) -> Result<(), NoMemory> {
+    let schedule: Schedule<PlainRing> = Schedule::new(rt.alloc())?;
+    assert_eq!(rt; schedule.sends_ahead(1, Kind::Speed), None);
+    assert_eq!(rt; schedule.switches_waiting(), 0);
+    Ok(())
+}
+
+#[test]
+fn two_locomotives_take_turns(rt: HostRuntime) -> Result<(), NoMemory> {
+    let view = two_addresses();
+    let mut schedule: Schedule<PlainRing> = Schedule::new(rt.alloc())?;
+    assert_eq!(rt; schedule.pick(&view, Power::Off), Pick::Off);
+    assert_eq!(rt; schedule.pick(&view, Power::Paused), Pick::StopAll);
+    for slot in 1..3u8 {
+        schedule.refresh(slot, true);
+        for kind in KINDS {
+            schedule.changed(slot, kind);
+        }
+    }
+    let turns = [
+        Some((1, Kind::Speed)),
+        None,
+        Some((1, Kind::Speed)),
+        None,
+        Some((1, Kind::GroupOne)),
+        Some((2, Kind::Speed)),
+        Some((1, Kind::GroupTwo)),
+        None,
+        Some((1, Kind::GroupOne)),
+        Some((2, Kind::Speed)),
+        None,
+        Some((2, Kind::GroupOne)),
+    ];
+    for turn in turns {
+        let expected = match turn {
+            Some((slot, kind)) => Pick::Place { slot, kind },
+            None => Pick::Idle,
+        };
+        assert_eq!(rt; schedule.pick(&view, Power::Running), expected);
+    }
+    Ok(())
+}
+
+#[test]
+fn two_switch_requests_are_each_sent_twice(rt: HostRuntime) -> Result<(), NoMemory> {
+    let view = two_addresses();
+    let mut schedule: Schedule<PlainRing> = Schedule::new(rt.alloc())?;
+    assert_eq!(rt; schedule.switch(0, true, true), Ok(()));
+    assert_eq!(rt; schedule.switch(4, true, true), Ok(()));
+    assert_eq!(rt; schedule.switches_waiting(), 2);
+    let turns = [
+        (Some(0), 2),
+        (None, 2),
+        (Some(0), 1),
+        (Some(4), 1),
+        (None, 1),
+        (Some(4), 0),
+        (None, 0),
+    ];
+    for (turn, waiting) in turns {
+        let expected = match turn {
+            Some(number) => Pick::Switch {
+                number,
+                closed: true,
+                on: true,
+            },
+            None => Pick::Idle,
+        };
+        assert_eq!(rt; schedule.pick(&view, Power::Running), expected);
+        assert_eq!(rt; schedule.switches_waiting(), waiting);
+    }
+    Ok(())
+}
+
+#[test]
+fn thirty_two_requests_wait_and_no_more(rt: HostRuntime) -> Result<(), NoMemory> {
+    let mut schedule: Schedule<PlainRing> = Schedule::new(rt.alloc())?;
+    for number in 0..32u16 {
+        assert_eq!(rt; schedule.switch(number, false, true), Ok(()));
+    }
+    assert_eq!(rt; schedule.switch(32, false, true), Err(Full));
+    assert_eq!(rt; schedule.switches_waiting(), 32);
+    Ok(())
+}

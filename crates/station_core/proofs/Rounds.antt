@@ -1,0 +1,130 @@
+-- Coverage, from the four-turn law of the ring.
+use Rattle.std.proofs.Common.{◌≡◌, ℕ, ◌+◌, ◌-◌, ◌*◌, ◌<◌, ◌≤◌, ◌⊎◌, Bool, true, false, nat_le, List, [], ◌∷◌, Option, Some, None, length, get_or, refl, ap, sym, ◌∙◌, arith, inl, inr, zero, suc}
+use Rattle.std.proofs.lemmas.Bool.{and_parts, or_left, or_right, cases_lt, both_ways}
+use Rattle.std.proofs.Math.ListN.{get_or-eq_default}
+use Rattle.ln_ops.specs.declared.op.Op.{Op}
+use Rattle.ln_ops.specs.declared.op.Op.TheVariants.{PowerOff, PowerOn, ForceIdle, Speed, Dirf, Snd, SwReq, SwAck, LongAck, SlotStat, Move, SlotRead, LocoAddr, SlotData, SlotWrite, Other}
+use Rattle.ln_ops.specs.Message.{op_of}
+use Rattle.slot_table.specs.Desk.{Desk}
+use Rattle.slot_table.specs.Entry.{IsSlot}
+use Rattle.refresh_ring.specs.Places.{is_refreshed as is_slot_on}
+use Rattle.refresh_ring.specs.Scheduled.{Scheduled, after_changed}
+use Rattle.refresh_ring.specs.Picked.{picked}
+use Rattle.refresh_ring.specs.Left.{count_to, turns_left}
+use Rattle.refresh_ring.specs.declared.kind.Kind.{Kind}
+use Rattle.refresh_ring.specs.declared.job.Destination.{Destination}
+use Rattle.refresh_ring.specs.declared.pick.Pick.TheVariants.{Place}
+use Rattle.refresh_ring.specs.declared.pick.Power.TheVariants.{Running}
+use Rattle.station_core.specs.After.{desk_after}
+use Rattle.station_core.specs.Asked.{after_places, after_request, changed_places, schedule_asked}
+use Rattle.station_core.specs.Moved.{moved, message_ended, after_message, after_op, after_byte, turn_of}
+use Rattle.station_core.specs.Packets.{place_packet}
+use Rattle.station_core.specs.Refreshed.{is_refreshed, refreshed_slots, addresses}
+use Rattle.station_core.specs.Runs.{state_of, answer_of, AtEveryMoment, ever_refreshed, slots_refreshed, turns_in, Sends, IsLive, IsFullCycle, Covers}
+use Rattle.station_core.specs.Seen.{Seen, scheduled}
+use Rattle.station_core.specs.declared.call.Call.{Call}
+use Rattle.station_core.specs.declared.call.Call.TheVariants.{Byte, Turn}
+use Rattle.station_core.specs.declared.call.Step.TheVariants.{Packet}
+use Rattle.station_core.proofs.Picks.{slot_on}
+use Rattle.station_core.proofs.Steps.{length-refreshed_slots}
+
+-- what the ring's law gives
+abbrev pub Falls : Type 0
+Falls = (ever : ℕ → Bool) (slot : ℕ) (kind : Kind) (addresses : List ℕ) (s : Scheduled) → IsSlot slot → is_slot_on s.slots slot ≡ true → ((n : ℕ) → is_slot_on s.slots n ≡ true → ever n ≡ true) → ((picked addresses s).answer ≡ Place slot kind) ⊎ (turns_left ever slot kind (picked addresses s).state + 1 ≤ turns_left ever slot kind s)
+
+abbrev pub Least : Type 0
+Least = (ever : ℕ → Bool) (slot : ℕ) (kind : Kind) (s : Scheduled) → IsSlot slot → ever slot ≡ true → 1 ≤ turns_left ever slot kind s
+
+abbrev pub Most : Type 0
+Most = (ever : ℕ → Bool) (slot : ℕ) (kind : Kind) (s : Scheduled) → IsSlot slot → ever slot ≡ true → turns_left ever slot kind s ≤ 12 * count_to ever 119
+
+-- a slot that the schedule refreshes is one of the desk
+pub on_desk : (desk : Desk) (n : ℕ) → is_slot_on (refreshed_slots desk) n ≡ true → is_refreshed desk n ≡ true
+on_desk desk zero h = cc
+on_desk desk (suc n) h = elim (cases_lt n 119) [
+  | inl low ↦ sym (slot_on desk (suc n) (omega arith, omega arith)) ∙ h
+  | inr past ↦
+      let none : get_or (refreshed_slots desk) (suc n - 1) false ≡ false = get_or-eq_default (refreshed_slots desk) false (omega (arith, length-refreshed_slots desk)) in
+      absurd (both_ways (get_or (refreshed_slots desk) (suc n - 1) false) none (and_parts (nat_le 1 (suc n)) (get_or (refreshed_slots desk) (suc n - 1) false) h).1)
+]
+
+-- messages leave what the number is made of
+record SameRing (s t : Scheduled) : Type 0 where
+  cursor : t.cursor ≡ s.cursor
+  last : t.last ≡ s.last
+  prefers : t.prefers_jobs ≡ s.prefers_jobs
+
+same : (s : Scheduled) → SameRing s s
+same s = record { cursor = refl; last = refl; prefers = refl }
+
+places_same : (places : List (ℕ × Kind)) (s : Scheduled) → SameRing s (after_places places s)
+places_same [] s = same s
+places_same (p ∷ places) s =
+    let rest = places_same places (after_changed p.0 p.1 s) in
+    record { cursor = rest.cursor; last = rest.last; prefers = rest.prefers }
+
+request_same : (number : ℕ) (closed on : Bool) (s : Scheduled) → SameRing s (after_request number closed on s)
+request_same number closed on s = record { cursor = refl; last = refl; prefers = refl }
+
+asked_same : (desk : Desk) (op : Op) (s : Scheduled) → SameRing s (schedule_asked desk op s)
+asked_same desk PowerOff s = same s
+asked_same desk PowerOn s = same s
+asked_same desk ForceIdle s = same s
+asked_same desk (Speed slot spd) s = places_same (changed_places desk (Speed slot spd)) s
+asked_same desk (Dirf slot dirf) s = places_same (changed_places desk (Dirf slot dirf)) s
+asked_same desk (Snd slot snd) s = places_same (changed_places desk (Snd slot snd)) s
+asked_same desk (SwReq number closed on) s = request_same number closed on s
+asked_same desk (SwAck number closed on) s = request_same number closed on s
+asked_same desk (LongAck opc ack) s = same s
+asked_same desk (SlotStat slot stat) s = places_same (changed_places desk (SlotStat slot stat)) s
+asked_same desk (Move src dest) s = places_same (changed_places desk (Move src dest)) s
+asked_same desk (SlotRead slot) s = same s
+asked_same desk (LocoAddr high low) s = same s
+asked_same desk (SlotData fields) s = same s
+asked_same desk (SlotWrite fields) s = places_same (changed_places desk (SlotWrite fields)) s
+asked_same desk Other s = same s
+
+message_same : (seen : Seen) (message : Option (List ℕ)) → SameRing (scheduled seen) (scheduled (after_message seen message))
+message_same seen None = same (scheduled seen)
+message_same seen (Some message) =
+    let asked = asked_same seen.powered.desk (op_of message) (record (scheduled seen) { slots = refreshed_slots (desk_after seen.powered.desk (op_of message)) }) in
+    record { cursor = asked.cursor; last = asked.last; prefers = asked.prefers }
+
+byte_same : (ever : ℕ → Bool) (slot : ℕ) (kind : Kind) (seen : Seen) (line byte : ℕ) → turns_left ever slot kind (scheduled (after_byte seen line byte)) ≡ turns_left ever slot kind (scheduled seen)
+byte_same ever slot kind seen line byte =
+    let kept = message_same seen (message_ended seen line byte) in
+    rw (kept.cursor, kept.last, kept.prefers) refl
+
+abbrev Knows : (ℕ → Bool) → Seen → Type 0
+Knows ever seen = (n : ℕ) → is_refreshed seen.powered.desk n ≡ true → ever n ≡ true
+
+all_known : (ever : ℕ → Bool) (seen : Seen) (calls : List Call) → ((n : ℕ) → ever_refreshed seen calls n ≡ true → ever n ≡ true) → AtEveryMoment (Knows ever) seen calls
+all_known ever seen [] within = λ n h. within n h
+all_known ever seen (call ∷ calls) within = (
+  λ n h. within n (or_left (is_refreshed seen.powered.desk n) (ever_refreshed (state_of seen call) calls n) h),
+  all_known ever (state_of seen call) calls (λ n h. within n (or_right (is_refreshed seen.powered.desk n) (ever_refreshed (state_of seen call) calls n) h)),
+)
+
+now : (P : Seen → Type 0) (seen : Seen) (calls : List Call) → AtEveryMoment P seen calls → P seen
+now P seen [] h = h
+now P seen (call ∷ calls) h = h.0
+
+module _ (falls : Falls) (least : Least) (ever : ℕ → Bool) (slot : ℕ) (kind : Kind) (is : IsSlot slot) where
+  covers : (seen : Seen) (calls : List Call) → AtEveryMoment (IsLive slot) seen calls → AtEveryMoment (Knows ever) seen calls → turns_left ever slot kind (scheduled seen) ≤ turns_in calls → Sends slot kind seen calls
+  unfolding moved
+  covers seen [] live known enough = absurd (omega (arith, least ever slot kind (scheduled seen) is (known slot live.refreshed)))
+  covers seen (Byte line byte ∷ calls) live known enough =
+      covers (state_of seen (Byte line byte)) calls live.1 known.1 (omega (arith, byte_same ever slot kind seen line byte))
+  covers seen (Turn ∷ calls) live known enough =
+      let running = live.0.running in
+      elim (falls ever slot kind (addresses seen.powered.desk) (scheduled seen) is (slot_on seen.powered.desk slot is ∙ live.0.refreshed) (λ n h. known.0 n (on_desk seen.powered.desk n h))) [
+        | inl e ↦ inl (rw (running, e) refl)
+        | inr less ↦ inr (covers (state_of seen Turn) calls live.1 known.1 (rw running (omega arith)))
+      ]
+
+pub coverage_from : Falls → Least → Most → (start : Seen) (calls : List Call) → Covers start calls
+coverage_from falls least most start calls slot kind is full =
+    let ever : ℕ → Bool = ever_refreshed start calls in
+    let known = all_known ever start calls (λ n h. h) in
+    let counts : ever slot ≡ true = now (Knows ever) start calls known slot (now (IsLive slot) start calls full.live).refreshed in
+    covers falls least ever slot kind is start calls full.live known (omega (arith, most ever slot kind (scheduled start) is counts, full.enough))

@@ -1,0 +1,36 @@
+-- What a turn sends is a packet of the desk.
+use Rattle.std.proofs.Common.{◌≡◌, ℕ, List, Option, Some, refl, inl, inr, sym, ◌∙◌}
+use Rattle.slot_table.specs.Entry.{IsSlot}
+use Rattle.refresh_ring.specs.Picked.{picked, turned}
+use Rattle.refresh_ring.specs.Scheduled.{Scheduled}
+use Rattle.refresh_ring.specs.Sent.{IsDue}
+use Rattle.refresh_ring.specs.declared.pick.Pick.{Pick}
+use Rattle.refresh_ring.specs.declared.pick.Pick.TheVariants.{Off, StopAll, Idle, Place, Switch}
+use Rattle.refresh_ring.specs.declared.pick.Power.{Power}
+use Rattle.refresh_ring.specs.declared.pick.Power.TheVariants as power
+use Rattle.station_core.specs.Moved.{packet_of}
+use Rattle.station_core.specs.Refreshed.{addresses}
+use Rattle.station_core.specs.Seen.{Seen, scheduled}
+use Rattle.station_core.specs.Sent.{IsRunningPacket, IsPacketOfDesk}
+use Rattle.station_core.proofs.Rounds.{on_desk}
+
+abbrev pub Due : Type 0
+Due = (addresses : List ℕ) (s : Scheduled) → IsDue s (picked addresses s).answer
+
+abbrev OfDesk : Seen → Option (List ℕ) → Type 0
+OfDesk seen packet = (bytes : List ℕ) × (packet ≡ Some bytes) × IsRunningPacket seen bytes
+
+of_pick : (seen : Seen) (pick : Pick) → IsDue (scheduled seen) pick → OfDesk seen (packet_of seen.powered.desk pick)
+of_pick seen Off due = absurd due
+of_pick seen StopAll due = absurd due
+of_pick seen Idle due = (_, refl, inl refl)
+of_pick seen (Place slot kind) due = (_, refl, inr (inl (slot, kind, on_desk seen.powered.desk slot due, refl)))
+of_pick seen (Switch number closed on) due = (_, refl, inr (inr (number, closed, on, due, refl)))
+
+of_turn : Due → (seen : Seen) (p : Power) → IsPacketOfDesk p seen (packet_of seen.powered.desk (turned p (addresses seen.powered.desk) (scheduled seen)).answer)
+of_turn due seen power.Off = refl
+of_turn due seen power.Paused = refl
+of_turn due seen power.Running = of_pick seen (picked (addresses seen.powered.desk) (scheduled seen)).answer (due (addresses seen.powered.desk) (scheduled seen))
+
+pub packets_of_the_desk : Due → (seen : Seen) → IsPacketOfDesk seen.powered.power seen (packet_of seen.powered.desk (turned seen.powered.power (addresses seen.powered.desk) (scheduled seen)).answer)
+packets_of_the_desk due seen = of_turn due seen seen.powered.power

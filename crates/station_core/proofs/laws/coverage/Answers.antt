@@ -1,0 +1,5 @@
+use Rattle.station_core.proofs.Rounds.{coverage_from}
+use Rattle.station_core.proofs.laws.coverage.Goals as goal
+
+pub returns : goal.returns
+returns c = coverage_from c.four_turns.ensures.falls c.four_turns.ensures.least c.four_turns.ensures.most

@@ -1,0 +1,24 @@
+use Rattle.std.proofs.Common.{◌≡◌, ℕ, Some, refl, ap, sym, ◌∙◌}
+use Rattle.slot_table.specs.Desk.{Desk}
+use Rattle.slot_table.specs.Reading.{row_of, is_placed}
+use Rattle.station_core.specs.Asked.{places_with}
+use Rattle.station_core.specs.declared.schedule.Change.TheVariants.{All}
+use Rattle.station_core.proofs.Follows.{Others, noted_as, in_step, given_slot, marked_slot}
+use Rattle.station_core.proofs.station.Station.null_move.Goals as goal
+use Rattle.slot_table.specs.Moves.{after_null_move}
+
+others : (c : goal.After-note) → Others c.self.inside.table c.null_move.new.self c.in_ok-slot.slot
+others c = λ m ne.
+    ap (λ (d : Desk). row_of d m) c.null_move.ensures.after
+    ∙ (c.others_stay.ensures c.self.inside.table m c.self.invariant.in_step.desk).null_move c.args.slot (λ e. ne (e ∙ sym (given_slot (is_placed c.self.inside.table c.args.slot) c.args.slot c.in_ok-slot.slot c.in_ok-slot.ensures.answer)))
+
+pub invariant_of-self-2 : goal.invariant_of-self-2
+invariant_of-self-2 c = record {
+  lines = c.self.invariant.lines;
+  in_step = in_step c.self.inside.table c.null_move.new.self c.in_ok-slot.slot c.self.inside.schedule c.note.new.schedule (places_with c.in_ok-slot.slot All) c.null_move.ensures.desk c.note.ensures.legal c.in_ok-slot.ensures.slot c.self.invariant.in_step.slots (others c) c.note.ensures.state;
+}
+
+pub returns-clause-state : goal.returns-clause-state
+returns-clause-state c =
+    rw (← c.self.view_is) (noted_as c.self.inside.framers.items c.self.inside.power c.self.inside.table c.null_move.new.self (after_null_move c.self.inside.table c.args.slot) c.in_ok-slot.slot c.self.inside.schedule c.note.new.schedule (places_with c.in_ok-slot.slot All) _
+    c.in_ok-slot.ensures.slot c.self.invariant.in_step.slots (others c) c.note.ensures.state c.null_move.ensures.after refl)

@@ -1,0 +1,32 @@
+use Rattle.std.proofs.Common.{◌≡◌, true, is_ok, ap, sym, ◌∙◌}
+use Rattle.slot_table.specs.Desk.{Desk}
+use Rattle.slot_table.specs.Entry.{IsSlot}
+use Rattle.slot_table.specs.Reading.{row_of, is_placed}
+use Rattle.station_core.specs.Asked.{places_with}
+use Rattle.station_core.specs.declared.schedule.Change.TheVariants.{SpeedAndGroupOne}
+use Rattle.station_core.proofs.Follows.{Others, noted_as, in_step, chosen_if, ok_of, from_ok, done}
+use Rattle.station_core.proofs.station.Station.set_dirf.Goals as goal
+use Rattle.slot_table.specs.Writes.{after_dirf}
+
+ok : (c : goal.After-note) → is_ok c.set_dirf.result ≡ true
+ok c = ok_of c.set_dirf.result (sym c.is_err.ensures.value ∙ c.if-is_err.false)
+
+slot_is : (c : goal.After-note) → IsSlot c.args.slot
+slot_is c = from_ok c.set_dirf.result (ok c) c.set_dirf.ensures.slot
+
+others : (c : goal.After-note) → Others c.self.inside.table c.set_dirf.new.self c.args.slot
+others c = λ m ne.
+    ap (λ (d : Desk). row_of d m) c.set_dirf.ensures.after
+    ∙ (c.others_stay.ensures c.self.inside.table m c.self.invariant.in_step.desk).dirf c.args.slot c.args.dirf ne
+
+pub invariant_of-self-2 : goal.invariant_of-self-2
+invariant_of-self-2 c = record {
+  lines = c.self.invariant.lines;
+  in_step = in_step c.self.inside.table c.set_dirf.new.self c.args.slot c.self.inside.schedule c.note.new.schedule (places_with c.args.slot SpeedAndGroupOne) c.set_dirf.ensures.desk c.note.ensures.legal (slot_is c) c.self.invariant.in_step.slots (others c) c.note.ensures.state;
+}
+
+pub returns-clause-state : goal.returns-clause-state
+returns-clause-state c =
+    rw (← c.self.view_is) (noted_as c.self.inside.framers.items c.self.inside.power c.self.inside.table c.set_dirf.new.self (after_dirf c.self.inside.table c.args.slot c.args.dirf) c.args.slot c.self.inside.schedule c.note.new.schedule (places_with c.args.slot SpeedAndGroupOne) _
+    (slot_is c) c.self.invariant.in_step.slots (others c) c.note.ensures.state c.set_dirf.ensures.after
+    (chosen_if (is_placed c.self.inside.table c.args.slot) (places_with c.args.slot SpeedAndGroupOne) (done (is_placed c.self.inside.table c.args.slot) c.set_dirf.result c.set_dirf.ensures.answer (ok c))))

@@ -1,0 +1,30 @@
+use Rattle.std.proofs.Common.{◌≡◌, ap, sym, ◌∙◌, List, Bool, ℕ}
+use Rattle.refresh_ring.specs.Picked.{turned}
+use Rattle.refresh_ring.specs.Scheduled.{Scheduled}
+use Rattle.station_core.specs.Moved.{packet_of, packet_of_turn}
+use Rattle.station_core.specs.Refreshed.{addresses}
+use Rattle.station_core.proofs.Picks.{is_pick_of, slots-turned}
+use Rattle.station_core.proofs.station.Station.turn.Goals as goal
+
+pub invariant_of-self : goal.invariant_of-self
+invariant_of-self c = record {
+  lines = c.self.invariant.lines;
+  in_step = record {
+    desk = c.self.invariant.in_step.desk;
+    slots = ap (λ (s : Scheduled). s.slots) c.pick-pick.ensures.state ∙ slots-turned c.picks_are_due.ensures.slots c.self.inside.power (addresses c.self.inside.table) c.self.inside.schedule ∙ c.self.invariant.in_step.slots;
+    schedule = c.pick-pick.ensures.legal;
+  };
+}
+
+pub packet_of-requires : goal.packet_of-requires
+packet_of-requires c =
+    is_pick_of c.self.inside.table c.self.inside.schedule c.self.inside.power (addresses c.self.inside.table) c.pick-pick.result c.self.invariant.in_step.slots c.pick-pick.ensures.answer c.pick-pick.ensures.range c.pick-pick.ensures.due
+
+pub returns-clause-packet : goal.returns-clause-packet
+returns-clause-packet c =
+    let s = c.self.inside.schedule in
+    let same = ap (λ (xs : List Bool). record s { slots = xs }) c.self.invariant.in_step.slots in
+    rw (← c.self.view_is) (c.packet_of.ensures ∙ ap (packet_of c.self.inside.table) (c.pick-pick.ensures.answer ∙ ap (λ (t : Scheduled). (turned c.self.inside.power (addresses c.self.inside.table) t).answer) same))
+
+pub returns-clause-of_the_desk : goal.returns-clause-of_the_desk
+returns-clause-of_the_desk c = rw (returns-clause-packet c) (c.packets_of_the_desk.ensures c.args.self.now)

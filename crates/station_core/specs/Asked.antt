@@ -1,0 +1,77 @@
+-- What a message makes of the schedule: the changed places that are to wait, and switch requests.
+use Rattle.std.specs.Prelude.{ℕ, Bool, nat_le, if◌then◌else◌, List, [], ◌∷◌, Result, Ok, Err}
+use Rattle.ln_ops.specs.declared.op.Op.{Op}
+use Rattle.ln_ops.specs.declared.op.Op.TheVariants.{PowerOff, PowerOn, ForceIdle, Speed, Dirf, Snd, SwReq, SwAck, LongAck, SlotStat, Move, SlotRead, LocoAddr, SlotData, SlotWrite, Other}
+use Rattle.slot_table.specs.Desk.{Desk}
+use Rattle.slot_table.specs.Reading.{is_placed}
+use Rattle.slot_table.specs.Writes.{can_stat, write_answer}
+use Rattle.slot_table.specs.declared.fault.SlotFault.{SlotFault}
+use Rattle.refresh_ring.specs.Scheduled.{Scheduled, after_changed, with_request}
+use Rattle.refresh_ring.specs.declared.kind.Kind.{Kind}
+use Rattle.refresh_ring.specs.declared.kind.Kind.TheVariants as kind
+use Rattle.station_core.specs.declared.schedule.Change.{Change}
+use Rattle.station_core.specs.declared.schedule.Change.TheVariants.{Nothing, Speed as SpeedAlone, SpeedAndGroupOne, GroupTwo, All}
+use Rattle.station_core.specs.Answer.{move_answer}
+
+-- the places of a slot that a change names, in order of kind
+abbrev pub places_with : ℕ → Change → List (ℕ × Kind)
+places_with n Nothing = []
+places_with n SpeedAlone = (n, kind.Speed) ∷ []
+places_with n SpeedAndGroupOne = (n, kind.Speed) ∷ (n, kind.GroupOne) ∷ []
+places_with n GroupTwo = (n, kind.GroupTwo) ∷ []
+places_with n All = (n, kind.Speed) ∷ (n, kind.GroupOne) ∷ (n, kind.GroupTwo) ∷ []
+
+abbrev pub of_slot : Result ℕ SlotFault → List (ℕ × Kind)
+of_slot (Ok n) = places_with n All
+of_slot (Err fault) = []
+
+abbrev pub of_write : ℕ → Result (Unit {0}) SlotFault → List (ℕ × Kind)
+of_write n (Ok done) = places_with n All
+of_write n (Err fault) = []
+
+-- the places that a message changes, where it is accepted, in the order in which they are to wait (own)
+abbrev pub changed_places : Desk → Op → List (ℕ × Kind)
+changed_places desk PowerOff = []
+changed_places desk PowerOn = []
+changed_places desk ForceIdle = []
+changed_places desk (Speed slot spd) = if is_placed desk slot then places_with slot SpeedAlone else []
+changed_places desk (Dirf slot dirf) = if is_placed desk slot then places_with slot SpeedAndGroupOne else []
+changed_places desk (Snd slot snd) = if is_placed desk slot then places_with slot GroupTwo else []
+changed_places desk (SwReq number closed on) = []
+changed_places desk (SwAck number closed on) = []
+changed_places desk (LongAck opc ack) = []
+changed_places desk (SlotStat slot stat) = if can_stat desk slot stat then places_with slot All else []
+changed_places desk (Move src dest) = of_slot (move_answer desk src dest)
+changed_places desk (SlotRead slot) = []
+changed_places desk (LocoAddr high low) = []
+changed_places desk (SlotData fields) = []
+changed_places desk (SlotWrite fields) = of_write fields.slot (write_answer desk fields)
+changed_places desk Other = []
+
+-- the schedule after these places were changed: each waits, where its slot is refreshed
+abbrev pub after_places : List (ℕ × Kind) → Scheduled → Scheduled
+after_places [] s = s
+after_places (place ∷ places) s = after_places places (after_changed place.0 place.1 s)
+
+-- a switch request waits, where there is such a switch and room
+abbrev pub after_request : ℕ → Bool → Bool → Scheduled → Scheduled
+after_request number closed on s = record s { jobs = if nat_le number 2039 then with_request number closed on s.jobs else s.jobs }
+
+-- what a message makes of a schedule that goes by the desk after it; the desk here is the one before it
+abbrev pub schedule_asked : Desk → Op → Scheduled → Scheduled
+schedule_asked desk (SwReq number closed on) s = after_request number closed on s
+schedule_asked desk (SwAck number closed on) s = after_request number closed on s
+schedule_asked desk PowerOff s = s
+schedule_asked desk PowerOn s = s
+schedule_asked desk ForceIdle s = s
+schedule_asked desk (Speed slot spd) s = after_places (changed_places desk (Speed slot spd)) s
+schedule_asked desk (Dirf slot dirf) s = after_places (changed_places desk (Dirf slot dirf)) s
+schedule_asked desk (Snd slot snd) s = after_places (changed_places desk (Snd slot snd)) s
+schedule_asked desk (LongAck opc ack) s = s
+schedule_asked desk (SlotStat slot stat) s = after_places (changed_places desk (SlotStat slot stat)) s
+schedule_asked desk (Move src dest) s = after_places (changed_places desk (Move src dest)) s
+schedule_asked desk (SlotRead slot) s = s
+schedule_asked desk (LocoAddr high low) s = s
+schedule_asked desk (SlotData fields) s = s
+schedule_asked desk (SlotWrite fields) s = after_places (changed_places desk (SlotWrite fields)) s
+schedule_asked desk Other s = s

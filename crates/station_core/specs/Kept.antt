@@ -1,0 +1,15 @@
+-- What a station keeps.
+use Rattle.std.specs.Prelude.{ℕ, ◌≡◌, ◌≤◌, List, length}
+use Rattle.slot_table.specs.Desk.{Desk, IsDesk}
+use Rattle.refresh_ring.specs.Scheduled.{Scheduled, IsScheduled}
+use Rattle.station_core.specs.Refreshed.{refreshed_slots}
+
+-- the schedule goes by the desk
+pub record InStep (d : Desk) (s : Scheduled) : Type 0 where
+  pub desk : IsDesk d
+  pub slots : s.slots ≡ refreshed_slots d
+  pub schedule : IsScheduled s
+
+pub record IsStation (all : List (List ℕ)) (desk : Desk) (s : Scheduled) : Type 0 where
+  pub lines : length all ≤ 8
+  pub in_step : InStep desk s

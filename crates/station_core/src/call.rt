@@ -1,0 +1,25 @@
+//! One event of a station, and what it answers.
+use dcc_packet::Packet;
+use ln_ops::Reply;
+
+/// One event of a station.
+#[derive(Clone, Copy, Debug, PartialEq, Eq)]
+pub enum Call {
+    /// A byte comes on a line.
+    Byte { line: u8, byte: u8 },
+    /// The track has room for a packet.
+    Turn,
+}
+
+/// What one event answers.
+#[derive(Debug, Drop, PartialEq, Eq)]
+pub enum Step {
+    /// A byte that is not answered.
+    Quiet,
+    /// The reply on the line of the byte.
+    Reply(Reply),
+    /// The packet that a turn sends.
+    Packet(Packet),
+    /// A turn while the track has no power.
+    Off,
+}

@@ -1,0 +1,78 @@
+//! How the schedule follows the slots.
+ghost use Rattle.std.specs.Prelude.{◌≡◌};
+ghost use Rattle.slot_table.specs.Entry.{IsSlot};
+ghost use Rattle.refresh_ring.specs.Scheduled.{after_refresh, IsScheduled};
+ghost use Rattle.station_core.specs.Refreshed.{addresses, is_driven, is_refreshed, length-addresses};
+ghost use Rattle.station_core.specs.Asked.{after_places, places_with};
+
+use ln_ops::State;
+use refresh_ring::{Kind, PlainRing, Schedule, View};
+use slot_table::SlotTable;
+
+/// Which packets of a slot a message changes.
+#[derive(Clone, Copy, Debug, PartialEq, Eq)]
+pub(crate) enum Change {
+    Nothing,
+    Speed,
+    SpeedAndGroupOne,
+    GroupTwo,
+    All,
+}
+
+/// The addresses in the slots of a table.
+#[derive(Drop)]
+pub(crate) struct Addresses<'a> {
+    pub(crate) table: &'a SlotTable,
+}
+
+impl View for Addresses<'_> {
+    ghost addresses = { λ view. addresses view.table.now };
+
+    ghost many = { λ view. length-addresses view.table.now };
+
+    fn address(&self, slot: u8) -> u16 {
+        self.table.row(slot).address
+    }
+}
+
+// Whether a slot in this state is refreshed.
+fn is_driven(state: State) -> bool
+    ensures { result ≡ is_driven state }
+{
+    match state {
+        State::Common | State::InUse => true,
+        State::Free | State::Idle => false,
+    }
+}
+
+// The schedule goes by what a slot now reads as.
+pub(crate) fn follow(table: &SlotTable, schedule: &mut Schedule<PlainRing>, slot: u8)
+    requires { IsSlot slot }
+    ensures state { schedule.new ≡ after_refresh slot (is_refreshed table.now slot) schedule.old }
+    ensures legal { IsScheduled schedule.new }
+{
+    schedule.refresh(slot, is_driven(table.row(slot).state));
+}
+
+// The schedule goes by what a slot now reads as, and its changed packets wait where it is refreshed.
+pub(crate) fn note(table: &SlotTable, schedule: &mut Schedule<PlainRing>, slot: u8, change: Change)
+    requires { IsSlot slot }
+    ensures state { schedule.new ≡ after_places (places_with slot change) (after_refresh slot (is_refreshed table.now slot) schedule.old) }
+    ensures legal { IsScheduled schedule.new }
+{
+    follow(table, schedule, slot);
+    match change {
+        Change::Nothing => {}
+        Change::Speed => schedule.changed(slot, Kind::Speed),
+        Change::SpeedAndGroupOne => {
+            schedule.changed(slot, Kind::Speed);
+            schedule.changed(slot, Kind::GroupOne);
+        }
+        Change::GroupTwo => schedule.changed(slot, Kind::GroupTwo),
+        Change::All => {
+            schedule.changed(slot, Kind::Speed);
+            schedule.changed(slot, Kind::GroupOne);
+            schedule.changed(slot, Kind::GroupTwo);
+        }
+    }
+}
