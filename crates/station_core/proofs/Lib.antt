@@ -3,3 +3,4 @@ pub mod Picks
 pub mod Rounds
 pub mod Sent
 pub mod Steps
+pub mod Walks

@@ -4,6 +4,7 @@ pub mod Asked
 pub mod Kept
 pub mod Moved
 pub mod Packets
+pub mod Promises
 pub mod Refreshed
 pub mod Runs
 pub mod Seen

@@ -1,8 +1,10 @@
 //! What holds of every list of calls.
 ghost use Rattle.std.specs.Prelude.{List};
+ghost use Rattle.station_core.specs.Promises.{ChangesFirst, SwitchesAreSent, SwitchesInOrder};
 ghost use Rattle.station_core.specs.Runs.{Covers};
 ghost use Rattle.station_core.specs.Moved.{packet_of_turn};
-ghost use Rattle.station_core.specs.Seen.{Seen};
+ghost use Rattle.station_core.specs.Seen.{Seen, scheduled};
+ghost use Rattle.refresh_ring.specs.Scheduled.{IsScheduled};
 ghost use Rattle.station_core.specs.Sent.{IsPacketOfDesk};
 ghost use Rattle.station_core.specs.declared.call.Call.{Call as CallOf};
 
@@ -21,4 +23,26 @@ pub fn packets_of_the_desk()
     ensures { (seen : Seen) → IsPacketOfDesk seen.powered.power seen (packet_of_turn seen) }
 {
     picks_are_due();
+}
+
+/// From any start, a packet of a slot that waits is sent within four turns for each send ahead of it and four more, for
+/// what stands in the slot at that turn.
+pub fn changes_first()
+    ensures { (start : Seen) (calls : List CallOf) → ChangesFirst start calls }
+{
+    refresh_ring::changes_first();
+}
+
+/// From any start, switch requests are sent in order, each twice.
+pub fn switches_in_order()
+    ensures { (start : Seen) (calls : List CallOf) → SwitchesInOrder start calls }
+{
+    refresh_ring::switches_in_order();
+}
+
+/// From a start that a station can have, all that was to send of switch requests is sent in 1,684 turns with power.
+pub fn switches_are_sent()
+    ensures { (start : Seen) (calls : List CallOf) → IsScheduled (scheduled start) → SwitchesAreSent start calls }
+{
+    refresh_ring::switches_in_order();
 }

@@ -10,7 +10,9 @@ mod slot_data;
 mod station;
 
 pub use call::{Call, Step};
-pub use laws::{coverage, packets_of_the_desk};
+pub use laws::{
+    changes_first, coverage, packets_of_the_desk, switches_are_sent, switches_in_order,
+};
 pub use refresh_ring::{Kind, Power};
 pub use station::{Station, StationFault};
 

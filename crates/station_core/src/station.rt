@@ -8,13 +8,16 @@ ghost use Rattle.slot_table.specs.Desk.{IsDesk};
 ghost use Rattle.slot_table.specs.Entry.{IsRow, IsSlot};
 ghost use Rattle.slot_table.specs.Reading.{row_of};
 ghost use Rattle.station_core.specs.Packets.{IsPickOf};
+ghost use Rattle.station_core.specs.Promises.{ChangesFirst, SwitchesAreSent, SwitchesInOrder};
 ghost use Rattle.station_core.specs.Runs.{AreCalls, Covers, answer_of, answers, is_call, state_after, state_of};
 ghost use Rattle.station_core.specs.Seen.{first_seen, is_line_count, line_of};
 ghost use Rattle.station_core.specs.Sent.{IsPacketOfDesk};
 ghost use Rattle.station_core.specs.Moved.{after_byte, after_turn, answer_to_byte, message_ended, packet_of, packet_of_turn};
 
 use crate::call::{Call, Step};
-use crate::laws::{coverage, packets_of_the_desk};
+use crate::laws::{
+    changes_first, coverage, packets_of_the_desk, switches_are_sent, switches_in_order,
+};
 use crate::packets::entry_packet;
 use crate::schedule::Addresses;
 use arrayvec::ArrayVec;
@@ -175,9 +178,20 @@ impl Station {
         requires lines { AreCalls (length self.old.lines) calls.now }
         ensures state { self.new ≡ state_after self.old calls.now }
         ensures answers { steps.new ≡ answers self.old calls.now }
+        // In a full refresh cycle of a slot each of its three packets is sent.
         ensures coverage { Covers self.old calls.now }
+        // What was changed is sent before the ring comes round.
+        ensures changes_first { ChangesFirst self.old calls.now }
+        // Each accepted switch request is sent twice, in order, and none is left for ever.
+        ensures switches_in_order { SwitchesInOrder self.old calls.now }
+        ensures switches_are_sent { SwitchesAreSent self.old calls.now }
     {
+        // What the type keeps of its schedule, the last law asks for.
+        let _ = &self.schedule;
         coverage();
+        changes_first();
+        switches_in_order();
+        switches_are_sent();
         for (i, call) in calls.iter().enumerate() {
             steps[i] = self.call(*call);
         }

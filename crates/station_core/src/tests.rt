@@ -1,6 +1,7 @@
 //! Messages and replies of whole conversations, byte by byte.
 
 use crate::{Call, Power, Station, StationFault, Step};
+use dcc_packet::idle;
 use ln_ops::to_msg;
 use refresh_ring::Kind;
 use std::process::Abort;
@@ -647,11 +648,11 @@ fn takes_thirty_two_switch_requests(rt: HostRuntime) -> Result<(), Fail> {
 #[test]
 fn runs_lists_of_calls(rt: HostRuntime) -> Result<(), Fail> {
     let mut station = Station::new(rt.alloc(), 1)?;
-    let calls = [
-        Call::Byte {
-            line: 0,
-            byte: 0x83,
-        },
+    let first = [Call::Byte {
+        line: 0,
+        byte: 0x83,
+    }];
+    let rest = [
         Call::Turn,
         Call::Byte {
             line: 0,
@@ -659,16 +660,13 @@ fn runs_lists_of_calls(rt: HostRuntime) -> Result<(), Fail> {
         },
         Call::Turn,
     ];
-    let mut steps = [Step::Quiet, Step::Quiet, Step::Quiet, Step::Quiet];
-    station.run(&calls[..1], &mut steps[..1]);
+    let mut step = [Step::Off];
+    station.run(first.as_slice(), step.as_mut_slice());
+    assert!(rt; step == [Step::Quiet]);
     assert_eq!(rt; station.lines(), 1);
-    station.run(&calls[1..], &mut steps[1..]);
-    assert_eq!(rt; station.power(), Power::Running);
-    assert!(rt; steps[1] == Step::Off);
-    assert!(rt; steps[2] == Step::Quiet);
-    match &steps[3] {
-        Step::Packet(packet) => assert_eq!(rt; packet.bytes(), [0xFF, 0x00, 0xFF].as_slice()),
-        _ => assert!(rt; false),
-    }
+    let mut steps = [Step::Quiet, Step::Off, Step::Quiet];
+    station.run(rest.as_slice(), steps.as_mut_slice());
+    let sent = idle();
+    assert!(rt; steps == [Step::Off, Step::Quiet, Step::Packet(sent)]);
     Ok(())
 }

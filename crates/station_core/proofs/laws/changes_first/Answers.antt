@@ -1,0 +1,6 @@
+use Rattle.station_core.proofs.Walks.{reaches_within}
+use Rattle.station_core.proofs.laws.changes_first.Goals as goal
+
+pub returns : goal.returns
+returns c = λ start calls slot kind ahead is waits live enough.
+    reaches_within c.changes_first.ensures.falls c.changes_first.ensures.least c.changes_first.ensures.changed c.changes_first.ensures.switch slot kind is (c.changes_first.ensures.most slot kind) start calls ahead waits live enough
