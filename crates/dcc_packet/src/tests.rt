@@ -135,38 +135,39 @@ fn speed_packets_have_the_bytes_of_the_standard(rt: HostRuntime) {
 /// An address, functions, and the bytes of the packets of group one and group two.
 type FunctionRow = (Address, u16, &'static [u8], &'static [u8]);
 
+const FUNCTION_ROWS: [FunctionRow; 4] = [
+    (
+        Address::Short(3),
+        0,
+        &[0x03, 0x80, 0x83],
+        &[0x03, 0xB0, 0xB3],
+    ),
+    // F1, whose bit is the lowest of group one.
+    (
+        Address::Short(3),
+        1 << 1,
+        &[0x03, 0x81, 0x82],
+        &[0x03, 0xB0, 0xB3],
+    ),
+    // F0, F5 and F7.
+    (
+        Address::Short(4),
+        1 | 1 << 5 | 1 << 7,
+        &[0x04, 0x90, 0x94],
+        &[0x04, 0xB5, 0xB1],
+    ),
+    // All functions, those past F8 too.
+    (
+        Address::Short(3),
+        0xFFFF,
+        &[0x03, 0x9F, 0x9C],
+        &[0x03, 0xBF, 0xBC],
+    ),
+];
+
 #[test]
 fn other_packets_have_the_bytes_of_the_standard(rt: HostRuntime) {
-    let functions: [FunctionRow; 4] = [
-        (
-            Address::Short(3),
-            0,
-            &[0x03, 0x80, 0x83],
-            &[0x03, 0xB0, 0xB3],
-        ),
-        // F1, whose bit is the lowest of group one.
-        (
-            Address::Short(3),
-            1 << 1,
-            &[0x03, 0x81, 0x82],
-            &[0x03, 0xB0, 0xB3],
-        ),
-        // F0, F5 and F7.
-        (
-            Address::Short(4),
-            1 | 1 << 5 | 1 << 7,
-            &[0x04, 0x90, 0x94],
-            &[0x04, 0xB5, 0xB1],
-        ),
-        // All functions, those past F8 too.
-        (
-            Address::Short(3),
-            0xFFFF,
-            &[0x03, 0x9F, 0x9C],
-            &[0x03, 0xBF, 0xBC],
-        ),
-    ];
-    for (address, set, one, two) in functions {
+    for (address, set, one, two) in FUNCTION_ROWS {
         assert!(rt; address.is_legal());
         assert_eq!(rt; group_one(address, set).bytes(), one);
         assert_eq!(rt; group_two(address, set).bytes(), two);
@@ -184,87 +185,102 @@ fn other_packets_have_the_bytes_of_the_standard(rt: HostRuntime) {
     assert_eq!(rt; stop_all().bytes(), [0x00, 0x51, 0x51].as_slice());
 }
 
+// Bytes, and the instruction that they spell.
+const READ_ROWS: [(&'static [u8], Option<Instr>); 22] = [
+    (&[0xFF, 0x00, 0xFF], Some(Instr::Idle)),
+    (&[0x00, 0x00, 0x00], Some(Instr::Reset)),
+    // Broadcast stop: S says which, D and C say nothing.
+    (
+        &[0x00, 0x40, 0x40],
+        Some(Instr::StopAll { emergency: false }),
+    ),
+    (
+        &[0x00, 0x70, 0x70],
+        Some(Instr::StopAll { emergency: false }),
+    ),
+    (
+        &[0x00, 0x51, 0x51],
+        Some(Instr::StopAll { emergency: true }),
+    ),
+    (
+        &[0x00, 0x61, 0x61],
+        Some(Instr::StopAll { emergency: true }),
+    ),
+    (&[0x00, 0x42, 0x42], None),
+    (
+        &[0x37, 0x74, 0x43],
+        Some(Instr::Speed {
+            address: Address::Short(55),
+            d: true,
+            low: 0x14,
+        }),
+    ),
+    (
+        &[0x03, 0x48, 0x4B],
+        Some(Instr::Speed {
+            address: Address::Short(3),
+            d: false,
+            low: 0x08,
+        }),
+    ),
+    (
+        &[0x03, 0x3F, 0xC0, 0xFC],
+        Some(Instr::Speed128 {
+            address: Address::Short(3),
+            d: true,
+            s: 64,
+        }),
+    ),
+    (
+        &[0xC4, 0xD2, 0x3F, 0xC0, 0xE9],
+        Some(Instr::Speed128 {
+            address: Address::Long(1234),
+            d: true,
+            s: 64,
+        }),
+    ),
+    (
+        &[0xE7, 0xFF, 0x80, 0x98],
+        Some(Instr::GroupOne {
+            address: Address::Long(10239),
+            bits: 0,
+        }),
+    ),
+    (
+        &[0x04, 0x90, 0x94],
+        Some(Instr::GroupOne {
+            address: Address::Short(4),
+            bits: 0x10,
+        }),
+    ),
+    (
+        &[0x04, 0xB5, 0xB1],
+        Some(Instr::GroupTwo {
+            address: Address::Short(4),
+            bits: 5,
+        }),
+    ),
+    // No module: 0, and 511, the broadcast to accessory decoders.
+    (&[0x80, 0xF9, 0x79], None),
+    (&[0xBF, 0x8E, 0x31], None),
+    // A wrong check.
+    (&[0x03, 0x3F, 0xC0, 0xFD], None),
+    // A consist, F9 to F12, and a longer form behind the byte of a listed one.
+    (&[0x03, 0x20, 0x23], None),
+    (&[0x03, 0xA0, 0xA3], None),
+    (&[0x03, 0x80, 0x01, 0x82], None),
+    // Addresses that are reserved.
+    (&[0xE8, 0x00, 0x80, 0x68], None),
+    (&[0xFE, 0x00, 0xFE], None),
+];
+
 #[test]
 fn reads_listed_forms_alone(rt: HostRuntime) -> Result<(), Fail> {
     let first = Module::new(1).ok_or("no module")?;
     let last = Module::new(510).ok_or("no module")?;
-    let three = Address::Short(3);
-    let rows: [(&[u8], Option<Instr>); 24] = [
-        (&[0xFF, 0x00, 0xFF], Some(Instr::Idle)),
-        (&[0x00, 0x00, 0x00], Some(Instr::Reset)),
-        // Broadcast stop: S says which, D and C say nothing.
+    let accessories = [
         (
-            &[0x00, 0x40, 0x40],
-            Some(Instr::StopAll { emergency: false }),
-        ),
-        (
-            &[0x00, 0x70, 0x70],
-            Some(Instr::StopAll { emergency: false }),
-        ),
-        (
-            &[0x00, 0x51, 0x51],
-            Some(Instr::StopAll { emergency: true }),
-        ),
-        (
-            &[0x00, 0x61, 0x61],
-            Some(Instr::StopAll { emergency: true }),
-        ),
-        (&[0x00, 0x42, 0x42], None),
-        (
-            &[0x37, 0x74, 0x43],
-            Some(Instr::Speed {
-                address: Address::Short(55),
-                d: true,
-                low: 0x14,
-            }),
-        ),
-        (
-            &[0x03, 0x48, 0x4B],
-            Some(Instr::Speed {
-                address: three,
-                d: false,
-                low: 0x08,
-            }),
-        ),
-        (
-            &[0x03, 0x3F, 0xC0, 0xFC],
-            Some(Instr::Speed128 {
-                address: three,
-                d: true,
-                s: 64,
-            }),
-        ),
-        (
-            &[0xC4, 0xD2, 0x3F, 0xC0, 0xE9],
-            Some(Instr::Speed128 {
-                address: Address::Long(1234),
-                d: true,
-                s: 64,
-            }),
-        ),
-        (
-            &[0xE7, 0xFF, 0x80, 0x98],
-            Some(Instr::GroupOne {
-                address: Address::Long(10239),
-                bits: 0,
-            }),
-        ),
-        (
-            &[0x04, 0x90, 0x94],
-            Some(Instr::GroupOne {
-                address: Address::Short(4),
-                bits: 0x10,
-            }),
-        ),
-        (
-            &[0x04, 0xB5, 0xB1],
-            Some(Instr::GroupTwo {
-                address: Address::Short(4),
-                bits: 5,
-            }),
-        ),
-        (
-            &[0x81, 0xF9, 0x78],
+            [0x81, 0xF9, 0x78],
             Some(Instr::Accessory {
                 module: first,
                 pair: 0,
@@ -273,7 +289,7 @@ fn reads_listed_forms_alone(rt: HostRuntime) -> Result<(), Fail> {
             }),
         ),
         (
-            &[0xBE, 0x8E, 0x30],
+            [0xBE, 0x8E, 0x30],
             Some(Instr::Accessory {
                 module: last,
                 pair: 3,
@@ -281,20 +297,12 @@ fn reads_listed_forms_alone(rt: HostRuntime) -> Result<(), Fail> {
                 on: true,
             }),
         ),
-        // No module: 0, and 511, the broadcast to accessory decoders.
-        (&[0x80, 0xF9, 0x79], None),
-        (&[0xBF, 0x8E, 0x31], None),
-        // A wrong check.
-        (&[0x03, 0x3F, 0xC0, 0xFD], None),
-        // A consist, F9 to F12, and a longer form behind the byte of a listed one.
-        (&[0x03, 0x20, 0x23], None),
-        (&[0x03, 0xA0, 0xA3], None),
-        (&[0x03, 0x80, 0x01, 0x82], None),
-        // Addresses that are reserved.
-        (&[0xE8, 0x00, 0x80, 0x68], None),
-        (&[0xFE, 0x00, 0xFE], None),
     ];
-    for (bytes, instruction) in rows {
+    for (bytes, instruction) in accessories {
+        let packet = Packet::of(bytes.as_slice()).ok_or("no packet")?;
+        assert_eq!(rt; read(&packet), instruction, "{bytes:?}");
+    }
+    for (bytes, instruction) in READ_ROWS {
         let packet = Packet::of(bytes).ok_or("no packet")?;
         assert_eq!(rt; read(&packet), instruction, "{bytes:?}");
     }
