@@ -30,7 +30,7 @@ first_of : (b : Bool) (packet : List ℕ) (all front back : List (List ℕ)) →
 first_of true packet all front back e = e
 first_of false packet all front back e = ap (λ packets. packet ∷ packets) e
 
-heard-append : (i : ℕ) (sent more : List Sent) → heard i (sent ++ more) ≡ heard i sent ++ heard i more
+pub heard-append : (i : ℕ) (sent more : List Sent) → heard i (sent ++ more) ≡ heard i sent ++ heard i more
 heard-append i [] more = refl
 heard-append i (turn ∷ sent) more = first_of (is_missed turn.missed i) turn.packet (heard i (sent ++ more)) (heard i sent) (heard i more) (heard-append i sent more)
 

@@ -6,3 +6,5 @@ pub mod Each
 pub mod Heard
 pub mod Others
 pub mod Examples
+pub mod Played
+pub mod Cycle

@@ -2,6 +2,8 @@ pub mod Wanted
 pub mod Settling
 pub mod Nodes
 pub mod Heard
+pub mod World
+pub mod Cycle
 -- words of the layers below that public clauses cite
 pub use Rattle.slot_table.specs.Entry.{Entry, IsEntry, IsAddress}
 pub use Rattle.station_core.specs.Packets.{motion_asked, is_forward, functions_asked, speed_packet, group_one_packet, group_two_packet}

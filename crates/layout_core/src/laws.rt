@@ -29,7 +29,7 @@ pub fn others_leave_it()
     ensures not_its_own { (cv : Settings) (b : ℕ) (e : Entry) (packet : List ℕ) → IsAddress b → IsEntry e → answers_to cv b ≡ false → IsPacketOf b e packet → LeavesAsItIs cv packet }
     ensures other_address { (cv : Settings) (a b : ℕ) (e : Entry) (packet : List ℕ) → IsAddress b → IsEntry e → IsTrue (answers_to cv a) → a ≢ b → IsPacketOf b e packet → LeavesAsItIs cv packet }
     ensures idle { (cv : Settings) → LeavesAsItIs cv idle_bytes }
-    ensures accessory { (cv : Settings) (number : ℕ) (closed on : Bool) → number ≤ 2039 → LeavesAsItIs cv (accessory_bytes number closed on) }
+    ensures accessory { (cv : Settings) (number : ℕ) (closed on : Bool) → LeavesAsItIs cv (accessory_bytes number closed on) }
 {
     spellings_are_read();
     sent_packets_spell();

@@ -1,10 +1,11 @@
 //! What the decoders of a layout make of packets that were worked out by hand from S-9.2.1.
 
-use crate::Nodes;
 use crate::node::Node;
+use crate::{Event, Nodes, World};
 use dcc_packet::{Module, Motion, Packet, Steps};
 use decoder_cv::CvSet;
 use decoder_node::{NodeList, NodeSpec, Running};
+use station_core::{StationFault, Step};
 use std::test::Fail;
 
 /// A packet, and the bits of the nodes that miss it.
@@ -160,5 +161,155 @@ fn locomotives_and_accessory_decoders_share_a_track(rt: HostRuntime) -> Result<(
         (node.running(), node.outputs()),
         runs(step(Steps::S14, 7), true, 1)
     );
+    Ok(())
+}
+
+/// Power on, and slot 1 in use for address 3.
+const IN_USE: &[u8] = &[0xBF, 0x00, 0x03, 0x43, 0x83, 0x7C, 0xBA, 0x01, 0x01, 0x45];
+
+/// SPD 40 in slot 1.
+const DRIVE: &[u8] = &[0xA0, 0x01, 0x40, 0x1E];
+
+/// DIRF 20 in slot 1: the other direction.
+const TURN_ROUND: &[u8] = &[0xA1, 0x01, 0x20, 0x7F];
+
+/// Two decoders of address 3 with their CV29, the messages on line 0, the nodes that miss each of twelve turns, what
+/// the first turns send, and how the two run then.
+#[derive(Clone, Copy, Drop)]
+struct Story {
+    name: &'static str,
+    cv29: [u8; 2],
+    messages: [&'static [u8]; 3],
+    missed: [u64; 12],
+    sent: &'static [&'static [u8]],
+    runs: [(Motion, bool); 2],
+}
+
+const DRIVEN: Motion = Motion::Step {
+    of: Steps::S128,
+    n: 63,
+};
+
+const STORIES: [Story; 4] = [
+    Story {
+        name: "one misses the two speed packets",
+        cv29: [2, 2],
+        messages: [IN_USE, DRIVE, &[]],
+        missed: [0b10, 0, 0b10, 0, 0, 0, 0, 0, 0, 0, 0, 0],
+        sent: &[
+            &[0x03, 0x3F, 0xC0, 0xFC],
+            IDLE,
+            &[0x03, 0x3F, 0xC0, 0xFC],
+            IDLE,
+            &[0x03, 0x80, 0x83],
+            IDLE,
+            &[0x03, 0x80, 0x83],
+            IDLE,
+            &[0x03, 0xB0, 0xB3],
+            IDLE,
+            &[0x03, 0xB0, 0xB3],
+            IDLE,
+        ],
+        runs: [(DRIVEN, true), (Motion::Stop, true)],
+    },
+    Story {
+        name: "one is turned round",
+        cv29: [2, 3],
+        messages: [IN_USE, DRIVE, TURN_ROUND],
+        missed: [0; 12],
+        sent: &[&[0x03, 0x3F, 0x40, 0x7C]],
+        runs: [(DRIVEN, false), (DRIVEN, true)],
+    },
+    Story {
+        name: "all miss all turns",
+        cv29: [2, 3],
+        messages: [IN_USE, DRIVE, TURN_ROUND],
+        missed: [u64::MAX; 12],
+        sent: &[&[0x03, 0x3F, 0x40, 0x7C]],
+        runs: [(Motion::Stop, true), (Motion::Stop, true)],
+    },
+    Story {
+        name: "bits past the last node mean nothing",
+        cv29: [2, 2],
+        messages: [IN_USE, DRIVE, &[]],
+        missed: [u64::MAX - 3; 12],
+        sent: &[&[0x03, 0x3F, 0xC0, 0xFC]],
+        runs: [(DRIVEN, true), (DRIVEN, true)],
+    },
+];
+
+fn world_of(rt: &impl AllocGlobal, specs: &[NodeSpec]) -> Result<World, StationFault> {
+    let mut list = NodeList::new();
+    for spec in specs {
+        if !list.is_full() {
+            list.push(*spec);
+        }
+    }
+    World::new(rt.alloc(), 1, list)
+}
+
+fn hear_bytes(world: &mut World, bytes: &[u8]) {
+    for byte in bytes {
+        if 0 < world.station().lines() {
+            world.step(Event::Byte {
+                line: 0,
+                byte: *byte,
+            });
+        }
+    }
+}
+
+#[test]
+fn the_slots_reach_the_decoders_over_the_track_alone(rt: HostRuntime) -> Result<(), Fail> {
+    for story in STORIES {
+        let mut world = world_of(&rt, &[at_3(story.cv29[0])?, at_3(story.cv29[1])?])?;
+        assert_eq!(rt; world.nodes(), 2);
+        for message in story.messages {
+            hear_bytes(&mut world, message);
+        }
+        // A byte moves no decoder.
+        for i in 0..2 {
+            assert!(rt; i < world.nodes());
+            assert_eq!(rt;
+                (world.running(i), world.outputs(i)),
+                runs(Motion::Stop, true, 0)
+            );
+        }
+        for (turn, missed) in story.missed.iter().enumerate() {
+            let step = world.step(Event::Turn { missed: *missed });
+            if let (Some(bytes), Step::Packet(packet)) = (story.sent.get(turn), &step) {
+                assert_eq!(rt; packet.bytes(), *bytes, "{}: turn {turn}", story.name);
+            } else {
+                assert!(rt; story.sent.len() <= turn, "{}: turn {turn}", story.name);
+            }
+        }
+        for (i, (motion, forward)) in story.runs.iter().enumerate() {
+            assert!(rt; i < world.nodes());
+            assert_eq!(rt;
+                (world.running(i), world.outputs(i)),
+                runs(*motion, *forward, 0),
+                "{}",
+                story.name
+            );
+        }
+    }
+    Ok(())
+}
+
+#[test]
+fn a_switch_reaches_its_module(rt: HostRuntime) -> Result<(), Fail> {
+    let module = Module::new(1).ok_or("no module")?;
+    let mut world = world_of(&rt, &[NodeSpec::Accessory(module)])?;
+    hear_bytes(&mut world, &[0x83, 0x7C, 0xB0, 0x00, 0x30, 0x7F]);
+    let mut steps = [Step::Quiet, Step::Quiet];
+    world.run(
+        &[Event::Turn { missed: 1 }, Event::Turn { missed: 0 }],
+        &mut steps,
+    );
+    assert!(rt; 0 < world.nodes());
+    // The second turn is idle.
+    assert_eq!(rt; world.outputs(0), Some(0));
+    world.step(Event::Turn { missed: 0 });
+    assert_eq!(rt; world.outputs(0), Some(0x02));
     Ok(())
 }

@@ -1,3 +1,4 @@
+pub mod Apart
 pub mod Follows
 pub mod Picks
 pub mod Rounds

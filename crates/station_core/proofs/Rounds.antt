@@ -49,10 +49,10 @@ on_desk desk (suc n) h = elim (cases_lt n 119) [
 ]
 
 -- messages leave what the number is made of
-record SameRing (s t : Scheduled) : Type 0 where
-  cursor : t.cursor ≡ s.cursor
-  last : t.last ≡ s.last
-  prefers : t.prefers_jobs ≡ s.prefers_jobs
+pub record SameRing (s t : Scheduled) : Type 0 where
+  pub cursor : t.cursor ≡ s.cursor
+  pub last : t.last ≡ s.last
+  pub prefers : t.prefers_jobs ≡ s.prefers_jobs
 
 same : (s : Scheduled) → SameRing s s
 same s = record { cursor = refl; last = refl; prefers = refl }
@@ -84,7 +84,7 @@ asked_same desk (SlotData fields) s = same s
 asked_same desk (SlotWrite fields) s = places_same (changed_places desk (SlotWrite fields)) s
 asked_same desk Other s = same s
 
-message_same : (seen : Seen) (message : Option (List ℕ)) → SameRing (scheduled seen) (scheduled (after_message seen message))
+pub message_same : (seen : Seen) (message : Option (List ℕ)) → SameRing (scheduled seen) (scheduled (after_message seen message))
 message_same seen None = same (scheduled seen)
 message_same seen (Some message) =
     let asked = asked_same seen.powered.desk (op_of message) (record (scheduled seen) { slots = refreshed_slots (desk_after seen.powered.desk (op_of message)) }) in

@@ -1,17 +1,20 @@
--- What holds of every list of calls, beside coverage: changes first, and switches twice, in order.
+-- What holds of every list of calls, beside coverage: changes first, switches twice, in order, and neighbours apart.
 use Rattle.std.specs.Prelude.{ℕ, ◌≡◌, ◌+◌, ◌*◌, ◌≤◌, Bool, if◌then◌else◌, List, [], ◌∷◌, ◌++◌, Option, Some, None}
 use Rattle.ln_ops.specs.Message.{op_of}
 use Rattle.ln_ops.specs.declared.op.Op.{Op}
 use Rattle.ln_ops.specs.declared.op.Op.TheVariants.{PowerOff, PowerOn, ForceIdle, Speed, Dirf, Snd, SwReq, SwAck, LongAck, SlotStat, Move, SlotRead, LocoAddr, SlotData, SlotWrite, Other}
 use Rattle.slot_table.specs.Entry.{IsSlot}
 use Rattle.refresh_ring.specs.Jobs.{requests_in, sends_ahead}
-use Rattle.refresh_ring.specs.Sent.{to_send, switch_in}
+use Rattle.refresh_ring.specs.Sent.{to_send, switch_in, goes_to, IsApart}
+use Rattle.refresh_ring.specs.declared.job.Destination.{Destination}
 use Rattle.refresh_ring.specs.declared.kind.Kind.{Kind}
 use Rattle.refresh_ring.specs.declared.pick.Pick.{Pick}
 use Rattle.refresh_ring.specs.declared.pick.Pick.TheVariants.{Switch}
-use Rattle.refresh_ring.specs.declared.pick.Power.TheVariants.{Running}
+use Rattle.refresh_ring.specs.declared.pick.Power.{Power}
+use Rattle.refresh_ring.specs.declared.pick.Power.TheVariants.{Off, Running, Paused}
 use Rattle.station_core.specs.Answer.{is_taken}
 use Rattle.station_core.specs.Moved.{message_ended, turn_of}
+use Rattle.station_core.specs.Refreshed.{addresses}
 use Rattle.station_core.specs.Runs.{state_of, state_after, AtEveryMoment, turns_in, Sends, IsLive}
 use Rattle.station_core.specs.Seen.{Seen}
 use Rattle.station_core.specs.declared.call.Call.{Call}
@@ -81,3 +84,27 @@ IsFrontOf front all = (rest : List Pick) × (front ++ rest ≡ all)
 -- and in 1,684 turns while power runs all that was to send was sent
 abbrev pub SwitchesAreSent : Seen → List Call → Type 0
 SwitchesAreSent start calls = AtEveryMoment IsRunning start calls → 1684 ≤ turns_in calls → IsFrontOf (to_send start.jobs) (switches_sent start calls)
+
+-- where the packet of a turn goes; a turn while off sends none
+abbrev pub destinations_of : Power → Seen → List (Option Destination)
+destinations_of Off seen = []
+destinations_of Paused seen = goes_to (addresses seen.powered.desk) (turn_of seen).answer ∷ []
+destinations_of Running seen = goes_to (addresses seen.powered.desk) (turn_of seen).answer ∷ []
+
+abbrev pub gone_to : Seen → Call → List (Option Destination)
+gone_to seen (Byte line byte) = []
+gone_to seen Turn = destinations_of seen.powered.power seen
+
+-- where the packets go, one after another
+abbrev pub destinations : Seen → List Call → List (Option Destination)
+destinations seen [] = []
+destinations seen (call ∷ calls) = gone_to seen call ++ destinations (state_of seen call) calls
+
+-- none goes where the one before it went
+abbrev pub AreApart : Option Destination → List (Option Destination) → Type 0
+AreApart last [] = Unit {0}
+AreApart last (there ∷ rest) = IsApart last there × AreApart there rest
+
+-- no two neighbouring packets go to one locomotive address or one module
+abbrev pub NeighboursApart : Seen → List Call → Type 0
+NeighboursApart start calls = AreApart start.last (destinations start calls)

@@ -1,6 +1,6 @@
 //! What holds of every list of calls.
 ghost use Rattle.std.specs.Prelude.{List};
-ghost use Rattle.station_core.specs.Promises.{ChangesFirst, SwitchesAreSent, SwitchesInOrder};
+ghost use Rattle.station_core.specs.Promises.{ChangesFirst, NeighboursApart, SwitchesAreSent, SwitchesInOrder};
 ghost use Rattle.station_core.specs.Runs.{Covers};
 ghost use Rattle.station_core.specs.Moved.{packet_of_turn};
 ghost use Rattle.station_core.specs.Seen.{Seen, scheduled};
@@ -45,4 +45,11 @@ pub fn switches_are_sent()
     ensures { (start : Seen) (calls : List CallOf) → IsScheduled (scheduled start) → SwitchesAreSent start calls }
 {
     refresh_ring::switches_in_order();
+}
+
+/// From any start, no two neighbouring packets go to one locomotive address or one module.
+pub fn neighbours()
+    ensures { (start : Seen) (calls : List CallOf) → NeighboursApart start calls }
+{
+    refresh_ring::neighbours();
 }

@@ -11,10 +11,11 @@ mod station;
 
 pub use call::{Call, Step};
 pub use laws::{
-    changes_first, coverage, packets_of_the_desk, switches_are_sent, switches_in_order,
+    changes_first, coverage, neighbours, packets_of_the_desk, switches_are_sent, switches_in_order,
 };
 pub use refresh_ring::{Kind, Power};
 pub use station::{Station, StationFault};
+
 
 #[cfg(test)]
 mod tests;

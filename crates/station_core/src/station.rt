@@ -8,7 +8,7 @@ ghost use Rattle.slot_table.specs.Desk.{IsDesk};
 ghost use Rattle.slot_table.specs.Entry.{IsRow, IsSlot};
 ghost use Rattle.slot_table.specs.Reading.{row_of};
 ghost use Rattle.station_core.specs.Packets.{IsPickOf};
-ghost use Rattle.station_core.specs.Promises.{ChangesFirst, SwitchesAreSent, SwitchesInOrder};
+ghost use Rattle.station_core.specs.Promises.{ChangesFirst, NeighboursApart, SwitchesAreSent, SwitchesInOrder};
 ghost use Rattle.station_core.specs.Runs.{AreCalls, Covers, answer_of, answers, is_call, state_after, state_of};
 ghost use Rattle.station_core.specs.Seen.{first_seen, is_line_count, line_of};
 ghost use Rattle.station_core.specs.Sent.{IsPacketOfDesk};
@@ -16,7 +16,7 @@ ghost use Rattle.station_core.specs.Moved.{after_byte, after_turn, answer_to_byt
 
 use crate::call::{Call, Step};
 use crate::laws::{
-    changes_first, coverage, packets_of_the_desk, switches_are_sent, switches_in_order,
+    changes_first, coverage, neighbours, packets_of_the_desk, switches_are_sent, switches_in_order,
 };
 use crate::packets::entry_packet;
 use crate::schedule::Addresses;
@@ -180,6 +180,8 @@ impl Station {
         ensures answers { steps.new ≡ answers self.old calls.now }
         // In a full refresh cycle of a slot each of its three packets is sent.
         ensures coverage { Covers self.old calls.now }
+        // No two neighbouring packets go to one locomotive address or one module.
+        ensures neighbours { NeighboursApart self.old calls.now }
         // What was changed is sent before the ring comes round.
         ensures changes_first { ChangesFirst self.old calls.now }
         // Each accepted switch request is sent twice, in order, and none is left for ever.
@@ -189,6 +191,7 @@ impl Station {
         // What the type keeps of its schedule, the last law asks for.
         let _ = &self.schedule;
         coverage();
+        neighbours();
         changes_first();
         switches_in_order();
         switches_are_sent();

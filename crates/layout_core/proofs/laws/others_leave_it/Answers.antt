@@ -16,4 +16,4 @@ pub returns-clause-idle : goal.returns-clause-idle
 returns-clause-idle c = idle_leaves (spelling c) c.sent_packets_spell.ensures.idle
 
 pub returns-clause-accessory : goal.returns-clause-accessory
-returns-clause-accessory c cv number closed on h = switch_leaves (spelling c) number closed on (c.sent_packets_spell.ensures.accessory number closed on h) cv
+returns-clause-accessory c cv number closed on = switch_leaves (spelling c) number closed on cv

@@ -1,0 +1,144 @@
+//! A layout: a station, and the decoders on its track.
+ghost use Rattle.std.specs.Prelude.{◌≡◌, ℕ, ◌<◌, ◌≤◌, List, All, IfOk, IfErr, IsTrue, length, map, true, false};
+ghost use Rattle.std.specs.List.{slice_index_or};
+ghost use Rattle.slot_table.specs.Desk.{IsDesk};
+ghost use Rattle.station_core.specs.Runs.{AreCalls, answer_of, answers, is_call, state_after, state_of};
+ghost use Rattle.station_core.specs.Seen.{first_seen, is_line_count};
+ghost use Rattle.layout_core.specs.declared.node.Node.{Node as NodeValue};
+ghost use Rattle.layout_core.specs.Cycle.{RunsAsWanted};
+ghost use Rattle.layout_core.specs.Nodes.{IsAbleNode, node_of, outputs_of, running_of, spec_of};
+ghost use Rattle.layout_core.specs.World.{AfterEvent, HaveHeard, call_of, sent_in};
+
+use crate::event::Event;
+use crate::laws::{others_leave_it, settling};
+use crate::nodes::Nodes;
+use decoder_node::{NodeList, Running};
+use slot_table::rows_are_legal;
+use station_core::{Station, StationFault, Step, coverage, packets_of_the_desk};
+use std::alloc::Global;
+
+/// A station, and the decoders on its track: nothing but its packets moves them.
+#[derive(Drop)]
+pub struct World {
+    pub(crate) station: Station,
+    pub(crate) nodes: Nodes,
+}
+
+impl World {
+    /// A new station with so many lines, and these decoders, each in its first state.
+    ///
+    /// Refused as the station is: `BadLines` unless the lines are 1 to 8, and else where there is no memory.
+    pub fn new(alloc: Global, lines: u8, nodes: NodeList) -> Result<World, StationFault>
+        ensures lines { is_line_count lines ≡ false → result ≡ Err StationFault.BadLines }
+        ensures station { IfOk result (λ w. (is_line_count lines ≡ true) × (w.station ≡ first_seen lines)) }
+        ensures nodes { IfOk result (λ w. w.nodes ≡ map node_of nodes.items) }
+        ensures memory { IfErr result (λ e. is_line_count lines ≡ true → e ≡ StationFault.NoMemory) }
+    {
+        let station = Station::new(alloc, lines)?;
+        let nodes = Nodes::new(&nodes);
+        Ok(World { station, nodes })
+    }
+
+    /// The station.
+    pub fn station(&self) -> &Station
+        ensures { result.now ≡ self.now.station }
+    {
+        &self.station
+    }
+
+    /// How many decoders there are, at most 64.
+    pub fn nodes(&self) -> usize
+        ensures count { result ≡ length self.now.nodes }
+        ensures most { result ≤ 64 }
+        ensures able { All IsAbleNode self.now.nodes }
+    {
+        self.nodes.len()
+    }
+
+    /// How decoder i runs, or `None` for an accessory decoder.
+    pub fn running(&self, i: usize) -> Option<Running>
+        requires { i < length self.now.nodes }
+        ensures { (none : NodeValue) → result ≡ running_of (slice_index_or self.now.nodes i none) }
+    {
+        self.nodes.running(i)
+    }
+
+    /// The outputs of decoder i, bit j for output j, or `None` for a locomotive decoder.
+    pub fn outputs(&self, i: usize) -> Option<u8>
+        requires { i < length self.now.nodes }
+        ensures { (none : NodeValue) → result ≡ outputs_of (slice_index_or self.now.nodes i none) }
+    {
+        self.nodes.outputs(i)
+    }
+
+    /// One event: the station moves, and each decoder hears what it sends, but for those that miss it.
+    pub fn step(&mut self, event: Event) -> Step
+        requires { IsTrue (is_call (length self.old.station.lines) (call_of event)) }
+        ensures station { self.new.station ≡ state_of self.old.station (call_of event) }
+        ensures answer { result ≡ answer_of self.old.station (call_of event) }
+        ensures nodes { AfterEvent event result self.old.nodes self.new.nodes }
+        ensures lines { length self.new.station.lines ≡ length self.old.station.lines }
+        ensures desk { IsDesk self.old.station.powered.desk }
+    {
+        // A station promises there that its desk is one.
+        let _ = self.station.lines();
+        match event {
+            Event::Byte { line, byte } => self.byte(line, byte),
+            Event::Turn { missed } => self.turn(missed),
+        }
+    }
+
+    /// Each event in order, its answer written at its place. A list of events may be cut anywhere.
+    pub fn run(&mut self, events: &[Event], steps: &mut [Step])
+        requires places { length events.now ≡ length steps.old }
+        requires lines { AreCalls (length self.old.station.lines) (map call_of events.now) }
+        ensures station { self.new.station ≡ state_after self.old.station (map call_of events.now) }
+        ensures answers { steps.new ≡ answers self.old.station (map call_of events.now) }
+        ensures nodes { HaveHeard (sent_in self.old.station events.now) self.old.nodes self.new.nodes }
+        // A locomotive that hears a full refresh cycle runs as its slot says.
+        ensures headline { RunsAsWanted self.old.station events.now self.old.nodes self.new.nodes }
+    {
+        coverage();
+        packets_of_the_desk();
+        rows_are_legal();
+        settling();
+        others_leave_it();
+        // The nodes promise there that each is able.
+        let _ = self.nodes();
+        for (i, event) in events.iter().enumerate() {
+            steps[i] = self.step(*event);
+        }
+    }
+
+    // A byte moves no decoder.
+    #[tactic(auto, unfolding(station_core::specs::Moved::moved))]
+    fn byte(&mut self, line: u8, byte: u8) -> Step
+        requires { line < length self.old.station.lines }
+        ensures station { self.new.station ≡ state_of self.old.station (call_of (Event.Byte line byte)) }
+        ensures answer { result ≡ answer_of self.old.station (call_of (Event.Byte line byte)) }
+        ensures nodes { self.new.nodes ≡ self.old.nodes }
+        ensures lines { length self.new.station.lines ≡ length self.old.station.lines }
+    {
+        match self.station.byte(line, byte) {
+            Some(reply) => Step::Reply(reply),
+            None => Step::Quiet,
+        }
+    }
+
+    // A packet is heard by the decoders that do not miss it.
+    #[tactic(auto, unfolding(station_core::specs::Moved::moved))]
+    fn turn(&mut self, missed: u64) -> Step
+        ensures station { self.new.station ≡ state_of self.old.station (call_of (Event.Turn missed)) }
+        ensures answer { result ≡ answer_of self.old.station (call_of (Event.Turn missed)) }
+        ensures nodes { AfterEvent (Event.Turn missed) result self.old.nodes self.new.nodes }
+        ensures lines { length self.new.station.lines ≡ length self.old.station.lines }
+    {
+        match self.station.turn() {
+            Some(packet) => {
+                self.nodes.hear(&packet, missed);
+                Step::Packet(packet)
+            }
+            None => Step::Off,
+        }
+    }
+}
