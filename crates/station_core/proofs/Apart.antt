@@ -16,7 +16,7 @@ use Rattle.station_core.specs.declared.call.Call.TheVariants.{Byte, Turn}
 use Rattle.station_core.proofs.Rounds.{message_same}
 
 module _ (apart : (addresses : List ℕ) (s : Scheduled) → IsApart s.last (goes_to addresses (picked addresses s).answer))
-  (last : (addresses : List ℕ) (s : Scheduled) → (picked addresses s).state.last ≡ goes_to addresses (picked addresses s).answer) where
+    (last : (addresses : List ℕ) (s : Scheduled) → (picked addresses s).state.last ≡ goes_to addresses (picked addresses s).answer) where
   turn_apart : (p : Power) (seen : Seen) → seen.powered.power ≡ p → (rest : List (Option Destination)) → AreApart (turn_of seen).state.last rest → AreApart seen.last (destinations_of p seen ++ rest)
   turn_apart power.Off seen e rest h = rw e at h
   turn_apart power.Paused seen e rest h =
