@@ -313,3 +313,118 @@ fn a_switch_reaches_its_module(rt: HostRuntime) -> Result<(), Fail> {
     assert_eq!(rt; world.outputs(0), Some(0x02));
     Ok(())
 }
+
+fn hear_message(world: &mut World, body: &[u8]) {
+    let check = body.iter().fold(0xFF, |sum, byte| sum ^ *byte);
+    hear_bytes(world, body);
+    hear_bytes(world, &[check]);
+}
+
+fn take_turns(world: &mut World, turns: u8) {
+    for _ in 0..turns {
+        world.step(Event::Turn { missed: 0 });
+    }
+}
+
+/// How decoder `i` of the layout runs, and its outputs.
+fn state_in(world: &World, i: usize) -> (Option<Running>, Option<u8>) {
+    if i < world.nodes() {
+        (world.running(i), world.outputs(i))
+    } else {
+        (None, None)
+    }
+}
+
+#[test]
+fn a_step_mode_gives_the_bytes_their_meaning(rt: HostRuntime) -> Result<(), Fail> {
+    // Messages, one turn, a message, two turns; the last sends 03 78 7B.
+    let rows: [(u8, [&[u8]; 3], &[u8], Motion, u16); 2] = [
+        (
+            2,
+            [IN_USE, DRIVE, &[]],
+            &[0xB5, 0x01, 0x30, 0x7B],
+            step(Steps::S28, 14),
+            0,
+        ),
+        (
+            0,
+            [IN_USE, &[0xB5, 0x01, 0x32, 0x79], DRIVE],
+            &[0xA1, 0x01, 0x10, 0x4F],
+            step(Steps::S14, 7),
+            1,
+        ),
+    ];
+    for (cv29, before, last, motion, functions) in rows {
+        let mut world = world_of(&rt, &[at_3(cv29)?])?;
+        for message in before {
+            hear_bytes(&mut world, message);
+        }
+        take_turns(&mut world, 1);
+        hear_bytes(&mut world, last);
+        take_turns(&mut world, 2);
+        assert_eq!(rt; state_in(&world, 0), runs(motion, true, functions));
+    }
+    Ok(())
+}
+
+/// Bytes on line 0, with so many turns after each.
+fn hear_with_turns(world: &mut World, bytes: &[u8], turns: u8) {
+    for byte in bytes {
+        hear_bytes(world, &[*byte]);
+        take_turns(world, turns);
+    }
+}
+
+#[test]
+fn a_wrong_check_drives_nothing(rt: HostRuntime) -> Result<(), Fail> {
+    // Without a turn between the bytes, and with one after each.
+    for turns in [0, 1] {
+        let mut world = world_of(&rt, &[at_3(2)?])?;
+        hear_bytes(&mut world, IN_USE);
+        hear_with_turns(&mut world, &[0xA0, 0x01, 0x40, 0x1F], turns);
+        take_turns(&mut world, 12);
+        assert_eq!(rt; state_in(&world, 0), runs(Motion::Stop, true, 0));
+        hear_with_turns(&mut world, DRIVE, turns);
+        take_turns(&mut world, 12);
+        assert_eq!(rt; state_in(&world, 0), runs(DRIVEN, true, 0));
+    }
+    Ok(())
+}
+
+/// What a round of traffic says of a slot: it starts, drives, turns round, is common, is freed, and is taken.
+fn traffic(round: u8, slot: u8) -> [u8; 3] {
+    match round % 6 {
+        0 => [0xBA, slot, slot],
+        1 => [0xA0, slot, slot],
+        2 => [0xA1, slot, 0x3F],
+        3 => [0xB5, slot, 0x13],
+        4 => [0xB5, slot, 0x03],
+        _ => [0xBF, 0x00, slot],
+    }
+}
+
+/// 119 turns, with a message of one of the slots 1 to 118 before each.
+fn round_of_traffic(world: &mut World, round: u8) {
+    for place in 0..119 {
+        let slot = if place == 0 { 118 } else { place };
+        hear_message(world, &traffic(round, slot));
+        take_turns(world, 1);
+    }
+}
+
+#[test]
+fn traffic_on_every_other_slot_stops_no_refresh(rt: HostRuntime) -> Result<(), Fail> {
+    let mut world = world_of(&rt, &[NodeSpec::Loco(CvSet::new(119, 0, 0, 2)?)])?;
+    for address in 1..120 {
+        hear_message(&mut world, &[0xBF, 0x00, address]);
+    }
+    hear_bytes(&mut world, &[0x83, 0x7C]);
+    hear_bytes(&mut world, &[0xBA, 0x77, 0x77, 0x45]);
+    hear_bytes(&mut world, &[0xA0, 0x77, 0x40, 0x68]);
+    // Twelve turns for each of 119 slots.
+    for round in 0..12 {
+        round_of_traffic(&mut world, round);
+    }
+    assert_eq!(rt; state_in(&world, 0), runs(DRIVEN, true, 0));
+    Ok(())
+}
