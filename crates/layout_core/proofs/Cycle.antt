@@ -40,10 +40,9 @@ use Rattle.layout_core.specs.Heard.{Sent, heard, HasHeard}
 use Rattle.layout_core.specs.Nodes.{IsAbleNode, Obeyed, is_missed, running_of}
 use Rattle.layout_core.specs.Settling.{IsPacketOf, speed, group_one, group_two, LeavesAsItIs, IsAskedBy, TellsAll}
 use Rattle.layout_core.specs.Wanted.{wanted}
-use Rattle.layout_core.specs.World.{call_of, packet_sent, sent_at, sent_in, HaveHeard}
+use Rattle.layout_core.specs.World.{AreDesks, call_of, packet_sent, sent_at, sent_in, HaveHeard}
 use Rattle.layout_core.proofs.Heard.{heard-append}
 use Rattle.layout_core.proofs.Others.{stays_able}
-use Rattle.layout_core.proofs.Played.{AreDesks}
 
 -- the laws that it stands on
 pub record Laws : Type 0 where
@@ -84,7 +83,7 @@ heard_turn i missed seen packet is listens rest =
     ap (λ (step : Step). heard i (packet_sent missed step ++ rest)) is
     ∙ cond-false (is_missed missed i) (heard i rest) (packet ∷ heard i rest) listens
 
-sent-append : (seen : Seen) (before cycle : List Event) → sent_in seen (before ++ cycle) ≡ sent_in seen before ++ sent_in (state_after seen (map call_of before)) cycle
+pub sent-append : (seen : Seen) (before cycle : List Event) → sent_in seen (before ++ cycle) ≡ sent_in seen before ++ sent_in (state_after seen (map call_of before)) cycle
 sent-append seen [] cycle = refl
 sent-append seen (event ∷ before) cycle =
     ap (λ (more : List Sent). sent_at seen event ++ more) (sent-append (state_of seen (call_of event)) before cycle)

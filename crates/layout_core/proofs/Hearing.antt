@@ -19,6 +19,7 @@ module _ (packet halves items : List ℕ) (form : IsPacket packet) (wave : IsWav
 
   pub loco_hears : (old new : LocoDecoder) → HearsLoco old items new → HearsPacket packet (Loco old) (Loco new)
   loco_hears old new h = record {
+    in_halves = (items, wave_heard, h.in_turn);
     kept = ap LocoSpec h.kept;
     settles = h.settles packet form wave_heard;
     obeys = λ between. h.obeys packet form wave_heard between;
@@ -26,6 +27,7 @@ module _ (packet halves items : List ℕ) (form : IsPacket packet) (wave : IsWav
 
   pub accessory_hears : (old new : AccessoryDecoder) → HearsAccessory old items new → HearsPacket packet (Accessory old) (Accessory new)
   accessory_hears old new h = record {
+    in_halves = (items, wave_heard, h.in_turn);
     kept = ap AccessorySpec h.kept;
     settles = h.settles packet form wave_heard;
     obeys = λ between. h.obeys packet form wave_heard between;

@@ -3,7 +3,6 @@ use Rattle.std.proofs.Common.{◌≡◌, ℕ, ◌<◌, List, [], ◌∷◌, ◌+
 use Rattle.std.proofs.lemmas.Bool.{and_parts}
 use Rattle.std.specs.List.{slice_index_or}
 use Rattle.std.specs.Prelude.{IsTrue}
-use Rattle.slot_table.specs.Desk.{IsDesk}
 use Rattle.station_core.specs.declared.call.Call.TheVariants.{Turn as TurnCall}
 use Rattle.station_core.specs.declared.call.Step.{Step}
 use Rattle.station_core.specs.declared.call.Step.TheVariants.{Quiet, Reply, Packet, Off}
@@ -15,11 +14,6 @@ use Rattle.layout_core.specs.declared.node.Node.{Node}
 use Rattle.layout_core.specs.Heard.{Sent}
 use Rattle.layout_core.specs.World.{call_of, packet_sent, sent_at, sent_in, HaveHeard, AfterTurn, AfterEvent}
 use Rattle.layout_core.proofs.Heard.{none_heard, turn_heard, more_heard}
-
--- before each event the desk is one
-abbrev pub AreDesks : Seen → List Event → Type 0
-AreDesks seen [] = Unit {0}
-AreDesks seen (event ∷ events) = IsDesk seen.powered.desk × AreDesks (state_of seen (call_of event)) events
 
 pub nothing_heard : (nodes : List Node) → HaveHeard [] nodes nodes
 nothing_heard nodes = record { count = refl; each = λ i none below. none_heard (slice_index_or nodes i none) }
@@ -40,7 +34,7 @@ event_is_heard : (seen : Seen) (event : Event) (old new : List Node) → AfterEv
 event_is_heard seen (Byte line byte) old new same = unmoved old new same
 event_is_heard seen (Turn missed) old new after = turn_is_heard missed (answer_of seen TurnCall) old new after
 
-both_heard : (sent more : List Sent) (old mid new : List Node) → HaveHeard sent old mid → HaveHeard more mid new → HaveHeard (sent ++ more) old new
+pub both_heard : (sent more : List Sent) (old mid new : List Node) → HaveHeard sent old mid → HaveHeard more mid new → HaveHeard (sent ++ more) old new
 both_heard sent more old mid new first second = record {
   count = second.count ∙ first.count;
   each = λ i none below. more_heard i sent more (slice_index_or old i none) (slice_index_or mid i none) (slice_index_or new i none) (first.each i none below) (second.each i none (omega (arith, below, first.count)));

@@ -1,6 +1,7 @@
 -- A layout: a station, and the decoders on its track.
 use Rattle.std.specs.Prelude.{ℕ, ◌≡◌, ◌<◌, List, [], ◌∷◌, ◌++◌, length}
 use Rattle.std.specs.List.{slice_index_or}
+use Rattle.slot_table.specs.Desk.{IsDesk}
 use Rattle.station_core.specs.declared.call.Call.{Call}
 use Rattle.station_core.specs.declared.call.Call.TheVariants.{Byte as ByteCall, Turn as TurnCall}
 use Rattle.station_core.specs.declared.call.Step.{Step}
@@ -56,3 +57,8 @@ AfterTurn missed Off old new = new ≡ old
 abbrev pub AfterEvent : Event → Step → List Node → List Node → Type 0
 AfterEvent (Byte line byte) step old new = new ≡ old
 AfterEvent (Turn missed) step old new = AfterTurn missed step old new
+
+-- before each event the desk is one, as a station promises
+abbrev pub AreDesks : Seen → List Event → Type 0
+AreDesks seen [] = Unit {0}
+AreDesks seen (event ∷ events) = IsDesk seen.powered.desk × AreDesks (state_of seen (call_of event)) events

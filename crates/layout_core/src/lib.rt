@@ -8,7 +8,7 @@ mod nodes;
 mod world;
 
 pub use event::Event;
-pub use laws::{others_leave_it, packets_add_up, settling};
+pub use laws::{events_add_up, headline, others_leave_it, packets_add_up, settling};
 pub use nodes::Nodes;
 pub use world::World;
 

@@ -10,11 +10,10 @@ ghost use Rattle.layout_core.specs.Nodes.{IsAbleNode, node_of, outputs_of, runni
 ghost use Rattle.layout_core.specs.World.{AfterEvent, HaveHeard, call_of, sent_in};
 
 use crate::event::Event;
-use crate::laws::{others_leave_it, settling};
+use crate::laws::headline;
 use crate::nodes::Nodes;
 use decoder_node::{NodeList, Running};
-use slot_table::rows_are_legal;
-use station_core::{Station, StationFault, Step, coverage, packets_of_the_desk};
+use station_core::{Station, StationFault, Step};
 use std::alloc::Global;
 
 /// A station, and the decoders on its track: nothing but its packets moves them.
@@ -98,11 +97,7 @@ impl World {
         // A locomotive that hears a full refresh cycle runs as its slot says.
         ensures headline { RunsAsWanted self.old.station events.now self.old.nodes self.new.nodes }
     {
-        coverage();
-        packets_of_the_desk();
-        rows_are_legal();
-        settling();
-        others_leave_it();
+        headline();
         // The nodes promise there that each is able.
         let _ = self.nodes();
         for (i, event) in events.iter().enumerate() {

@@ -7,9 +7,8 @@ use Rattle.station_core.specs.declared.call.Step.{Step}
 use Rattle.station_core.specs.Seen.{Seen}
 use Rattle.layout_core.specs.declared.event.Event.{Event}
 use Rattle.layout_core.specs.declared.event.Event.TheVariants.{Byte}
-use Rattle.layout_core.specs.World.{call_of, sent_in, AfterEvent, HaveHeard}
-use Rattle.layout_core.proofs.Cycle.{Laws, runs_as_wanted}
-use Rattle.layout_core.proofs.Played.{AreDesks, call_at, next_heard, nothing_heard}
+use Rattle.layout_core.specs.World.{AreDesks, call_of, sent_in, AfterEvent, HaveHeard}
+use Rattle.layout_core.proofs.Played.{call_at, next_heard, nothing_heard}
 use Rattle.layout_core.proofs.world.World.run.Goals as goal
 
 pub step-requires : goal.step-requires
@@ -59,16 +58,7 @@ returns-clause-nodes c =
 
 pub returns-clause-headline : goal.returns-clause-headline
 returns-clause-headline c =
-    let laws : Laws = record {
-      coverage = c.coverage.ensures;
-      packets = c.packets_of_the_desk.ensures;
-      rows = c.rows_are_legal.ensures;
-      settling = c.settling.ensures;
-      other = c.others_leave_it.ensures.other_address;
-      idle = c.others_leave_it.ensures.idle;
-      accessory = c.others_leave_it.ensures.accessory;
-    } in
     let done : drop c.loop-i.i c.args.events.now ≡ [] = drop_of_length-le c.args.events.now c.loop-i-test.false in
-    runs_as_wanted laws c.args.self.now.station c.args.events.now c.args.self.now.nodes c.loop-i.self.nodes
+    c.headline.ensures c.args.self.now.station c.args.events.now c.args.self.now.nodes c.loop-i.self.nodes
     (c.loop-i.invariant.desks (subst (λ (events : List Event). AreDesks c.loop-i.self.station events) (sym done) tt))
     c.nodes.ensures.able (returns-clause-nodes c)

@@ -1,8 +1,7 @@
 use Rattle.std.proofs.Common.{◌≡◌, ◌++◌, List, drop, take, length, map}
 use Rattle.station_core.specs.Runs.{state_after, answers}
 use Rattle.layout_core.specs.declared.node.Node.{Node}
-use Rattle.layout_core.specs.World.{call_of, sent_in, HaveHeard}
-use Rattle.layout_core.proofs.Played.{AreDesks}
+use Rattle.layout_core.specs.World.{AreDesks, call_of, sent_in, HaveHeard}
 use Rattle.layout_core.proofs.world.World.run.Given as goal
 
 -- the events so far and the events to come are all the events
