@@ -428,3 +428,20 @@ fn traffic_on_every_other_slot_stops_no_refresh(rt: HostRuntime) -> Result<(), F
     assert_eq!(rt; state_in(&world, 0), runs(DRIVEN, true, 0));
     Ok(())
 }
+
+#[test]
+fn a_request_is_sent_twice_and_sets_its_output(rt: HostRuntime) -> Result<(), Fail> {
+    let module = Module::new(1).ok_or("no module")?;
+    let mut world = world_of(&rt, &[NodeSpec::Accessory(module)])?;
+    hear_bytes(&mut world, &[0x83, 0x7C, 0xB0, 0x00, 0x30, 0x7F]);
+    assert_eq!(rt; state_in(&world, 0), (None, Some(0)));
+    let closes: &[u8] = &[0x81, 0xF9, 0x78];
+    for bytes in [closes, IDLE, closes, IDLE] {
+        match world.step(Event::Turn { missed: 0 }) {
+            Step::Packet(packet) => assert_eq!(rt; packet.bytes(), bytes),
+            _ => assert!(rt; false, "no packet"),
+        }
+        assert_eq!(rt; state_in(&world, 0), (None, Some(0x02)));
+    }
+    Ok(())
+}

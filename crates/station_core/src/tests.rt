@@ -695,3 +695,17 @@ fn runs_lists_of_calls(rt: HostRuntime) -> Result<(), Fail> {
     assert!(rt; steps == [Step::Off, Step::Quiet, Step::Packet(sent)]);
     Ok(())
 }
+
+#[test]
+fn requests_wait_until_their_second_send(rt: HostRuntime) -> Result<(), Fail> {
+    let mut station = Station::new(rt.alloc(), 1)?;
+    say(&rt, &mut station, &[0x83, 0x7C]);
+    say(&rt, &mut station, &[0xB0, 0x00, 0x30, 0x7F]);
+    say(&rt, &mut station, &[0xB0, 0x04, 0x30, 0x7B]);
+    assert_eq!(rt; station.switches_waiting(), 2);
+    for waiting in [2, 2, 1, 1, 1, 0, 0] {
+        let _ = station.turn();
+        assert_eq!(rt; station.switches_waiting(), waiting);
+    }
+    Ok(())
+}
