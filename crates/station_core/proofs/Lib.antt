@@ -1,4 +1,5 @@
 pub mod Apart
+pub mod Waits
 pub mod Follows
 pub mod Picks
 pub mod Rounds

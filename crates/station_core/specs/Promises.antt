@@ -1,5 +1,5 @@
 -- What holds of every list of calls, beside coverage: changes first, switches twice, in order, and neighbours apart.
-use Rattle.std.specs.Prelude.{ℕ, ◌≡◌, ◌+◌, ◌*◌, ◌≤◌, Bool, if◌then◌else◌, List, [], ◌∷◌, ◌++◌, Option, Some, None}
+use Rattle.std.specs.Prelude.{ℕ, ◌≡◌, ◌+◌, ◌*◌, ◌≤◌, Bool, true, Contains, if◌then◌else◌, List, [], ◌∷◌, ◌++◌, Option, Some, None}
 use Rattle.ln_ops.specs.Message.{op_of}
 use Rattle.ln_ops.specs.declared.op.Op.{Op}
 use Rattle.ln_ops.specs.declared.op.Op.TheVariants.{PowerOff, PowerOn, ForceIdle, Speed, Dirf, Snd, SwReq, SwAck, LongAck, SlotStat, Move, SlotRead, LocoAddr, SlotData, SlotWrite, Other}
@@ -12,9 +12,11 @@ use Rattle.refresh_ring.specs.declared.pick.Pick.{Pick}
 use Rattle.refresh_ring.specs.declared.pick.Pick.TheVariants.{Switch}
 use Rattle.refresh_ring.specs.declared.pick.Power.{Power}
 use Rattle.refresh_ring.specs.declared.pick.Power.TheVariants.{Off, Running, Paused}
+use Rattle.station_core.specs.After.{desk_after}
 use Rattle.station_core.specs.Answer.{is_taken}
-use Rattle.station_core.specs.Moved.{message_ended, turn_of}
-use Rattle.station_core.specs.Refreshed.{addresses}
+use Rattle.station_core.specs.Asked.{changed_places}
+use Rattle.station_core.specs.Moved.{after_op, message_ended, turn_of}
+use Rattle.station_core.specs.Refreshed.{addresses, is_refreshed}
 use Rattle.station_core.specs.Runs.{state_of, state_after, AtEveryMoment, turns_in, Sends, IsLive}
 use Rattle.station_core.specs.Seen.{Seen}
 use Rattle.station_core.specs.declared.call.Call.{Call}
@@ -24,6 +26,12 @@ use Rattle.station_core.specs.declared.call.Call.TheVariants.{Byte, Turn}
 abbrev pub ChangesFirst : Seen → List Call → Type 0
 ChangesFirst start calls = (slot : ℕ) (kind : Kind) (ahead : ℕ) → IsSlot slot → sends_ahead slot kind start.jobs ≡ Some ahead
     → AtEveryMoment (IsLive slot) start calls → 4 * (ahead + 1) ≤ turns_in calls → Sends slot kind start calls
+
+-- What was changed waits: each place that a message changes, if its slot is refreshed then. A message that is refused
+-- changes none.
+abbrev pub ChangesWait : Seen → Op → Type 0
+ChangesWait seen op = (slot : ℕ) (kind : Kind) → IsSlot slot → Contains (changed_places seen.powered.desk op) (slot, kind)
+    → is_refreshed (desk_after seen.powered.desk op) slot ≡ true → (ahead : ℕ) × (sends_ahead slot kind (after_op seen op).jobs ≡ Some ahead)
 
 -- the switch whose packet a call sends, if it sends one
 abbrev pub sent_by : Seen → Call → List Pick

@@ -1,6 +1,7 @@
 //! What holds of every list of calls.
 ghost use Rattle.std.specs.Prelude.{List};
-ghost use Rattle.station_core.specs.Promises.{ChangesFirst, NeighboursApart, SwitchesAreSent, SwitchesInOrder};
+ghost use Rattle.station_core.specs.Promises.{ChangesFirst, ChangesWait, NeighboursApart, SwitchesAreSent, SwitchesInOrder};
+ghost use Rattle.ln_ops.specs.declared.op.Op.{Op as OpOf};
 ghost use Rattle.station_core.specs.Runs.{Covers};
 ghost use Rattle.station_core.specs.Moved.{packet_of_turn};
 ghost use Rattle.station_core.specs.Seen.{Seen, scheduled};
@@ -31,6 +32,14 @@ pub fn changes_first()
     ensures { (start : Seen) (calls : List CallOf) → ChangesFirst start calls }
 {
     refresh_ring::changes_first();
+}
+
+/// Each place that an accepted message changes waits then, where its slot is refreshed.
+pub fn changes_wait()
+    ensures { (seen : Seen) (op : OpOf) → ChangesWait seen op }
+{
+    refresh_ring::changes_first();
+    refresh_ring::switches_in_order();
 }
 
 /// From any start, switch requests are sent in order, each twice.

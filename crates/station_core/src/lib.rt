@@ -11,7 +11,8 @@ mod station;
 
 pub use call::{Call, Step};
 pub use laws::{
-    changes_first, coverage, neighbours, packets_of_the_desk, switches_are_sent, switches_in_order,
+    changes_first, changes_wait, coverage, neighbours, packets_of_the_desk, switches_are_sent,
+    switches_in_order,
 };
 pub use refresh_ring::{Kind, Power};
 pub use station::{Station, StationFault};
