@@ -1,14 +1,15 @@
 //! The station.
-ghost use Rattle.std.specs.Prelude.{◌≡◌, ℕ, ◌<◌, ◌∷◌, ◌++◌, [], List, IfOk, IfErr, IfSome, length, true, false, IsTrue};
+ghost use Rattle.std.specs.Prelude.{◌≡◌, ℕ, ◌<◌, ◌∷◌, ◌++◌, [], List, Some, IfOk, IfErr, IfSome, length, true, false, IsTrue};
 ghost use Rattle.std.specs.Option.{option_to_list};
 ghost use Rattle.ln_frame.specs.Stream.{messages_of};
+ghost use Rattle.ln_ops.specs.Message.{op_of};
 ghost use Rattle.ln_ops.specs.Reply.{IsSendable};
 ghost use Rattle.refresh_ring.specs.Jobs.{requests_in, sends_ahead};
 ghost use Rattle.slot_table.specs.Desk.{IsDesk};
 ghost use Rattle.slot_table.specs.Entry.{IsRow, IsSlot};
 ghost use Rattle.slot_table.specs.Reading.{row_of};
 ghost use Rattle.station_core.specs.Packets.{IsPickOf};
-ghost use Rattle.station_core.specs.Promises.{ChangesFirst, NeighboursApart, SwitchesAreSent, SwitchesInOrder};
+ghost use Rattle.station_core.specs.Promises.{ChangesFirst, ChangesWait, NeighboursApart, SwitchesAreSent, SwitchesInOrder};
 ghost use Rattle.station_core.specs.Runs.{AreCalls, Covers, answer_of, answers, is_call, state_after, state_of};
 ghost use Rattle.station_core.specs.Seen.{first_seen, is_line_count, line_of};
 ghost use Rattle.station_core.specs.Sent.{IsPacketOfDesk};
@@ -16,7 +17,8 @@ ghost use Rattle.station_core.specs.Moved.{after_byte, after_turn, answer_to_byt
 
 use crate::call::{Call, Step};
 use crate::laws::{
-    changes_first, coverage, neighbours, packets_of_the_desk, switches_are_sent, switches_in_order,
+    changes_first, changes_wait, coverage, neighbours, packets_of_the_desk, switches_are_sent,
+    switches_in_order,
 };
 use crate::packets::entry_packet;
 use crate::schedule::Addresses;
@@ -152,7 +154,12 @@ impl Station {
         // However the line goes on, no message is lost and none is made up.
         ensures further { (z : List ℕ) → messages_of (line_of self.old line ++ byte ∷ z)
             ≡ option_to_list (message_ended self.old line byte) ++ messages_of (line_of self.new line ++ z) }
+        // Each place that a message changes waits after it, where its slot is refreshed.
+        ensures waits { (message : List ℕ) → message_ended self.old line byte ≡ Some message → ChangesWait self.old (op_of message) }
+        // No address has two slots, and each slot in use has its entry.
+        ensures desk { IsDesk self.old.powered.desk }
     {
+        changes_wait();
         let framer = &mut self.framers[line as usize];
         let message = framer.push(byte)?;
         self.obey(read(&message))
@@ -164,6 +171,8 @@ impl Station {
         ensures state { self.new ≡ after_turn self.old }
         // Made of the slots at this moment, and never of an older value.
         ensures of_the_desk { IsPacketOfDesk self.old.powered.power self.old result }
+        // No address has two slots, and each slot in use has its entry.
+        ensures desk { IsDesk self.old.powered.desk }
     {
         picks_are_due();
         packets_of_the_desk();
