@@ -11,5 +11,5 @@ pub record InStep (d : Desk) (s : Scheduled) : Type 0 where
   pub schedule : IsScheduled s
 
 pub record IsStation (all : List (List ℕ)) (desk : Desk) (s : Scheduled) : Type 0 where
-  pub lines : length all ≤ 8
+  pub lines : (1 ≤ length all) × (length all ≤ 8)
   pub in_step : InStep desk s

@@ -100,6 +100,8 @@ impl Station {
     /// How many lines there are, 1 to 8.
     pub fn lines(&self) -> u8
         ensures lines { result ≡ length self.now.lines }
+        ensures count { is_line_count result ≡ true }
+        // No address has two slots, and each slot in use has its entry.
         ensures desk { IsDesk self.now.powered.desk }
     {
         self.framers.len() as u8
