@@ -1,0 +1,5 @@
+pub mod Examples
+pub mod Faults
+pub mod Keys
+pub mod Names
+pub mod InTurn

@@ -1,0 +1,4 @@
+pub mod Entry
+pub mod Format
+pub mod Steps
+pub mod Toml

@@ -1,0 +1,31 @@
+//! Why a roster is refused.
+
+/// Why a roster is refused.
+#[derive(Clone, Copy, Debug, PartialEq, Eq)]
+pub enum Why {
+    /// The text is not TOML, or not UTF-8.
+    NotToml,
+    /// A key is missing or unknown, a value is of a wrong type, or it is another `kind` or `version`.
+    BadShape,
+    /// There are more than 64 nodes.
+    TooMany,
+    /// A name is not 1 to 16 ASCII letters, digits, `-` or `_`, or an earlier node has it.
+    BadName,
+    /// A value of a configuration variable is outside 0 to 255, or they make no locomotive decoder.
+    BadCv,
+    /// A module is outside 1 to 510.
+    BadModule,
+    /// There is no node.
+    Empty,
+    /// A growth was refused.
+    NoMemory,
+}
+
+/// The first fault of a roster, and its node: nodes count from 1, and 0 is the whole.
+#[derive(Clone, Copy, Debug, PartialEq, Eq)]
+pub struct RosterFault {
+    /// What is wrong.
+    pub why: Why,
+    /// The node, 1 to 64, or 0.
+    pub node: u8,
+}
