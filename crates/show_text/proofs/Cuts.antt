@@ -1,13 +1,17 @@
 -- The first line of a text, and the first piece of a line.
-use Rattle.std.proofs.Common.{◌≡◌, ℕ, ◌+◌, ◌<◌, ◌≤◌, Bool, true, false, List, [], ◌∷◌, length, take, drop, Some, None, position, ◌&&◌, filter, ◌==◌, cond, refl, sym, arith}
-use Rattle.std.specs.List.{list_all, slice_split, onto_first, position_or_len}
+use Rattle.std.proofs.Common.{◌≡◌, ℕ, zero, suc, ◌+◌, ◌<◌, ◌≤◌, Bool, true, false, List, [], ◌∷◌, length, length-drop, get_or, take, drop, drop-drop, Option, Some, None, position, ◌&&◌, ◌||◌, fold, filter, ◌==◌, Ok, codes, ◌++◌, ◌-◌, cond, refl, sym, ap, ap₂, ◌∙◌, take-append-drop, arith}
+use Rattle.std.specs.List.{list_all, list_any, slice_split, onto_first, position_or_len}
 use Rattle.std.specs.Str.Lines.{lines, lines_of_parts, strip_carriage_return}
 use Rattle.std.proofs.lemmas.Grind.{common_steps}
 use Rattle.std.proofs.lemmas.Bool.Decides.{nat_tests}
 use Rattle.std.proofs.lemmas.List.Splits.{slice_split_first, length-slice_split}
 use Rattle.std.proofs.lemmas.List.{take_rest}
 use Rattle.std.proofs.lemmas.List.Sums.{count_by-le-length}
-use Rattle.show_text.specs.Words.{is_blank, is_word, is_empty, words_of, with_piece}
+use Rattle.std.specs.Char.{is_ascii_digit}
+use Rattle.std.specs.Str.{bytes_eq}
+use Rattle.std.proofs.lemmas.Slice.Eq.{bytes_eq-Decides}
+use Rattle.show_text.specs.Script.{number_of}
+use Rattle.show_text.specs.Words.{is_blank, is_word, is_empty, words_of, with_piece, digit_of, both, pair_of}
 
 split_whole : {X : Type 0} (p : X → Bool) (xs : List X) → length xs ≤ position_or_len p xs → slice_split p xs ≡ xs ∷ []
 split_whole p [] h = refl
@@ -77,3 +81,90 @@ pub few_lines : (text : List ℕ) → length (lines text) ≤ length text + 1
 few_lines text =
     let feeds : ℕ → Bool = λ b. b == 10 in
     omega (arith, few_parts (slice_split feeds text), length-slice_split feeds text, count_by-le-length feeds text)
+
+-- a pair of digits holds no blank
+digit-not_blank : (b n : ℕ) → digit_of b ≡ Some n → is_blank b ≡ false
+digit-not_blank b n h = grind (arith, nat_tests)
+
+both_digits : (high low n : ℕ) → both (digit_of high) (digit_of low) ≡ Some n → (is_blank high ≡ false) × (is_blank low ≡ false)
+both_digits high low n h = parts (digit_of high) (digit_of low) refl refl h
+  where
+    parts : (x y : Option ℕ) → digit_of high ≡ x → digit_of low ≡ y → both x y ≡ Some n → (is_blank high ≡ false) × (is_blank low ≡ false)
+    parts (Some i) (Some j) e f k = (digit-not_blank high i e, digit-not_blank low j f)
+    parts (Some i) None e f k = cc
+    parts None y e f k = cc
+
+pair_first : (high low blank n : ℕ) (rest : List ℕ) → both (digit_of high) (digit_of low) ≡ Some n → is_blank blank ≡ true → words_of (high ∷ low ∷ blank ∷ rest) ≡ (high ∷ low ∷ []) ∷ words_of rest
+unfolding words_of
+pair_first high low blank n rest h e =
+    let p = both_digits high low n h in
+    rw (p.0, p.1, e) refl
+
+pair_last : (high low n : ℕ) → both (digit_of high) (digit_of low) ≡ Some n → words_of (high ∷ low ∷ []) ≡ (high ∷ low ∷ []) ∷ words_of []
+unfolding words_of
+pair_last high low n h =
+    let p = both_digits high low n h in
+    rw (p.0, p.1) refl
+
+-- what a text says that begins with the pair of a byte, and what follows that word
+abbrev BeginsWith : ℕ → List ℕ → List ℕ → Type 0
+BeginsWith byte text rest = (word : List ℕ) × (words_of text ≡ word ∷ words_of rest) × (pair_of word ≡ Some byte)
+
+pub pair_before_blank : (text : List ℕ) (byte : ℕ) → 3 ≤ length text → both (digit_of (get_or text 0 0)) (digit_of (get_or text 1 0)) ≡ Some byte → is_blank (get_or text 2 0) ≡ true
+    → BeginsWith byte text (drop 3 text)
+pair_before_blank [] byte some h blank = absurd (omega arith)
+pair_before_blank (high ∷ []) byte some h blank = absurd (omega arith)
+pair_before_blank (high ∷ low ∷ []) byte some h blank = absurd (omega arith)
+pair_before_blank (high ∷ low ∷ b ∷ rest) byte some h blank = (high ∷ low ∷ [], pair_first high low b byte rest h blank, h)
+
+pub pair_alone : (text : List ℕ) (byte : ℕ) → length text ≡ 2 → both (digit_of (get_or text 0 0)) (digit_of (get_or text 1 0)) ≡ Some byte → BeginsWith byte text []
+pair_alone [] byte some h = absurd (omega arith)
+pair_alone (high ∷ []) byte some h = absurd (omega arith)
+pair_alone (high ∷ low ∷ []) byte some h = (high ∷ low ∷ [], pair_last high low byte h, h)
+pair_alone (high ∷ low ∷ b ∷ rest) byte some h = absurd (omega arith)
+
+-- the place of the first element that passes, behind elements that do not
+pub skip_clear : {X : Type 0} (p : X → Bool) (xs : List X) (n : ℕ) → n ≤ length xs → list_any p (take n xs) ≡ false → position_or_len p xs ≡ n + position_or_len p (drop n xs)
+skip_clear p xs zero within clear = omega arith
+skip_clear p [] (suc n) within clear = absurd (omega arith)
+skip_clear p (x ∷ xs) (suc n) within clear = grind (arith, common_steps, skip_clear p xs n)
+
+any_folded : {X : Type 0} (p : X → Bool) (found : Bool) (xs : List X) → fold (λ f x. f || p x) found xs ≡ (found || list_any p xs)
+any_folded p true [] = refl
+any_folded p false [] = refl
+any_folded p true (x ∷ xs) = any_folded p true xs
+any_folded p false (x ∷ xs) = any_folded p (p x) xs
+
+-- one more stretch without such an element
+pub clear_more : {X : Type 0} (p : X → Bool) (xs : List X) (i n : ℕ) → i + n ≤ length xs → position_or_len p xs ≡ i + position_or_len p (drop i xs)
+    → fold (λ f x. f || p x) false (take n (drop i xs)) ≡ false → position_or_len p xs ≡ i + n + position_or_len p (drop (i + n) xs)
+clear_more p xs i n within so_far clear =
+    let none = sym (any_folded p false (take n (drop i xs))) ∙ clear in
+    let more = skip_clear p (drop i xs) n (omega (arith, length-drop i xs)) none in
+    rw (← drop-drop n i xs) (omega (arith, so_far, more))
+
+number_of_digit : (digit : ℕ) → is_ascii_digit digit ≡ true → number_of (digit ∷ []) ≡ Ok (digit - 48)
+number_of_digit digit h = rw h (ap Ok (grind (arith, nat_tests)))
+
+line_first_words : (digit blank : ℕ) (rest : List ℕ) → is_ascii_digit digit ≡ true → is_blank blank ≡ true → words_of (codes "line " ++ digit ∷ blank ∷ rest) ≡ codes "line" ∷ (digit ∷ []) ∷ words_of rest
+unfolding words_of
+line_first_words digit blank rest h e =
+    let no : is_blank digit ≡ false = grind (arith, nat_tests) in
+    rw (no, e) refl
+
+-- what a text says that begins with `line L `, and what follows those words
+abbrev BeginsOnLine : ℕ → List ℕ → List ℕ → Type 0
+BeginsOnLine n text rest = (word : List ℕ) × (words_of text ≡ codes "line" ∷ word ∷ words_of rest) × (number_of word ≡ Ok n)
+
+begins : (rest : List ℕ) → 2 ≤ length rest → is_ascii_digit (get_or rest 0 0) ≡ true → is_blank (get_or rest 1 0) ≡ true → BeginsOnLine (get_or rest 0 0 - 48) (codes "line " ++ rest) (drop 2 rest)
+begins [] some h e = absurd (omega arith)
+begins (digit ∷ []) some h e = absurd (omega arith)
+begins (digit ∷ blank ∷ rest) some h e = (digit ∷ [], line_first_words digit blank rest h e, number_of_digit digit h)
+
+pub line_begins : (text rest prefix : List ℕ) → prefix ≡ codes "line " → bytes_eq (take (length prefix) text) prefix ≡ true → rest ≡ drop (length prefix) text
+    → 2 ≤ length rest → is_ascii_digit (get_or rest 0 0) ≡ true → is_blank (get_or rest 1 0) ≡ true → BeginsOnLine (get_or rest 0 0 - 48) text (drop 2 rest)
+line_begins text rest prefix e first back some h blank =
+    let front : take 5 text ≡ codes "line " =
+    (bytes_eq-Decides (take 5 text) (codes "line ")).0 (ap (λ p. bytes_eq (take (length p) text) p) (sym e) ∙ first) in
+    let same : codes "line " ++ rest ≡ text = ap₂ ◌++◌ (sym front) (back ∙ ap (λ (p : List ℕ). drop (length p) text) e) ∙ take-append-drop 5 text in
+    rw (← same) (begins rest some h blank)

@@ -1,5 +1,7 @@
 pub mod Cuts
 pub mod Decimals
+pub mod HexPieces
+pub mod NodeSets
 pub mod Reading
 pub mod Sequences
 pub mod Examples

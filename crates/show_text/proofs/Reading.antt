@@ -1,22 +1,57 @@
 -- Reading from left to right, one command after the other.
-use Rattle.std.proofs.Common.{◌≡◌, ℕ, ◌+◌, ◌≤◌, length, arith, List, [], ◌∷◌, Result, Ok, Err, sym, ◌∙◌}
+use Rattle.std.proofs.Common.{◌≡◌, ℕ, ◌+◌, ◌<◌, ◌≤◌, ◌++◌, length, drop, arith, List, [], ◌∷◌, Some, None, Result, Ok, Err, codes, refl, sym, ◌∙◌}
 use Rattle.std.specs.Str.Lines.{lines}
+use Rattle.std.proofs.lemmas.Bool.{lt-ltb}
 use Rattle.std.proofs.lemmas.Bool.Decides.{nat_tests}
 use Rattle.show_text.specs.declared.command.Command.{Command}
+use Rattle.show_text.specs.declared.command.Command.TheVariants.{Byte}
 use Rattle.show_text.specs.declared.command.Why.{Why}
 use Rattle.show_text.specs.declared.command.ScriptFault.{ScriptFault}
-use Rattle.show_text.specs.Sequence.{before}
+use Rattle.show_text.specs.Sequence.{before, followed_by}
 use Rattle.show_text.proofs.Cuts.{few_lines}
 use Rattle.show_text.proofs.Sequences.{goes_on, stops, ends}
-use Rattle.show_text.specs.Script.{byte_command, bytes_of, line_commands, at_line, fault_at, commands_of, script_of}
+use Rattle.show_text.specs.Script.{◌>>=◌, number_of, byte_of, first_byte_of, bytes_of, some_bytes, command_of, line_commands, at_line, fault_at, commands_of, script_of}
+
+told : (line byte : ℕ) (old : List Command) (r : Result ℕ Why) (more : Result (List Command) Why) → (r >>= (λ b. Ok (Some b))) ≡ Ok (Some byte)
+    → before old (followed_by (r >>= (λ b. Ok (Byte line b ∷ []))) more) ≡ before (old ++ Byte line byte ∷ []) more
+told line byte old (Ok b) more h =
+    let same : b ≡ byte = cc in
+    rw same (goes_on old (old ++ Byte line byte ∷ []) (Ok (Byte line byte ∷ [])) more refl)
+told line byte old (Err why) more h = cc
+
+not_told : (line : ℕ) (old : List Command) (why : Why) (r : Result ℕ Why) (more : Result (List Command) Why) → (r >>= (λ b. Ok (Some b))) ≡ Err why
+    → before old (followed_by (r >>= (λ b. Ok (Byte line b ∷ []))) more) ≡ Err why
+not_told line old why (Ok b) more h = cc
+not_told line old why (Err e) more h = cc
+
+-- one more byte is read
+pub byte_goes_on : (line byte : ℕ) (old : List Command) (words : List (List ℕ)) → first_byte_of words ≡ Ok (Some byte)
+    → before old (bytes_of line words) ≡ before (old ++ Byte line byte ∷ []) (bytes_of line (drop 1 words))
+unfolding bytes_of
+byte_goes_on line byte old [] h = cc
+byte_goes_on line byte old (word ∷ words) h = told line byte old (byte_of word) (bytes_of line words) h
 
 -- the first fault is that of this byte
-pub bytes_stop : (line : ℕ) (old : List Command) (word : List ℕ) (words all : List (List ℕ)) (why : Why) (total : Result (List Command) Why)
-    → all ≡ word ∷ words → before old (bytes_of line all) ≡ total → before old (byte_command line word) ≡ Err why → total ≡ Err why
+pub byte_stops : (line : ℕ) (old : List Command) (words : List (List ℕ)) (why : Why) → first_byte_of words ≡ Err why → before old (bytes_of line words) ≡ Err why
 unfolding bytes_of
-bytes_stop line old word words all why total split so_far fault =
-    let now : before old (bytes_of line all) ≡ Err why = rw split (stops old (byte_command line word) (bytes_of line words) why fault) in
-    sym so_far ∙ now
+byte_stops line old [] why h = cc
+byte_stops line old (word ∷ words) why h = not_told line old why (byte_of word) (bytes_of line words) h
+
+-- no byte is left
+pub bytes_end : (line : ℕ) (old : List Command) (words : List (List ℕ)) → first_byte_of words ≡ Ok None → before old (bytes_of line words) ≡ Ok old
+unfolding bytes_of
+bytes_end line old [] h = ends old
+bytes_end line old (word ∷ words) h = none (byte_of word) h
+  where
+    none : (r : Result ℕ Why) → (r >>= (λ b. Ok (Some b))) ≡ Ok None → before old (followed_by (r >>= (λ b. Ok (Byte line b ∷ []))) (bytes_of line words)) ≡ Ok old
+    none (Ok b) h = cc
+    none (Err why) h = cc
+
+pub fewer_words : (byte : ℕ) (words : List (List ℕ)) → first_byte_of words ≡ Ok (Some byte) → length (drop 1 words) < length words
+fewer_words byte [] h = cc
+fewer_words byte (word ∷ words) h = omega arith
+
+pub ruleset byte_steps = (byte_goes_on, byte_stops, bytes_end, fewer_words)
 
 at_line_ok : (n : ℕ) (old mid : List Command) (read : Result (List Command) Why) → before old read ≡ Ok mid → before old (at_line n read) ≡ Ok mid
 at_line_ok n old mid (Ok cs) h = cc
@@ -27,32 +62,37 @@ at_line_err n old (Ok cs) why h = cc
 at_line_err n old (Err e) why h = cc
 
 -- one more line of the script is read
-pub line_goes_on : (lines n : ℕ) (old mid : List Command) (line : List ℕ) (more all : List (List ℕ)) (total : Result (List Command) ScriptFault)
-    → all ≡ line ∷ more → before old (line_commands lines line) ≡ Ok mid → before old (commands_of lines n all) ≡ total → before mid (commands_of lines (n + 1) more) ≡ total
+pub line_goes_on : (lines nodes n : ℕ) (old mid : List Command) (line : List ℕ) (more all : List (List ℕ)) (total : Result (List Command) ScriptFault)
+    → all ≡ line ∷ more → before old (line_commands lines nodes line) ≡ Ok mid → before old (commands_of lines nodes n all) ≡ total → before mid (commands_of lines nodes (n + 1) more) ≡ total
 unfolding commands_of
-line_goes_on lines n old mid line more all total split read so_far =
-    let now : before old (commands_of lines n all) ≡ before mid (commands_of lines (n + 1) more) =
-    rw split (goes_on old mid (at_line n (line_commands lines line)) (commands_of lines (n + 1) more) (at_line_ok n old mid (line_commands lines line) read)) in
+line_goes_on lines nodes n old mid line more all total split read so_far =
+    let now : before old (commands_of lines nodes n all) ≡ before mid (commands_of lines nodes (n + 1) more) =
+    rw split (goes_on old mid (at_line n (line_commands lines nodes line)) (commands_of lines nodes (n + 1) more) (at_line_ok n old mid (line_commands lines nodes line) read)) in
     sym now ∙ so_far
 
 -- the first fault of the script is that of this line
-pub line_stops : (lines n : ℕ) (old : List Command) (line : List ℕ) (more all : List (List ℕ)) (why : Why) (total : Result (List Command) ScriptFault)
-    → all ≡ line ∷ more → before old (line_commands lines line) ≡ Err why → before old (commands_of lines n all) ≡ total → total ≡ Err (fault_at why n)
+pub line_stops : (lines nodes n : ℕ) (old : List Command) (line : List ℕ) (more all : List (List ℕ)) (why : Why) (total : Result (List Command) ScriptFault)
+    → all ≡ line ∷ more → before old (line_commands lines nodes line) ≡ Err why → before old (commands_of lines nodes n all) ≡ total → total ≡ Err (fault_at why n)
 unfolding commands_of
-line_stops lines n old line more all why total split fault so_far =
-    let now : before old (commands_of lines n all) ≡ Err (fault_at why n) =
-    rw split (stops old (at_line n (line_commands lines line)) (commands_of lines (n + 1) more) (fault_at why n) (at_line_err n old (line_commands lines line) why fault)) in
+line_stops lines nodes n old line more all why total split fault so_far =
+    let now : before old (commands_of lines nodes n all) ≡ Err (fault_at why n) =
+    rw split (stops old (at_line n (line_commands lines nodes line)) (commands_of lines nodes (n + 1) more) (fault_at why n) (at_line_err n old (line_commands lines nodes line) why fault)) in
     sym so_far ∙ now
 
-pub script_within : (count : ℕ) (text : List ℕ) → length text ≤ 1048576 → script_of count text ≡ commands_of count 1 (lines text)
-script_within count text h = grind (arith, nat_tests)
+pub script_within : (count nodes : ℕ) (text : List ℕ) → length text ≤ 1048576 → script_of count nodes text ≡ commands_of count nodes 1 (lines text)
+script_within count nodes text h = grind (arith, nat_tests)
 
 -- the script is read to its end
-pub no_more : (lines n : ℕ) (commands : List Command) (all : List (List ℕ)) (total : Result (List Command) ScriptFault)
-    → all ≡ [] → before commands (commands_of lines n all) ≡ total → total ≡ Ok commands
+pub no_more : (lines nodes n : ℕ) (commands : List Command) (all : List (List ℕ)) (total : Result (List Command) ScriptFault)
+    → all ≡ [] → before commands (commands_of lines nodes n all) ≡ total → total ≡ Ok commands
 unfolding commands_of
-no_more lines n commands all total none so_far =
-    let now : before commands (commands_of lines n all) ≡ Ok commands = rw none (ends commands) in
+no_more lines nodes n commands all total none so_far =
+    let now : before commands (commands_of lines nodes n all) ≡ Ok commands = rw none (ends commands) in
     sym so_far ∙ now
 
 pub ruleset script_steps = (few_lines, script_within, line_goes_on, no_more)
+
+-- a line that begins with `line L`, where L is one of the lines
+pub on_a_line : (lines nodes n : ℕ) (word : List ℕ) (words all : List (List ℕ)) → all ≡ codes "line" ∷ word ∷ words → number_of word ≡ Ok n → n < lines
+    → command_of lines nodes all ≡ some_bytes n words
+on_a_line lines nodes n word words all split number within = rw (split, number, lt-ltb n lines within) refl

@@ -1,4 +1,7 @@
+pub mod Hex
 pub mod Lines
+pub mod Messages
+pub mod Nodes
 pub mod Script
 pub mod Sequence
 pub mod Words

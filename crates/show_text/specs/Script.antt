@@ -1,14 +1,13 @@
 -- What a script says. Each part is read from left to right, and the first fault decides.
-use Rattle.std.specs.Prelude.{ℕ, ◌+◌, ◌≡◌, ◌≢◌, Bool, IsTrue, List, [], ◌∷◌, Option, Some, None, Result, Ok, Err, nat_eq, nat_lt, if◌then◌else◌, length, codes}
+use Rattle.std.specs.Prelude.{ℕ, ◌+◌, ◌^◌, ◌≡◌, ◌≢◌, ◌&&◌, Bool, true, IsTrue, List, [], ◌∷◌, Option, Some, None, Result, Ok, Err, nat_eq, nat_lt, nat_le, if◌then◌else◌, length, codes, bit_or, fold}
 use Rattle.std.specs.Str.{bytes_eq}
 use Rattle.std.specs.Str.Lines.{lines}
 use Rattle.std.specs.List.{starts_with, list_all}
 use Rattle.show_text.specs.declared.command.Command.{Command}
-use Rattle.show_text.specs.declared.command.Command.TheVariants.{Byte}
+use Rattle.show_text.specs.declared.command.Command.TheVariants.{Byte, Turns, Show}
 use Rattle.show_text.specs.declared.command.Why.{Why}
-use Rattle.show_text.specs.declared.command.Why.TheVariants.{BadWord, BadHex, BadNumber, BadLine, TooLong, NoMemory}
+use Rattle.show_text.specs.declared.command.Why.TheVariants.{BadWord, BadHex, BadNumber, BadLine, BadNode, TooLong, NoMemory}
 use Rattle.show_text.specs.declared.command.ScriptFault.{ScriptFault}
-use Rattle.show_text.specs.declared.script.TheConstants.{LONGEST_TEXT}
 use Rattle.show_text.specs.Sequence.{before, followed_by}
 use Rattle.show_text.specs.Words.{is_empty, words_of, decimal_of, pair_of}
 
@@ -31,6 +30,15 @@ below limit why word = do
   n ← number_of word
   if nat_lt n limit then Ok n else Err why
 
+-- of turns
+abbrev pub is_count : ℕ → Bool
+is_count n = nat_le 1 n && nat_le n 1000000
+
+abbrev pub count_of : List ℕ → Result ℕ Why
+count_of word = do
+  n ← number_of word
+  if is_count n then Ok n else Err BadNumber
+
 -- `line L HH HH ..`: the bytes of line l
 
 abbrev pub byte_of : List ℕ → Result ℕ Why
@@ -40,6 +48,13 @@ abbrev pub byte_command : ℕ → List ℕ → Result (List Command) Why
 byte_command l word = do
   b ← byte_of word
   Ok (Byte l b ∷ [])
+
+-- the byte of the first word, if there is a word
+abbrev pub first_byte_of : List (List ℕ) → Result (Option ℕ) Why
+first_byte_of [] = Ok None
+first_byte_of (word ∷ words) = do
+  b ← byte_of word
+  Ok (Some b)
 
 unfoldable pub bytes_of : ℕ → List (List ℕ) → Result (List Command) Why
 bytes_of l [] = Ok []
@@ -55,18 +70,62 @@ line_of lines (word ∷ words) = do
   l ← below lines BadLine word
   some_bytes l words
 
+-- `turn N` and `turn N miss I I ..`: the turns, and the nodes that miss them
+
+abbrev pub node_of : ℕ → List ℕ → Result (List ℕ) Why
+node_of nodes word = do
+  i ← below nodes BadNode word
+  Ok (i ∷ [])
+
+unfoldable pub nodes_of : ℕ → List (List ℕ) → Result (List ℕ) Why
+nodes_of nodes [] = Ok []
+nodes_of nodes (word ∷ words) = followed_by (node_of nodes word) (nodes_of nodes words)
+
+-- in a set of nodes node i is bit i
+abbrev pub with_node : ℕ → ℕ → ℕ
+with_node set i = bit_or set (2 ^ i)
+
+-- a set, and the nodes that are read as well
+abbrev pub set_with : ℕ → Result (List ℕ) Why → Result ℕ Why
+set_with set read = do
+  named ← read
+  Ok (fold with_node set named)
+
+-- at least one is wanted
+abbrev pub some_nodes : ℕ → List (List ℕ) → Result ℕ Why
+some_nodes nodes words = if is_empty words then Err BadWord else set_with 0 (nodes_of nodes words)
+
+abbrev pub missed_of : ℕ → List (List ℕ) → Result ℕ Why
+missed_of nodes [] = Ok 0
+missed_of nodes (word ∷ words) = if bytes_eq word (codes "miss") then some_nodes nodes words else Err BadWord
+
+abbrev pub turn_of : ℕ → List (List ℕ) → Result (List Command) Why
+turn_of nodes [] = Err BadWord
+turn_of nodes (word ∷ words) = do
+  n ← count_of word
+  missed ← missed_of nodes words
+  Ok (Turns n missed ∷ [])
+
+-- `show`, alone
+abbrev pub show_of : List (List ℕ) → Result (List Command) Why
+show_of words = if is_empty words then Ok (Show ∷ []) else Err BadWord
+
 -- The first word.
-abbrev pub after_word : ℕ → List ℕ → List (List ℕ) → Result (List Command) Why
-after_word lines word words = if bytes_eq word (codes "line") then line_of lines words else Err BadWord
+abbrev pub after_word : ℕ → ℕ → List ℕ → List (List ℕ) → Result (List Command) Why
+after_word lines nodes word words =
+    if bytes_eq word (codes "line") then line_of lines words
+    else if bytes_eq word (codes "turn") then turn_of nodes words
+    else if bytes_eq word (codes "show") then show_of words
+    else Err BadWord
 
 -- A line without words says nothing.
-abbrev pub command_of : ℕ → List (List ℕ) → Result (List Command) Why
-command_of lines [] = Ok []
-command_of lines (word ∷ words) = after_word lines word words
+abbrev pub command_of : ℕ → ℕ → List (List ℕ) → Result (List Command) Why
+command_of lines nodes [] = Ok []
+command_of lines nodes (word ∷ words) = after_word lines nodes word words
 
 -- Nor does a line whose first character is '#'.
-abbrev pub line_commands : ℕ → List ℕ → Result (List Command) Why
-line_commands lines line = if starts_with nat_eq line (codes "#") then Ok [] else command_of lines (words_of line)
+abbrev pub line_commands : ℕ → ℕ → List ℕ → Result (List Command) Why
+line_commands lines nodes line = if starts_with nat_eq line (codes "#") then Ok [] else command_of lines nodes (words_of line)
 
 abbrev pub fault_at : Why → ℕ → ScriptFault
 fault_at why line = record { why = why; line = line }
@@ -77,19 +136,31 @@ at_line n (Ok commands) = Ok commands
 at_line n (Err why) = Err (fault_at why n)
 
 -- The commands of the lines from line n on.
-unfoldable pub commands_of : ℕ → ℕ → List (List ℕ) → Result (List Command) ScriptFault
-commands_of lines n [] = Ok []
-commands_of lines n (line ∷ more) = followed_by (at_line n (line_commands lines line)) (commands_of lines (n + 1) more)
+unfoldable pub commands_of : ℕ → ℕ → ℕ → List (List ℕ) → Result (List Command) ScriptFault
+commands_of lines nodes n [] = Ok []
+commands_of lines nodes n (line ∷ more) = followed_by (at_line n (line_commands lines nodes line)) (commands_of lines nodes (n + 1) more)
 
-abbrev pub script_of : ℕ → List ℕ → Result (List Command) ScriptFault
-script_of count text = if nat_lt LONGEST_TEXT (length text) then Err (fault_at TooLong 0) else commands_of count 1 (lines text)
+-- The commands of a script of at most 1,048,576 bytes.
+abbrev pub script_of : ℕ → ℕ → List ℕ → Result (List Command) ScriptFault
+script_of count nodes text = if nat_lt 1048576 (length text) then Err (fault_at TooLong 0) else commands_of count nodes 1 (lines text)
 
--- each command names one of the lines
+-- each byte comes on one of the lines
 abbrev pub is_on_line : ℕ → Command → Bool
 is_on_line lines (Byte line byte) = nat_lt line lines
+is_on_line lines (Turns count missed) = true
+is_on_line lines Show = true
 
 abbrev pub AreOnLines : ℕ → List Command → Type 0
 AreOnLines lines commands = IsTrue (list_all (is_on_line lines) commands)
+
+-- each number of turns is in its range
+abbrev pub is_counted : Command → Bool
+is_counted (Byte line byte) = true
+is_counted (Turns count missed) = is_count count
+is_counted Show = true
+
+abbrev pub AreCounted : List Command → Type 0
+AreCounted commands = IsTrue (list_all is_counted commands)
 
 -- What a function answers that puts commands after the old ones: what reading gives, unless memory runs out.
 abbrev pub Adds : {Y : Type 0} → List Command → List Command → Result Y Why → Result (List Command) Why → Type 0

@@ -9,6 +9,10 @@ use std::alloc::AllocFailed;
 pub enum Command {
     /// A byte comes on a line.
     Byte { line: u8, byte: u8 },
+    /// So many turns, 1 to 1,000,000. Node i misses them where bit i of `missed` is set.
+    Turns { count: u32, missed: u64 },
+    /// How each node stands is to be printed.
+    Show,
 }
 
 /// What is wrong with a script.
@@ -18,10 +22,12 @@ pub enum Why {
     BadWord,
     /// Not two hexadecimal digits.
     BadHex,
-    /// Not one to seven decimal digits.
+    /// Not one to seven decimal digits, or a number of turns outside 1 to 1,000,000.
     BadNumber,
     /// No such line.
     BadLine,
+    /// No such node.
+    BadNode,
     /// More than 1,048,576 bytes.
     TooLong,
     /// A growth was refused.

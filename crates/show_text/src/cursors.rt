@@ -1,9 +1,16 @@
 //! The lines of a text, and the words of a line.
-ghost use Rattle.std.specs.Prelude.{◌≡◌, ◌<◌, ◌==◌, ◌∷◌, position, length};
+ghost use Rattle.std.specs.Prelude.{◌≡◌, ◌<◌, ◌==◌, ◌+◌, ◌≤◌, ◌∷◌, ℕ, List, position, length, drop, fold, false, ◌||◌, Some, Ok, IfSome, codes};
 ghost use Rattle.std.specs.Iterator.{YieldsFirstRef, item_count};
-ghost use Rattle.std.specs.List.{list_all};
+ghost use Rattle.std.specs.List.{list_all, position_or_len};
 ghost use Rattle.std.specs.Str.Lines.{lines, strip_carriage_return};
-ghost use Rattle.show_text.specs.Words.{is_blank, is_empty, words_of, with_piece};
+ghost use Rattle.show_text.specs.Words.{is_blank, is_empty, pair_of, words_of, with_piece};
+ghost use Rattle.show_text.specs.Script.{first_byte_of, number_of};
+
+use crate::command::Why;
+use crate::words::{hex_byte, hex_pair};
+
+/// How many bytes are tested for a line feed at a time.
+const CHUNK: usize = 16;
 
 fn is_blank(byte: u8) -> bool
     ensures { result ≡ is_blank byte }
@@ -23,10 +30,40 @@ fn blank_at(bytes: &[u8]) -> Option<usize>
     bytes.iter().position(|byte| is_blank(*byte))
 }
 
-fn line_feed_at(bytes: &[u8]) -> Option<usize>
+fn first_line_feed(bytes: &[u8]) -> Option<usize>
     ensures { result ≡ position (λ b. b == 10) bytes.now }
 {
     bytes.iter().position(|byte| *byte == b'\n')
+}
+
+// Looks at every byte, so that the compiler may look at a whole chunk at once.
+fn has_line_feed(bytes: &[u8]) -> bool
+    ensures { result ≡ fold (λ found b. found || b == 10) false bytes.now }
+{
+    bytes
+        .iter()
+        .fold(false, |found, byte| found | (*byte == b'\n'))
+}
+
+/// The length of the chunks that stand before the first chunk with a line feed.
+fn clear_len(bytes: &[u8]) -> usize
+    ensures within { result ≤ length bytes.now }
+    ensures clear { position_or_len (λ b. b == 10) bytes.now ≡ result + position_or_len (λ b. b == 10) (drop result bytes.now) }
+{
+    let mut clear = 0;
+    while bytes.len() - clear >= CHUNK && !has_line_feed(&bytes[clear..clear + CHUNK]) {
+        clear += CHUNK;
+    }
+    clear
+}
+
+/// The place of the first line feed. Whole chunks are tested first, which costs much less than byte after byte.
+fn line_feed_at(bytes: &[u8]) -> Option<usize>
+    ensures { result ≡ position (λ b. b == 10) bytes.now }
+{
+    let clear = clear_len(bytes);
+    let at = first_line_feed(&bytes[clear..])?;
+    Some(clear + at)
 }
 
 fn without_carriage_return(line: &[u8]) -> &[u8]
@@ -60,6 +97,29 @@ fn cut_piece(text: &[u8]) -> (&[u8], &[u8])
     }
 }
 
+/// The byte of a pair of digits that the text begins with, and what follows it and the blank behind it.
+fn cut_byte(text: &[u8]) -> Option<(u8, &[u8])>
+    ensures { IfSome result (λ cut. (word : List ℕ) × (words_of text.now ≡ word ∷ words_of cut.1.now) × (pair_of word ≡ Some cut.0)) }
+{
+    match text {
+        [high, low, blank, rest @ ..] if is_blank(*blank) => Some((hex_byte(*high, *low)?, rest)),
+        [high, low] => Some((hex_byte(*high, *low)?, &[])),
+        _ => None,
+    }
+}
+
+/// Line L and what follows it, where the text begins with `line L ` and L is one digit.
+fn cut_line_number(text: &[u8]) -> Option<(u8, &[u8])>
+    ensures { IfSome result (λ cut. (word : List ℕ) × (words_of text.now ≡ codes "line" ∷ word ∷ words_of cut.1.now) × (number_of word ≡ Ok cut.0)) }
+{
+    match text.strip_prefix(b"line ".as_slice())? {
+        [digit, blank, rest @ ..] if digit.is_ascii_digit() && is_blank(*blank) => {
+            Some((*digit - b'0', rest))
+        }
+        _ => None,
+    }
+}
+
 /// The lines still to come. Each ends with a line feed, but for the last, which may lack it.
 #[derive(Drop)]
 pub(crate) struct Lines<'a>(pub(crate) &'a [u8]);
@@ -85,12 +145,37 @@ impl<'a> Iterator for Lines<'a> {
 #[derive(Drop)]
 pub(crate) struct Words<'a>(pub(crate) &'a [u8]);
 
-impl Words<'_> {
+impl<'a> Words<'a> {
+    /// Line L and the words behind it, where the words begin as nearly all lines of a script do: `line L`, L one digit, with
+    /// one blank behind each.
+    pub(crate) fn line_number(&self) -> Option<(u8, Words<'a>)>
+        ensures { IfSome result (λ cut. (word : List ℕ) × (words_of self.now.0.now ≡ codes "line" ∷ word ∷ words_of cut.1.0.now) × (number_of word ≡ Ok cut.0)) }
+    {
+        let (line, rest) = cut_line_number(self.0)?;
+        Some((line, Words(rest)))
+    }
+
     #[tactic(auto, using(crate::proofs::Cuts::only_blanks))]
     pub(crate) fn is_empty(&self) -> bool
         ensures { result ≡ is_empty (words_of self.now.0.now) }
     {
         are_blank(self.0)
+    }
+
+    /// The byte of the next word, or `None` behind the last.
+    pub(crate) fn next_byte(&mut self) -> Result<Option<u8>, Why>
+        ensures byte { result ≡ first_byte_of (words_of self.old.0.now) }
+        ensures rest { words_of self.new.0.now ≡ drop 1 (words_of self.old.0.now) }
+    {
+        // Nearly all words are a pair with one space behind it: they need no search for their end.
+        if let Some((byte, rest)) = cut_byte(self.0) {
+            self.0 = rest;
+            return Ok(Some(byte));
+        }
+        match self.next() {
+            None => Ok(None),
+            Some(word) => Ok(Some(hex_pair(word).ok_or(Why::BadHex)?)),
+        }
     }
 }
 

@@ -1,15 +1,23 @@
-//! The texts of the program: scripts that are read, and lines that are printed.
+//! The texts of the program: scripts and hex text that are read, and lines that are printed.
 #![tactic(auto)]
 
 mod command;
 mod cursors;
+mod hex;
 mod line;
+mod messages;
+mod nodes;
 mod script;
+mod traffic;
 mod words;
 
 pub use command::{Command, ScriptFault, Why};
-pub use line::{Line, reply_line};
+pub use hex::{HexFault, HexWhy, read_hex};
+pub use line::Line;
+pub use messages::message_line;
+pub use nodes::node_line;
 pub use script::{LONGEST_TEXT, read_script};
+pub use traffic::{off_line, reply_line, track_line};
 
 #[cfg(test)]
 mod tests;

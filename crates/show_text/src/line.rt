@@ -1,12 +1,10 @@
-//! The lines that are printed.
-ghost use Rattle.std.specs.Prelude.{◌≡◌, ◌≤◌, ◌+◌, ◌<◌, ◌*◌, ◌++◌, length, [], ◌∷◌};
+//! A line of text, and what is appended to it.
+ghost use Rattle.std.specs.Prelude.{◌≡◌, ◌≤◌, ◌+◌, ◌<◌, ◌*◌, ◌/◌, ◌%◌, ◌++◌, length, [], ◌∷◌};
 ghost use Rattle.std.specs.Fmt.{decimal};
 ghost use Rattle.arrayvec.specs.ArrayString.{array_string_len};
-ghost use Rattle.ln_ops.specs.Reply.{IsSendable};
-ghost use Rattle.show_text.specs.Lines.{hex_byte, hex_word, hex_words, reply_text};
+ghost use Rattle.show_text.specs.Lines.{hex_byte, hex_word, hex_words, bits_text};
 
 use arrayvec::ArrayString;
-use ln_ops::{Reply, to_msg};
 
 /// A line of text, without its line feed.
 pub type Line = ArrayString<640>;
@@ -20,17 +18,58 @@ fn push_byte(line: &mut Line, byte: u8)
     line.push(char::from(byte));
 }
 
+/// Appends two decimal digits.
+fn push_two_digits(line: &mut Line, n: u8)
+    requires range { n < 100 }
+    requires room { array_string_len line.old + 2 ≤ 640 }
+    ensures { line.new.bytes ≡ line.old.bytes ++ (48 + n / 10) ∷ (48 + n % 10) ∷ [] }
+{
+    push_byte(line, b'0' + n / 10);
+    push_byte(line, b'0' + n % 10);
+}
+
 /// Appends a number in decimal digits.
-fn push_decimal(line: &mut Line, n: u64)
+fn push_digits(line: &mut Line, n: u64)
     requires { array_string_len line.old + length (decimal n) ≤ 640 }
     ensures { line.new.bytes ≡ line.old.bytes ++ decimal n }
 {
-    if n < 10 {
-        push_byte(line, b'0' + n as u8);
-    } else {
-        push_decimal(line, n / 10);
-        push_byte(line, b'0' + (n % 10) as u8);
+    // Two digits at a time halve the divisions.
+    match n {
+        0..=9 => push_byte(line, b'0' + n as u8),
+        10..=99 => push_two_digits(line, n as u8),
+        _ => {
+            push_digits(line, n / 100);
+            push_two_digits(line, (n % 100) as u8);
+        }
     }
+}
+
+/// Appends a number in decimal digits, at most 20.
+pub(crate) fn push_count(line: &mut Line, n: u64)
+    requires { array_string_len line.old + 20 ≤ 640 }
+    ensures text { line.new.bytes ≡ line.old.bytes ++ decimal n }
+    ensures len { array_string_len line.new ≤ array_string_len line.old + 20 }
+{
+    push_digits(line, n);
+}
+
+/// Appends a small number in decimal digits, at most 5.
+fn push_number(line: &mut Line, n: u16)
+    requires { array_string_len line.old + 5 ≤ 640 }
+    ensures text { line.new.bytes ≡ line.old.bytes ++ decimal n }
+    ensures len { array_string_len line.new ≤ array_string_len line.old + 5 }
+{
+    push_digits(line, u64::from(n));
+}
+
+/// Appends a label and a small number.
+pub(crate) fn push_field(line: &mut Line, label: &str, n: u16)
+    requires { array_string_len line.old + length label.now + 5 ≤ 640 }
+    ensures text { line.new.bytes ≡ line.old.bytes ++ (label.now ++ decimal n) }
+    ensures len { array_string_len line.new ≤ array_string_len line.old + length label.now + 5 }
+{
+    line.push_str(label);
+    push_number(line, n);
 }
 
 fn hex_digit(n: u8) -> u8
@@ -52,24 +91,23 @@ fn push_hex(line: &mut Line, byte: u8)
 }
 
 /// Appends each byte as a space and two digits.
-fn push_bytes(line: &mut Line, bytes: &[u8])
+pub(crate) fn push_bytes(line: &mut Line, bytes: &[u8])
     requires { array_string_len line.old + 3 * length bytes.now ≤ 640 }
-    ensures { line.new.bytes ≡ line.old.bytes ++ hex_words bytes.now }
+    ensures text { line.new.bytes ≡ line.old.bytes ++ hex_words bytes.now }
+    ensures len { array_string_len line.new ≡ array_string_len line.old + 3 * length bytes.now }
 {
     for b in bytes {
         push_hex(line, *b);
     }
 }
 
-/// `reply L` and the bytes of the reply, in upper-case hexadecimal digits.
-pub fn reply_line(line: u8, reply: &Reply) -> Line
-    requires { IsSendable reply.now }
-    ensures { result.bytes ≡ reply_text line reply.now }
+/// Appends the lowest bits of a number, as many as that, each as a digit, bit 0 first.
+pub(crate) fn push_bits(line: &mut Line, bits: u16, count: u8)
+    requires range { count ≤ 16 }
+    requires room { array_string_len line.old + count ≤ 640 }
+    ensures { line.new.bytes ≡ line.old.bytes ++ bits_text count bits }
 {
-    let message = to_msg(reply);
-    let mut text = Line::new();
-    text.push_str("reply ");
-    push_decimal(&mut text, u64::from(line));
-    push_bytes(&mut text, message.bytes());
-    text
+    for k in 0..count {
+        push_byte(line, b'0' + ((bits >> k) % 2) as u8);
+    }
 }

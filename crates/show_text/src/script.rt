@@ -1,21 +1,34 @@
 //! Scripts, line by line.
-ghost use Rattle.std.specs.Prelude.{◌≡◌, ◌≢◌, IfOk, IfErr, Ok, Err, codes};
+ghost use Rattle.std.specs.Prelude.{◌≡◌, ◌≢◌, ◌≤◌, IfOk, IfErr, Ok, Err};
 ghost use Rattle.show_text.specs.declared.command.Why.TheVariants.{NoMemory};
 ghost use Rattle.show_text.specs.Words.{words_of};
-ghost use Rattle.show_text.specs.Script.{Adds, AreOnLines, number_of, below, byte_command, bytes_of, line_of, command_of, line_commands, fault_at, script_of};
+ghost use Rattle.show_text.specs.Script.{Adds, AreCounted, AreOnLines, number_of, count_of, below, bytes_of, some_bytes, line_of, nodes_of, set_with, missed_of, turn_of, show_of, command_of, line_commands, fault_at, script_of};
 
 use crate::command::{Command, ScriptFault, Why};
 use crate::cursors::{Lines, Words};
-use crate::words::{decimal, hex_pair};
+use crate::words::decimal;
 use std::alloc::Global;
 
-/// The longest script, in bytes.
+/// The longest script or hex text, in bytes.
 pub const LONGEST_TEXT: usize = 1_048_576;
+
+/// The most turns that one line may ask for.
+const MOST_TURNS: u32 = 1_000_000;
 
 fn number(word: &[u8]) -> Result<u32, Why>
     ensures { result ≡ number_of word.now }
 {
     decimal(word).ok_or(Why::BadNumber)
+}
+
+/// A number of turns.
+fn count(word: &[u8]) -> Result<u32, Why>
+    ensures { result ≡ count_of word.now }
+{
+    match number(word)? {
+        count @ 1..=MOST_TURNS => Ok(count),
+        _ => Err(Why::BadNumber),
+    }
 }
 
 /// A number below `limit`, which else is `why`.
@@ -30,53 +43,134 @@ fn number_below(word: &[u8], limit: u8, why: Why) -> Result<u8, Why>
     }
 }
 
-fn push_byte(line: u8, word: &[u8], commands: &mut Vec<Command>) -> Result<(), Why>
-    ensures { Adds commands.old.items commands.new.items result (byte_command line word.now) }
-{
-    let byte = hex_pair(word).ok_or(Why::BadHex)?;
-    commands.push(Command::Byte { line, byte })?;
-    Ok(())
-}
-
-#[tactic(auto, using(crate::proofs::Sequences::ends), unfolding(crate::specs::Script::bytes_of))]
-fn push_bytes(line: u8, words: Words<'_>, commands: &mut Vec<Command>) -> Result<(), Why>
+/// The bytes that the words write.
+#[tactic(auto, using(crate::proofs::Reading::byte_steps), unfolding(crate::specs::Script::bytes_of))]
+fn push_bytes(line: u8, mut words: Words<'_>, commands: &mut Vec<Command>) -> Result<(), Why>
     ensures { Adds commands.old.items commands.new.items result (bytes_of line (words_of words.entry.0.now)) }
 {
-    for word in words {
-        push_byte(line, word, commands)?;
+    while let Some(byte) = words.next_byte()? {
+        commands.push(Command::Byte { line, byte })?;
     }
     Ok(())
 }
 
-fn push_line(mut words: Words<'_>, lines: u8, commands: &mut Vec<Command>) -> Result<(), Why>
-    ensures { Adds commands.old.items commands.new.items result (line_of lines (words_of words.entry.0.now)) }
+/// The bytes of a line, one or more.
+fn push_some_bytes(line: u8, words: Words<'_>, commands: &mut Vec<Command>) -> Result<(), Why>
+    ensures { Adds commands.old.items commands.new.items result (some_bytes line (words_of words.entry.0.now)) }
 {
-    let word = words.next().ok_or(Why::BadWord)?;
-    let line = number_below(word, lines, Why::BadLine)?;
     if words.is_empty() {
         return Err(Why::BadWord);
     }
     push_bytes(line, words, commands)
 }
 
-/// Puts what a line says after the commands.
-fn push_commands(mut words: Words<'_>, lines: u8, commands: &mut Vec<Command>) -> Result<(), Why>
-    ensures { Adds commands.old.items commands.new.items result (command_of lines (words_of words.entry.0.now)) }
+/// The number of a line, and its bytes.
+fn push_line(mut words: Words<'_>, lines: u8, commands: &mut Vec<Command>) -> Result<(), Why>
+    ensures { Adds commands.old.items commands.new.items result (line_of lines (words_of words.entry.0.now)) }
+{
+    let word = words.next().ok_or(Why::BadWord)?;
+    let line = number_below(word, lines, Why::BadLine)?;
+    push_some_bytes(line, words, commands)
+}
+
+/// The set of the nodes that the words name.
+#[tactic(auto, using(crate::proofs::NodeSets::node_steps), unfolding(crate::specs::Script::nodes_of))]
+fn named_nodes(words: Words<'_>, nodes: u8) -> Result<u64, Why>
+    requires { nodes ≤ 64 }
+    ensures { result ≡ set_with 0 (nodes_of nodes (words_of words.entry.0.now)) }
+{
+    let mut named = 0u64;
+    for word in words {
+        let node = number_below(word, nodes, Why::BadNode)?;
+        named |= 1 << node;
+    }
+    Ok(named)
+}
+
+/// The nodes that the words behind a number of turns name.
+fn missing_nodes(mut words: Words<'_>, nodes: u8) -> Result<u64, Why>
+    requires { nodes ≤ 64 }
+    ensures { result ≡ missed_of nodes (words_of words.entry.0.now) }
+{
+    match words.next() {
+        None => Ok(0),
+        Some(word) if word != b"miss".as_slice() || words.is_empty() => Err(Why::BadWord),
+        Some(_) => named_nodes(words, nodes),
+    }
+}
+
+/// A number of turns, and the nodes that miss them.
+fn push_turns(mut words: Words<'_>, nodes: u8, commands: &mut Vec<Command>) -> Result<(), Why>
+    requires { nodes ≤ 64 }
+    ensures { Adds commands.old.items commands.new.items result (turn_of nodes (words_of words.entry.0.now)) }
+{
+    let word = words.next().ok_or(Why::BadWord)?;
+    let count = count(word)?;
+    let missed = missing_nodes(words, nodes)?;
+    commands.push(Command::Turns { count, missed })?;
+    Ok(())
+}
+
+/// Nothing more.
+fn push_show(words: Words<'_>, commands: &mut Vec<Command>) -> Result<(), Why>
+    ensures { Adds commands.old.items commands.new.items result (show_of (words_of words.entry.0.now)) }
+{
+    if !words.is_empty() {
+        return Err(Why::BadWord);
+    }
+    commands.push(Command::Show)?;
+    Ok(())
+}
+
+/// Puts what a line says after the commands, by its first word.
+fn push_commands(
+    mut words: Words<'_>,
+    lines: u8,
+    nodes: u8,
+    commands: &mut Vec<Command>,
+) -> Result<(), Why>
+    requires { nodes ≤ 64 }
+    ensures { Adds commands.old.items commands.new.items result (command_of lines nodes (words_of words.entry.0.now)) }
 {
     match words.next() {
         None => Ok(()),
         Some(word) if word == b"line".as_slice() => push_line(words, lines, commands),
+        Some(word) if word == b"turn".as_slice() => push_turns(words, nodes, commands),
+        Some(word) if word == b"show".as_slice() => push_show(words, commands),
         Some(_) => Err(Why::BadWord),
     }
 }
 
-fn push_line_commands(line: &[u8], lines: u8, commands: &mut Vec<Command>) -> Result<(), Why>
-    ensures { Adds commands.old.items commands.new.items result (line_commands lines line.now) }
+/// Puts what a line says after the commands. Lines that begin with `line L ` need no search for words.
+#[tactic(auto, using(crate::proofs::Reading::on_a_line))]
+fn push_words(
+    words: Words<'_>,
+    lines: u8,
+    nodes: u8,
+    commands: &mut Vec<Command>,
+) -> Result<(), Why>
+    requires { nodes ≤ 64 }
+    ensures { Adds commands.old.items commands.new.items result (command_of lines nodes (words_of words.entry.0.now)) }
+{
+    match words.line_number() {
+        Some((line, rest)) if line < lines => push_some_bytes(line, rest, commands),
+        _ => push_commands(words, lines, nodes, commands),
+    }
+}
+
+fn push_line_commands(
+    line: &[u8],
+    lines: u8,
+    nodes: u8,
+    commands: &mut Vec<Command>,
+) -> Result<(), Why>
+    requires { nodes ≤ 64 }
+    ensures { Adds commands.old.items commands.new.items result (line_commands lines nodes line.now) }
 {
     if line.starts_with(b"#".as_slice()) {
         return Ok(());
     }
-    push_commands(Words(line), lines, commands)
+    push_words(Words(line), lines, nodes, commands)
 }
 
 fn fault_at(why: Why, line: u64) -> ScriptFault
@@ -89,19 +183,27 @@ fn fault_at(why: Why, line: u64) -> ScriptFault
     }
 }
 
-/// The commands of a script, for a station with so many lines.
+/// The commands of a script, for a station with so many lines and a layout with so many nodes, at most 64.
 ///
-/// A line of the script is `line L HH HH ..`, one or more bytes on line L. Lines without words and lines that begin
-/// with `#` say nothing. The first fault decides: a text longer than [`LONGEST_TEXT`], then each word from left to
-/// right, where a missing word counts at the end of its line.
+/// A line of the script is `line L HH HH ..`, one or more bytes on line L, `turn N`, N turns, `turn N miss I I ..`, N
+/// turns that the named nodes miss, one or more, or `show`. Lines without words and lines that begin with `#` say
+/// nothing. The first fault decides: a text longer than [`LONGEST_TEXT`], then each word from left to right, where a
+/// missing word counts at the end of its line.
 #[tactic(auto, using(crate::proofs::Reading::script_steps))]
-pub fn read_script(alloc: Global, text: &[u8], lines: u8) -> Result<Vec<Command>, ScriptFault>
+pub fn read_script(
+    alloc: Global,
+    text: &[u8],
+    lines: u8,
+    nodes: u8,
+) -> Result<Vec<Command>, ScriptFault>
+    requires { nodes ≤ 64 }
     // The commands are those that the text says.
-    ensures commands { IfOk result (λ v. script_of lines text.now ≡ Ok v.items) }
+    ensures commands { IfOk result (λ v. script_of lines nodes text.now ≡ Ok v.items) }
     // The fault is the first of the text, unless memory ran out.
-    ensures fault { IfErr result (λ e. e.why ≢ NoMemory → script_of lines text.now ≡ Err e) }
+    ensures fault { IfErr result (λ e. e.why ≢ NoMemory → script_of lines nodes text.now ≡ Err e) }
     ensures memory { IfErr result (λ e. e.why ≡ NoMemory → e.line ≡ 0) }
     ensures lines { IfOk result (λ v. AreOnLines lines v.items) }
+    ensures counts { IfOk result (λ v. AreCounted v.items) }
 {
     if text.len() > LONGEST_TEXT {
         return Err(fault_at(Why::TooLong, 0));
@@ -110,7 +212,7 @@ pub fn read_script(alloc: Global, text: &[u8], lines: u8) -> Result<Vec<Command>
     let mut number = 0u64;
     for line in Lines(text) {
         number += 1;
-        if let Err(why) = push_line_commands(line, lines, &mut commands) {
+        if let Err(why) = push_line_commands(line, lines, nodes, &mut commands) {
             return Err(fault_at(why, number));
         }
     }

@@ -1,75 +1,331 @@
-//! Scripts and lines, as their format has them.
+//! Scripts, hex text and lines, as their formats have them.
 
 use super::*;
+use dcc_packet::{Module, Motion, Packet, Steps};
+use decoder_cv::CvSet;
+use decoder_node::{NodeSpec, Running};
 use ln_frame::Msg;
 use ln_ops::read_reply;
 use std::test::Fail;
 
-fn script(rt: &HostRuntime, text: &[u8]) -> Result<Vec<Command>, ScriptFault> {
-    read_script(rt.alloc(), text, 8)
-}
-
 #[test]
-fn reads_the_bytes_of_each_line(rt: HostRuntime) -> Result<(), Fail> {
-    let text = b"# a comment\r\nline 0 83 7C\r\n\n \t\nline  7\tfF \n#line 9".as_slice();
-    let commands = script(&rt, text).ok().ok_or("a script")?;
-    let wanted = [(0, 0x83), (0, 0x7C), (7, 0xFF)];
-    assert_eq!(rt; commands.len(), wanted.len());
-    for (command, (line, byte)) in commands.iter().zip(wanted.iter()) {
-        assert_eq!(rt;
-            *command,
-            Command::Byte {
-                line: *line,
-                byte: *byte
-            }
-        );
-    }
+fn reads_each_command(rt: HostRuntime) -> Result<(), Fail> {
+    let text =
+        b"# a comment\r\nline 0 83 7C\r\n\n \t\nturn 2\nline  7\tfF \nturn 1000000 miss 63 0 63\nshow\n#";
+    let commands = read_script(rt.alloc(), text, 8, 64).ok().ok_or("a script")?;
+    let wanted = [
+        Command::Byte {
+            line: 0,
+            byte: 0x83,
+        },
+        Command::Byte {
+            line: 0,
+            byte: 0x7C,
+        },
+        Command::Turns {
+            count: 2,
+            missed: 0,
+        },
+        Command::Byte {
+            line: 7,
+            byte: 0xFF,
+        },
+        Command::Turns {
+            count: 1_000_000,
+            missed: 0x8000_0000_0000_0001,
+        },
+        Command::Show,
+    ];
+    assert_eq!(rt; commands.as_slice(), wanted.as_slice());
     Ok(())
 }
 
+// The fault of a script for eight lines and no nodes.
+fn script_fault(rt: &HostRuntime, text: &[u8]) -> Option<ScriptFault> {
+    read_script(rt.alloc(), text, 8, 0).err()
+}
+
+const SCRIPT_FAULTS: [(&'static [u8], Why, u64); 31] = [
+    (b"line", Why::BadWord, 1),
+    (b"line 0", Why::BadWord, 1),
+    (b"line 0 \t", Why::BadWord, 1),
+    (b"lien 0 83", Why::BadWord, 1),
+    (b"LINE 0 83", Why::BadWord, 1),
+    (b"lines 0 83", Why::BadWord, 1),
+    (b" # no comment", Why::BadWord, 1),
+    (b"turn", Why::BadWord, 1),
+    (b"turn 1 miss", Why::BadWord, 1),
+    (b"turn 1 2", Why::BadWord, 1),
+    (b"turn 1 missed 0", Why::BadWord, 1),
+    (b"show now", Why::BadWord, 1),
+    (b"show\r", Why::BadWord, 1),
+    (b"line 0 8", Why::BadHex, 1),
+    (b"line 0 83 7G", Why::BadHex, 1),
+    (b"line 0 837C", Why::BadHex, 1),
+    (b"line 0 83\r", Why::BadHex, 1),
+    (b"line 12345678 83", Why::BadNumber, 1),
+    (b"line x", Why::BadNumber, 1),
+    (b"line -1 83", Why::BadNumber, 1),
+    (b"turn 0", Why::BadNumber, 1),
+    (b"turn 1000001", Why::BadNumber, 1),
+    (b"turn 0 2", Why::BadNumber, 1),
+    (b"turn 1 miss x", Why::BadNumber, 1),
+    (b"line 8", Why::BadLine, 1),
+    (b"line 8 83", Why::BadLine, 1),
+    (b"line 8 8", Why::BadLine, 1),
+    (b"turn 1 miss 0", Why::BadNode, 1),
+    (b"turn 1 miss 0 x", Why::BadNode, 1),
+    (b"\n# one\nline 0 83\nline 8\nline", Why::BadLine, 4),
+    (b"show\r\nturn 1\r\nturn 1 miss 0 0\r\n", Why::BadNode, 3),
+];
+
 #[test]
-fn refuses_by_the_first_fault(rt: HostRuntime) {
-    let rows: [(&[u8], Why, u64); 13] = [
-        (b"line", Why::BadWord, 1),
-        (b"line 0", Why::BadWord, 1),
-        (b"lien 0 83", Why::BadWord, 1),
-        (b"turn 1", Why::BadWord, 1),
-        (b"show", Why::BadWord, 1),
-        (b" # no comment", Why::BadWord, 1),
-        (b"line 0 8", Why::BadHex, 1),
-        (b"line 0 83 7G", Why::BadHex, 1),
-        (b"line 0 83\r", Why::BadHex, 1),
-        (b"line 12345678 83", Why::BadNumber, 1),
-        (b"line x", Why::BadNumber, 1),
-        (b"line 8 83", Why::BadLine, 1),
-        (b"\n# one\nline 0 83\nline 8\nline", Why::BadLine, 4),
-    ];
-    for (text, why, line) in rows {
-        assert!(rt; script(&rt, text).err() == Some(ScriptFault { why, line }));
+fn refuses_a_script_by_its_first_fault(rt: HostRuntime) {
+    for (text, why, line) in SCRIPT_FAULTS {
+        let wanted = ScriptFault { why, line };
+        assert_eq!(rt; script_fault(&rt, text), Some(wanted), "in {text:?}");
     }
 }
 
 #[test]
-fn refuses_a_long_script(rt: HostRuntime) -> Result<(), Fail> {
+fn refuses_long_texts_before_all_else(rt: HostRuntime) -> Result<(), Fail> {
     let mut text = Vec::new(rt.alloc());
     for _ in 0..LONGEST_TEXT {
         text.push(b' ')?;
     }
-    assert!(rt; script(&rt, text.as_slice()).is_ok());
-    text.push(b' ')?;
-    assert!(rt;
-        script(&rt, text.as_slice()).err()
-            == Some(ScriptFault {
-                why: Why::TooLong,
-                line: 0
-            })
-    );
+    assert_eq!(rt; script_fault(&rt, text.as_slice()), None);
+    assert!(rt; read_hex(rt.alloc(), text.as_slice()).is_ok());
+    text.push(b'?')?;
+    let long = ScriptFault {
+        why: Why::TooLong,
+        line: 0,
+    };
+    assert_eq!(rt; script_fault(&rt, text.as_slice()), Some(long));
+    let long = HexFault {
+        why: HexWhy::TooLong,
+        at: 0,
+    };
+    assert_eq!(rt; read_hex(rt.alloc(), text.as_slice()).err(), Some(long));
     Ok(())
 }
 
 #[test]
-fn prints_replies(rt: HostRuntime) -> Result<(), Fail> {
-    let reply = read_reply(&Msg::sealed(&[0xB4, 0x3F, 0x00])).ok_or("a reply")?;
-    assert_eq!(rt; reply_line(7, &reply).as_str(), "reply 7 B4 3F 00 74");
+fn reads_hex_text(rt: HostRuntime) -> Result<(), Fail> {
+    let rows: [(&[u8], &[u8]); 4] = [
+        (b"", &[]),
+        (b" \r\n", &[]),
+        (b"83 7c", &[0x83, 0x7C]),
+        (
+            b" BF\t00\r\n 03 \t 43\n0a Fd",
+            &[0xBF, 0x00, 0x03, 0x43, 0x0A, 0xFD],
+        ),
+    ];
+    for (text, wanted) in rows {
+        let bytes = read_hex(rt.alloc(), text).ok().ok_or("hex text")?;
+        assert_eq!(rt; bytes.as_slice(), wanted);
+    }
     Ok(())
+}
+
+#[test]
+fn refuses_hex_text_where_the_first_wrong_word_begins(rt: HostRuntime) {
+    let rows: [(&[u8], u64); 6] = [
+        (b"0", 0),
+        (b"BF 0", 3),
+        (b"\r\n BF  00\n0g 0", 10),
+        (b"BF,00", 0),
+        (b"83 7C7 7C", 3),
+        (b"83 7C \x0C 00", 6),
+    ];
+    for (text, at) in rows {
+        let wanted = HexFault {
+            why: HexWhy::BadHex,
+            at,
+        };
+        assert_eq!(rt;
+            read_hex(rt.alloc(), text).err(),
+            Some(wanted),
+            "in {text:?}"
+        );
+    }
+}
+
+#[test]
+fn prints_replies(rt: HostRuntime) -> Result<(), Fail> {
+    let rows: [(u8, &[u8], &str); 2] = [
+        (7, &[0xB4, 0x3F, 0x00], "reply 7 B4 3F 00 74"),
+        (
+            1,
+            &[
+                0xE7, 0x0E, 0x01, 0x23, 0x03, 0x00, 0x00, 0x06, 0x00, 0x00, 0x00, 0x00, 0x00,
+            ],
+            "reply 1 E7 0E 01 23 03 00 00 06 00 00 00 00 00 31",
+        ),
+    ];
+    for (line, body, text) in rows {
+        let reply = read_reply(&Msg::sealed(body)).ok_or("a reply")?;
+        assert_eq!(rt; reply_line(line, &reply).as_str(), text);
+    }
+    Ok(())
+}
+
+#[test]
+fn prints_turns(rt: HostRuntime) -> Result<(), Fail> {
+    let rows: [(u64, &[u8], &str); 4] = [
+        (1, &[0xFF, 0x00, 0xFF], "track 1 FF 00 FF"),
+        (10, &[0x03, 0x3F, 0xC0, 0xFC], "track 10 03 3F C0 FC"),
+        (
+            1_000_000,
+            &[0xC4, 0xD2, 0x3F, 0xC0, 0xE9],
+            "track 1000000 C4 D2 3F C0 E9",
+        ),
+        (
+            u64::MAX,
+            &[0x01, 0x23, 0x45, 0x67, 0x89, 0xAB],
+            "track 18446744073709551615 01 23 45 67 89 AB",
+        ),
+    ];
+    for (turn, bytes, text) in rows {
+        let packet = Packet::of(bytes).ok_or("a packet")?;
+        assert_eq!(rt; track_line(turn, &packet).as_str(), text);
+    }
+    assert_eq!(rt; off_line(0).as_str(), "track 0 off");
+    assert_eq!(rt; off_line(4_294_967_296).as_str(), "track 4294967296 off");
+    Ok(())
+}
+
+// Bytes of CV17, CV18 and CV29, how the decoder runs, and the text behind `node a `.
+const LOCOMOTIVES: [(u8, u8, u8, Motion, bool, u16, &'static str); 5] = [
+    (
+        192,
+        0,
+        2,
+        Motion::Step {
+            of: Steps::S128,
+            n: 63,
+        },
+        true,
+        0,
+        "short 3 step 63 of 128 forward F 000000000",
+    ),
+    (
+        192,
+        0,
+        2,
+        Motion::Step {
+            of: Steps::S28,
+            n: 28,
+        },
+        false,
+        1,
+        "short 3 step 28 of 28 reverse F 100000000",
+    ),
+    (
+        192,
+        0,
+        0,
+        Motion::Step {
+            of: Steps::S14,
+            n: 1,
+        },
+        true,
+        0x106,
+        "short 3 step 1 of 14 forward F 011000001",
+    ),
+    (
+        196,
+        210,
+        34,
+        Motion::Stop,
+        false,
+        0x1FF,
+        "long 1234 stop reverse F 111111111",
+    ),
+    (
+        196,
+        210,
+        34,
+        Motion::Emergency,
+        true,
+        0x020,
+        "long 1234 emergency forward F 000001000",
+    ),
+];
+
+#[test]
+fn prints_locomotives(rt: HostRuntime) -> Result<(), Fail> {
+    for (cv17, cv18, cv29, motion, forward, functions, text) in LOCOMOTIVES {
+        let cv = CvSet::new(3, cv17, cv18, cv29).ok().ok_or("settings")?;
+        let running = Running {
+            motion,
+            forward,
+            functions,
+        };
+        let line = node_line("a", &NodeSpec::Loco(cv), Some(running), None);
+        assert_eq!(rt; line.as_str().strip_prefix("node a "), Some(text));
+    }
+    Ok(())
+}
+
+#[test]
+fn prints_accessory_decoders(rt: HostRuntime) -> Result<(), Fail> {
+    let rows = [
+        (
+            "yard",
+            1,
+            0b0000_0010,
+            "node yard module 1 outputs 01000000",
+        ),
+        (
+            "sixteen-letters_",
+            510,
+            0b1001_0000,
+            "node sixteen-letters_ module 510 outputs 00001001",
+        ),
+    ];
+    for (name, number, outputs, text) in rows {
+        let spec = NodeSpec::Accessory(Module::new(number).ok_or("a module")?);
+        assert_eq!(rt; node_line(name, &spec, None, Some(outputs)).as_str(), text);
+    }
+    Ok(())
+}
+
+const MESSAGES: [(&'static [u8], &'static str); 17] = [
+    (&[0x82], "msg 82 7D power off"),
+    (&[0x83], "msg 83 7C power on"),
+    (&[0x85], "msg 85 7A force idle"),
+    (&[0xA0, 0x01, 0x40], "msg A0 01 40 1E speed slot 1 spd 64"),
+    (&[0xA1, 0x01, 0x20], "msg A1 01 20 7F dirf slot 1 dirf 32"),
+    (&[0xA2, 0x01, 0x05], "msg A2 01 05 59 snd slot 1 snd 5"),
+    (&[0xB0, 0x77, 0x1F], "msg B0 77 1F 27 switch 2039 thrown on"),
+    (
+        &[0xBD, 0x78, 0x6F],
+        "msg BD 78 6F 55 switch-ack 2040 closed off",
+    ),
+    (&[0xB4, 0x3F, 0x00], "msg B4 3F 00 74 ack opc 63 code 0"),
+    (&[0xB5, 0x01, 0x30], "msg B5 01 30 7B status slot 1 stat 48"),
+    (&[0xBA, 0x01, 0x05], "msg BA 01 05 41 move 1 5"),
+    (&[0xBB, 0x05, 0x00], "msg BB 05 00 41 read slot 5"),
+    (&[0xBF, 0x4F, 0x7F], "msg BF 4F 7F 70 address 10239"),
+    (
+        &[
+            0xE7, 0x0E, 0x02, 0x33, 0x04, 0x20, 0x10, 0x07, 0x00, 0x00, 0x05, 0x00, 0x00,
+        ],
+        "msg E7 0E 02 33 04 20 10 07 00 00 05 00 00 11 slot-data slot 2 stat 51 address 4 spd 32 dirf 16 trk 7 ss2 0 snd 5 ids 0 0",
+    ),
+    (
+        &[
+            0xEF, 0x0E, 0x02, 0x33, 0x04, 0x20, 0x10, 0x07, 0x03, 0x01, 0x05, 0x11, 0x12,
+        ],
+        "msg EF 0E 02 33 04 20 10 07 03 01 05 11 12 18 slot-write slot 2 stat 51 address 132 spd 32 dirf 16 trk 7 ss2 3 snd 5 ids 17 18",
+    ),
+    (&[0xE7, 0x04, 0x00], "msg E7 04 00 1C other"),
+    (&[0x81], "msg 81 7E other"),
+];
+
+#[test]
+fn prints_messages(rt: HostRuntime) {
+    for (body, text) in MESSAGES {
+        assert_eq!(rt; message_line(&Msg::sealed(body)).as_str(), text);
+    }
 }

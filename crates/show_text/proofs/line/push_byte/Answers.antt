@@ -1,4 +1,4 @@
-use Rattle.std.proofs.Common.{◌≡◌, ◌<◌, ◌≤◌, ◌+◌, ◌∷◌, [], length, ap, ◌∙◌, arith, ℕ}
+use Rattle.std.proofs.Common.{◌<◌, arith}
 use Rattle.std.proofs.lemmas.Str.{encode_ascii}
 use Rattle.show_text.proofs.line.push_byte.Goals as goal
 

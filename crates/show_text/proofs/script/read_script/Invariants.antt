@@ -7,5 +7,5 @@ use Rattle.show_text.proofs.script.read_script.Given as goal
 abbrev pub invariant-loop-line : goal.invariant-loop-line
 invariant-loop-line l = record {
   counted : l.number + length (lines l.line-iterator.0.now) ≡ length (lines l.text);
-  read : before l.commands.items (commands_of l.lines (l.number + 1) (lines l.line-iterator.0.now)) ≡ commands_of l.lines 1 (lines l.text);
+  read : before l.commands.items (commands_of l.lines l.nodes (l.number + 1) (lines l.line-iterator.0.now)) ≡ commands_of l.lines l.nodes 1 (lines l.text);
 }

@@ -1,0 +1,100 @@
+//! Hex text.
+ghost use Rattle.std.specs.Prelude.{◌≡◌, ◌≢◌, ℕ, ◌+◌, ◌-◌, ◌<◌, ◌≤◌, position, length, IfOk, IfErr, Ok, Err};
+ghost use Rattle.std.specs.List.{slice_split};
+ghost use Rattle.show_text.specs.declared.hex.HexWhy.TheVariants.{NoMemory};
+ghost use Rattle.show_text.specs.Sequence.{followed_by};
+ghost use Rattle.show_text.specs.Hex.{is_space, piece_of, pieces_of, hex_of};
+
+use crate::script::LONGEST_TEXT;
+use crate::words::hex_pair;
+use std::alloc::{AllocFailed, Global};
+
+/// What is wrong with hex text.
+#[derive(Clone, Copy, Debug, PartialEq, Eq)]
+pub enum HexWhy {
+    /// A word that is no two hexadecimal digits.
+    BadHex,
+    /// More than 1,048,576 bytes.
+    TooLong,
+    /// A growth was refused.
+    NoMemory,
+}
+
+/// The first fault of hex text, and where its word begins, in bytes from 0. `TooLong` and `NoMemory` stand at 0.
+#[derive(Clone, Copy, Debug, PartialEq, Eq)]
+pub struct HexFault {
+    pub why: HexWhy,
+    pub at: u64,
+}
+
+impl<T: Drop> From<AllocFailed<T>> for HexFault {
+    ghost from_gives = { λ _ fault. (fault.why ≡ NoMemory) × (fault.at ≡ 0) };
+
+    fn from(_error: AllocFailed<T>) -> HexFault {
+        HexFault {
+            why: HexWhy::NoMemory,
+            at: 0,
+        }
+    }
+}
+
+fn is_space(byte: u8) -> bool
+    ensures { result ≡ is_space byte }
+{
+    byte == b' ' || byte == b'\t' || byte == b'\r' || byte == b'\n'
+}
+
+fn space_at(bytes: &[u8]) -> Option<usize>
+    ensures { result ≡ position is_space bytes.now }
+{
+    bytes.iter().position(|byte| is_space(*byte))
+}
+
+/// The piece before the first space, and what follows that space.
+#[tactic(auto, using(crate::proofs::HexPieces::piece_cuts))]
+fn cut_piece(text: &[u8]) -> (&[u8], &[u8])
+    requires { 0 < length text.now }
+    ensures pieces { (at : ℕ) → pieces_of at (slice_split is_space text.now) ≡ followed_by (piece_of at result.0.now) (pieces_of (at + (length text.now - length result.1.now)) (slice_split is_space result.1.now)) }
+    ensures shorter { length result.1.now < length text.now }
+{
+    match space_at(text) {
+        None => (text, &[]),
+        Some(at) => (&text[..at], &text[at + 1..]),
+    }
+}
+
+/// The bytes of hex text: pairs of hexadecimal digits of either case, with spaces, tabs, carriage returns and line feeds
+/// between them, one or more, and at both ends, any number.
+///
+/// The first fault decides: a text longer than [`LONGEST_TEXT`], and then the first word that is no pair, with the
+/// offset from 0 of its first byte.
+#[tactic(auto, using(crate::proofs::HexPieces::hex_steps))]
+pub fn read_hex(alloc: Global, text: &[u8]) -> Result<Vec<u8>, HexFault>
+    // The bytes are those that the text says.
+    ensures bytes { IfOk result (λ v. hex_of text.now ≡ Ok v.items) }
+    // The fault is the first of the text, unless memory ran out.
+    ensures fault { IfErr result (λ e. e.why ≢ NoMemory → hex_of text.now ≡ Err e) }
+    ensures memory { IfErr result (λ e. e.why ≡ NoMemory → e.at ≡ 0) }
+{
+    if text.len() > LONGEST_TEXT {
+        return Err(HexFault {
+            why: HexWhy::TooLong,
+            at: 0,
+        });
+    }
+    let mut bytes = Vec::new(alloc);
+    let mut rest = text;
+    while !rest.is_empty() {
+        let at = (text.len() - rest.len()) as u64;
+        let (piece, after) = cut_piece(rest);
+        if !piece.is_empty() {
+            let bad = HexFault {
+                why: HexWhy::BadHex,
+                at,
+            };
+            bytes.push(hex_pair(piece).ok_or(bad)?)?;
+        }
+        rest = after;
+    }
+    Ok(bytes)
+}

@@ -1,0 +1,92 @@
+//! Lines of messages.
+ghost use Rattle.std.specs.Prelude.{◌≡◌, ◌≤◌, ◌+◌, ◌++◌, length};
+ghost use Rattle.std.specs.Fmt.{decimal};
+ghost use Rattle.arrayvec.specs.ArrayString.{array_string_len};
+ghost use Rattle.show_text.specs.Messages.{switch_text, fields_text, pair_text, op_text, message_text};
+
+use crate::line::{Line, push_bytes, push_field};
+use ln_frame::Msg;
+use ln_ops::{Op, SlotFields, read};
+
+/// Two labels, each with a byte behind it.
+fn push_pair(line: &mut Line, first: (&str, u8), second: (&str, u8))
+    requires first { length first.0.now ≤ 20 }
+    requires second { length second.0.now ≤ 20 }
+    requires room { array_string_len line.old ≤ 590 }
+    ensures text { line.new.bytes ≡ line.old.bytes ++ pair_text first.entry.0.now first.entry.1 second.entry.0.now second.entry.1 }
+    ensures len { array_string_len line.new ≤ array_string_len line.old + length first.entry.0.now + length second.entry.0.now + 10 }
+{
+    push_field(line, first.0, u16::from(first.1));
+    push_field(line, second.0, u16::from(second.1));
+}
+
+/// `switch N closed on`, by either label.
+fn push_switch(line: &mut Line, label: &str, number: u16, closed: bool, on: bool)
+    requires label { length label.now ≤ 20 }
+    requires room { array_string_len line.old ≤ 590 }
+    ensures { line.new.bytes ≡ line.old.bytes ++ (label.now ++ switch_text number closed on) }
+{
+    push_field(line, label, number);
+    line.push_str(if closed { " closed" } else { " thrown" });
+    line.push_str(if on { " on" } else { " off" });
+}
+
+/// The bytes of a slot, each behind its name, but for the address, which ADR2 and ADR spell.
+fn push_fields(line: &mut Line, fields: &SlotFields)
+    requires { array_string_len line.old ≤ 400 }
+    ensures { line.new.bytes ≡ line.old.bytes ++ fields_text fields.now }
+{
+    let address = u16::from(fields.adr2) * 128 + u16::from(fields.adr);
+    push_pair(line, ("slot ", fields.slot), (" stat ", fields.stat));
+    push_field(line, " address ", address);
+    push_pair(line, (" spd ", fields.spd), (" dirf ", fields.dirf));
+    push_pair(line, (" trk ", fields.trk), (" ss2 ", fields.ss2));
+    push_field(line, " snd ", u16::from(fields.snd));
+    push_pair(line, (" ids ", fields.id1), (" ", fields.id2));
+}
+
+/// What the message asks or tells.
+fn push_op(line: &mut Line, op: &Op)
+    requires { array_string_len line.old ≤ 385 }
+    ensures { line.new.bytes ≡ line.old.bytes ++ op_text op.now }
+{
+    match op {
+        Op::PowerOff => line.push_str("power off"),
+        Op::PowerOn => line.push_str("power on"),
+        Op::ForceIdle => line.push_str("force idle"),
+        Op::Speed { slot, spd } => push_pair(line, ("speed slot ", *slot), (" spd ", *spd)),
+        Op::Dirf { slot, dirf } => push_pair(line, ("dirf slot ", *slot), (" dirf ", *dirf)),
+        Op::Snd { slot, snd } => push_pair(line, ("snd slot ", *slot), (" snd ", *snd)),
+        Op::SwReq { number, closed, on } => push_switch(line, "switch ", *number, *closed, *on),
+        Op::SwAck { number, closed, on } => push_switch(line, "switch-ack ", *number, *closed, *on),
+        Op::LongAck { opc, ack } => push_pair(line, ("ack opc ", *opc), (" code ", *ack)),
+        Op::SlotStat { slot, stat } => push_pair(line, ("status slot ", *slot), (" stat ", *stat)),
+        Op::Move { src, dest } => push_pair(line, ("move ", *src), (" ", *dest)),
+        Op::SlotRead { slot } => push_field(line, "read slot ", u16::from(*slot)),
+        Op::LocoAddr { high, low } => {
+            push_field(line, "address ", u16::from(*high) * 128 + u16::from(*low));
+        }
+        Op::SlotData(fields) => {
+            line.push_str("slot-data ");
+            push_fields(line, fields);
+        }
+        Op::SlotWrite(fields) => {
+            line.push_str("slot-write ");
+            push_fields(line, fields);
+        }
+        Op::Other => line.push_str("other"),
+    }
+}
+
+/// `msg`, the bytes of the message in upper-case hexadecimal digits, and what it asks or tells, in words and decimal
+/// numbers, or `other` where it is no known message.
+pub fn message_line(message: &Msg) -> Line
+    ensures { result.bytes ≡ message_text message.now }
+{
+    let mut line = Line::new();
+    line.push_str("msg");
+    push_bytes(&mut line, message.bytes());
+    line.push_str(" ");
+    push_op(&mut line, &read(message));
+    line
+}

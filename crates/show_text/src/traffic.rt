@@ -1,0 +1,52 @@
+//! Lines of replies and packets.
+ghost use Rattle.std.specs.Prelude.{◌≡◌, ◌≤◌, ◌+◌, ◌++◌, codes};
+ghost use Rattle.std.specs.Fmt.{decimal};
+ghost use Rattle.arrayvec.specs.ArrayString.{array_string_len};
+ghost use Rattle.ln_ops.specs.Reply.{IsSendable};
+ghost use Rattle.show_text.specs.Lines.{reply_text, track_text, off_text};
+
+use crate::line::{Line, push_bytes, push_count, push_field};
+use dcc_packet::Packet;
+use ln_ops::{Reply, to_msg};
+
+/// `reply L` and the bytes of the reply, in upper-case hexadecimal digits.
+pub fn reply_line(line: u8, reply: &Reply) -> Line
+    requires { IsSendable reply.now }
+    ensures { result.bytes ≡ reply_text line reply.now }
+{
+    let message = to_msg(reply);
+    let mut text = Line::new();
+    push_field(&mut text, "reply ", u16::from(line));
+    push_bytes(&mut text, message.bytes());
+    text
+}
+
+/// Appends `track T`.
+fn push_turn(text: &mut Line, turn: u64)
+    requires { array_string_len text.old + 26 ≤ 640 }
+    ensures text { text.new.bytes ≡ text.old.bytes ++ (codes "track " ++ decimal turn) }
+    ensures len { array_string_len text.new ≤ array_string_len text.old + 26 }
+{
+    text.push_str("track ");
+    push_count(text, turn);
+}
+
+/// `track T` and the bytes of the packet that turn T sent, in upper-case hexadecimal digits.
+pub fn track_line(turn: u64, packet: &Packet) -> Line
+    ensures { result.bytes ≡ track_text turn packet.now }
+{
+    let mut text = Line::new();
+    push_turn(&mut text, turn);
+    push_bytes(&mut text, packet.bytes());
+    text
+}
+
+/// `track T off`: turn T sent nothing, as the power is off.
+pub fn off_line(turn: u64) -> Line
+    ensures { result.bytes ≡ off_text turn }
+{
+    let mut text = Line::new();
+    push_turn(&mut text, turn);
+    text.push_str(" off");
+    text
+}
