@@ -1,8 +1,14 @@
 -- What is asked of decoders by the bytes of some slots, worked out by hand.
-use Rattle.std.proofs.Common.{◌≡◌, ℕ, true, false, refl}
+use Rattle.std.proofs.Common.{◌≡◌, ℕ, true, false, List, [], ◌∷◌, ◌++◌, refl, ap₂, arith}
+use Rattle.std.proofs.lemmas.Fmt.{decimal_digit}
+use Rattle.std.specs.Prelude.{codes}
 use Rattle.dcc_packet.specs.declared.steps.Steps.TheVariants.{S14, S28, S128}
 use Rattle.dcc_packet.specs.declared.steps.Motion.TheVariants.{Stop, Emergency, Step}
 use Rattle.slot_table.specs.Entry.{Entry, state_of_number}
+use Rattle.ln_ops.specs.declared.reply.Reply.TheVariants.{LongAck}
+use Rattle.station_core.specs.declared.call.Step.TheVariants.{Quiet, Reply, Packet, Off}
+use Rattle.layout_core.specs.declared.event.Event.TheVariants.{Byte, Turn}
+use Rattle.layout_core.specs.Served.{ended_line, served_events, traced_from, written_for}
 use Rattle.layout_core.specs.Wanted.{wanted}
 
 entry : (kind spd dirf snd : ℕ) → Entry
@@ -42,3 +48,21 @@ at_once = refl
 functions_of_both : wanted (entry 3 0x20 0x10 5) false ≡ record { motion = Step S128 31; forward = true; functions = 0b10100001 }
 unfolding entry
 functions_of_both = refl
+
+-- two bytes with a turn after each: power comes on with the second
+two_bytes : served_events 0 1 (0x83 ∷ 0x7C ∷ []) ≡ Byte 0 0x83 ∷ Turn 0 ∷ Byte 0 0x7C ∷ Turn 0 ∷ []
+two_bytes = refl
+
+two_turns : traced_from 0 1 (Quiet ∷ Off ∷ Quiet ∷ Packet (0xFF ∷ 0 ∷ 0xFF ∷ []) ∷ []) ≡ codes "track 1 off" ++ 10 ∷ codes "track 2 FF 00 FF" ++ 10 ∷ []
+two_turns =
+    ap₂ (λ (a b : List ℕ). ended_line (codes "track " ++ a ++ codes " off") ++ (ended_line (codes "track " ++ b ++ codes " FF 00 FF") ++ []))
+    (decimal_digit 1 (omega arith)) (decimal_digit 2 (omega arith))
+
+-- a reply stands before the turn of its byte
+a_reply : traced_from 1 9 (Reply (LongAck 0x3F 0) ∷ Off ∷ []) ≡ codes "reply 1 B4 3F 00 74" ++ 10 ∷ codes "track 9 off" ++ 10 ∷ []
+a_reply =
+    ap₂ (λ (a b : List ℕ). ended_line (codes "reply " ++ a ++ codes " B4 3F 00 74") ++ (ended_line (codes "track " ++ b ++ codes " off") ++ []))
+    (decimal_digit 1 (omega arith)) (decimal_digit 9 (omega arith))
+
+its_bytes : written_for (Quiet ∷ Off ∷ Reply (LongAck 0x3F 0) ∷ Off ∷ []) ≡ 0xB4 ∷ 0x3F ∷ 0 ∷ 0x74 ∷ []
+its_bytes = refl

@@ -8,3 +8,7 @@ pub mod Others
 pub mod Examples
 pub mod Played
 pub mod Cycle
+pub mod Known
+pub mod Serving
+pub mod Stopping
+pub mod Premises

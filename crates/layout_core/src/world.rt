@@ -1,12 +1,13 @@
 //! A layout: a station, and the decoders on its track.
-ghost use Rattle.std.specs.Prelude.{◌≡◌, ℕ, ◌<◌, ◌≤◌, List, All, IfOk, IfErr, IsTrue, length, map, true, false};
+ghost use Rattle.std.specs.Prelude.{◌≡◌, ◌<◌, ◌≤◌, List, All, IfOk, IfErr, IsTrue, length, map, true, false};
 ghost use Rattle.std.specs.List.{slice_index_or};
 ghost use Rattle.slot_table.specs.Desk.{IsDesk};
 ghost use Rattle.station_core.specs.Runs.{AreCalls, answer_of, answers, is_call, state_after, state_of};
 ghost use Rattle.station_core.specs.Seen.{first_seen, is_line_count};
 ghost use Rattle.layout_core.specs.declared.node.Node.{Node as NodeValue};
 ghost use Rattle.layout_core.specs.Cycle.{RunsAsWanted};
-ghost use Rattle.layout_core.specs.Nodes.{IsAbleNode, node_of, outputs_of, running_of, spec_of};
+ghost use Rattle.layout_core.specs.Nodes.{IsAbleNode, node_of, outputs_of, running_of};
+ghost use Rattle.layout_core.specs.Served.{IsSendableAnswer};
 ghost use Rattle.layout_core.specs.World.{AfterEvent, HaveHeard, call_of, sent_in};
 
 use crate::event::Event;
@@ -78,9 +79,8 @@ impl World {
         ensures nodes { AfterEvent event result self.old.nodes self.new.nodes }
         ensures lines { length self.new.station.lines ≡ length self.old.station.lines }
         ensures desk { IsDesk self.old.station.powered.desk }
+        ensures sendable { IsSendableAnswer result }
     {
-        // A station promises there that its desk is one.
-        let _ = self.station.lines();
         match event {
             Event::Byte { line, byte } => self.byte(line, byte),
             Event::Turn { missed } => self.turn(missed),
@@ -113,6 +113,8 @@ impl World {
         ensures answer { result ≡ answer_of self.old.station (call_of (Event.Byte line byte)) }
         ensures nodes { self.new.nodes ≡ self.old.nodes }
         ensures lines { length self.new.station.lines ≡ length self.old.station.lines }
+        ensures desk { IsDesk self.old.station.powered.desk }
+        ensures sendable { IsSendableAnswer result }
     {
         match self.station.byte(line, byte) {
             Some(reply) => Step::Reply(reply),
@@ -127,6 +129,8 @@ impl World {
         ensures answer { result ≡ answer_of self.old.station (call_of (Event.Turn missed)) }
         ensures nodes { AfterEvent (Event.Turn missed) result self.old.nodes self.new.nodes }
         ensures lines { length self.new.station.lines ≡ length self.old.station.lines }
+        ensures desk { IsDesk self.old.station.powered.desk }
+        ensures sendable { IsSendableAnswer result }
     {
         match self.station.turn() {
             Some(packet) => {

@@ -1,0 +1,131 @@
+-- Events that are served, and then one that stops.
+use Rattle.std.proofs.Common.{◌≡◌, ℕ, ◌+◌, ◌-◌, ◌<◌, List, [], ◌∷◌, ◌++◌, length, map, replicate, take, drop, get_or, refl, ap, sym, subst, ◌∙◌, append_assoc, arith, Option, false}
+use Rattle.std.proofs.lemmas.List.{drop_more, replicate-append-replicate, take-append-drop}
+use Rattle.std.specs.Prelude.{Result, Ok, Err, IfErr}
+use Rattle.std.specs.Result.{IsErrAnd}
+use Rattle.std.specs.Io.KnownBytes.{Appends}
+use Rattle.station_core.specs.declared.call.Step.{Step}
+use Rattle.station_core.specs.Runs.{answer_of, state_after, state_of}
+use Rattle.station_core.specs.Seen.{Seen}
+use Rattle.layout_core.specs.declared.engine.ServeFault.{ServeFault}
+use Rattle.layout_core.specs.declared.engine.ServeFault.TheVariants.{Read, Write, Trace, TooManyReads}
+use Rattle.layout_core.specs.declared.event.Event.{Event}
+use Rattle.layout_core.specs.declared.event.Event.TheVariants.{Byte, Turn}
+use Rattle.layout_core.specs.Faults.{AppendsFront, Leaves, PutsOut, StopsAt, StopsWithin, is_read}
+use Rattle.layout_core.specs.Served.{Moment, Serves, answers_to_events, byte_events, bytes_of_answer, line_of_answer, served_events, traced_from, turns_in, written_for}
+use Rattle.layout_core.specs.World.{AfterEvent, HaveHeard, call_of, sent_in}
+use Rattle.layout_core.proofs.Cycle.{sent-append}
+use Rattle.layout_core.proofs.Known.{appends_more, front_behind}
+use Rattle.layout_core.proofs.Played.{both_heard, next_heard, nothing_heard}
+use Rattle.layout_core.proofs.Serving.{answers-append, served-append, state-append, traced-append, turns-append, written-append}
+
+-- what is put out behind what was put out whole
+puts_out_behind : (fault : ServeFault) (line turn later : ℕ) (front steps : List Step) (last : Step) (w w' w'' t t' t'' : Option (List ℕ)) → later ≡ turn + turns_in front
+    → Appends w w' (written_for front) → Appends t t' (traced_from line turn front) → PutsOut fault line later steps last w' w'' t' t'' → PutsOut fault line turn (front ++ steps) last w w'' t t''
+puts_out_behind Read line turn later front steps last w w' w'' t t' t'' at written traced out = absurd out
+puts_out_behind TooManyReads line turn later front steps last w w' w'' t t' t'' at written traced out = absurd out
+puts_out_behind Write line turn later front steps last w w' w'' t t' t'' at written traced out =
+    let lines : traced_from line turn (front ++ steps) ≡ traced_from line turn front ++ traced_from line later steps =
+    traced-append line turn front steps ∙ ap (λ (n : ℕ). traced_from line turn front ++ traced_from line n steps) (sym at) in (
+      subst (λ (bs : List ℕ). AppendsFront w w'' bs (bytes_of_answer last)) (sym (written-append front steps)) (front_behind w w' w'' (written_for front) (written_for steps) (bytes_of_answer last) written out.0),
+      subst (λ (bs : List ℕ). Appends t t'' bs) (sym lines) (appends_more t t' t'' (traced_from line turn front) (traced_from line later steps) traced out.1),
+    )
+puts_out_behind Trace line turn later front steps last w w' w'' t t' t'' at written traced out =
+    let lines : traced_from line turn (front ++ steps) ≡ traced_from line turn front ++ traced_from line later steps =
+    traced-append line turn front steps ∙ ap (λ (n : ℕ). traced_from line turn front ++ traced_from line n steps) (sym at) in
+    let all : written_for (front ++ steps) ++ bytes_of_answer last ≡ written_for front ++ (written_for steps ++ bytes_of_answer last) =
+    ap (λ (bs : List ℕ). bs ++ bytes_of_answer last) (written-append front steps) ∙ append_assoc (written_for front) (written_for steps) (bytes_of_answer last) in
+    let counted : turns_in (front ++ steps) ≡ turns_in front + turns_in steps = turns-append front steps in
+    let number : later + turns_in steps ≡ turn + turns_in (front ++ steps) = omega (arith, at, counted) in (
+      subst (λ (bs : List ℕ). Appends w w'' bs) (sym all) (appends_more w w' w'' (written_for front) (written_for steps ++ bytes_of_answer last) written out.0),
+      subst (λ (n : ℕ). AppendsFront t t'' (traced_from line turn (front ++ steps)) (line_of_answer line n last)) number
+          (subst (λ (bs : List ℕ). AppendsFront t t'' bs (line_of_answer line (later + turns_in steps) last)) (sym lines)
+          (front_behind t t' t'' (traced_from line turn front) (traced_from line later steps) (line_of_answer line (later + turns_in steps) last) traced out.1)),
+    )
+
+stops_at_then : (fault : ServeFault) (line : ℕ) (events before : List Event) (last : Event) (old mid new : Moment) → Serves line events old mid → StopsAt fault line before last mid new → StopsAt fault line (events ++ before) last old new
+stops_at_then fault line events before last old mid new first stop =
+    let seen : Seen = old.world.station in
+    let after : Seen = state_after seen (map call_of events) in
+    let from : mid.world.station ≡ after = first.station in
+    let parts : (events ++ before) ++ last ∷ [] ≡ events ++ (before ++ last ∷ []) = append_assoc events before (last ∷ []) in
+    let answer : answer_of (state_after mid.world.station (map call_of before)) (call_of last) ≡ answer_of (state_after seen (map call_of (events ++ before))) (call_of last) =
+    ap (λ (s : Seen). answer_of (state_after s (map call_of before)) (call_of last)) from ∙ ap (λ (s : Seen). answer_of s (call_of last)) (sym (state-append seen events before)) in
+    let steps : answers_to_events seen events ++ answers_to_events mid.world.station before ≡ answers_to_events seen (events ++ before) =
+    ap (λ (s : Seen). answers_to_events seen events ++ answers_to_events s before) from ∙ sym (answers-append seen events before) in
+    record {
+      station =
+          stop.station
+          ∙ ap (λ (s : Seen). state_after s (map call_of (before ++ last ∷ []))) from
+          ∙ sym (state-append seen events (before ++ last ∷ []))
+          ∙ ap (λ (es : List Event). state_after seen (map call_of es)) (sym parts);
+      nodes =
+          subst (λ (es : List Event). HaveHeard (sent_in seen es) old.world.nodes new.world.nodes) (sym parts)
+          (subst (λ sent. HaveHeard sent old.world.nodes new.world.nodes) (sym (sent-append seen events (before ++ last ∷ [])))
+          (both_heard (sent_in seen events) (sent_in after (before ++ last ∷ [])) old.world.nodes mid.world.nodes new.world.nodes first.nodes
+          (subst (λ (s : Seen). HaveHeard (sent_in s (before ++ last ∷ [])) mid.world.nodes new.world.nodes) from stop.nodes)));
+      puts_out =
+          subst (λ (step : Step). PutsOut fault line (old.turns + 1) (answers_to_events seen (events ++ before)) step old.written new.written old.traced new.traced) answer
+          (subst (λ (ss : List Step). PutsOut fault line (old.turns + 1) ss (answer_of (state_after mid.world.station (map call_of before)) (call_of last)) old.written new.written old.traced new.traced) steps
+          (puts_out_behind fault line (old.turns + 1) (mid.turns + 1) (answers_to_events seen events) (answers_to_events mid.world.station before) _ _ _ _ _ _ _ (omega (arith, first.turns)) first.written first.traced stop.puts_out));
+    }
+
+-- Where all of the events are three parts, the first served and the stop in the second.
+pub stops_then : (fault : ServeFault) (line : ℕ) (all events now later : List Event) (old mid new : Moment) → all ≡ events ++ (now ++ later) → Serves line events old mid → StopsWithin fault line now mid new → StopsWithin fault line all old new
+stops_then fault line all events now later old mid new parts first stop =
+    let before = stop.0 in
+    let behind = stop.1 in
+    let last = stop.2 in
+    let cut : all ≡ (events ++ before) ++ (last ∷ (behind ++ later)) =
+    parts
+    ∙ ap (λ (es : List Event). events ++ (es ++ later)) stop.3
+    ∙ ap (λ (es : List Event). events ++ es) (append_assoc before (last ∷ behind) later)
+    ∙ sym (append_assoc events before (last ∷ (behind ++ later))) in
+    (events ++ before, behind ++ later, last, cut, stops_at_then fault line events before last old mid new first stop.4)
+
+-- a turn, and those behind it
+pub byte_parts : (line turns i byte : ℕ) → i < turns → byte_events line turns byte ≡ byte_events line i byte ++ ((Turn 0 ∷ []) ++ replicate (turns - i - 1) (Turn 0))
+byte_parts line turns i byte below =
+    let count : turns ≡ i + (1 + (turns - i - 1)) = omega (arith, below) in
+    let one : (Turn 0 ∷ []) ++ replicate (turns - i - 1) (Turn 0) ≡ replicate (1 + (turns - i - 1)) (Turn 0) = replicate-append-replicate 1 (turns - i - 1) (Turn 0) in
+    ap (λ (n : ℕ). Byte line byte ∷ replicate n (Turn 0)) count
+    ∙ ap (λ (events : List Event). Byte line byte ∷ events) (sym (replicate-append-replicate i (1 + (turns - i - 1)) (Turn 0)))
+    ∙ ap (λ (events : List Event). Byte line byte ∷ (replicate i (Turn 0) ++ events)) (sym one)
+
+-- a fault that stops at an event leaves those before it and it
+pub stops_leave : (fault : ServeFault) (line : ℕ) (events : List Event) (old new : Moment) → StopsWithin fault line events old new → Leaves fault line events old new
+stops_leave Read line events old new stop = absurd stop.4.puts_out
+stops_leave TooManyReads line events old new stop = absurd stop.4.puts_out
+stops_leave Write line events old new stop = stop
+stops_leave Trace line events old new stop = stop
+
+-- and it is no fault of reading
+pub stop_reads_well : (fault : ServeFault) (line : ℕ) (events : List Event) (old new : Moment) → StopsWithin fault line events old new → is_read fault ≡ false
+stop_reads_well Read line events old new stop = absurd stop.4.puts_out
+stop_reads_well TooManyReads line events old new stop = refl
+stop_reads_well Write line events old new stop = refl
+stop_reads_well Trace line events old new stop = refl
+
+-- a fault that is handed on
+pub passed_up : {T : Type 0} (result : Result T ServeFault) (fault : ServeFault) (P : ServeFault → Type 0) → IsErrAnd result (λ e. e ≡ fault) → P fault → IfErr result P
+passed_up (Ok x) fault P is holds = tt
+passed_up (Err e) fault P is holds = subst P (sym is) holds
+
+-- the bytes before the next one, that one, and those behind it
+pub served_parts : (line turns i : ℕ) (bytes : List ℕ) → i < length bytes → served_events line turns bytes ≡ served_events line turns (take i bytes) ++ (byte_events line turns (get_or bytes i 0) ++ served_events line turns (drop (i + 1) bytes))
+served_parts line turns i bytes below =
+    ap (served_events line turns) (sym (take-append-drop i bytes) ∙ ap (λ (bs : List ℕ). take i bytes ++ bs) (drop_more bytes i 0 below))
+    ∙ served-append line turns (take i bytes) (get_or bytes i 0 ∷ drop (i + 1) bytes)
+
+-- an event that is not put out whole
+pub stops_at_event : (fault : ServeFault) (line : ℕ) (event : Event) (step : Step) (old new : Moment) → new.world.station ≡ state_of old.world.station (call_of event)
+    → step ≡ answer_of old.world.station (call_of event) → AfterEvent event step old.world.nodes new.world.nodes → PutsOut fault line (old.turns + 1) [] step old.written new.written old.traced new.traced
+    → StopsWithin fault line (event ∷ []) old new
+stops_at_event fault line event step old new moves answers after out =
+    let turned : AfterEvent event (answer_of old.world.station (call_of event)) old.world.nodes new.world.nodes = subst (λ (s : Step). AfterEvent event s old.world.nodes new.world.nodes) answers after in
+    let stop : StopsAt fault line [] event old new = record {
+      station = moves;
+      nodes = next_heard old.world.station event [] old.world.nodes new.world.nodes new.world.nodes turned (nothing_heard new.world.nodes);
+      puts_out = subst (λ (s : Step). PutsOut fault line (old.turns + 1) [] s old.written new.written old.traced new.traced) answers out;
+    } in
+    ([], [], event, refl, stop)

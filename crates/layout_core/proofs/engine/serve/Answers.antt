@@ -1,0 +1,106 @@
+use Rattle.std.proofs.Common.{◌≡◌, ◌*◌, ◌+◌, ℕ, List, [], ◌++◌, length, take, refl, ap, sym, subst, ◌∙◌, arith, length-append}
+use Rattle.std.proofs.lemmas.Bool.{ne_eqb}
+use Rattle.std.proofs.lemmas.List.{append-nil, length-take-le}
+use Rattle.std.specs.Io.KnownBytes.{Consumes}
+use Rattle.station_core.specs.declared.call.Step.{Step}
+use Rattle.layout_core.specs.declared.engine.ServeFault.{ServeFault}
+use Rattle.layout_core.specs.declared.event.Event.{Event}
+use Rattle.layout_core.specs.Faults.{HasFaulted}
+use Rattle.layout_core.specs.Served.{Input, Moment, answers_to_events, input_of, moment_of, served_events, turns_in}
+use Rattle.layout_core.proofs.Serving.{reads_end, reads_failed, reads_more, reads_none, served-append, serves_none, serves_then, turns_served}
+use Rattle.layout_core.proofs.Stopping.{passed_up, stops_leave, stops_then}
+use Rattle.layout_core.proofs.engine.serve.Goals as goal
+
+pub loop-reads-init : goal.loop-reads-init
+loop-reads-init g c = record {
+  served = ([], reads_none _, refl, serves_none c.args.line _);
+  few_bytes = omega arith;
+  few_replies = omega arith;
+  few_turns = omega arith;
+  open_still = c.requires.open;
+  source_works = c.requires.source_works;
+  sink_works = c.requires.sink_works;
+  trace_works = c.requires.trace_works;
+}
+
+pub loop-reads-preserved : goal.loop-reads-preserved
+loop-reads-preserved g c =
+    let chunk = take c.in-Ok.n c.get.new.buf in
+    let so_far = c.loop-reads.invariant.served in
+    let first : Input = input_of (g.S.Source.left c.args.source.now) (g.S.Source.reads c.args.source.now) in
+    let here : Input = input_of (g.S.Source.left c.loop-reads.source) (g.S.Source.reads c.loop-reads.source) in
+    let after : Input = input_of (g.S.Source.left c.get.new.self) (g.S.Source.reads c.get.new.self) in
+    let size : length chunk ≡ c.in-Ok.n = length-take-le c.in-Ok.n c.get.new.buf c.in-Ok.ensures.bound in
+    let old : Moment = moment_of c.args.world.now (g.K.Sink.held c.args.sink.now) (g.T.Sink.held c.args.trace.now) 0 0 in
+    let mid : Moment = moment_of c.loop-reads.world (g.K.Sink.held c.loop-reads.sink) (g.T.Sink.held c.loop-reads.trace) c.loop-reads.counts.replies c.loop-reads.counts.turns in
+    let new : Moment = moment_of c.serve_bytes.new.world (g.K.Sink.held c.serve_bytes.new.sink) (g.T.Sink.held c.serve_bytes.new.trace) c.serve_bytes.new.counts.replies c.serve_bytes.new.counts.turns in
+    record {
+      served = (
+        so_far.0 ++ chunk,
+        reads_more c.loop-reads.reads so_far.0 chunk first here after so_far.1 c.in-Ok.ensures.bytes.0 c.get.ensures.counted (omega (arith, size, c.in-Ok.ensures.bound)),
+        omega (arith, so_far.2, size, length-append so_far.0 chunk),
+        serves_then c.args.line (served_events c.args.line c.args.limits.turns (so_far.0 ++ chunk)) (served_events c.args.line c.args.limits.turns so_far.0) (served_events c.args.line c.args.limits.turns chunk) old mid new
+            (served-append c.args.line c.args.limits.turns so_far.0 chunk) so_far.3 c.in_ok-serve_bytes.ensures.serves,
+      );
+      few_bytes = omega (arith, c.in-Ok.ensures.bound, c.loop-reads.invariant.few_bytes);
+      few_replies = omega (arith, size, c.serve_bytes.ensures.room, c.in-Ok.ensures.bound, c.loop-reads.invariant.few_replies);
+      few_turns = omega (arith, size, c.serve_bytes.ensures.room, c.in-Ok.ensures.bound, c.loop-reads.invariant.few_turns);
+      open_still = c.in-Ok.ensures.end ∙ ne_eqb _ _ c.if-n-eq0.false;
+      source_works = c.in-Ok.ensures.failed_ok ∙ c.loop-reads.invariant.source_works;
+      sink_works = c.in_ok-serve_bytes.ensures.sink_failed;
+      trace_works = c.in_ok-serve_bytes.ensures.trace_failed;
+    }
+
+pub returns-then-n-eq0-clause-served : goal.returns-then-n-eq0-clause-served
+returns-then-n-eq0-clause-served g c =
+    let so_far = c.loop-reads.invariant.served in
+    let first : Input = input_of (g.S.Source.left c.args.source.now) (g.S.Source.reads c.args.source.now) in
+    let here : Input = input_of (g.S.Source.left c.loop-reads.source) (g.S.Source.reads c.loop-reads.source) in
+    let after : Input = input_of (g.S.Source.left c.get.new.self) (g.S.Source.reads c.get.new.self) in
+    let end : Consumes (g.S.Source.left c.loop-reads.source) (g.S.Source.left c.get.new.self) [] =
+    subst (λ (n : ℕ). Consumes (g.S.Source.left c.loop-reads.source) (g.S.Source.left c.get.new.self) (take n c.get.new.buf)) c.if-n-eq0.true c.in-Ok.ensures.bytes.0 in
+    (so_far.0, reads_end c.loop-reads.reads so_far.0 first here after so_far.1 end c.get.ensures.counted, so_far.2, so_far.3, c.headline.ensures c.args.world.now.station (served_events c.args.line c.args.limits.turns so_far.0) c.args.world.now.nodes c.loop-reads.world.nodes so_far.3.desks c.nodes.ensures.able so_far.3.nodes)
+
+pub returns-then-n-eq0-clause-turns : goal.returns-then-n-eq0-clause-turns
+returns-then-n-eq0-clause-turns g c =
+    let so_far = c.loop-reads.invariant.served in
+    let steps : List Step = answers_to_events c.args.world.now.station (served_events c.args.line c.args.limits.turns so_far.0) in
+    let all : turns_in steps ≡ c.args.limits.turns * c.loop-reads.bytes =
+    turns_served c.args.line c.args.limits.turns so_far.0 c.args.world.now.station ∙ ap (λ (n : ℕ). c.args.limits.turns * n) (sym so_far.2) in
+    let counted : c.loop-reads.counts.turns ≡ 0 + turns_in steps = so_far.3.turns in
+    omega (arith, counted, all)
+
+pub returns-in_default-clause-faulted : goal.returns-in_default-clause-faulted
+returns-in_default-clause-faulted g c =
+    let so_far = c.loop-reads.invariant.served in
+    let first : Input = input_of (g.S.Source.left c.args.source.now) (g.S.Source.reads c.args.source.now) in
+    let here : Input = input_of (g.S.Source.left c.loop-reads.source) (g.S.Source.reads c.loop-reads.source) in
+    let after : Input = input_of (g.S.Source.left c.get.new.self) (g.S.Source.reads c.get.new.self) in
+    (c.loop-reads.reads + 1, c.loop-reads.counts.replies, c.loop-reads.counts.turns, so_far.0, reads_failed c.loop-reads.reads so_far.0 first here after so_far.1 c.in_default.ensures.bytes c.get.ensures.counted, so_far.3)
+
+pub returns-in_err-serve_bytes-clause-faulted : goal.returns-in_err-serve_bytes-clause-faulted
+returns-in_err-serve_bytes-clause-faulted g c =
+    let chunk = take c.in-Ok.n c.get.new.buf in
+    let so_far = c.loop-reads.invariant.served in
+    let first : Input = input_of (g.S.Source.left c.args.source.now) (g.S.Source.reads c.args.source.now) in
+    let here : Input = input_of (g.S.Source.left c.loop-reads.source) (g.S.Source.reads c.loop-reads.source) in
+    let after : Input = input_of (g.S.Source.left c.get.new.self) (g.S.Source.reads c.get.new.self) in
+    let size : length chunk ≡ c.in-Ok.n = length-take-le c.in-Ok.n c.get.new.buf c.in-Ok.ensures.bound in
+    let old : Moment = moment_of c.args.world.now (g.K.Sink.held c.args.sink.now) (g.T.Sink.held c.args.trace.now) 0 0 in
+    let mid : Moment = moment_of c.loop-reads.world (g.K.Sink.held c.loop-reads.sink) (g.T.Sink.held c.loop-reads.trace) c.loop-reads.counts.replies c.loop-reads.counts.turns in
+    let new : Moment = moment_of c.serve_bytes.new.world (g.K.Sink.held c.serve_bytes.new.sink) (g.T.Sink.held c.serve_bytes.new.trace) c.serve_bytes.new.counts.replies c.serve_bytes.new.counts.turns in
+    let front : List Event = served_events c.args.line c.args.limits.turns so_far.0 in
+    let now : List Event = served_events c.args.line c.args.limits.turns chunk in
+    let all : List Event = served_events c.args.line c.args.limits.turns (so_far.0 ++ chunk) in
+    let parts : all ≡ front ++ (now ++ []) = served-append c.args.line c.args.limits.turns so_far.0 chunk ∙ ap (λ (events : List Event). front ++ events) (sym (append-nil now)) in
+    let fault : ServeFault = c.in_err-serve_bytes.field-0.0 in
+    passed_up c.from_residual.result fault
+    (λ (e : ServeFault). HasFaulted e c.args.line c.args.limits.turns first after old c.serve_bytes.new.world (g.K.Sink.held c.serve_bytes.new.sink) (g.T.Sink.held c.serve_bytes.new.trace))
+    c.from_residual.ensures.1 (
+      c.loop-reads.reads + 1,
+      c.serve_bytes.new.counts.replies,
+      c.serve_bytes.new.counts.turns,
+      so_far.0 ++ chunk,
+      reads_more c.loop-reads.reads so_far.0 chunk first here after so_far.1 c.in-Ok.ensures.bytes.0 c.get.ensures.counted (omega (arith, size, c.in-Ok.ensures.bound)),
+      stops_leave fault c.args.line all old new (stops_then fault c.args.line all front now [] old mid new parts so_far.3 c.in_err-serve_bytes.ensures.stops),
+    )

@@ -1,0 +1,73 @@
+-- What a fault leaves of a served connection.
+use Rattle.std.specs.Prelude.{ℕ, ◌≡◌, ◌+◌, ◌<◌, Bool, true, false, Option, Result, Ok, Err, List, [], ◌∷◌, ◌++◌, length, map, take}
+use Rattle.std.specs.Io.KnownBytes.{Appends}
+use Rattle.station_core.specs.declared.call.Step.{Step}
+use Rattle.station_core.specs.Runs.{answer_of, state_after}
+use Rattle.layout_core.specs.declared.engine.ServeFault.{ServeFault}
+use Rattle.layout_core.specs.declared.engine.ServeFault.TheVariants.{Read, Write, Trace, TooManyReads}
+use Rattle.layout_core.specs.declared.event.Event.{Event}
+use Rattle.layout_core.specs.declared.world.World.{World}
+use Rattle.layout_core.specs.Served.{HasRead, Input, Moment, Serves, answers_to_events, bytes_of_answer, line_of_answer, moment_of, served_events, traced_from, turns_in, written_for}
+use Rattle.layout_core.specs.World.{HaveHeard, call_of, sent_in}
+
+abbrev pub is_read : ServeFault → Bool
+is_read Read = true
+is_read Write = false
+is_read Trace = false
+is_read TooManyReads = false
+
+abbrev pub is_write : ServeFault → Bool
+is_write Read = false
+is_write Write = true
+is_write Trace = false
+is_write TooManyReads = false
+
+abbrev pub is_trace : ServeFault → Bool
+is_trace Read = false
+is_trace Write = false
+is_trace Trace = true
+is_trace TooManyReads = false
+
+-- whether it ended in such a fault
+abbrev pub ended_by : {A : Type 0} → (ServeFault → Bool) → Result A ServeFault → Bool
+ended_by is (Ok a) = false
+ended_by is (Err fault) = is fault
+
+-- known bytes grow by some bytes and a proper front of others
+abbrev pub AppendsFront : (old new : Option (List ℕ)) → (whole cut : List ℕ) → Type 0
+AppendsFront old new whole cut = (n : ℕ) × (n < length cut) × Appends old new (whole ++ take n cut)
+
+-- What these answers and a last one put out, but not all of the last: at a fault of writing, of its bytes a proper front
+-- is written, and its line is missing; at a fault of tracing, of its line a proper front is traced.
+abbrev pub PutsOut : ServeFault → (line turn : ℕ) → List Step → Step → (written written' traced traced' : Option (List ℕ)) → Type 0
+PutsOut Write line turn steps last written written' traced traced' =
+    AppendsFront written written' (written_for steps) (bytes_of_answer last) × Appends traced traced' (traced_from line turn steps)
+PutsOut Trace line turn steps last written written' traced traced' =
+    Appends written written' (written_for steps ++ bytes_of_answer last) × AppendsFront traced traced' (traced_from line turn steps) (line_of_answer line (turn + turns_in steps) last)
+PutsOut Read line turn steps last written written' traced traced' = ⊥
+PutsOut TooManyReads line turn steps last written written' traced traced' = ⊥
+
+-- The events before and a last one are done, and no other; all is put out but for the end of what the last one puts out.
+pub record StopsAt (fault : ServeFault) (line : ℕ) (before : List Event) (last : Event) (old new : Moment) : Type 0 where
+  pub station : new.world.station ≡ state_after old.world.station (map call_of (before ++ last ∷ []))
+  pub nodes : HaveHeard (sent_in old.world.station (before ++ last ∷ [])) old.world.nodes new.world.nodes
+  pub puts_out : PutsOut fault line (old.turns + 1) (answers_to_events old.world.station before) (answer_of (state_after old.world.station (map call_of before)) (call_of last)) old.written new.written old.traced new.traced
+
+-- it stops so at one of these events
+abbrev pub StopsWithin : ServeFault → (line : ℕ) → List Event → (old new : Moment) → Type 0
+StopsWithin fault line events old new =
+    (before later : List Event) × (last : Event) × (events ≡ before ++ last ∷ later) × StopsAt fault line before last old new
+
+-- What is done of the events of the bytes that were read: all of them where the source failed or too many reads were
+-- made, and else those up to one that was not put out whole.
+abbrev pub Leaves : ServeFault → (line : ℕ) → List Event → (old new : Moment) → Type 0
+Leaves Read line events old new = Serves line events old new
+Leaves TooManyReads line events old new = Serves line events old new
+Leaves Write line events old new = StopsWithin Write line events old new
+Leaves Trace line events old new = StopsWithin Trace line events old new
+
+-- these bytes were read, and then it ended in this fault
+abbrev pub HasFaulted : ServeFault → (line turns : ℕ) → (input input' : Input) → (old : Moment) → World → (written traced : Option (List ℕ)) → Type 0
+HasFaulted fault line turns input input' old world written traced =
+    (reads replies made : ℕ) × (bytes : List ℕ) × HasRead reads bytes input input'
+    × Leaves fault line (served_events line turns bytes) old (moment_of world written traced replies made)

@@ -1,0 +1,130 @@
+-- What a served connection does: its events, the bytes that it writes, and its trace.
+use Rattle.std.specs.Prelude.{ℕ, ◌≡◌, ◌+◌, ◌*◌, ◌≤◌, Option, List, [], ◌∷◌, ◌++◌, length, map, replicate}
+use Rattle.std.specs.Io.KnownBytes.{Appends, Consumes}
+use Rattle.ln_ops.specs.Reply.{IsSendable, reply_bytes}
+use Rattle.show_text.specs.Lines.{off_text, reply_text, track_text}
+use Rattle.station_core.specs.declared.call.Step.{Step}
+use Rattle.station_core.specs.declared.call.Step.TheVariants.{Quiet, Reply, Packet, Off}
+use Rattle.station_core.specs.Runs.{answers, state_after}
+use Rattle.station_core.specs.Seen.{Seen}
+use Rattle.layout_core.specs.declared.engine.Summary.{Summary}
+use Rattle.layout_core.specs.declared.event.Event.{Event}
+use Rattle.layout_core.specs.declared.event.Event.TheVariants.{Byte, Turn}
+use Rattle.layout_core.specs.declared.world.World.{World}
+use Rattle.layout_core.specs.Cycle.{RunsAsWanted}
+use Rattle.layout_core.specs.World.{AreDesks, HaveHeard, call_of, sent_in}
+
+-- the events of a byte: it comes, and then so many turns that nobody misses
+abbrev pub byte_events : (line turns : ℕ) → ℕ → List Event
+byte_events line turns byte = Byte line byte ∷ replicate turns (Turn 0)
+
+-- the events of bytes, in order
+abbrev pub served_events : (line turns : ℕ) → List ℕ → List Event
+served_events line turns [] = []
+served_events line turns (byte ∷ bytes) = byte_events line turns byte ++ served_events line turns bytes
+
+-- what a station answers to events
+abbrev pub answers_to_events : Seen → List Event → List Step
+answers_to_events seen events = answers seen (map call_of events)
+
+-- a reply is written as its bytes, and nothing else is written
+abbrev pub bytes_of_answer : Step → List ℕ
+bytes_of_answer (Reply reply) = reply_bytes reply
+bytes_of_answer (Packet packet) = []
+bytes_of_answer Quiet = []
+bytes_of_answer Off = []
+
+-- a reply that a line can carry
+abbrev pub IsSendableAnswer : Step → Type 0
+IsSendableAnswer (Reply reply) = IsSendable reply
+IsSendableAnswer (Packet packet) = Unit {0}
+IsSendableAnswer Quiet = Unit {0}
+IsSendableAnswer Off = Unit {0}
+
+-- the bytes that answers write
+abbrev pub written_for : List Step → List ℕ
+written_for [] = []
+written_for (step ∷ steps) = bytes_of_answer step ++ written_for steps
+
+-- a line, and its line feed
+abbrev pub ended_line : List ℕ → List ℕ
+ended_line text = text ++ 10 ∷ []
+
+-- the line of an answer in the trace, where a turn has this number; none for a byte without a reply
+abbrev pub line_of_answer : (line turn : ℕ) → Step → List ℕ
+line_of_answer line turn (Reply reply) = ended_line (reply_text line reply)
+line_of_answer line turn (Packet packet) = ended_line (track_text turn packet)
+line_of_answer line turn Off = ended_line (off_text turn)
+line_of_answer line turn Quiet = []
+
+-- an answer to a turn
+abbrev pub turns_of_answer : Step → ℕ
+turns_of_answer (Packet packet) = 1
+turns_of_answer Off = 1
+turns_of_answer (Reply reply) = 0
+turns_of_answer Quiet = 0
+
+abbrev pub turns_in : List Step → ℕ
+turns_in [] = 0
+turns_in (step ∷ steps) = turns_of_answer step + turns_in steps
+
+abbrev pub replies_of_answer : Step → ℕ
+replies_of_answer (Reply reply) = 1
+replies_of_answer (Packet packet) = 0
+replies_of_answer Quiet = 0
+replies_of_answer Off = 0
+
+abbrev pub replies_in : List Step → ℕ
+replies_in [] = 0
+replies_in (step ∷ steps) = replies_of_answer step + replies_in steps
+
+-- the lines of answers, the turns numbered from this one on
+abbrev pub traced_from : (line turn : ℕ) → List Step → List ℕ
+traced_from line turn [] = []
+traced_from line turn (step ∷ steps) = line_of_answer line turn step ++ traced_from line (turn + turns_of_answer step) steps
+
+-- A moment of a served connection: the world, the bytes that were written and traced, where those are known, and how many
+-- replies and turns there were.
+pub record Moment : Type 0 where
+  pub world : World
+  pub written : Option (List ℕ)
+  pub traced : Option (List ℕ)
+  pub replies : ℕ
+  pub turns : ℕ
+
+abbrev pub moment_of : World → (written traced : Option (List ℕ)) → (replies turns : ℕ) → Moment
+moment_of world written traced replies turns = record { world = world; written = written; traced = traced; replies = replies; turns = turns }
+
+-- The events are done, one after another, and each node heard what they send; their replies are written, their lines are
+-- traced, and both are counted.
+pub record Serves (line : ℕ) (events : List Event) (old new : Moment) : Type 0 where
+  pub station : new.world.station ≡ state_after old.world.station (map call_of events)
+  pub nodes : HaveHeard (sent_in old.world.station events) old.world.nodes new.world.nodes
+  pub written : Appends old.written new.written (written_for (answers_to_events old.world.station events))
+  pub traced : Appends old.traced new.traced (traced_from line (old.turns + 1) (answers_to_events old.world.station events))
+  pub replies : new.replies ≡ old.replies + replies_in (answers_to_events old.world.station events)
+  pub turns : new.turns ≡ old.turns + turns_in (answers_to_events old.world.station events)
+  -- as a station promises before each event, and after all
+  pub desks : AreDesks old.world.station events
+  pub lines : length new.world.station.lines ≡ length old.world.station.lines
+
+-- a source: the bytes that it has left, where those are known, and how many reads were made
+pub record Input : Type 0 where
+  pub left : Option (List ℕ)
+  pub reads : ℕ
+
+abbrev pub input_of : Option (List ℕ) → ℕ → Input
+input_of left reads = record { left = left; reads = reads }
+
+-- these bytes were read, at most 64 at a time
+pub record HasRead (made : ℕ) (bytes : List ℕ) (old new : Input) : Type 0 where
+  pub consumed : Consumes old.left new.left bytes
+  pub counted : new.reads ≡ old.reads + made
+  pub few : length bytes ≤ 64 * made
+
+-- All bytes were read and served, and the summary counts them. A locomotive that heard a full refresh cycle meanwhile runs
+-- as its slot says.
+abbrev pub HasServed : (line turns : ℕ) → Summary → (input input' : Input) → (old new : Moment) → Type 0
+HasServed line turns summary input input' old new =
+    (bytes : List ℕ) × HasRead summary.reads bytes input input' × (summary.bytes ≡ length bytes) × Serves line (served_events line turns bytes) old new
+    × RunsAsWanted old.world.station (served_events line turns bytes) old.world.nodes new.world.nodes

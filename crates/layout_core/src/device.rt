@@ -1,0 +1,52 @@
+//! What a served connection reads from and writes to.
+ghost use Rattle.std.specs.Prelude.{◌≡◌, ℕ, ◌+◌, ◌<◌, ◌≤◌, ◌==◌, Bool, true, false, Option, List, length, IfOk, OnOk, OnErr};
+ghost use Rattle.std.specs.Io.KnownBytes.{ReadConsumes, WriteAppends};
+
+/// A device failed.
+#[derive(Clone, Copy, Debug, PartialEq, Eq)]
+pub struct Broken;
+
+/// What bytes are read from.
+pub trait Source {
+    /// The bytes that it has left, where it tells them.
+    ghost left: { Self → Option (List ℕ) };
+
+    /// Whether a read failed.
+    ghost failed: { Self → Bool };
+
+    /// Whether a read found the end.
+    ghost ended: { Self → Bool };
+
+    /// How many reads were made.
+    ghost reads: { Self → ℕ };
+
+    /// Reads bytes to the front of a slice that is not empty, and tells how many: 0 only at the end, after which
+    /// nothing more is read. An error takes no byte.
+    fn get(&mut self, buf: &mut [u8]) -> Result<usize, Broken>
+        requires room { 0 < length buf.old }
+        requires goes_on { ended self.old ≡ false }
+        ensures bound { IfOk result (λ n. n ≤ length buf.new) }
+        ensures bytes { ReadConsumes (left self.old) (left self.new) result buf.new }
+        ensures counted { reads self.new ≡ reads self.old + 1 }
+        ensures end { IfOk result (λ n. ended self.new ≡ (n == 0)) }
+        ensures still { OnErr result (ended self.new ≡ false) }
+        ensures failed_ok { OnOk result (failed self.new ≡ failed self.old) }
+        ensures failed_err { OnErr result (failed self.new ≡ true) };
+}
+
+/// What bytes are written to.
+pub trait Sink {
+    /// The bytes that it holds, where it tells them.
+    ghost held: { Self → Option (List ℕ) };
+
+    /// Whether a write failed.
+    ghost failed: { Self → Bool };
+
+    /// Writes bytes from the front of a slice that is not empty, and tells how many: at least 1. An error writes none.
+    fn put(&mut self, bytes: &[u8]) -> Result<usize, Broken>
+        requires room { 0 < length bytes.now }
+        ensures bound { IfOk result (λ n. (0 < n) × (n ≤ length bytes.now)) }
+        ensures bytes { WriteAppends (held self.old) (held self.new) result bytes.now }
+        ensures failed_ok { OnOk result (failed self.new ≡ failed self.old) }
+        ensures failed_err { OnErr result (failed self.new ≡ true) };
+}

@@ -1,0 +1,274 @@
+//! A connection that is served byte by byte.
+ghost use Rattle.std.specs.Prelude.{◌≡◌, ◌+◌, ◌*◌, ◌<◌, ◌≤◌, true, false, [], ◌∷◌, length, IfOk, IfErr, OnOk, IsErrOf, IsTrue};
+ghost use Rattle.std.specs.Io.KnownBytes.{Appends, IsAtEnd};
+ghost use Rattle.station_core.specs.Runs.{is_call};
+ghost use Rattle.layout_core.specs.World.{call_of};
+ghost use Rattle.layout_core.specs.Counts.{GrowsTo, HasRoom};
+ghost use Rattle.layout_core.specs.Faults.{HasFaulted, PutsOut, StopsWithin, ended_by, is_read, is_trace, is_write};
+ghost use Rattle.layout_core.specs.Served.{HasServed, IsSendableAnswer, Serves, byte_events, bytes_of_answer, input_of, line_of_answer, moment_of, replies_of_answer, served_events, turns_of_answer};
+
+use crate::device::{Sink, Source};
+use crate::event::Event;
+use crate::laws::headline;
+use crate::world::World;
+use crate::writing::{put_all, put_line};
+use ln_ops::to_msg;
+use show_text::{off_line, reply_line, track_line};
+use station_core::Step;
+
+/// How far a connection is served.
+#[derive(Clone, Copy, Debug, PartialEq, Eq)]
+pub struct Limits {
+    /// The most reads that are made.
+    pub reads: u32,
+    /// The turns of the track after each byte.
+    pub turns: u8,
+}
+
+/// What was done on a connection that came to its end.
+#[derive(Clone, Copy, Debug, PartialEq, Eq)]
+pub struct Summary {
+    /// Reads, with the last one, which found the end.
+    pub reads: u32,
+    /// Bytes read.
+    pub bytes: u64,
+    /// Replies written.
+    pub replies: u64,
+    /// Turns made, as many for each byte as the limits say.
+    pub turns: u64,
+}
+
+/// Why a connection was given up.
+#[derive(Clone, Copy, Debug, PartialEq, Eq)]
+pub enum ServeFault {
+    /// A read failed.
+    Read,
+    /// A write of a reply failed or took no byte.
+    Write,
+    /// A write of a line of the trace failed or took no byte.
+    Trace,
+    /// All reads were made and none found the end.
+    TooManyReads,
+}
+
+/// The replies and turns so far.
+#[derive(Clone, Copy)]
+pub(crate) struct Counts {
+    pub(crate) replies: u64,
+    pub(crate) turns: u64,
+}
+
+impl Counts {
+    /// Counts an answer.
+    fn add(&mut self, answer: &Step)
+        requires { HasRoom 1 self.old }
+        ensures replies { self.new.replies ≡ self.old.replies + replies_of_answer answer.now }
+        ensures turns { self.new.turns ≡ self.old.turns + turns_of_answer answer.now }
+        ensures room { GrowsTo 1 self.old self.new }
+    {
+        match answer {
+            Step::Quiet => {}
+            Step::Reply(_) => self.replies += 1,
+            Step::Packet(_) | Step::Off => self.turns += 1,
+        }
+    }
+}
+
+/// Writes the bytes of an answer, and then its line in the trace, where a turn has this number.
+fn put_out<K: Sink, T: Sink>(
+    answer: &Step,
+    line: u8,
+    turn: u64,
+    sink: &mut K,
+    trace: &mut T,
+) -> Result<(), ServeFault>
+    requires sendable { IsSendableAnswer answer.now }
+    requires sink_works { K.failed sink.old ≡ false }
+    requires trace_works { T.failed trace.old ≡ false }
+    ensures written { OnOk result (Appends (K.held sink.old) (K.held sink.new) (bytes_of_answer answer.now)) }
+    ensures traced { OnOk result (Appends (T.held trace.old) (T.held trace.new) (line_of_answer line turn answer.now)) }
+    ensures faulted { IfErr result (λ fault. PutsOut fault line turn [] answer.now (K.held sink.old) (K.held sink.new) (T.held trace.old) (T.held trace.new)) }
+    ensures sink_failed { K.failed sink.new ≡ ended_by is_write result }
+    ensures trace_failed { T.failed trace.new ≡ ended_by is_trace result }
+{
+    let text = match answer {
+        Step::Quiet => return Ok(()),
+        Step::Reply(reply) => {
+            put_all(sink, to_msg(reply).bytes()).map_err(|_| ServeFault::Write)?;
+            reply_line(line, reply)
+        }
+        Step::Packet(packet) => track_line(turn, packet),
+        Step::Off => off_line(turn),
+    };
+    put_line(trace, &text).map_err(|_| ServeFault::Trace)
+}
+
+/// Does one event, and puts out what it answers.
+fn serve_event<K: Sink, T: Sink>(
+    world: &mut World,
+    event: Event,
+    line: u8,
+    sink: &mut K,
+    trace: &mut T,
+    counts: &mut Counts,
+) -> Result<(), ServeFault>
+    requires call { IsTrue (is_call (length world.old.station.lines) (call_of event)) }
+    requires sink_works { K.failed sink.old ≡ false }
+    requires trace_works { T.failed trace.old ≡ false }
+    requires room { HasRoom 1 counts.old }
+    ensures room { GrowsTo 1 counts.old counts.new }
+    ensures serves { OnOk result (Serves line (event ∷ [])
+        (moment_of world.old (K.held sink.old) (T.held trace.old) counts.old.replies counts.old.turns)
+        (moment_of world.new (K.held sink.new) (T.held trace.new) counts.new.replies counts.new.turns)) }
+    ensures stops { IfErr result (λ fault. StopsWithin fault line (event ∷ [])
+        (moment_of world.old (K.held sink.old) (T.held trace.old) counts.old.replies counts.old.turns)
+        (moment_of world.new (K.held sink.new) (T.held trace.new) counts.new.replies counts.new.turns)) }
+    ensures sink_failed { K.failed sink.new ≡ ended_by is_write result }
+    ensures trace_failed { T.failed trace.new ≡ ended_by is_trace result }
+    ensures lines { length world.new.station.lines ≡ length world.old.station.lines }
+{
+    let answer = world.step(event);
+    put_out(&answer, line, counts.turns + 1, sink, trace)?;
+    counts.add(&answer);
+    Ok(())
+}
+
+/// Serves a byte, and the turns behind it.
+fn serve_byte<K: Sink, T: Sink>(
+    world: &mut World,
+    line: u8,
+    byte: u8,
+    turns: u8,
+    sink: &mut K,
+    trace: &mut T,
+    counts: &mut Counts,
+) -> Result<(), ServeFault>
+    requires line { line < length world.old.station.lines }
+    requires sink_works { K.failed sink.old ≡ false }
+    requires trace_works { T.failed trace.old ≡ false }
+    requires room { HasRoom 256 counts.old }
+    ensures room { GrowsTo 256 counts.old counts.new }
+    ensures serves { OnOk result (Serves line (byte_events line turns byte)
+        (moment_of world.old (K.held sink.old) (T.held trace.old) counts.old.replies counts.old.turns)
+        (moment_of world.new (K.held sink.new) (T.held trace.new) counts.new.replies counts.new.turns)) }
+    ensures stops { IfErr result (λ fault. StopsWithin fault line (byte_events line turns byte)
+        (moment_of world.old (K.held sink.old) (T.held trace.old) counts.old.replies counts.old.turns)
+        (moment_of world.new (K.held sink.new) (T.held trace.new) counts.new.replies counts.new.turns)) }
+    ensures sink_failed { K.failed sink.new ≡ ended_by is_write result }
+    ensures trace_failed { T.failed trace.new ≡ ended_by is_trace result }
+    ensures lines { length world.new.station.lines ≡ length world.old.station.lines }
+{
+    serve_event(world, Event::Byte { line, byte }, line, sink, trace, counts)?;
+    for _turn in 0..turns {
+        serve_event(world, Event::Turn { missed: 0 }, line, sink, trace, counts)?;
+    }
+    Ok(())
+}
+
+/// Serves bytes, one after another.
+fn serve_bytes<K: Sink, T: Sink>(
+    world: &mut World,
+    line: u8,
+    bytes: &[u8],
+    turns: u8,
+    sink: &mut K,
+    trace: &mut T,
+    counts: &mut Counts,
+) -> Result<(), ServeFault>
+    requires line { line < length world.old.station.lines }
+    requires sink_works { K.failed sink.old ≡ false }
+    requires trace_works { T.failed trace.old ≡ false }
+    requires room { HasRoom (256 * length bytes.now) counts.old }
+    ensures room { GrowsTo (256 * length bytes.now) counts.old counts.new }
+    ensures serves { OnOk result (Serves line (served_events line turns bytes.now)
+        (moment_of world.old (K.held sink.old) (T.held trace.old) counts.old.replies counts.old.turns)
+        (moment_of world.new (K.held sink.new) (T.held trace.new) counts.new.replies counts.new.turns)) }
+    ensures stops { IfErr result (λ fault. StopsWithin fault line (served_events line turns bytes.now)
+        (moment_of world.old (K.held sink.old) (T.held trace.old) counts.old.replies counts.old.turns)
+        (moment_of world.new (K.held sink.new) (T.held trace.new) counts.new.replies counts.new.turns)) }
+    ensures sink_failed { K.failed sink.new ≡ ended_by is_write result }
+    ensures trace_failed { T.failed trace.new ≡ ended_by is_trace result }
+    ensures lines { length world.new.station.lines ≡ length world.old.station.lines }
+{
+    for byte in bytes {
+        serve_byte(world, line, *byte, turns, sink, trace, counts)?;
+    }
+    Ok(())
+}
+
+/// Serves a connection on a line: each byte from the source is heard, its reply is written to the sink, and then so many
+/// turns of the track are made, which no decoder misses. Replies and turns are lines of the trace, where the turns are
+/// numbered from 1.
+///
+/// Reads up to 64 bytes at a time, and ends with a summary where the source ends. So what is done depends on the bytes
+/// alone, and not on how they are cut.
+///
+/// A device that fails ends it at once, and so do `limits.reads` reads of which none found the end. What was done, written
+/// and traced before stands, and all bytes that were read are served, but for what comes behind a write that failed.
+pub fn serve<S: Source, K: Sink, T: Sink>(
+    world: &mut World,
+    line: u8,
+    source: &mut S,
+    sink: &mut K,
+    trace: &mut T,
+    limits: Limits,
+) -> Result<Summary, ServeFault>
+    requires line { line < length world.old.station.lines }
+    requires open { S.ended source.old ≡ false }
+    requires source_works { S.failed source.old ≡ false }
+    requires sink_works { K.failed sink.old ≡ false }
+    requires trace_works { T.failed trace.old ≡ false }
+    // All bytes are read and served.
+    ensures served { IfOk result (λ summary. HasServed line limits.turns summary
+        (input_of (S.left source.old) (S.reads source.old)) (input_of (S.left source.new) (S.reads source.new))
+        (moment_of world.old (K.held sink.old) (T.held trace.old) 0 0)
+        (moment_of world.new (K.held sink.new) (T.held trace.new) summary.replies summary.turns)) }
+    ensures turns { IfOk result (λ summary. summary.turns ≡ limits.turns * summary.bytes) }
+    ensures end { OnOk result ((S.ended source.new ≡ true) × IsAtEnd (S.left source.new)) }
+    // Else what was read is served, but for what comes behind a write that failed.
+    ensures faulted { IfErr result (λ fault. HasFaulted fault line limits.turns
+        (input_of (S.left source.old) (S.reads source.old)) (input_of (S.left source.new) (S.reads source.new))
+        (moment_of world.old (K.held sink.old) (T.held trace.old) 0 0)
+        world.new (K.held sink.new) (T.held trace.new)) }
+    ensures too_many { IsErrOf result ServeFault.TooManyReads → (S.reads source.new ≡ S.reads source.old + limits.reads) × (S.ended source.new ≡ false) }
+    ensures most_reads { S.reads source.new ≤ S.reads source.old + limits.reads }
+    // The other faults come exactly where a device failed.
+    ensures source_failed { S.failed source.new ≡ ended_by is_read result }
+    ensures sink_failed { K.failed sink.new ≡ ended_by is_write result }
+    ensures trace_failed { T.failed trace.new ≡ ended_by is_trace result }
+    ensures lines { length world.new.station.lines ≡ length world.old.station.lines }
+{
+    headline();
+    // The nodes promise there that each is able.
+    let _ = world.nodes();
+    let mut counts = Counts {
+        replies: 0,
+        turns: 0,
+    };
+    let mut bytes = 0;
+    let mut buf = [0; 64];
+    for reads in 0..limits.reads {
+        let Ok(n) = source.get(&mut buf) else {
+            return Err(ServeFault::Read);
+        };
+        if n == 0 {
+            return Ok(Summary {
+                reads: reads + 1,
+                bytes,
+                replies: counts.replies,
+                turns: counts.turns,
+            });
+        }
+        serve_bytes(
+            world,
+            line,
+            &buf[..n],
+            limits.turns,
+            sink,
+            trace,
+            &mut counts,
+        )?;
+        bytes += n as u64;
+    }
+    Err(ServeFault::TooManyReads)
+}

@@ -1,0 +1,33 @@
+//! A count that no run time keeps.
+ghost use Rattle.std.specs.Prelude.{◌≡◌, ℕ, ◌+◌};
+
+use std::marker::{Model, PhantomData};
+
+/// A number that proofs alone see. It takes no memory.
+#[derive(Drop)]
+pub(crate) struct Tally {
+    marker: PhantomData<u8>,
+    pub(crate) ghost count: { ℕ },
+}
+
+impl Model for Tally {
+    ghost use Rattle.std.specs.Borrow.{ftrue};
+
+    ghost also_owns = { λ _. ftrue };
+}
+
+impl Tally {
+    /// Nothing counted.
+    pub(crate) fn new() -> Tally
+        ensures { result.count ≡ 0 }
+    {
+        Tally {
+            marker: PhantomData,
+        }
+    }
+
+    /// One more. It does nothing at run time.
+    pub(crate) fn step(&mut self)
+        ensures { self.new.count ≡ self.old.count + 1 }
+    {}
+}
