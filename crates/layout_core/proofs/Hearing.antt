@@ -1,5 +1,5 @@
 -- How a node is made, and what it makes of the half-bits of a packet.
-use Rattle.std.proofs.Common.{ℕ, List, All, map, ap, subst, arith}
+use Rattle.std.proofs.Common.{◌≡◌, ℕ, List, [], ◌∷◌, All, map, ap, ap₂, refl, subst, arith}
 use Rattle.std.proofs.lemmas.List.Elements.{All-map}
 use Rattle.std.specs.List.{slice_index_or}
 use Rattle.std.specs.Iterator.{Drains, YieldsFirst}
@@ -10,7 +10,7 @@ use Rattle.decoder_node.specs.declared.node.NodeSpec.TheVariants.{Loco as LocoSp
 use Rattle.decoder_node.specs.Loco.{LocoDecoder, HearsLoco}
 use Rattle.decoder_node.specs.Accessory.{AccessoryDecoder, HearsAccessory}
 use Rattle.layout_core.specs.declared.node.Node.TheVariants.{Loco, Accessory}
-use Rattle.layout_core.specs.Nodes.{node_of, IsAbleNode, HearsPacket}
+use Rattle.layout_core.specs.Nodes.{node_of, spec_of, IsAbleNode, HearsPacket}
 use Rattle.layout_core.proofs.Drained.{drained}
 
 module _ (packet halves items : List ℕ) (form : IsPacket packet) (wave : IsWave packet halves) (all : Drains (YieldsFirst (λ (left : List ℕ). left)) halves items) where
@@ -39,3 +39,11 @@ made_able (AccessorySpec number) = tt
 
 pub all_made_able : (specs : List NodeSpec) → All IsAbleNode (map node_of specs)
 all_made_able specs = All-map IsAbleNode node_of specs (λ k d h. made_able (slice_index_or specs k d))
+
+made_from : (spec : NodeSpec) → spec_of (node_of spec) ≡ spec
+made_from (LocoSpec cv) = refl
+made_from (AccessorySpec number) = refl
+
+pub all_made_from : (specs : List NodeSpec) → map spec_of (map node_of specs) ≡ specs
+all_made_from [] = refl
+all_made_from (spec ∷ specs) = ap₂ (λ (s : NodeSpec) (ss : List NodeSpec). s ∷ ss) (made_from spec) (all_made_from specs)

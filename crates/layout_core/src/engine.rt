@@ -1,6 +1,7 @@
 //! A connection that is served byte by byte.
-ghost use Rattle.std.specs.Prelude.{◌≡◌, ◌+◌, ◌*◌, ◌<◌, ◌≤◌, true, false, [], ◌∷◌, length, IfOk, IfErr, OnOk, IsErrOf, IsTrue};
+ghost use Rattle.std.specs.Prelude.{◌≡◌, ◌+◌, ◌*◌, ◌<◌, ◌≤◌, true, false, [], ◌∷◌, length, IfOk, IfErr, OnOk, IsErrOf, IsTrue, map};
 ghost use Rattle.std.specs.Io.KnownBytes.{Appends, IsAtEnd};
+ghost use Rattle.layout_core.specs.Nodes.{spec_of};
 ghost use Rattle.station_core.specs.Runs.{is_call};
 ghost use Rattle.layout_core.specs.World.{call_of};
 ghost use Rattle.layout_core.specs.Counts.{GrowsTo, HasRoom};
@@ -126,6 +127,7 @@ fn serve_event<K: Sink, T: Sink>(
     ensures sink_failed { K.failed sink.new ≡ ended_by is_write result }
     ensures trace_failed { T.failed trace.new ≡ ended_by is_trace result }
     ensures lines { length world.new.station.lines ≡ length world.old.station.lines }
+    ensures specs { map spec_of world.new.nodes ≡ map spec_of world.old.nodes }
 {
     let answer = world.step(event);
     put_out(&answer, line, counts.turns + 1, sink, trace)?;
@@ -157,6 +159,7 @@ fn serve_byte<K: Sink, T: Sink>(
     ensures sink_failed { K.failed sink.new ≡ ended_by is_write result }
     ensures trace_failed { T.failed trace.new ≡ ended_by is_trace result }
     ensures lines { length world.new.station.lines ≡ length world.old.station.lines }
+    ensures specs { map spec_of world.new.nodes ≡ map spec_of world.old.nodes }
 {
     serve_event(world, Event::Byte { line, byte }, line, sink, trace, counts)?;
     for _turn in 0..turns {
@@ -189,6 +192,7 @@ fn serve_bytes<K: Sink, T: Sink>(
     ensures sink_failed { K.failed sink.new ≡ ended_by is_write result }
     ensures trace_failed { T.failed trace.new ≡ ended_by is_trace result }
     ensures lines { length world.new.station.lines ≡ length world.old.station.lines }
+    ensures specs { map spec_of world.new.nodes ≡ map spec_of world.old.nodes }
 {
     for byte in bytes {
         serve_byte(world, line, *byte, turns, sink, trace, counts)?;
@@ -237,6 +241,7 @@ pub fn serve<S: Source, K: Sink, T: Sink>(
     ensures sink_failed { K.failed sink.new ≡ ended_by is_write result }
     ensures trace_failed { T.failed trace.new ≡ ended_by is_trace result }
     ensures lines { length world.new.station.lines ≡ length world.old.station.lines }
+    ensures specs { map spec_of world.new.nodes ≡ map spec_of world.old.nodes }
 {
     headline();
     // The nodes promise there that each is able.

@@ -6,7 +6,7 @@ ghost use Rattle.station_core.specs.Runs.{AreCalls, answer_of, answers, is_call,
 ghost use Rattle.station_core.specs.Seen.{first_seen, is_line_count};
 ghost use Rattle.layout_core.specs.declared.node.Node.{Node as NodeValue};
 ghost use Rattle.layout_core.specs.Cycle.{RunsAsWanted};
-ghost use Rattle.layout_core.specs.Nodes.{IsAbleNode, node_of, outputs_of, running_of};
+ghost use Rattle.layout_core.specs.Nodes.{IsAbleNode, node_of, outputs_of, running_of, spec_of};
 ghost use Rattle.layout_core.specs.Served.{IsSendableAnswer};
 ghost use Rattle.layout_core.specs.World.{AfterEvent, HaveHeard, call_of, sent_in};
 
@@ -28,10 +28,12 @@ impl World {
     /// A new station with so many lines, and these decoders, each in its first state.
     ///
     /// Refused as the station is: `BadLines` unless the lines are 1 to 8, and else where there is no memory.
+    #[tactic(auto, using(crate::proofs::Hearing::all_made_from))]
     pub fn new(alloc: Global, lines: u8, nodes: NodeList) -> Result<World, StationFault>
         ensures lines { is_line_count lines ≡ false → result ≡ Err StationFault.BadLines }
         ensures station { IfOk result (λ w. (is_line_count lines ≡ true) × (w.station ≡ first_seen lines)) }
         ensures nodes { IfOk result (λ w. w.nodes ≡ map node_of nodes.items) }
+        ensures specs { IfOk result (λ w. map spec_of w.nodes ≡ nodes.items) }
         ensures memory { IfErr result (λ e. is_line_count lines ≡ true → e ≡ StationFault.NoMemory) }
     {
         let station = Station::new(alloc, lines)?;
@@ -78,6 +80,7 @@ impl World {
         ensures answer { result ≡ answer_of self.old.station (call_of event) }
         ensures nodes { AfterEvent event result self.old.nodes self.new.nodes }
         ensures lines { length self.new.station.lines ≡ length self.old.station.lines }
+        ensures specs { map spec_of self.new.nodes ≡ map spec_of self.old.nodes }
         ensures desk { IsDesk self.old.station.powered.desk }
         ensures sendable { IsSendableAnswer result }
     {
@@ -94,6 +97,7 @@ impl World {
         ensures station { self.new.station ≡ state_after self.old.station (map call_of events.now) }
         ensures answers { steps.new ≡ answers self.old.station (map call_of events.now) }
         ensures nodes { HaveHeard (sent_in self.old.station events.now) self.old.nodes self.new.nodes }
+        ensures specs { map spec_of self.new.nodes ≡ map spec_of self.old.nodes }
         // A locomotive that hears a full refresh cycle runs as its slot says.
         ensures headline { RunsAsWanted self.old.station events.now self.old.nodes self.new.nodes }
     {
@@ -113,6 +117,7 @@ impl World {
         ensures answer { result ≡ answer_of self.old.station (call_of (Event.Byte line byte)) }
         ensures nodes { self.new.nodes ≡ self.old.nodes }
         ensures lines { length self.new.station.lines ≡ length self.old.station.lines }
+        ensures specs { map spec_of self.new.nodes ≡ map spec_of self.old.nodes }
         ensures desk { IsDesk self.old.station.powered.desk }
         ensures sendable { IsSendableAnswer result }
     {
@@ -129,6 +134,7 @@ impl World {
         ensures answer { result ≡ answer_of self.old.station (call_of (Event.Turn missed)) }
         ensures nodes { AfterEvent (Event.Turn missed) result self.old.nodes self.new.nodes }
         ensures lines { length self.new.station.lines ≡ length self.old.station.lines }
+        ensures specs { map spec_of self.new.nodes ≡ map spec_of self.old.nodes }
         ensures desk { IsDesk self.old.station.powered.desk }
         ensures sendable { IsSendableAnswer result }
     {

@@ -1,2 +1,5 @@
+pub mod CommandLine
 pub mod Fault
 pub mod Input
+pub mod Layout
+pub mod Order

@@ -1,13 +1,24 @@
-//! `station`: a LocoNet command station that replays a script of throttle bytes.
+//! `station`: a LocoNet command station with the DCC decoders on its track, which replays scripts, prints captured
+//! messages, and serves throttles over TCP.
 #![tactic(auto)]
 
+mod command_line;
 mod execute;
 mod fault;
 mod input;
+mod layout;
+mod monitor;
+mod orders;
+mod output;
 mod replay;
+mod serving;
+mod words;
 
 pub use execute::execute;
 pub use fault::RunFault;
+pub use orders::{OrderFault, order};
+pub use serving::serve_on;
+pub use words::{FileName, Order};
 use std::process::ExitCode;
 use std::{env, io};
 

@@ -1,46 +1,123 @@
-//! `station replay`: the bytes of a script, and the replies to them.
-ghost use Rattle.std.specs.Prelude.{length};
+//! `station replay`: a script, and what the layout makes of it.
+ghost use Rattle.std.specs.Prelude.{◌≡◌, ◌<◌, length, map};
 ghost use Rattle.show_text.specs.Script.{AreOnLines};
+ghost use Rattle.layout_core.specs.Nodes.{spec_of};
+ghost use Rattle.ln_ops.specs.Reply.{IsSendable};
+ghost use Rattle.station.specs.Layout.{IsWorldOf, roster_value};
 
 use crate::fault::RunFault;
 use crate::input::read_most;
-use show_text::{Command, LONGEST_TEXT, read_script, reply_line};
-use station_core::Station;
+use crate::layout::print_nodes;
+use crate::output::print;
+use dcc_packet::Packet;
+use layout_core::{Event, World};
+use ln_ops::Reply;
+use roster::Roster;
+use show_text::{Command, LONGEST_TEXT, off_line, read_script, reply_line, track_line};
+use station_core::Step;
 use std::alloc::Global;
 use std::io::{BufWriter, Read, Write};
 
-/// The lines of the station.
-const LINES: u8 = 1;
-
-/// Reads a script from standard input, whole, and then prints the replies to its bytes.
+/// Reads a script from standard input, whole, and then prints the replies to its bytes, its turns, and the decoders
+/// that it shows.
 pub(crate) fn replay<I: Read, O: Write>(
     alloc: Global,
+    world: &mut World,
+    roster: Option<&Roster>,
     input: &mut I,
     output: &mut O,
-) -> Result<(), RunFault> {
-    let text = read_most(alloc, input, LONGEST_TEXT + 1)?;
-    let commands = read_script(alloc, text.as_slice(), LINES)?;
-    let mut station = Station::new(alloc, LINES)?;
+) -> Result<(), RunFault>
+    requires { IsWorldOf (roster_value roster) world.old.nodes }
+{
+    let text = read_most(alloc, input, LONGEST_TEXT + 1).map_err(|fault| fault.of_input())?;
+    let lines = world.station().lines();
+    let nodes = world.nodes() as u8;
+    let commands = read_script(alloc, text.as_slice(), lines, nodes)?;
     let Ok(mut buffered) = BufWriter::new(alloc, output) else {
         return Err(RunFault::NoMemory);
     };
-    play(&mut station, commands.as_slice(), &mut buffered)?;
+    play(world, roster, commands.as_slice(), &mut buffered)?;
     buffered.flush().map_err(|_| RunFault::Output)
 }
 
-// Sends the bytes of the commands, and prints the replies.
+/// Does the commands one after another. Turns are numbered from 1.
 fn play<O: Write>(
-    station: &mut Station,
+    world: &mut World,
+    roster: Option<&Roster>,
     commands: &[Command],
     output: &mut O,
 ) -> Result<(), RunFault>
-    requires { AreOnLines (length station.old.lines) commands.now }
+    requires lines { AreOnLines (length world.old.station.lines) commands.now }
+    requires nodes { IsWorldOf (roster_value roster) world.old.nodes }
 {
+    let mut turn = 0;
     for command in commands {
-        let Command::Byte { line, byte } = *command;
-        if let Some(reply) = station.byte(line, byte) {
-            writeln!(output, "{}", reply_line(line, &reply)).map_err(|_| RunFault::Output)?;
+        match *command {
+            Command::Byte { line, byte } => play_byte(world, line, byte, output)?,
+            Command::Turns { count, missed } => {
+                turn = play_turns(world, count, missed, turn, output)?;
+            }
+            Command::Show => print_nodes(world, roster, output)?,
         }
     }
     Ok(())
+}
+
+/// A byte comes on a line, and its reply is printed.
+fn play_byte<O: Write>(
+    world: &mut World,
+    line: u8,
+    byte: u8,
+    output: &mut O,
+) -> Result<(), RunFault>
+    requires { line < length world.old.station.lines }
+    ensures lines { length world.new.station.lines ≡ length world.old.station.lines }
+    ensures specs { map spec_of world.new.nodes ≡ map spec_of world.old.nodes }
+{
+    match world.step(Event::Byte { line, byte }) {
+        Step::Reply(reply) => print_reply(line, &reply, output),
+        _ => Ok(()),
+    }
+}
+
+/// So many turns, each printed, of which the last before them had this number. Gives the number of the last.
+fn play_turns<O: Write>(
+    world: &mut World,
+    count: u32,
+    missed: u64,
+    last: u64,
+    output: &mut O,
+) -> Result<u64, RunFault>
+    ensures lines { length world.new.station.lines ≡ length world.old.station.lines }
+    ensures specs { map spec_of world.new.nodes ≡ map spec_of world.old.nodes }
+{
+    let mut turn = last;
+    for _ in 0..count {
+        // No script has so many turns that their number ends.
+        turn = turn.saturating_add(1);
+        match world.step(Event::Turn { missed }) {
+            Step::Packet(packet) => print_packet(turn, &packet, output)?,
+            _ => print_off(turn, output)?,
+        }
+    }
+    Ok(turn)
+}
+
+// Each line is printed by a call of its own: room for a line is cleared where it is declared, and most events print none.
+
+#[inline(never)]
+fn print_reply<O: Write>(line: u8, reply: &Reply, output: &mut O) -> Result<(), RunFault>
+    requires { IsSendable reply.now }
+{
+    print(output, &reply_line(line, reply))
+}
+
+#[inline(never)]
+fn print_packet<O: Write>(turn: u64, packet: &Packet, output: &mut O) -> Result<(), RunFault> {
+    print(output, &track_line(turn, packet))
+}
+
+#[inline(never)]
+fn print_off<O: Write>(turn: u64, output: &mut O) -> Result<(), RunFault> {
+    print(output, &off_line(turn))
 }

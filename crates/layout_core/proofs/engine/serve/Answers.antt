@@ -21,6 +21,7 @@ loop-reads-init g c = record {
   source_works = c.requires.source_works;
   sink_works = c.requires.sink_works;
   trace_works = c.requires.trace_works;
+  specs = refl;
 }
 
 pub loop-reads-preserved : goal.loop-reads-preserved
@@ -49,6 +50,7 @@ loop-reads-preserved g c =
       source_works = c.in-Ok.ensures.failed_ok ∙ c.loop-reads.invariant.source_works;
       sink_works = c.in_ok-serve_bytes.ensures.sink_failed;
       trace_works = c.in_ok-serve_bytes.ensures.trace_failed;
+      specs = c.serve_bytes.ensures.specs ∙ c.loop-reads.invariant.specs;
     }
 
 pub returns-then-n-eq0-clause-served : goal.returns-then-n-eq0-clause-served

@@ -1,4 +1,4 @@
-use Rattle.std.proofs.Common.{[], ◌∷◌, refl, replicate, arith}
+use Rattle.std.proofs.Common.{[], ◌∷◌, refl, replicate, arith, ◌∙◌}
 use Rattle.layout_core.specs.declared.event.Event.TheVariants.{Byte, Turn}
 use Rattle.layout_core.proofs.Serving.{byte_more, serves_none, serves_then}
 use Rattle.layout_core.proofs.Stopping.{byte_parts, passed_up, stops_then}
@@ -10,6 +10,7 @@ loop-turn-preserved g c = record {
   room = record { replies = omega (arith, c.serve_event-in-loop-turn.ensures.room, c.loop-turn.invariant.room); turns = omega (arith, c.serve_event-in-loop-turn.ensures.room, c.loop-turn.invariant.room) };
   sink_works = c.in_ok-serve_event-2.ensures.sink_failed;
   trace_works = c.in_ok-serve_event-2.ensures.trace_failed;
+  specs = c.serve_event-in-loop-turn.ensures.specs ∙ c.loop-turn.invariant.specs;
 }
 
 pub returns-in_err-serve_event-clause-stops : goal.returns-in_err-serve_event-clause-stops

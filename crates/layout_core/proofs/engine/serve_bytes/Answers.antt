@@ -1,4 +1,4 @@
-use Rattle.std.proofs.Common.{arith}
+use Rattle.std.proofs.Common.{arith, ◌∙◌}
 use Rattle.layout_core.proofs.Serving.{served_more, serves_then}
 use Rattle.layout_core.proofs.Stopping.{passed_up, served_parts, stops_then}
 use Rattle.layout_core.proofs.engine.serve_bytes.Goals as goal
@@ -11,6 +11,7 @@ loop-byte-preserved g c = record {
   room = record { replies = omega (arith, c.serve_byte.ensures.room, c.loop-byte.invariant.room); turns = omega (arith, c.serve_byte.ensures.room, c.loop-byte.invariant.room) };
   sink_works = c.in_ok-serve_byte.ensures.sink_failed;
   trace_works = c.in_ok-serve_byte.ensures.trace_failed;
+  specs = c.serve_byte.ensures.specs ∙ c.loop-byte.invariant.specs;
 }
 
 pub returns-in_err-serve_byte-clause-stops : goal.returns-in_err-serve_byte-clause-stops

@@ -1,6 +1,10 @@
 use Rattle.std.proofs.Common.{◌≡◌, length}
+use Rattle.station.specs.Layout.{IsWorldOf, roster_value}
 use Rattle.station.proofs.replay.play.Given as goal
 
--- no byte takes a line away
+-- nothing takes a line or a decoder away
 abbrev pub invariant-loop-command : goal.invariant-loop-command
-invariant-loop-command g l = length l.station.lines ≡ length l.initial.station.lines
+invariant-loop-command g l = record {
+  lines : length l.world.station.lines ≡ length l.initial.world.station.lines;
+  nodes : IsWorldOf (roster_value l.roster) l.world.nodes;
+}

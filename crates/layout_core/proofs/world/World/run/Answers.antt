@@ -39,6 +39,7 @@ loop-i-preserved c =
           ∙ subst (λ (events : List Event). take c.loop-i.i c.loop-i.steps ++ answers before (map call_of events) ≡ answers c.args.self.now.station (map call_of c.args.events.now)) more c.loop-i.invariant.written;
       lines = c.step.ensures.lines ∙ c.loop-i.invariant.lines;
       same_length = search rules;
+      specs = c.step.ensures.specs ∙ c.loop-i.invariant.specs;
       heard = λ new rest.
           c.loop-i.invariant.heard new
           (subst (λ (events : List Event). HaveHeard (sent_in before events) c.loop-i.self.nodes new) (sym more)

@@ -1,0 +1,68 @@
+-- The command line, as clap reads it.
+use Rattle.std.specs.Prelude.{ℕ, List, [], ◌∷◌, codes, Option, Some, true, pos}
+use Rattle.clap.specs.Words.{App, Rule, Shape, Text, new_app, new_rule, with_rule, with_subcommand}
+use Rattle.clap.specs.declared.builder.ArgAction.TheVariants.{Set}
+use Rattle.clap.specs.declared.builder.value_parser.ValueParser.TheVariants as vp
+
+-- a value that stands at its place
+abbrev pub value : Text → Rule
+value id = record (new_rule id) { value_names = 1; action = Some Set }
+
+-- `--id VALUE`
+abbrev pub option : Text → Rule
+option id = record (value id) { long = Some id }
+
+-- `--id N`, a number in a range
+abbrev pub number : Text → ℕ → ℕ → Rule
+number id least most = record (option id) { parser = Some (vp.Signed (pos least) (pos most)) }
+
+-- what stands for an option that is not given
+abbrev pub or_else : Rule → Text → Rule
+or_else rule text = record rule { defaults = text ∷ [] }
+
+abbrev pub needed : Rule → Rule
+needed rule = record rule { required = true }
+
+-- The options.
+
+abbrev pub roster_rule : Rule
+roster_rule = option (codes "roster")
+
+abbrev pub lines_rule : Rule
+lines_rule = or_else (number (codes "lines") 1 8) (codes "1")
+
+abbrev pub file_rule : Rule
+file_rule = needed (value (codes "file"))
+
+abbrev pub port_rule : Rule
+port_rule = needed (number (codes "port") 1 65535)
+
+abbrev pub turns_rule : Rule
+turns_rule = or_else (number (codes "turns") 0 255) (codes "1")
+
+abbrev pub reads_rule : Rule
+reads_rule = or_else (number (codes "reads") 1 4294967295) (codes "100000")
+
+abbrev pub connections_rule : Rule
+connections_rule = or_else (number (codes "connections") 1 1000) (codes "1")
+
+-- The commands.
+
+abbrev pub replay_app : App
+replay_app = with_rule (with_rule (new_app (codes "replay")) lines_rule) roster_rule
+
+abbrev pub monitor_app : App
+monitor_app = with_rule (new_app (codes "monitor")) file_rule
+
+abbrev pub served_app : App
+served_app = with_rule (with_rule (with_rule (new_app (codes "serve")) port_rule) roster_rule) turns_rule
+
+abbrev pub serve_app : App
+serve_app = with_rule (with_rule served_app reads_rule) connections_rule
+
+-- the program's own words come without its name, and a command is wanted
+abbrev pub bare_app : App
+bare_app = record (new_app (codes "station")) { top = record (new_app (codes "station")).top { no_binary_name = true; subcommand_required = true } }
+
+abbrev pub station_app : App
+station_app = with_subcommand (with_subcommand (with_subcommand bare_app replay_app.top) monitor_app.top) serve_app.top

@@ -1,0 +1,71 @@
+//! The layout that a run works on, and the lines of its decoders.
+ghost use Rattle.std.specs.Prelude.{◌≡◌, IfOk, length, true};
+ghost use Rattle.station_core.specs.Seen.{is_line_count};
+ghost use Rattle.station.specs.Layout.{IsWorldOf, roster_value};
+
+use crate::fault::RunFault;
+use crate::input::read_file;
+use crate::output::print;
+use crate::words::FileName;
+use decoder_node::NodeList;
+use layout_core::World;
+use roster::Roster;
+use show_text::node_line;
+use std::alloc::Global;
+use std::io::Write;
+use std::rt::Files;
+
+/// The longest roster, in bytes.
+const LONGEST_ROSTER: usize = 65_536;
+
+/// The roster of this file, if there is one.
+pub(crate) fn read_roster<R: Files + AllocGlobal>(
+    rt: &R,
+    file: Option<FileName>,
+) -> Result<Option<Roster>, RunFault> {
+    let Some(file) = file else {
+        return Ok(None);
+    };
+    let text = match read_file(rt, &file, LONGEST_ROSTER + 1) {
+        Ok(text) => text,
+        Err(fault) => return Err(fault.of_file(file)),
+    };
+    if text.len() > LONGEST_ROSTER {
+        return Err(RunFault::TooLong(file));
+    }
+    Ok(Some(roster::read(rt.alloc(), text.as_slice())?))
+}
+
+/// A new station with so many lines, and the decoders of the roster; without one there are none.
+pub(crate) fn new_world(
+    alloc: Global,
+    lines: u8,
+    roster: Option<&Roster>,
+) -> Result<World, RunFault>
+    ensures lines { IfOk result (λ world. (is_line_count lines ≡ true) × (length world.station.lines ≡ lines)) }
+    ensures nodes { IfOk result (λ world. IsWorldOf (roster_value roster.entry) world.nodes) }
+{
+    let nodes = match roster {
+        Some(roster) => roster.nodes(),
+        None => NodeList::new(),
+    };
+    Ok(World::new(alloc, lines, nodes)?)
+}
+
+/// Prints how each decoder stands, in order.
+pub(crate) fn print_nodes<O: Write>(
+    world: &World,
+    roster: Option<&Roster>,
+    output: &mut O,
+) -> Result<(), RunFault>
+    requires { IsWorldOf (roster_value roster) world.now.nodes }
+{
+    let Some(roster) = roster else {
+        return Ok(());
+    };
+    for (i, spec) in roster.nodes().as_slice().iter().enumerate() {
+        let line = node_line(roster.name(i), spec, world.running(i), world.outputs(i));
+        print(output, &line)?;
+    }
+    Ok(())
+}

@@ -1,0 +1,21 @@
+//! Printing lines.
+ghost use Rattle.std.specs.Prelude.{OnOk, ◌++◌, ◌∷◌, []};
+ghost use Rattle.std.specs.Io.KnownBytes.{Appends};
+
+use crate::fault::RunFault;
+use show_text::Line;
+use std::io::Write;
+
+/// Prints a line, and a line feed.
+pub(crate) fn print<O: Write>(output: &mut O, line: &Line) -> Result<(), RunFault>
+    ensures { OnOk result (Appends (O.contents output.old) (O.contents output.new) (line.now.bytes ++ 10 ∷ [])) }
+{
+    print_all(output, line.as_str().as_bytes())?;
+    print_all(output, b"\n")
+}
+
+fn print_all<O: Write>(output: &mut O, bytes: &[u8]) -> Result<(), RunFault>
+    ensures { OnOk result (Appends (O.contents output.old) (O.contents output.new) bytes.now) }
+{
+    output.write_all(bytes).map_err(|_| RunFault::Output)
+}

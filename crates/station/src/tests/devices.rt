@@ -1,0 +1,81 @@
+//! Standard streams that fail.
+
+use crate::execute;
+use std::io;
+use std::io::{ErrorKind, Read, Write};
+
+// A device whose every call fails.
+#[derive(Drop)]
+struct Broken;
+
+impl Read for Broken {
+    fn read(&mut self, _buf: &mut [u8]) -> io::Result<usize> {
+        Err(io::Error::from(ErrorKind::Other))
+    }
+}
+
+impl Write for Broken {
+    fn write(&mut self, _buf: &[u8]) -> io::Result<usize> {
+        Err(io::Error::from(ErrorKind::Other))
+    }
+
+    fn flush(&mut self) -> io::Result<()> {
+        Ok(())
+    }
+}
+
+// Spaces without end, and how many were read.
+#[derive(Drop)]
+struct Spaces {
+    read: u64,
+}
+
+impl Read for Spaces {
+    fn read(&mut self, buf: &mut [u8]) -> io::Result<usize> {
+        for byte in buf.iter_mut() {
+            *byte = b' ';
+        }
+        self.read = self.read.wrapping_add(buf.len() as u64);
+        Ok(buf.len())
+    }
+}
+
+#[test]
+fn standard_input_cannot_be_read(rt: HostRuntime) {
+    let mut output = Vec::new(rt.alloc());
+    let mut faults = Vec::new(rt.alloc());
+    assert_eq!(rt; execute(&rt, &[], &mut Broken, &mut output, &mut faults), 2);
+    assert_eq!(rt; faults.as_slice(), b"station: cannot read -\n".as_slice());
+    assert_eq!(rt; output.as_slice(), b"".as_slice());
+}
+
+#[test]
+fn standard_output_cannot_be_written(rt: HostRuntime) {
+    let rows: [&[u8]; 2] = [b"line 0 BF 00 03 43", b"turn 1"];
+    for text in rows {
+        let mut input = text;
+        let mut faults = Vec::new(rt.alloc());
+        assert_eq!(rt; execute(&rt, &[], &mut input, &mut Broken, &mut faults), 4);
+        assert_eq!(rt; faults.as_slice(), b"station: output\n".as_slice());
+    }
+}
+
+#[test]
+fn standard_error_cannot_be_written(rt: HostRuntime) {
+    let mut input: &[u8] = b"turn 0";
+    let mut output = Vec::new(rt.alloc());
+    assert_eq!(rt; execute(&rt, &[], &mut input, &mut output, &mut Broken), 5);
+}
+
+#[test]
+fn a_long_script_is_read_one_byte_past_the_limit(rt: HostRuntime) {
+    let mut spaces = Spaces { read: 0 };
+    let mut output = Vec::new(rt.alloc());
+    let mut faults = Vec::new(rt.alloc());
+    assert_eq!(rt; execute(&rt, &[], &mut spaces, &mut output, &mut faults), 5);
+    assert_eq!(rt;
+        faults.as_slice(),
+        b"station: script fault 6 at line 0\n".as_slice()
+    );
+    assert_eq!(rt; spaces.read, 1_048_577);
+}

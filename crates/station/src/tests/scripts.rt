@@ -1,0 +1,108 @@
+//! Scripts without a roster: replies, turns and script faults.
+
+use super::run;
+
+// Words, standard input, and then the status, standard output and standard error.
+type Run = (
+    &'static [&'static str],
+    &'static [u8],
+    u8,
+    &'static [u8],
+    &'static [u8],
+);
+
+const TAKE: &[u8] = b"line 0 BF 00 03 43\nline 0 83 7C\nline 0 BA 01 01 45\n";
+
+const TAKEN: &[u8] = b"reply 0 E7 0E 01 23 03 00 00 06 00 00 00 00 00 31
+reply 0 E7 0E 01 33 03 00 00 07 00 00 00 00 00 20
+";
+
+const RUNS: [Run; 13] = [
+    (&[], TAKE, 0, TAKEN, b""),
+    (&["replay"], TAKE, 0, TAKEN, b""),
+    (&[], b"", 0, b"", b""),
+    // The bytes of a message may stand in several lines of the script.
+    (
+        &[],
+        b"line 0 BF 00\nline 0 03\nline 0 43 83\nline 0 7C",
+        0,
+        b"reply 0 E7 0E 01 23 03 00 00 06 00 00 00 00 00 31\n",
+        b"",
+    ),
+    // Without a roster `show` prints nothing.
+    (
+        &[],
+        b"line 0 83 7C\nturn 2\nshow\n",
+        0,
+        b"track 1 FF 00 FF\ntrack 2 FF 00 FF\n",
+        b"",
+    ),
+    // Turns are counted over the whole script, also where power is off.
+    (
+        &[],
+        b"turn 1\nline 0 83 7C\nturn 1\nline 0 85 7A\nturn 1\nline 0 82 7D\nturn 1",
+        0,
+        b"track 1 off\ntrack 2 FF 00 FF\ntrack 3 00 51 51\ntrack 4 off\n",
+        b"",
+    ),
+    (
+        &["replay", "--lines", "2"],
+        b"line 1 BF 00 03 43",
+        0,
+        b"reply 1 E7 0E 01 23 03 00 00 06 00 00 00 00 00 31\n",
+        b"",
+    ),
+    // A fault prints no result, whatever stands before it.
+    (
+        &[],
+        b"line 0 BF 00 03 43\nline 0 8\n",
+        5,
+        b"",
+        b"station: script fault 2 at line 2\n",
+    ),
+    (
+        &[],
+        b"turns 1",
+        5,
+        b"",
+        b"station: script fault 1 at line 1\n",
+    ),
+    (
+        &[],
+        b"turn 0",
+        5,
+        b"",
+        b"station: script fault 3 at line 1\n",
+    ),
+    (
+        &[],
+        b"line 1 83",
+        5,
+        b"",
+        b"station: script fault 4 at line 1\n",
+    ),
+    (
+        &["replay", "--lines", "8"],
+        b"line 7 83\nline 8 83",
+        5,
+        b"",
+        b"station: script fault 4 at line 2\n",
+    ),
+    (
+        &[],
+        b"turn 1 miss 0",
+        5,
+        b"",
+        b"station: script fault 5 at line 1\n",
+    ),
+];
+
+#[test]
+fn scripts_end_with_their_status(rt: HostRuntime) {
+    for (words, text, status, printed, fault) in RUNS {
+        let ran = run(&rt, words, text);
+        assert_eq!(rt; ran.status, status, "of {text:?}");
+        assert_eq!(rt; ran.output.as_slice(), printed, "of {text:?}");
+        assert_eq!(rt; ran.faults.as_slice(), fault, "of {text:?}");
+    }
+}
