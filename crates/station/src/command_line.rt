@@ -152,7 +152,9 @@ fn program<'a>(alloc: Global) -> Command<'a>
 {
     Command::new(alloc, "station")
         .about("A LocoNet command station, with the DCC decoders on its track")
-        .after_help("With no words it replays a script from standard input: station < session.script")
+        .after_help(
+            "With no words it replays a script from standard input: station < session.script",
+        )
         .no_binary_name(true)
         .subcommand_required(true)
 }

@@ -72,7 +72,15 @@ where
             let roster = read_roster(rt, roster)?;
             let mut world = new_world(rt.alloc(), 1, roster.as_ref())?;
             let limits = Limits { reads, turns };
-            serve_at(rt, port, &mut world, roster.as_ref(), limits, connections, output)
+            serve_at(
+                rt,
+                port,
+                &mut world,
+                roster.as_ref(),
+                limits,
+                connections,
+                output,
+            )
         }
     }
 }

@@ -5,10 +5,9 @@ ghost use Rattle.station.specs.Input.{ReadsMost};
 use crate::fault::RunFault;
 use crate::words::FileName;
 use std::alloc::Global;
-use std::fs;
-use std::io;
 use std::io::{ErrorKind, Read};
 use std::rt::Files;
+use std::{fs, io};
 
 /// How many bytes are asked of a reader at a time.
 const CHUNK: usize = 4096;

@@ -18,9 +18,9 @@ pub use execute::execute;
 pub use fault::RunFault;
 pub use orders::{OrderFault, order};
 pub use serving::serve_on;
-pub use words::{FileName, Order};
 use std::process::ExitCode;
 use std::{env, io};
+pub use words::{FileName, Order};
 
 #[cfg(test)]
 mod tests;

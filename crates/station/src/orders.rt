@@ -127,11 +127,7 @@ fn serve(alloc: Global, found: &ArgMatches<'_>) -> Result<Order, OrderFault>
     })
 }
 
-fn command_order(
-    alloc: Global,
-    command: &str,
-    found: &ArgMatches<'_>,
-) -> Result<Order, OrderFault>
+fn command_order(alloc: Global, command: &str, found: &ArgMatches<'_>) -> Result<Order, OrderFault>
     ensures { IfOk result (λ order. IsOrder command.now (rows_of (found_of found.now)) order) }
 {
     match command {

@@ -1,5 +1,5 @@
 //! `station serve`: throttles over TCP.
-ghost use Rattle.std.specs.Prelude.{◌≡◌, OnOk, map};
+ghost use Rattle.std.specs.Prelude.{◌≡◌, map};
 ghost use Rattle.layout_core.specs.Nodes.{spec_of};
 ghost use Rattle.station.specs.Layout.{IsWorldOf, roster_value};
 
@@ -47,6 +47,8 @@ pub fn serve_on<O: Write>(
     output: &mut O,
 ) -> Result<(), RunFault>
     requires { IsWorldOf (roster_value roster) world.old.nodes }
+    // So it may be served on again.
+    ensures { IsWorldOf (roster_value roster.entry) world.new.nodes }
 {
     for _ in 0..connections {
         let Ok((stream, _)) = listener.accept() else {
@@ -65,7 +67,7 @@ fn serve_stream<O: Write>(
     limits: Limits,
     output: &mut O,
 ) -> Result<(), RunFault>
-    ensures { OnOk result (map spec_of world.new.nodes ≡ map spec_of world.old.nodes) }
+    ensures { map spec_of world.new.nodes ≡ map spec_of world.old.nodes }
 {
     // A station promises there that it has a line.
     let _ = world.station().lines();

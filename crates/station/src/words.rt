@@ -55,7 +55,9 @@ pub enum Order {
         roster: Option<FileName>,
     },
     /// Prints the messages of a captured hex text.
-    Monitor { file: FileName },
+    Monitor {
+        file: FileName,
+    },
     /// Serves throttles over TCP.
     Serve {
         /// The port on 127.0.0.1, 1 to 65535.

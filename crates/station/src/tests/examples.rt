@@ -65,7 +65,8 @@ node shunter short 3 stop forward F 000000000
 node yard module 1 outputs 01000000
 ";
 
-const LOSSES: &[u8] = b"# The shunter is driven as in drive.script, but it misses both packets that tell its speed.
+const LOSSES: &[u8] =
+    b"# The shunter is driven as in drive.script, but it misses both packets that tell its speed.
 line 0 BF 00 03 43 83 7C BA 01 01 45 A0 01 40 1E
 turn 1 miss 0
 turn 1

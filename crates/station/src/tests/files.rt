@@ -3,10 +3,9 @@
 use super::{Ran, run};
 use crate::execute;
 use std::alloc::Global;
-use std::fs;
-use std::io;
 use std::io::{ErrorKind, Write};
 use std::test::Fail;
+use std::{fs, io};
 
 // A writer whose every call fails.
 #[derive(Drop)]
@@ -161,7 +160,10 @@ fn a_monitor_that_cannot_print(rt: HostRuntime) -> Result<(), Fail> {
     fs::write(&rt, file, b"83 7C".as_slice())?;
     let mut input: &[u8] = b"";
     let mut faults = Vec::new(rt.alloc());
-    assert_eq!(rt; execute(&rt, &["monitor", file], &mut input, &mut Full, &mut faults), 4);
+    assert_eq!(rt;
+        execute(&rt, &["monitor", file], &mut input, &mut Full, &mut faults),
+        4
+    );
     assert_eq!(rt; faults.as_slice(), b"station: output\n".as_slice());
     fs::remove_file(&rt, file)?;
     Ok(())

@@ -5,8 +5,8 @@ use crate::fault::RunFault;
 use crate::layout::new_world;
 use crate::serve_on;
 use layout_core::Limits;
-use std::net::{Shutdown, TcpListener, TcpStream};
 use std::io::{Read, Write};
+use std::net::{Shutdown, TcpListener, TcpStream};
 use std::test::Fail;
 
 const ONE_TURN: Limits = Limits {
@@ -55,7 +55,7 @@ track 1 off
 reply 0 E7 0E 01 23 03 00 00 06 00 00 00 00 00 31
 track 2 off
 "
-        .as_slice()
+            .as_slice()
     );
     Ok(())
 }

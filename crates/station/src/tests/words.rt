@@ -103,8 +103,16 @@ fn options_of_serve(rt: HostRuntime) -> Result<(), Fail> {
 #[test]
 fn help_names_the_commands(rt: HostRuntime) -> Result<(), Fail> {
     let ran = run(&rt, &["--help"], b"");
-    let text = std::str::from_utf8(ran.faults.as_slice()).ok().ok_or("no text")?;
-    for part in ["Usage: station", "replay", "monitor", "serve", "station < session.script"] {
+    let text = std::str::from_utf8(ran.faults.as_slice())
+        .ok()
+        .ok_or("no text")?;
+    for part in [
+        "Usage: station",
+        "replay",
+        "monitor",
+        "serve",
+        "station < session.script",
+    ] {
         assert!(rt; text.contains(part), "{part}");
     }
     Ok(())
