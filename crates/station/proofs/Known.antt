@@ -1,6 +1,5 @@
 -- How reads of known bytes join.
-use Rattle.std.proofs.Common.{◌≡◌, ℕ, List, [], ◌++◌, refl, ap, sym, ◌∙◌, append_assoc, Option, None, Some}
-use mathlib.Core.List.{append-nil}
+use Rattle.std.proofs.Common.{ℕ, List, [], ◌++◌, refl, ap, sym, ◌∙◌, append_assoc, Option, None, Some}
 use Rattle.std.specs.Io.KnownBytes.{Consumes, Keeps}
 
 pub consumes_none : (a : Option (List ℕ)) → Consumes a a []

@@ -1,5 +1,5 @@
 -- A decoder of a layout is told of as its line wants.
-use Rattle.std.proofs.Common.{◌≡◌, ◌<◌, ◌∙◌, ℕ, List, Option, map, length, sym, subst, refl}
+use Rattle.std.proofs.Common.{◌≡◌, ◌<◌, ◌∙◌, ℕ, List, Option, map, length, refl}
 use Rattle.std.proofs.lemmas.List.{get_or-map}
 use Rattle.std.specs.List.{slice_index_or}
 use Rattle.decoder_node.specs.declared.node.NodeSpec.{NodeSpec}

@@ -1,6 +1,5 @@
-use Rattle.std.proofs.Common.{rules, arith, ◌≡◌, ◌<◌, ◌∙◌, length, ℕ, List, Option, Some, map, ap, sym, Bor, subst}
+use Rattle.std.proofs.Common.{arith, ◌≡◌, ◌<◌, ◌∙◌, length, List, Option, Some, map, ap, sym, Bor, subst}
 use Rattle.std.proofs.lemmas.List.{length-map}
-use Rattle.decoder_node.specs.declared.node.NodeSpec.{NodeSpec}
 use Rattle.layout_core.specs.Nodes.{spec_of}
 use Rattle.roster.specs.Entry.{Entry}
 use Rattle.station.specs.Layout.{IsWorldOf, roster_value}
