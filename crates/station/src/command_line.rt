@@ -145,10 +145,10 @@ fn serve<'a>(alloc: Global) -> Result<Command<'a>, AllocError>
     served(alloc)?.arg(reads(alloc))?.arg(connections(alloc))
 }
 
-/// The program, which wants a command.
-fn program<'a>(alloc: Global) -> Command<'a>
-    ensures app { app_of result ≡ bare_app }
-    ensures local { (fields_of result).has_globals ≡ false }
+/// The program, which wants a command. Its words come without its name, so the usage is told the name.
+fn program<'a>(alloc: Global) -> Result<Command<'a>, AllocError>
+    ensures app { IfOk result (λ c. app_of c ≡ bare_app) }
+    ensures local { IfOk result (λ c. (fields_of c).has_globals ≡ false) }
 {
     Command::new(alloc, "station")
         .about("A LocoNet command station, with the DCC decoders on its track")
@@ -157,13 +157,14 @@ fn program<'a>(alloc: Global) -> Command<'a>
         )
         .no_binary_name(true)
         .subcommand_required(true)
+        .bin_name("station")
 }
 
 /// The whole command line.
 pub(crate) fn station_command<'a>(alloc: Global) -> Result<Command<'a>, AllocError>
     ensures { IfOk result (λ c. app_of c ≡ station_app) }
 {
-    program(alloc)
+    program(alloc)?
         .subcommand(replay(alloc)?)?
         .subcommand(monitor(alloc)?)?
         .subcommand(serve(alloc)?)

@@ -101,19 +101,31 @@ fn options_of_serve(rt: HostRuntime) -> Result<(), Fail> {
 }
 
 #[test]
-fn help_names_the_commands(rt: HostRuntime) -> Result<(), Fail> {
-    let ran = run(&rt, &["--help"], b"");
-    let text = std::str::from_utf8(ran.faults.as_slice())
-        .ok()
-        .ok_or("no text")?;
-    for part in [
-        "Usage: station",
-        "replay",
-        "monitor",
-        "serve",
-        "station < session.script",
-    ] {
-        assert!(rt; text.contains(part), "{part}");
+fn help_and_usage(rt: HostRuntime) -> Result<(), Fail> {
+    // The words, and parts of what standard error is told.
+    let rows: [(&[&str], [&str; 3]); 4] = [
+        (
+            &["--help"],
+            ["Usage: station", "monitor", "station < session.script"],
+        ),
+        (
+            &["serve", "--help"],
+            ["Usage: station serve", "--connections <C>", "127.0.0.1"],
+        ),
+        (
+            &["serve"],
+            ["Usage: station serve", "--port <P>", "required"],
+        ),
+        (&["replay", "--lines", "9"], ["'9'", "--lines <N>", "1..=8"]),
+    ];
+    for (words, parts) in rows {
+        let ran = run(&rt, words, b"");
+        let text = std::str::from_utf8(ran.faults.as_slice())
+            .ok()
+            .ok_or("no text")?;
+        for part in parts {
+            assert!(rt; text.contains(part), "{part}");
+        }
     }
     Ok(())
 }
