@@ -1,5 +1,6 @@
 -- What an accessory decoder makes of whole waves.
-use Rattle.std.proofs.Common.{◌≡◌, ℕ, List, [], ◌∷◌, fold, refl, ap, ◌∙◌}
+use Rattle.std.proofs.Common.{◌≡◌, ℕ, List, [], ◌∷◌, ◌++◌, fold, refl, ap, sym, ◌∙◌}
+use Rattle.std.proofs.lemmas.List.Sums.{fold-append}
 use Rattle.decoder_rx.specs.Table.{after_all, answers, is_hunting}
 use Rattle.decoder_node.specs.Heard.{told}
 use Rattle.decoder_node.specs.Accessory.{AccessoryDecoder, heard, heard_all, HearsAccessory}
@@ -21,6 +22,10 @@ outputs_after (x ∷ xs) d = outputs_after xs (heard d x)
 ignores : (number : ℕ) → Ignores (switch number)
 unfolding switch
 ignores number outputs packet h = ap (switched_if number outputs) (spells_none packet h)
+
+-- and one half more
+pub heard_next : (old d : AccessoryDecoder) (halves : List ℕ) (half : ℕ) → d ≡ heard_all old halves → heard d half ≡ heard_all old (halves ++ half ∷ [])
+heard_next old d halves half h = ap (λ (e : AccessoryDecoder). heard e half) h ∙ sym (fold-append heard old halves (half ∷ []))
 
 pub hears : Laws → (old : AccessoryDecoder) (halves : List ℕ) (new : AccessoryDecoder) → new ≡ heard_all old halves → HearsAccessory old halves new
 hears laws old halves new h =

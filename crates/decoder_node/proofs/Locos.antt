@@ -1,6 +1,7 @@
 -- What a locomotive decoder makes of whole waves.
-use Rattle.std.proofs.Common.{◌≡◌, ℕ, Option, Some, None, List, [], ◌∷◌, fold, refl, ap, subst, sym, ◌∙◌}
+use Rattle.std.proofs.Common.{◌≡◌, ℕ, Option, Some, None, List, [], ◌∷◌, ◌++◌, fold, refl, ap, subst, sym, ◌∙◌}
 use Rattle.decoder_cv.specs.Settings.{Settings}
+use Rattle.std.proofs.lemmas.List.Sums.{fold-append}
 use Rattle.decoder_rx.specs.Table.{given, after_all, answers, is_hunting}
 use Rattle.decoder_node.specs.Heard.{told}
 use Rattle.decoder_node.specs.Loco.{LocoDecoder, heard, heard_all, HearsLoco}
@@ -35,6 +36,10 @@ running_after (x ∷ xs) d = running_after xs (heard d x)
 ignores : (cv : Settings) → Ignores (obey cv)
 unfolding obey
 ignores cv running packet h = ap (obeyed_if cv running) (spells_none packet h)
+
+-- and one half more
+pub heard_next : (old d : LocoDecoder) (halves : List ℕ) (half : ℕ) → d ≡ heard_all old halves → heard d half ≡ heard_all old (halves ++ half ∷ [])
+heard_next old d halves half h = ap (λ (e : LocoDecoder). heard e half) h ∙ sym (fold-append heard old halves (half ∷ []))
 
 pub hears : Laws → (old : LocoDecoder) (halves : List ℕ) (new : LocoDecoder) → new ≡ heard_all old halves → HearsLoco old halves new
 hears laws old halves new h =

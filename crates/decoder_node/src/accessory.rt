@@ -2,9 +2,10 @@
 ghost use Rattle.std.specs.Prelude.{◌≡◌, ℕ, List, None};
 ghost use Rattle.std.specs.Iterator.{IsFinite, Drains};
 
+use crate::ONE;
 use crate::switch::after_packet;
 use dcc_packet::Module;
-use decoder_rx::{Rx, complete, settles};
+use decoder_rx::{Rx, bit_of, complete, settles};
 use std::marker::Model;
 
 /// An accessory decoder on the track, with eight outputs in four pairs, which hears it half by half.
@@ -62,9 +63,39 @@ impl Accessory {
     {
         complete();
         settles();
-        for half in halves {
-            self.hear(half);
+        let mut halves = halves;
+        // The two halves of a bit are heard together, which is quicker.
+        while let Some(first) = halves.next() {
+            let Some(second) = halves.next() else {
+                return self.hear(first);
+            };
+            self.hear_two(first, second);
         }
+    }
+
+    /// Hears two halves, one after the other: together, where they are those of a bit.
+    #[inline]
+    fn hear_two(&mut self, first: u16, second: u16)
+        ensures { self.new ≡ heard (heard self.old first) second }
+    {
+        match (bit_of(first), bit_of(second)) {
+            (Some(bit), Some(next)) if bit == next => {
+                // What it does not hear is a one, and each half of a one does the same.
+                if !self.rx.hear_bit(bit) {
+                    self.hear_each(ONE, ONE);
+                }
+            }
+            _ => self.hear_each(first, second),
+        }
+    }
+
+    /// The same, each alone.
+    #[inline(never)]
+    fn hear_each(&mut self, first: u16, second: u16)
+        ensures { self.new ≡ heard (heard self.old first) second }
+    {
+        self.hear(first);
+        self.hear(second);
     }
 
     /// Its outputs: bit j is output j, the pair j / 2, closed where j is odd.

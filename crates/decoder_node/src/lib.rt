@@ -13,5 +13,8 @@ pub use loco::Loco;
 pub use node::{NodeList, NodeSpec};
 pub use running::Running;
 
+/// The microseconds of a half of a one.
+const ONE: u16 = 58;
+
 #[cfg(test)]
 mod tests;

@@ -1,16 +1,16 @@
 -- The bits of a packet as one number, and what is left of its halves.
-use Rattle.std.proofs.Common.{◌≡◌, ℕ, ◌+◌, ◌-◌, ◌*◌, ◌/◌, ◌%◌, ◌^◌, ◌<◌, ◌≤◌, nat_lt, nat_le, ◌≢◌, ◌==◌, Bool, true, false, not, Option, List, [], ◌∷◌, ◌++◌, length, map, get_or, take, replicate, suc, zero, Some, refl, ap, ap₂, subst, sym, ◌∙◌, arith, add-one, append-nil, append_assoc}
-use Rattle.std.proofs.lemmas.Bool.{and_parts, leb-true}
+use Rattle.std.proofs.Common.{◌≡◌, ℕ, ◌+◌, ◌-◌, ◌*◌, ◌/◌, ◌%◌, ◌^◌, ◌<◌, ◌≤◌, nat_lt, nat_le, ◌≢◌, ◌==◌, Bool, true, false, not, Option, List, [], ◌∷◌, ◌++◌, length, map, get_or, take, min, replicate, inl, inr, suc, zero, Some, refl, ap, ap₂, subst, sym, ◌∙◌, arith, add-one, append-nil, append_assoc}
+use Rattle.std.proofs.lemmas.Bool.{and_parts, cases_lt, leb-true}
 use Rattle.std.proofs.lemmas.List.{length-append, length-map, length-take-le, map-append, take_more}
 use Rattle.std.proofs.lemmas.Nat.{pow-add}
 use Rattle.std.proofs.Math.Pow.{pow_mono}
-use Rattle.std.proofs.lemmas.Nat.Bits.{bit_at-suc}
+use Rattle.std.proofs.lemmas.Nat.Bits.{bit_at-suc, bit_at_above}
 use Rattle.std.specs.Int.{bit_at}
 use Rattle.std.specs.List.{list_all}
 use Rattle.dcc_packet.specs.Packet.{IsPacket, has_packet_length}
 use Rattle.dcc_packet.specs.Wave.{bit_of, low_bits, bits_of, doubled, IsWave}
 use Rattle.half_bits.specs.Halves.{micros, halves_of}
-use Rattle.half_bits.specs.Remaining.{remaining}
+use Rattle.half_bits.specs.Remaining.{both_halves}
 
 -- the highest bit stands first
 low_bits-head : (count n : ℕ) → low_bits (suc count) n ≡ (bit_at n count == 1) ∷ low_bits count n
@@ -19,29 +19,33 @@ low_bits-head (suc count) n =
     ap (λ (bs : List Bool). bs ++ (n % 2 == 1) ∷ []) (low_bits-head count (n / 2))
     ∙ ap (λ (b : ℕ). (b == 1) ∷ low_bits (suc count) n) (sym (bit_at-suc n count))
 
--- what is left of so many bits
-remaining-bits : (count n : ℕ) → remaining n (2 * count) ≡ map micros (doubled (map not (low_bits count n)))
-remaining-bits zero n = refl
-remaining-bits (suc count) n =
-    let twice : 2 * suc count ≡ suc (suc (2 * count)) = omega arith in
-    let first : suc (2 * count) / 2 ≡ count = omega arith in
-    let second : 2 * count / 2 ≡ count = omega arith in
+-- the halves of so many bits
+halves-bits : (count n : ℕ) → both_halves n count ≡ map micros (doubled (map not (low_bits count n)))
+halves-bits zero n = refl
+halves-bits (suc count) n =
     let b = not (bit_at n count == 1) in
-    ap (remaining n) twice
-    ∙ ap₂ (λ (i j : ℕ). micros (not (bit_at n i == 1)) ∷ micros (not (bit_at n j == 1)) ∷ remaining n (2 * count)) first second
-    ∙ ap (λ (hs : List ℕ). micros b ∷ micros b ∷ hs) (remaining-bits count n)
+    ap (λ (hs : List ℕ). micros b ∷ micros b ∷ hs) (halves-bits count n)
     ∙ ap (λ (bs : List Bool). map micros (doubled (map not bs))) (sym (low_bits-head count n))
 
 -- the first half, and what is left behind it
-pub remaining-first : (n left : ℕ) → left ≢ 0 → remaining n left ≡ micros (not (bit_at n ((left - 1) / 2) == 1)) ∷ remaining n (left - 1)
-remaining-first n zero h = absurd (h refl)
-remaining-first n (suc left) h =
-    let less : left ≡ suc left - 1 = omega arith in
-    ap (λ (k : ℕ). micros (not (bit_at n (k / 2) == 1)) ∷ remaining n k) less
+pub halves-first : (n bits : ℕ) → bits ≢ 0 → both_halves n bits ≡ micros (not (bit_at n (bits - 1) == 1)) ∷ micros (not (bit_at n (bits - 1) == 1)) ∷ both_halves n (bits - 1)
+halves-first n zero h = absurd (h refl)
+halves-first n (suc bits) h =
+    let less : bits ≡ suc bits - 1 = omega arith in
+    ap (λ (k : ℕ). micros (not (bit_at n k == 1)) ∷ micros (not (bit_at n k == 1)) ∷ both_halves n k) less
 
-pub length-remaining : (bits left : ℕ) → length (remaining bits left) ≡ left
-length-remaining bits zero = refl
-length-remaining bits (suc left) = ap suc (length-remaining bits left)
+pub length_of_halves : (n bits : ℕ) → length (both_halves n bits) ≡ 2 * bits
+length_of_halves n zero = refl
+length_of_halves n (suc bits) = omega (arith, length_of_halves n bits)
+
+-- above all bits of a number each place is alike
+pub lowered : (number place : ℕ) → number < 2 ^ 63 → bit_at number place ≡ bit_at number (min place 63)
+lowered number place h = elim (cases_lt place 63) [
+  | inl few ↦ let same : place ≡ min place 63 = omega arith in ap (bit_at number) same
+  | inr many ↦
+      let top : min place 63 ≡ 63 = omega arith in
+      bit_at_above number 63 place h many ∙ sym (ap (bit_at number) top ∙ bit_at_above number 63 63 h (omega arith))
+]
 
 -- bits behind the bits of a number
 low_bits-append : (more count n b : ℕ) → b < 2 ^ more → low_bits (more + count) (n * 2 ^ more + b) ≡ low_bits count n ++ low_bits more b
@@ -91,16 +95,16 @@ bits_of-append (x ∷ xs) ys = ap (λ (bs : List Bool). (false ∷ low_bits 8 x)
 abbrev ones : List Bool
 ones = replicate 14 true
 
--- the set bits of the number are the zeros of these bytes behind the preamble, with so many halves
+-- the set bits of the number are the zeros of these bytes behind the preamble, of so many bits in all
 pub record Holds (bytes : List ℕ) (zeros left : ℕ) : Type 0 where
-  pub halves : left ≡ 28 + 18 * length bytes
+  pub count : left ≡ 14 + 9 * length bytes
   pub bound : zeros < 2 ^ (9 * length bytes)
   pub image : map not (low_bits (14 + 9 * length bytes) zeros) ≡ ones ++ bits_of bytes
 
-pub holds_none : Holds [] 0 28
-holds_none = record { halves = refl; bound = omega arith; image = refl }
+pub holds_none : Holds [] 0 14
+holds_none = record { count = refl; bound = omega arith; image = refl }
 
-pub holds_more : (bytes : List ℕ) (zeros left byte : ℕ) → byte < 256 → Holds bytes zeros left → Holds (bytes ++ byte ∷ []) (zeros * 512 + (256 + (255 - byte))) (left + 18)
+pub holds_more : (bytes : List ℕ) (zeros left byte : ℕ) → byte < 256 → Holds bytes zeros left → Holds (bytes ++ byte ∷ []) (zeros * 512 + (256 + (255 - byte))) (left + 9)
 holds_more bytes zeros left byte h k =
     let count = 14 + 9 * length bytes in
     let next = zeros * 512 + (256 + (255 - byte)) in
@@ -116,7 +120,7 @@ holds_more bytes zeros left byte h k =
     ∙ append_assoc ones (bits_of bytes) (false ∷ low_bits 8 byte)
     ∙ ap (λ (bs : List Bool). ones ++ bs) (ap (λ (bs : List Bool). bits_of bytes ++ bs) (sym (append-nil (false ∷ low_bits 8 byte))) ∙ sym (bits_of-append bytes (byte ∷ []))) in
     record {
-      halves = omega (arith, k.halves);
+      count = omega (arith, k.count);
       bound = subst (λ (c : ℕ). next < 2 ^ c) (sym room) bound;
       image = subst (λ (c : ℕ). map not (low_bits c next) ≡ ones ++ bits_of (bytes ++ byte ∷ [])) (sym size) image;
     }
@@ -127,29 +131,35 @@ small bytes index number left six h k =
     let few : 9 * length (take index bytes) ≤ 45 = omega (arith, length-take-le index bytes (omega arith)) in
     omega (arith, k.bound, pow_mono few)
 
+-- and the number of six bytes, with one bit more, is below the highest bit
+pub room : (packet : List ℕ) (number left : ℕ) → length packet ≤ 6 → Holds packet number left → 2 * number < 2 ^ 63
+room packet number left six k =
+    let few : 9 * length packet ≤ 54 = omega (arith, six) in
+    omega (arith, k.bound, pow_mono few)
+
 pub at_most_six : (packet : List ℕ) → IsPacket packet → length packet ≤ 6
 at_most_six packet h =
     let p = and_parts (has_packet_length packet) (list_all (λ b. nat_lt b 256) packet) h in
     leb-true (length packet) 6 (and_parts (nat_le 3 (length packet)) (nat_le (length packet) 6) p.0).1
 
 -- the next of these bytes
-pub holds_next : (bytes : List ℕ) (index zeros left others : ℕ) → index < length bytes → get_or bytes index 0 < 256 → others ≡ 255 - get_or bytes index 0 → Holds (take index bytes) zeros left → Holds (take (index + 1) bytes) (zeros * 512 + 256 + others) (left + 18)
+pub holds_next : (bytes : List ℕ) (index zeros left others : ℕ) → index < length bytes → get_or bytes index 0 < 256 → others ≡ 255 - get_or bytes index 0 → Holds (take index bytes) zeros left → Holds (take (index + 1) bytes) (zeros * 512 + 256 + others) (left + 9)
 holds_next bytes index zeros left others h l e k =
     let byte = get_or bytes index 0 in
     let all : zeros * 512 + 256 + others ≡ zeros * 512 + (256 + (255 - byte)) = omega arith in
-    rw all (subst (λ (bs : List ℕ). Holds bs (zeros * 512 + (256 + (255 - byte))) (left + 18)) (sym (take_more bytes index 0 h)) (holds_more (take index bytes) zeros left byte l k))
+    rw all (subst (λ (bs : List ℕ). Holds bs (zeros * 512 + (256 + (255 - byte))) (left + 9)) (sym (take_more bytes index 0 h)) (holds_more (take index bytes) zeros left byte l k))
 
--- with the one that closes it the halves of the packet are left
-pub whole : (packet : List ℕ) (zeros left : ℕ) → Holds packet zeros left → remaining (2 * zeros) (left + 2) ≡ halves_of packet
+-- with the one that closes it they are the bits of the packet
+pub whole : (packet : List ℕ) (zeros left : ℕ) → Holds packet zeros left → both_halves (2 * zeros) (left + 1) ≡ halves_of packet
 unfolding halves_of
 whole packet zeros left k =
     let count = 14 + 9 * length packet in
-    let size : left + 2 ≡ 2 * (1 + count) = omega (arith, k.halves) in
+    let size : left + 1 ≡ 1 + count = omega (arith, k.count) in
     let same : 2 * zeros ≡ zeros * 2 ^ 1 + 0 = omega arith in
     let image : map not (low_bits (1 + count) (zeros * 2 ^ 1 + 0)) ≡ ones ++ (bits_of packet ++ true ∷ []) =
     ap (map not) (low_bits-append 1 count zeros 0 (omega arith)) ∙ map-append not (low_bits count zeros) (low_bits 1 0)
     ∙ ap (λ (bs : List Bool). bs ++ true ∷ []) k.image ∙ append_assoc ones (bits_of packet) (true ∷ []) in
-    ap₂ remaining same size ∙ remaining-bits (1 + count) (zeros * 2 ^ 1 + 0) ∙ ap (λ (bs : List Bool). map micros (doubled bs)) image
+    ap₂ both_halves same size ∙ halves-bits (1 + count) (zeros * 2 ^ 1 + 0) ∙ ap (λ (bs : List Bool). map micros (doubled bs)) image
 
 length-doubled : (bs : List Bool) → length (doubled bs) ≡ 2 * length bs
 length-doubled [] = refl

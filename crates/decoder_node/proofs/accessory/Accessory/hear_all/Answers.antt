@@ -1,12 +1,32 @@
-use Rattle.std.proofs.Common.{◌≡◌, ℕ, List, rules}
-use Rattle.std.specs.Iterator.{Drains}
-use Rattle.decoder_node.specs.Accessory.{heard_all}
-use Rattle.decoder_node.proofs.Accessories.{hears}
+use Rattle.std.proofs.Common.{refl, ◌≡◌, ◌∙◌}
+use Rattle.std.proofs.iter.Next as it
+use Rattle.decoder_node.specs.Accessory.{heard, heard_all}
+use Rattle.decoder_node.proofs.Accessories.{heard_next, hears}
 use Rattle.decoder_node.proofs.Waves.{Laws}
 use Rattle.decoder_node.proofs.accessory.Accessory.hear_all.Goals as goal
 
+pub loop-first-init : goal.loop-first-init
+loop-first-init g c = it.begun c.requires.can c.requires.ends refl
+
+pub loop-first-preserved : goal.loop-first-preserved
+loop-first-preserved g c =
+    let i = c.loop-first.invariant in
+    let old = c.args.self.now in
+    let after_first = heard_next old c.loop-first.self i.seen c.in-Some.first i.holds in
+    let j = it.again i {Q = λ xs. heard c.loop-first.self c.in-Some.first ≡ heard_all old xs} c.in-Some.first c.in-Some.is (c.next.ensures.steps, c.next.ensures.goes) after_first in
+    it.again j c.in-Some-next.second c.in-Some-next.is (c.next-in-Some.ensures.steps, c.next-in-Some.ensures.goes) (c.hear_two.ensures ∙ heard_next old (heard c.loop-first.self c.in-Some.first) j.seen c.in-Some-next.second j.holds)
+
+pub returns-in_default-next : goal.returns-in_default-next
+returns-in_default-next g c =
+    let i = c.loop-first.invariant in
+    let old = c.args.self.now in
+    let after_first = heard_next old c.loop-first.self i.seen c.in-Some.first i.holds in
+    let j = it.again i {Q = λ xs. heard c.loop-first.self c.in-Some.first ≡ heard_all old xs} c.in-Some.first c.in-Some.is (c.next.ensures.steps, c.next.ensures.goes) after_first in
+    let laws : Laws = record { reads = c.complete.ensures.wave; passes = c.complete.ensures.wrong; settles = c.settles.ensures.between } in
+    (j.seen, it.drained j c.in_default-next.is c.next-in-Some.ensures.steps, hears laws old j.seen c.hear.new.self (c.hear.ensures.heard ∙ j.holds))
+
 pub returns : goal.returns
 returns g c =
-    let drained : (xs : List ℕ) × Drains g.I.Iterator.next_gives c.args.halves xs × (c.loop-half.self ≡ heard_all c.args.self.now xs) = search rules in
+    let i = c.loop-first.invariant in
     let laws : Laws = record { reads = c.complete.ensures.wave; passes = c.complete.ensures.wrong; settles = c.settles.ensures.between } in
-    (drained.0, drained.1, hears laws c.args.self.now drained.0 c.loop-half.self drained.2)
+    (i.seen, it.drained i c.in_default.is c.next.ensures.steps, hears laws c.args.self.now i.seen c.loop-first.self i.holds)
