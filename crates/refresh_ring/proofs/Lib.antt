@@ -1,4 +1,5 @@
 pub mod Waiting
+pub mod Marks
 pub mod Firsts
 pub mod Ahead
 pub mod Counts

@@ -1,14 +1,13 @@
 -- A queue stays one, and has room.
-use Rattle.std.proofs.Common.{◌≡◌, ℕ, ◌+◌, ◌-◌, ◌*◌, ◌<◌, ◌≤◌, ◌==◌, Bool, true, false, ◌||◌, List, [], ◌∷◌, ◌++◌, length, Some, slice_get, drop, take, refl, ap, ◌∙◌, arith, eqb, inl, inr, eqb-true, ne_eqb, eq-eqb}
+use Rattle.std.proofs.Common.{◌≡◌, ℕ, ◌+◌, ◌-◌, ◌*◌, ◌<◌, ◌≤◌, ◌==◌, Bool, true, false, ◌||◌, List, [], ◌∷◌, ◌++◌, length, Some, drop, refl, ap, arith, eqb, inl, inr, eqb-true, ne_eqb, eq-eqb}
 use Rattle.std.specs.List.{IsDistinct, AllByRecursion, list_any}
 use Rattle.std.specs.Cmp.{nat_eq_equiv}
 use Rattle.std.proofs.lemmas.Bool.{or_cases, and_from, both_ways}
 use Rattle.std.proofs.lemmas.Map.Keys.{IsDistinct-cons, IsDistinct-push, IsDistinct-tail}
-use Rattle.std.proofs.lemmas.List.{take_all, append-nil}
+use Rattle.std.proofs.lemmas.List.{append-nil}
 use Rattle.std.proofs.lemmas.Map.Steps.{length-le_from_distinct_below}
-use Rattle.circular_buffer.specs.Buffer.{Buffer, buffer}
 use Rattle.refresh_ring.specs.Places.{IsSlot, place_of, number_of}
-use Rattle.refresh_ring.specs.Jobs.{IsJob, is_place, waits, places_in, requests_in, sends_in, IsQueue, IsBuffered, is_live, live_jobs, first_of, after_send}
+use Rattle.refresh_ring.specs.Jobs.{IsJob, is_place, waits, places_in, requests_in, sends_in, IsQueue, is_live, live_jobs, first_of, after_send}
 use Rattle.refresh_ring.specs.declared.kind.Kind.{Kind}
 use Rattle.refresh_ring.specs.declared.kind.Kind.TheVariants.{Speed, GroupOne, GroupTwo}
 use Rattle.refresh_ring.specs.declared.job.Job.{Job}
@@ -143,11 +142,16 @@ queue-sent (Request number closed on true ∷ jobs) queue = record { legal = que
 queue-sent (Request number closed on false ∷ jobs) queue = queue-tail (Request number closed on false) jobs queue
 
 -- a request that is sent once stays at the head
-pub sent_once : (jobs : List Job) (n capacity : ℕ) (closed on : Bool) → length jobs ≤ capacity → Some (Request n closed on true) ≡ slice_get jobs 0 → take capacity (Request n closed on false ∷ drop 1 jobs) ≡ after_send jobs
-sent_once [] n capacity closed on fits h = cc
-sent_once (job ∷ jobs) n capacity closed on fits h =
-    let e : Request n closed on true ≡ job = cc in
-    rw (← e) (take_all capacity (Request n closed on false ∷ jobs) fits)
+pub sent_once : (jobs : List Job) (n : ℕ) (closed on : Bool) → first_of jobs ≡ Some (Request n closed on true) → Request n closed on false ∷ drop 1 jobs ≡ after_send jobs
+sent_once [] n closed on h = cc
+sent_once (job ∷ jobs) n closed on h =
+    let e : job ≡ Request n closed on true = cc in
+    rw e refl
+
+-- and has room there
+pub fits_again : (jobs : List Job) (n : ℕ) (closed on : Bool) → first_of jobs ≡ Some (Request n closed on true) → IsQueue jobs → length (drop 1 jobs) + 1 ≤ 389
+fits_again [] n closed on h queue = cc
+fits_again (job ∷ jobs) n closed on h queue = omega (arith, room (job ∷ jobs) queue)
 
 -- a job at the head that is dropped
 pub live_jobs-drop : (slots : List Bool) (jobs : List Job) (job : Job) → first_of jobs ≡ Some job → is_live slots job ≡ false → live_jobs slots (drop 1 jobs) ≡ live_jobs slots jobs
@@ -159,13 +163,5 @@ live_jobs-drop slots (first ∷ jobs) job h stale =
 
 -- ---- the buffer after a push
 
-pub buffered : (jobs items : List Job) (capacity : ℕ) → items ≡ jobs → capacity ≡ 389 → IsQueue jobs → IsBuffered items capacity
-buffered jobs items capacity e full queue = record { queue = rw e queue; room = full }
-
 pub pushed : (jobs : List Job) (capacity : ℕ) → capacity ≡ 389 → IsQueue jobs → drop (length jobs - capacity) jobs ≡ jobs
 pushed jobs capacity full queue = keeps_all capacity jobs (omega (arith, room jobs queue))
-
-pub popped : (old new : Buffer Job) → new ≡ buffer (drop 1 old.items) old.capacity → IsBuffered old.items old.capacity → IsBuffered new.items new.capacity
-popped old new e was =
-    let items : new.items ≡ drop 1 old.items = ap (λ b. b.items) e in
-    record { queue = rw items (queue-drop old.items was.queue); room = ap (λ b. b.capacity) e ∙ was.room }

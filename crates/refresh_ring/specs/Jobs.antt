@@ -1,5 +1,5 @@
 -- Jobs that wait, in order: places and switch requests (the project's own profile).
-use Rattle.std.specs.Prelude.{ℕ, ◌≡◌, ◌+◌, ◌≤◌, ◌==◌, ◌&&◌, Bool, true, false, if◌then◌else◌, List, [], ◌∷◌, Option, Some, None, nat_eq}
+use Rattle.std.specs.Prelude.{ℕ, ◌+◌, ◌≤◌, ◌==◌, ◌&&◌, Bool, true, false, if◌then◌else◌, List, [], ◌∷◌, Option, Some, None, nat_eq}
 use Rattle.std.specs.List.{AllByRecursion, IsDistinct, list_any}
 use Rattle.std.specs.Option.{option_map}
 use Rattle.refresh_ring.specs.Places.{IsSlot, place_of, number_of, is_refreshed}
@@ -74,8 +74,3 @@ after_send [] = []
 after_send (Place slot kind ∷ rest) = rest
 after_send (Request number closed on true ∷ rest) = Request number closed on false ∷ rest
 after_send (Request number closed on false ∷ rest) = rest
-
--- a queue stands in a buffer with a place for each of its jobs
-pub record IsBuffered (jobs : List Job) (capacity : ℕ) : Type 0 where
-  pub queue : IsQueue jobs
-  pub room : capacity ≡ 389

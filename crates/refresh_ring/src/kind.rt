@@ -1,5 +1,5 @@
 //! The three packets of a slot.
-ghost use Rattle.std.specs.Prelude.{◌≡◌};
+ghost use Rattle.std.specs.Prelude.{◌≡◌, ◌≤◌};
 ghost use Rattle.refresh_ring.specs.Places.{number_of};
 
 /// What a packet to a locomotive sets. A place of the ring is a slot and a kind.
@@ -16,7 +16,8 @@ pub enum Kind {
 impl Kind {
     // The order of the kinds in the ring.
     pub(crate) fn number(self) -> u16
-        ensures { result ≡ number_of self }
+        ensures number { result ≡ number_of self }
+        ensures range { result ≤ 2 }
     {
         match self {
             Kind::Speed => 0,

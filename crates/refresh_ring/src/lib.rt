@@ -9,6 +9,7 @@ mod job;
 mod kind;
 mod laws;
 mod pick;
+mod place_set;
 mod plain;
 mod queue;
 mod ring;

@@ -1,5 +1,5 @@
 //! The jobs that wait, in a buffer that is made once.
-ghost use Rattle.std.specs.Prelude.{◌≡◌, ◌<◌, ◌≤◌, ◌+◌, ◌++◌, [], ◌∷◌, false, true, if◌then◌else◌, IfOk, IfSome};
+ghost use Rattle.std.specs.Prelude.{◌≡◌, ◌<◌, ◌≤◌, ◌+◌, ◌++◌, [], ◌∷◌, false, true, if◌then◌else◌, IfOk, IfSome, drop};
 ghost use Rattle.refresh_ring.specs.Places.{IsSlot, is_refreshed};
 ghost use Rattle.refresh_ring.specs.Jobs.{IsJob, IsQueue, waits, requests_in, sends_ahead, is_live, live_jobs, first_of, after_send};
 ghost use Rattle.refresh_ring.specs.declared.job.Job.TheVariants.{Place, Request};
@@ -7,6 +7,7 @@ ghost use Rattle.refresh_ring.specs.declared.job.Job.TheVariants.{Place, Request
 use crate::fault::NoMemory;
 use crate::job::Job;
 use crate::kind::Kind;
+use crate::place_set::PlaceSet;
 use crate::ring::Ring;
 use circular_buffer::HeapCircularBuffer;
 use std::alloc::Global;
@@ -19,6 +20,8 @@ const MOST_JOBS: usize = 357 + 32;
 #[derive(Drop)]
 pub(crate) struct JobQueue {
     jobs: HeapCircularBuffer<Job>,
+    // The places among the jobs, so that nobody has to search for one.
+    waiting: PlaceSet,
 }
 
 impl Model for JobQueue {
@@ -27,11 +30,11 @@ impl Model for JobQueue {
 
     ghost Value = { List JobOf };
 
-    ghost use Rattle.refresh_ring.specs.Jobs.{IsBuffered};
+    ghost use Rattle.refresh_ring.specs.Marked.{IsBuffered};
 
     ghost view = { λ q. q.jobs.items };
 
-    ghost invariant = { λ q. IsBuffered q.jobs.items q.jobs.capacity };
+    ghost invariant = { λ q. IsBuffered q.jobs.items q.jobs.capacity q.waiting };
 }
 
 impl JobQueue {
@@ -41,16 +44,21 @@ impl JobQueue {
         ensures queue { IfOk result IsQueue }
     {
         match HeapCircularBuffer::with_capacity(alloc, MOST_JOBS) {
-            Ok(jobs) => Ok(JobQueue { jobs }),
+            Ok(jobs) => Ok(JobQueue {
+                jobs,
+                waiting: PlaceSet::empty(),
+            }),
             Err(_) => Err(NoMemory),
         }
     }
 
     // Whether a place waits.
+    #[inline]
     pub(crate) fn waits(&self, slot: u8, kind: Kind) -> bool
+        requires { IsSlot slot }
         ensures { result ≡ waits slot kind self.now }
     {
-        self.jobs.iter().any(|job| job.is_place(slot, kind))
+        self.waiting.has(slot, kind)
     }
 
     // How many switch requests wait.
@@ -89,6 +97,7 @@ impl JobQueue {
         ensures queue { IsQueue self.new }
     {
         self.jobs.push_back(Job::Place { slot, kind });
+        self.waiting.set(slot, kind, true);
     }
 
     // A switch request waits behind all others, and is sent twice.
@@ -125,8 +134,23 @@ impl JobQueue {
             if is_live(job, ring) {
                 return;
             }
-            self.jobs.pop_front();
+            self.drop_first();
         }
+    }
+
+    // The first job leaves.
+    #[inline]
+    fn drop_first(&mut self) -> Option<Job>
+        ensures first { result ≡ first_of self.old }
+        ensures jobs { self.new ≡ drop 1 self.old }
+        ensures before { IsQueue self.old }
+        ensures queue { IsQueue self.new }
+    {
+        let job = self.jobs.pop_front();
+        if let Some(Job::Place { slot, kind }) = job {
+            self.waiting.set(slot, kind, false);
+        }
+        job
     }
 
     // The first job was sent: it leaves, or waits at the head to be sent once more.
@@ -135,7 +159,6 @@ impl JobQueue {
         ensures jobs { self.new ≡ after_send self.old }
         ensures queue { IsQueue self.new }
     {
-        self.jobs.len();
         if let Some(
             Job::Request {
                 number,
@@ -143,7 +166,7 @@ impl JobQueue {
                 on,
                 again,
             },
-        ) = self.jobs.pop_front()
+        ) = self.drop_first()
         {
             if again {
                 self.jobs.push_front(Job::Request {

@@ -140,7 +140,12 @@ impl<R: Ring> Schedule<R> {
     {
         self.queue.drop_stale(&self.ring);
         let job = self.queue.first();
-        let place = self.next_place();
+        // A job that is preferred and waits goes first, so nobody has to ask the ring.
+        let place = if job.is_some() && self.prefers_jobs {
+            None
+        } else {
+            self.next_place()
+        };
         match choose(self.prefers_jobs, job, place) {
             Some(Candidate::FromJobs { job }) => self.offer_job(view, job),
             Some(Candidate::FromRing { place }) => self.offer_place(view, place),

@@ -2,6 +2,7 @@ use Rattle.std.proofs.Common.{◌≡◌, ◌++◌, ◌∷◌, [], ap, ◌∙◌,
 use Rattle.refresh_ring.specs.Jobs.{IsQueue}
 use Rattle.refresh_ring.specs.declared.job.Job.TheVariants.{Request}
 use Rattle.refresh_ring.proofs.Waiting.{queue-request, pushed}
+use Rattle.refresh_ring.proofs.Marks.{marked-request}
 use Rattle.refresh_ring.proofs.queue.JobQueue.push_request.Goals as goal
 
 more : (c : goal.After-push_back) → IsQueue (c.self.inside.jobs.items ++ Request c.args.number c.args.closed c.args.on true ∷ [])
@@ -11,7 +12,7 @@ items : (c : goal.After-push_back) → c.push_back.new.self.items ≡ c.self.ins
 items c = ap (λ b. b.items) c.push_back.ensures.items ∙ pushed (c.self.inside.jobs.items ++ Request c.args.number c.args.closed c.args.on true ∷ []) c.self.inside.jobs.capacity c.self.invariant.room (more c)
 
 pub invariant_of-self : goal.invariant_of-self
-invariant_of-self c = record { queue = rw (items c) (more c); room = ap (λ b. b.capacity) c.push_back.ensures.items ∙ c.self.invariant.room }
+invariant_of-self c = record { queue = rw (items c) (more c); room = ap (λ b. b.capacity) c.push_back.ensures.items ∙ c.self.invariant.room; marked = rw (items c) (marked-request c.self.inside.waiting c.self.inside.jobs.items c.args.number c.args.closed c.args.on true c.self.invariant.marked) }
 
 pub returns-clause-jobs : goal.returns-clause-jobs
 returns-clause-jobs c = rw (← c.self.view_is) (items c)
