@@ -7,11 +7,12 @@ use Rattle.std.proofs.lemmas.Bool.Decides.{nat_tests}
 use Rattle.std.proofs.lemmas.List.Splits.{slice_split_first, length-slice_split}
 use Rattle.std.proofs.lemmas.List.{take_rest}
 use Rattle.std.proofs.lemmas.List.Sums.{count_by-le-length}
+use Rattle.std.specs.Prelude.{IfSome}
 use Rattle.std.specs.Char.{is_ascii_digit}
 use Rattle.std.specs.Str.{bytes_eq}
 use Rattle.std.proofs.lemmas.Slice.Eq.{bytes_eq-Decides}
 use Rattle.show_text.specs.Script.{number_of}
-use Rattle.show_text.specs.Words.{is_blank, is_word, is_empty, words_of, with_piece, digit_of, both, pair_of}
+use Rattle.show_text.specs.Words.{is_blank, is_word, is_empty, words_of, with_piece, decimal_of, digit_of, both, pair_of}
 
 split_whole : {X : Type 0} (p : X → Bool) (xs : List X) → length xs ≤ position_or_len p xs → slice_split p xs ≡ xs ∷ []
 split_whole p [] h = refl
@@ -161,10 +162,38 @@ begins [] some h e = absurd (omega arith)
 begins (digit ∷ []) some h e = absurd (omega arith)
 begins (digit ∷ blank ∷ rest) some h e = (digit ∷ [], line_first_words digit blank rest h e, number_of_digit digit h)
 
+joined : (text rest prefix : List ℕ) → bytes_eq (take (length prefix) text) prefix ≡ true → rest ≡ drop (length prefix) text → prefix ++ rest ≡ text
+joined text rest prefix first back =
+    let front : take (length prefix) text ≡ prefix = (bytes_eq-Decides (take (length prefix) text) prefix).0 first in
+    ap₂ ◌++◌ (sym front) back ∙ take-append-drop (length prefix) text
+
 pub line_begins : (text rest prefix : List ℕ) → prefix ≡ codes "line " → bytes_eq (take (length prefix) text) prefix ≡ true → rest ≡ drop (length prefix) text
     → 2 ≤ length rest → is_ascii_digit (get_or rest 0 0) ≡ true → is_blank (get_or rest 1 0) ≡ true → BeginsOnLine (get_or rest 0 0 - 48) text (drop 2 rest)
 line_begins text rest prefix e first back some h blank =
-    let front : take 5 text ≡ codes "line " =
-    (bytes_eq-Decides (take 5 text) (codes "line ")).0 (ap (λ p. bytes_eq (take (length p) text) p) (sym e) ∙ first) in
-    let same : codes "line " ++ rest ≡ text = ap₂ ◌++◌ (sym front) (back ∙ ap (λ (p : List ℕ). drop (length p) text) e) ∙ take-append-drop 5 text in
+    let same : codes "line " ++ rest ≡ text = ap (λ p. p ++ rest) (sym e) ∙ joined text rest prefix first back in
     rw (← same) (begins rest some h blank)
+
+digits_split : (word : List ℕ) → list_all is_ascii_digit word ≡ true → slice_split is_blank word ≡ word ∷ []
+digits_split [] h = refl
+digits_split (b ∷ bs) h = grind (arith, common_steps, nat_tests, digits_split bs)
+
+turn_word : (b : ℕ) (bs : List ℕ) → list_all is_ascii_digit (b ∷ bs) ≡ true → words_of (codes "turn " ++ b ∷ bs) ≡ codes "turn" ∷ (b ∷ bs) ∷ []
+unfolding words_of
+turn_word b bs h = rw (digits_split (b ∷ bs) h) refl
+
+-- what a text says that is `turn N`
+abbrev IsTurns : ℕ → List ℕ → Type 0
+IsTurns n text = (word : List ℕ) × (words_of text ≡ codes "turn" ∷ word ∷ []) × (number_of word ≡ Ok n)
+
+turns : (n : ℕ) (rest : List ℕ) → decimal_of rest ≡ Some n → IsTurns n (codes "turn " ++ rest)
+turns n [] h = cc
+turns n (b ∷ bs) h =
+    let digits : list_all is_ascii_digit (b ∷ bs) ≡ true = grind (arith, nat_tests) in
+    (b ∷ bs, turn_word b bs digits, rw h refl)
+
+pub if_turns : (text rest prefix : List ℕ) (number : Option ℕ) → prefix ≡ codes "turn " → bytes_eq (take (length prefix) text) prefix ≡ true → rest ≡ drop (length prefix) text
+    → number ≡ decimal_of rest → IfSome number (λ n. IsTurns n text)
+if_turns text rest prefix None e first back number = tt
+if_turns text rest prefix (Some n) e first back number =
+    let same : codes "turn " ++ rest ≡ text = ap (λ p. p ++ rest) (sym e) ∙ joined text rest prefix first back in
+    rw (← same) (turns n rest (sym number))

@@ -1,5 +1,5 @@
 //! The lines of a text, and the words of a line.
-ghost use Rattle.std.specs.Prelude.{◌≡◌, ◌<◌, ◌==◌, ◌+◌, ◌≤◌, ◌∷◌, ℕ, List, position, length, drop, fold, false, ◌||◌, Some, Ok, IfSome, codes};
+ghost use Rattle.std.specs.Prelude.{◌≡◌, ◌<◌, ◌==◌, ◌+◌, ◌≤◌, ◌∷◌, [], ℕ, List, position, length, drop, fold, false, ◌||◌, Some, Ok, IfSome, codes};
 ghost use Rattle.std.specs.Iterator.{YieldsFirstRef, item_count};
 ghost use Rattle.std.specs.List.{list_all, position_or_len};
 ghost use Rattle.std.specs.Str.Lines.{lines, strip_carriage_return};
@@ -7,7 +7,7 @@ ghost use Rattle.show_text.specs.Words.{is_blank, is_empty, pair_of, words_of, w
 ghost use Rattle.show_text.specs.Script.{first_byte_of, number_of};
 
 use crate::command::Why;
-use crate::words::{hex_byte, hex_pair};
+use crate::words::{decimal, hex_byte, hex_pair};
 
 /// How many bytes are tested for a line feed at a time.
 const CHUNK: usize = 16;
@@ -120,6 +120,13 @@ fn cut_line_number(text: &[u8]) -> Option<(u8, &[u8])>
     }
 }
 
+/// The number N, where the text is `turn N` with one space between them.
+fn number_of_turns(text: &[u8]) -> Option<u32>
+    ensures { IfSome result (λ n. (word : List ℕ) × (words_of text.now ≡ codes "turn" ∷ word ∷ []) × (number_of word ≡ Ok n)) }
+{
+    decimal(text.strip_prefix(b"turn ".as_slice())?)
+}
+
 /// The lines still to come. Each ends with a line feed, but for the last, which may lack it.
 #[derive(Drop)]
 pub(crate) struct Lines<'a>(pub(crate) &'a [u8]);
@@ -153,6 +160,13 @@ impl<'a> Words<'a> {
     {
         let (line, rest) = cut_line_number(self.0)?;
         Some((line, Words(rest)))
+    }
+
+    /// The number N, where the words are `turn N`, as nearly all other lines of a script are, with one space between them.
+    pub(crate) fn number_of_turns(&self) -> Option<u32>
+        ensures { IfSome result (λ n. (word : List ℕ) × (words_of self.now.0.now ≡ codes "turn" ∷ word ∷ []) × (number_of word ≡ Ok n)) }
+    {
+        number_of_turns(self.0)
     }
 
     #[tactic(auto, using(crate::proofs::Cuts::only_blanks))]

@@ -9,6 +9,9 @@ use arrayvec::ArrayString;
 /// A line of text, without its line feed.
 pub type Line = ArrayString<640>;
 
+/// The digits of the numbers below 16.
+const HEX_DIGITS: [u8; 16] = *b"0123456789ABCDEF";
+
 /// Appends one ASCII byte.
 fn push_byte(line: &mut Line, byte: u8)
     requires room { array_string_len line.old < 640 }
@@ -77,7 +80,7 @@ fn hex_digit(n: u8) -> u8
     ensures digit { result ≡ hex_byte n }
     ensures ascii { result < 128 }
 {
-    if n < 10 { b'0' + n } else { b'A' + (n - 10) }
+    HEX_DIGITS[n as usize]
 }
 
 /// Appends a byte as a space and two digits.

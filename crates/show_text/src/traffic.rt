@@ -31,14 +31,35 @@ fn push_turn(text: &mut Line, turn: u64)
     push_count(text, turn);
 }
 
+/// Appends `track T` and the bytes of the packet that turn T sent, in upper-case hexadecimal digits. There must be room
+/// for the longest such text, of 44 bytes.
+pub fn push_track(text: &mut Line, turn: u64, packet: &Packet)
+    requires { array_string_len text.old + 44 ≤ 640 }
+    ensures text { text.new.bytes ≡ text.old.bytes ++ track_text turn packet.now }
+    ensures len { array_string_len text.new ≤ array_string_len text.old + 44 }
+{
+    push_turn(text, turn);
+    push_bytes(text, packet.bytes());
+}
+
 /// `track T` and the bytes of the packet that turn T sent, in upper-case hexadecimal digits.
 pub fn track_line(turn: u64, packet: &Packet) -> Line
     ensures { result.bytes ≡ track_text turn packet.now }
 {
     let mut text = Line::new();
-    push_turn(&mut text, turn);
-    push_bytes(&mut text, packet.bytes());
+    push_track(&mut text, turn, packet);
     text
+}
+
+/// Appends `track T off`: turn T sent nothing, as the power is off. There must be room for the longest such text, of 30
+/// bytes.
+pub fn push_off(text: &mut Line, turn: u64)
+    requires { array_string_len text.old + 30 ≤ 640 }
+    ensures text { text.new.bytes ≡ text.old.bytes ++ off_text turn }
+    ensures len { array_string_len text.new ≤ array_string_len text.old + 30 }
+{
+    push_turn(text, turn);
+    text.push_str(" off");
 }
 
 /// `track T off`: turn T sent nothing, as the power is off.
@@ -46,7 +67,6 @@ pub fn off_line(turn: u64) -> Line
     ensures { result.bytes ≡ off_text turn }
 {
     let mut text = Line::new();
-    push_turn(&mut text, turn);
-    text.push_str(" off");
+    push_off(&mut text, turn);
     text
 }

@@ -46,7 +46,7 @@ fn hex_digit(digit: u8) -> Option<u8>
     ensures { result ≡ digit_of digit }
 {
     match digit {
-        b'0'..=b'9' => Some(digit - b'0'),
+        _ if digit.is_ascii_digit() => Some(digit - b'0'),
         b'A'..=b'F' => Some(digit - b'A' + 10),
         b'a'..=b'f' => Some(digit - b'a' + 10),
         _ => None,

@@ -1,5 +1,5 @@
 //! Printing lines.
-ghost use Rattle.std.specs.Prelude.{OnOk, ◌++◌, ◌∷◌, []};
+ghost use Rattle.std.specs.Prelude.{OnOk, ◌<◌, ◌++◌, ◌∷◌, [], length};
 ghost use Rattle.std.specs.Io.KnownBytes.{Appends};
 
 use crate::fault::RunFault;
@@ -12,6 +12,15 @@ pub(crate) fn print<O: Write>(output: &mut O, line: &Line) -> Result<(), RunFaul
 {
     print_all(output, line.as_str().as_bytes())?;
     print_all(output, b"\n")
+}
+
+/// Ends a line with a line feed, and prints it by one write.
+pub(crate) fn print_ended<O: Write>(output: &mut O, line: &mut Line) -> Result<(), RunFault>
+    requires { length line.old.bytes < 640 }
+    ensures { OnOk result (Appends (O.contents output.old) (O.contents output.new) (line.old.bytes ++ 10 ∷ [])) }
+{
+    line.push_str("\n");
+    print_all(output, line.as_str().as_bytes())
 }
 
 fn print_all<O: Write>(output: &mut O, bytes: &[u8]) -> Result<(), RunFault>

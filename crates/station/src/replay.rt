@@ -8,12 +8,12 @@ ghost use Rattle.station.specs.Layout.{IsWorldOf, roster_value};
 use crate::fault::RunFault;
 use crate::input::read_most;
 use crate::layout::print_nodes;
-use crate::output::print;
+use crate::output::{print, print_ended};
 use dcc_packet::Packet;
 use layout_core::{Event, World};
 use ln_ops::Reply;
 use roster::Roster;
-use show_text::{Command, LONGEST_TEXT, off_line, read_script, reply_line, track_line};
+use show_text::{Command, LONGEST_TEXT, Line, push_off, push_track, read_script, reply_line};
 use station_core::Step;
 use std::alloc::Global;
 use std::io::{BufWriter, Read, Write};
@@ -51,11 +51,16 @@ fn play<O: Write>(
     requires nodes { IsWorldOf (roster_value roster) world.old.nodes }
 {
     let mut turn = 0;
+    let mut text = Line::new();
     for command in commands {
         match *command {
-            Command::Byte { line, byte } => play_byte(world, line, byte, output)?,
+            Command::Byte { line, byte } => {
+                if let Step::Reply(reply) = world.step(Event::Byte { line, byte }) {
+                    print_reply(line, &reply, output)?;
+                }
+            }
             Command::Turns { count, missed } => {
-                turn = play_turns(world, count, missed, turn, output)?;
+                turn = play_turns(world, count, missed, turn, &mut text, output)?;
             }
             Command::Show => print_nodes(world, roster, output)?,
         }
@@ -63,29 +68,14 @@ fn play<O: Write>(
     Ok(())
 }
 
-/// A byte comes on a line, and its reply is printed.
-fn play_byte<O: Write>(
-    world: &mut World,
-    line: u8,
-    byte: u8,
-    output: &mut O,
-) -> Result<(), RunFault>
-    requires { line < length world.old.station.lines }
-    ensures lines { length world.new.station.lines ≡ length world.old.station.lines }
-    ensures specs { map spec_of world.new.nodes ≡ map spec_of world.old.nodes }
-{
-    match world.step(Event::Byte { line, byte }) {
-        Step::Reply(reply) => print_reply(line, &reply, output),
-        _ => Ok(()),
-    }
-}
-
-/// So many turns, each printed, of which the last before them had this number. Gives the number of the last.
+/// So many turns, each printed, of which the last before them had this number. Gives the number of the last. The lines
+/// are written one after the other into `text`, so that no room is cleared for each.
 fn play_turns<O: Write>(
     world: &mut World,
     count: u32,
     missed: u64,
     last: u64,
+    text: &mut Line,
     output: &mut O,
 ) -> Result<u64, RunFault>
     ensures lines { length world.new.station.lines ≡ length world.old.station.lines }
@@ -96,15 +86,14 @@ fn play_turns<O: Write>(
         // No script has so many turns that their number ends.
         turn = turn.saturating_add(1);
         match world.step(Event::Turn { missed }) {
-            Step::Packet(packet) => print_packet(turn, &packet, output)?,
-            _ => print_off(turn, output)?,
+            Step::Packet(packet) => print_packet(turn, &packet, text, output)?,
+            _ => print_off(turn, text, output)?,
         }
     }
     Ok(turn)
 }
 
-// Each line is printed by a call of its own: room for a line is cleared where it is declared, and most events print none.
-
+// A call of its own: room for the line is cleared where it is declared, and most bytes have no reply.
 #[inline(never)]
 fn print_reply<O: Write>(line: u8, reply: &Reply, output: &mut O) -> Result<(), RunFault>
     requires { IsSendable reply.now }
@@ -112,12 +101,19 @@ fn print_reply<O: Write>(line: u8, reply: &Reply, output: &mut O) -> Result<(), 
     print(output, &reply_line(line, reply))
 }
 
-#[inline(never)]
-fn print_packet<O: Write>(turn: u64, packet: &Packet, output: &mut O) -> Result<(), RunFault> {
-    print(output, &track_line(turn, packet))
+fn print_packet<O: Write>(
+    turn: u64,
+    packet: &Packet,
+    text: &mut Line,
+    output: &mut O,
+) -> Result<(), RunFault> {
+    text.clear();
+    push_track(text, turn, packet);
+    print_ended(output, text)
 }
 
-#[inline(never)]
-fn print_off<O: Write>(turn: u64, output: &mut O) -> Result<(), RunFault> {
-    print(output, &off_line(turn))
+fn print_off<O: Write>(turn: u64, text: &mut Line, output: &mut O) -> Result<(), RunFault> {
+    text.clear();
+    push_off(text, turn);
+    print_ended(output, text)
 }
