@@ -29,7 +29,7 @@ fn to_decoder(address: Address, instruction: &[u8]) -> Packet
     for byte in instruction {
         body.push(*byte);
     }
-    Packet::sealed(body.as_slice())
+    Packet::ended(body)
 }
 
 /// The number of a motion with 14 or 128 steps: 0 stop, 1 emergency stop, `n + 1` step n.

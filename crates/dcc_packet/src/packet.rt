@@ -1,5 +1,5 @@
 //! The bytes of a packet.
-ghost use Rattle.std.specs.Prelude.{◌≡◌, ℕ, ◌≤◌, List, length, Some, None, if◌then◌else◌};
+ghost use Rattle.std.specs.Prelude.{◌≡◌, ℕ, ◌<◌, ◌≤◌, List, length, slice_index, Some, None, if◌then◌else◌};
 ghost use Rattle.dcc_packet.specs.Packet.{has_packet_length, is_checked, xor_of, IsPacket};
 ghost use Rattle.dcc_packet.specs.Spells.{with_check};
 
@@ -50,12 +50,22 @@ impl Packet {
         requires room { length body.now ≤ 5 }
         ensures { result ≡ with_check body.now }
     {
-        let mut packet = ArrayVec::new();
+        let mut bytes: ArrayVec<u8, MAX_LEN> = ArrayVec::new();
         for byte in body {
-            packet.push(*byte);
+            bytes.push(*byte);
         }
-        packet.push(check_of(body));
-        Packet { bytes: packet }
+        Packet::ended(bytes)
+    }
+
+    /// The packet of 2 to 5 bytes, behind which their check is put.
+    pub(crate) fn ended(mut bytes: ArrayVec<u8, MAX_LEN>) -> Packet
+        requires some { 2 ≤ length bytes.items }
+        requires room { length bytes.items ≤ 5 }
+        ensures { result ≡ with_check bytes.items }
+    {
+        let check = check_of(bytes.as_slice());
+        bytes.push(check);
+        Packet { bytes }
     }
 
     /// The bytes, the check last.
@@ -78,7 +88,8 @@ impl Packet {
 
 /// The exclusive or of the bytes.
 fn check_of(bytes: &[u8]) -> u8
-    ensures { result ≡ xor_of bytes.now }
+    ensures check { result ≡ xor_of bytes.now }
+    ensures bytes { (i : ℕ) → slice_index bytes.now i < 256 }
 {
     bytes.iter().fold(0, |sum, byte| sum ^ byte)
 }

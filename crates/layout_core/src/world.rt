@@ -74,6 +74,7 @@ impl World {
     }
 
     /// One event: the station moves, and each decoder hears what it sends, but for those that miss it.
+    #[inline]
     pub fn step(&mut self, event: Event) -> Step
         requires { IsTrue (is_call (length self.old.station.lines) (call_of event)) }
         ensures station { self.new.station ≡ state_of self.old.station (call_of event) }
@@ -111,6 +112,7 @@ impl World {
 
     // A byte moves no decoder.
     #[tactic(auto, unfolding(station_core::specs::Moved::moved))]
+    #[inline]
     fn byte(&mut self, line: u8, byte: u8) -> Step
         requires { line < length self.old.station.lines }
         ensures station { self.new.station ≡ state_of self.old.station (call_of (Event.Byte line byte)) }
@@ -129,6 +131,7 @@ impl World {
 
     // A packet is heard by the decoders that do not miss it.
     #[tactic(auto, unfolding(station_core::specs::Moved::moved))]
+    #[inline(never)]
     fn turn(&mut self, missed: u64) -> Step
         ensures station { self.new.station ≡ state_of self.old.station (call_of (Event.Turn missed)) }
         ensures answer { result ≡ answer_of self.old.station (call_of (Event.Turn missed)) }

@@ -59,7 +59,7 @@ impl Framer {
         if self.unfinished.len() < len {
             return None;
         }
-        Msg::checked(self.unfinished.take())
+        Msg::checked(&mut self.unfinished)
     }
 }
 

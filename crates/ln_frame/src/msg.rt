@@ -78,14 +78,18 @@ impl Msg {
         Msg { bytes }
     }
 
-    /// The message, where the check byte is right.
-    pub(crate) fn checked(bytes: ArrayVec<u8, MAX_LEN>) -> Option<Self>
-        requires { IsTrue (has_form bytes.items) }
-        ensures { result ≡ (if is_whole bytes.items then Some bytes.items else None) }
+    /// The message, where the check byte is right. None of the bytes are left.
+    pub(crate) fn checked(bytes: &mut ArrayVec<u8, MAX_LEN>) -> Option<Self>
+        requires { IsTrue (has_form bytes.old.items) }
+        ensures message { result ≡ (if is_whole bytes.old.items then Some bytes.old.items else None) }
+        ensures after { bytes.new.items ≡ [] }
     {
         if xor_of(bytes.as_slice()) == CHECKED {
-            Some(Msg { bytes })
+            Some(Msg {
+                bytes: bytes.take(),
+            })
         } else {
+            bytes.clear();
             None
         }
     }

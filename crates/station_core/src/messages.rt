@@ -43,7 +43,8 @@ const REFUSED: u8 = 0x00;
 const LAST_SWITCH: u16 = 2039;
 
 impl Station {
-    // Carries out a message.
+    // Carries out a message. It stands apart, as most bytes end none.
+    #[inline(never)]
     pub(crate) fn obey(&mut self, op: Op) -> Option<Reply>
         requires { IsOfData op }
         ensures reply { result ≡ answer self.old.powered op (requests_in self.old.jobs) }

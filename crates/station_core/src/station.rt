@@ -146,7 +146,7 @@ impl Station {
     }
 
     /// Hears a byte on a line, and answers on that line where the byte ends a message that is answered.
-    #[inline]
+    #[inline(never)]
     pub fn byte(&mut self, line: u8, byte: u8) -> Option<Reply>
         requires { line < length self.old.lines }
         ensures reply { result ≡ answer_to_byte self.old line byte }

@@ -3,4 +3,4 @@ use Rattle.dcc_packet.proofs.packet.Packet.sealed.Given as goal
 
 -- the bytes so far
 abbrev pub invariant-loop-byte : goal.invariant-loop-byte
-invariant-loop-byte l = l.packet.items ≡ take l.byte-index l.body
+invariant-loop-byte l = l.bytes.items ≡ take l.byte-index l.body
