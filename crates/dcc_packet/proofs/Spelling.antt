@@ -9,9 +9,10 @@ use Rattle.dcc_packet.specs.declared.address.Address.TheVariants.{Short, Long}
 use Rattle.dcc_packet.specs.declared.instr.Instr.{Instr}
 use Rattle.dcc_packet.specs.declared.instr.Instr.TheVariants.{Idle, Reset, StopAll, Speed, Speed128, GroupOne, GroupTwo, Accessory}
 use Rattle.dcc_packet.specs.Address.{is_legal}
+use Rattle.dcc_packet.specs.Form.{bit, with_check}
 use Rattle.dcc_packet.specs.Module.{is_module}
 use Rattle.dcc_packet.specs.Packet.{has_packet_length, xor_of, is_checked, is_packet}
-use Rattle.dcc_packet.specs.Spells.{bit, with_check, Tells, Spells}
+use Rattle.dcc_packet.specs.Spells.{Tells, Spells}
 use Rattle.dcc_packet.specs.Reading.{is_set, broadcast_of, accessory_of, short_form_of, long_form_of, told_of, long_told_of, other_of, form_of, instruction_of}
 
 same_instr : (i j : Instr) → Some i ≡ Some j → i ≡ j

@@ -1,8 +1,12 @@
 pub mod Address
+pub mod Form
+pub mod Meant
 pub mod Module
+pub mod Motions
 pub mod Packet
 pub mod Reading
 pub mod Sent
 pub mod Spells
 pub mod Steps
+pub mod Told
 pub mod Wave

@@ -1,13 +1,11 @@
--- The packets that a command station sends, and the instruction that each is.
+-- The packets that a command station sends.
 use Rattle.std.specs.Prelude.{ℕ, ◌+◌, ◌-◌, ◌*◌, ◌/◌, ◌%◌, Bool, List, [], ◌∷◌}
 use Rattle.dcc_packet.specs.declared.address.Address.{Address}
 use Rattle.dcc_packet.specs.declared.steps.Steps.{Steps}
 use Rattle.dcc_packet.specs.declared.steps.Steps.TheVariants.{S14, S28, S128}
 use Rattle.dcc_packet.specs.declared.steps.Motion.{Motion}
 use Rattle.dcc_packet.specs.declared.steps.Motion.TheVariants.{Stop, Emergency, Step}
-use Rattle.dcc_packet.specs.declared.instr.Instr.{Instr}
-use Rattle.dcc_packet.specs.declared.instr.Instr.TheVariants.{Speed, Speed128, GroupOne, GroupTwo, Accessory}
-use Rattle.dcc_packet.specs.Spells.{bit, with_check, to_decoder}
+use Rattle.dcc_packet.specs.Form.{bit, with_check, to_decoder}
 
 -- S-9.2.1, 2.3.2 with 128 steps and 2.3.3 with 14: 0 stop, 1 emergency stop, n + 1 step n
 abbrev pub code_of : Motion → ℕ
@@ -29,11 +27,6 @@ abbrev pub low_28 : Motion → ℕ
 low_28 motion = 16 * (code_28_of motion % 2) + code_28_of motion / 2
 
 -- speed and direction, forward as 1
-abbrev pub speed_instr : Address → Steps → Motion → Bool → Bool → Instr
-speed_instr address S14 motion forward f0 = Speed address forward (low_14 motion f0)
-speed_instr address S28 motion forward f0 = Speed address forward (low_28 motion)
-speed_instr address S128 motion forward f0 = Speed128 address forward (code_of motion)
-
 abbrev pub speed_bytes : Address → Steps → Motion → Bool → Bool → List ℕ
 speed_bytes address S14 motion forward f0 = to_decoder address ((64 + 32 * bit forward + low_14 motion f0) ∷ [])
 speed_bytes address S28 motion forward f0 = to_decoder address ((64 + 32 * bit forward + low_28 motion) ∷ [])
@@ -43,18 +36,12 @@ speed_bytes address S128 motion forward f0 = to_decoder address (0x3F ∷ (128 *
 abbrev pub group_one_bits : ℕ → ℕ
 group_one_bits functions = 16 * (functions % 2) + functions / 2 % 16
 
-abbrev pub group_one_instr : Address → ℕ → Instr
-group_one_instr address functions = GroupOne address (group_one_bits functions)
-
 abbrev pub group_one_bytes : Address → ℕ → List ℕ
 group_one_bytes address functions = to_decoder address ((128 + group_one_bits functions) ∷ [])
 
 -- F8, F7, F6, F5
 abbrev pub group_two_bits : ℕ → ℕ
 group_two_bits functions = functions / 32 % 16
-
-abbrev pub group_two_instr : Address → ℕ → Instr
-group_two_instr address functions = GroupTwo address (group_two_bits functions)
 
 abbrev pub group_two_bytes : Address → ℕ → List ℕ
 group_two_bytes address functions = to_decoder address ((176 + group_two_bits functions) ∷ [])
@@ -64,9 +51,6 @@ abbrev pub module_of : ℕ → ℕ
 module_of number = number / 4 + 1
 
 -- the output of a switch, closed or thrown, on or off
-abbrev pub accessory_instr : ℕ → Bool → Bool → Instr
-accessory_instr number closed on = Accessory (module_of number) (number % 4) closed on
-
 abbrev pub accessory_bytes : ℕ → Bool → Bool → List ℕ
 accessory_bytes number closed on =
     with_check ((128 + module_of number % 64) ∷ (128 + 16 * (7 - module_of number / 64) + 8 * bit on + 2 * (number % 4) + bit closed) ∷ [])

@@ -1,24 +1,13 @@
 -- What bytes say: one line for each form of packet.
-use Rattle.std.specs.Prelude.{ℕ, ◌≡◌, ◌+◌, ◌-◌, ◌*◌, ◌/◌, ◌%◌, ◌<◌, Bool, if◌then◌else◌, List, [], ◌∷◌, ◌++◌, IsTrue}
+use Rattle.std.specs.Prelude.{ℕ, ◌≡◌, ◌+◌, ◌-◌, ◌*◌, ◌/◌, ◌%◌, ◌<◌, Bool, List, [], ◌∷◌, IsTrue}
 use Rattle.dcc_packet.specs.declared.address.Address.{Address}
 use Rattle.dcc_packet.specs.declared.instr.Instr.{Instr}
 use Rattle.dcc_packet.specs.declared.instr.Instr.TheVariants.{Idle, Reset, StopAll, Speed, Speed128, GroupOne, GroupTwo, Accessory}
-use Rattle.dcc_packet.specs.Address.{is_legal, address_bytes}
+use Rattle.dcc_packet.specs.Address.{is_legal}
+use Rattle.dcc_packet.specs.Form.{bit, with_check, to_decoder}
 use Rattle.dcc_packet.specs.Module.{is_module}
-use Rattle.dcc_packet.specs.Packet.{xor_of}
 
--- a truth value as a bit
-abbrev pub bit : Bool → ℕ
-bit b = if b then 1 else 0
-
--- S-9.2, general packet format: behind its bytes a packet has their exclusive or, the error detection byte
-abbrev pub with_check : List ℕ → List ℕ
-with_check bytes = bytes ++ xor_of bytes ∷ []
-
--- S-9.2.1, 2.3: an address, an instruction and the check
-abbrev pub to_decoder : Address → List ℕ → List ℕ
-to_decoder address instruction = with_check (address_bytes address ++ instruction)
-
+-- they tell this instruction to this address
 abbrev pub Tells : List ℕ → Address → List ℕ → Type 0
 Tells bytes address instruction = IsTrue (is_legal address) × (bytes ≡ to_decoder address instruction)
 

@@ -1,10 +1,12 @@
 //! The packets that a command station sends.
 ghost use Rattle.std.specs.Prelude.{◌≡◌, ◌<◌, ◌≤◌, true, IsTrue, length};
 ghost use Rattle.dcc_packet.specs.Address.{is_legal};
-ghost use Rattle.dcc_packet.specs.Steps.{is_motion};
-ghost use Rattle.dcc_packet.specs.Spells.{Spells, to_decoder};
+ghost use Rattle.dcc_packet.specs.Motions.{is_motion};
+ghost use Rattle.dcc_packet.specs.Form.{to_decoder};
+ghost use Rattle.dcc_packet.specs.Meant.{speed_instr, group_one_instr, group_two_instr, accessory_instr};
+ghost use Rattle.dcc_packet.specs.Spells.{Spells};
 ghost use Rattle.dcc_packet.specs.declared.instr.Instr.TheVariants.{Idle, StopAll};
-ghost use Rattle.dcc_packet.specs.Sent.{code_of, code_28_of, speed_instr, speed_bytes, group_one_instr, group_one_bytes, group_two_instr, group_two_bytes, accessory_instr, accessory_bytes, idle_bytes, stop_all_bytes};
+ghost use Rattle.dcc_packet.specs.Sent.{code_of, code_28_of, speed_bytes, group_one_bytes, group_two_bytes, accessory_bytes, idle_bytes, stop_all_bytes};
 
 use crate::address::Address;
 use crate::packet::{MAX_LEN, Packet};

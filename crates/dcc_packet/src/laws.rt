@@ -7,11 +7,14 @@ ghost use Rattle.dcc_packet.specs.declared.steps.Motion.{Motion};
 ghost use Rattle.dcc_packet.specs.declared.steps.Steps.{Steps};
 ghost use Rattle.dcc_packet.specs.declared.steps.Steps.TheVariants.{S14, S28, S128};
 ghost use Rattle.dcc_packet.specs.Address.{is_legal};
+ghost use Rattle.dcc_packet.specs.Form.{bit};
+ghost use Rattle.dcc_packet.specs.Meant.{speed_instr, group_one_instr, group_two_instr, accessory_instr};
+ghost use Rattle.dcc_packet.specs.Motions.{is_motion};
 ghost use Rattle.dcc_packet.specs.Packet.{is_checked, IsPacket};
 ghost use Rattle.dcc_packet.specs.Reading.{instruction_of};
-ghost use Rattle.dcc_packet.specs.Sent.{code_of, low_14, low_28, speed_instr, speed_bytes, group_one_instr, group_one_bytes, group_two_instr, group_two_bytes, accessory_instr, accessory_bytes, idle_bytes, stop_all_bytes};
-ghost use Rattle.dcc_packet.specs.Spells.{bit, Spells};
-ghost use Rattle.dcc_packet.specs.Steps.{is_motion, motion_told, number_28};
+ghost use Rattle.dcc_packet.specs.Sent.{code_of, low_14, low_28, speed_bytes, group_one_bytes, group_two_bytes, accessory_bytes, idle_bytes, stop_all_bytes};
+ghost use Rattle.dcc_packet.specs.Spells.{Spells};
+ghost use Rattle.dcc_packet.specs.Told.{motion_told, number_28};
 
 /// No bytes spell two instructions.
 pub fn one_spelling()

@@ -1,7 +1,7 @@
 //! The bytes of a packet.
 ghost use Rattle.std.specs.Prelude.{◌≡◌, ℕ, ◌<◌, ◌≤◌, List, length, slice_index, Some, None, if◌then◌else◌};
 ghost use Rattle.dcc_packet.specs.Packet.{has_packet_length, is_checked, xor_of, IsPacket};
-ghost use Rattle.dcc_packet.specs.Spells.{with_check};
+ghost use Rattle.dcc_packet.specs.Form.{with_check};
 
 use arrayvec::ArrayVec;
 use std::marker::Model;

@@ -1,6 +1,7 @@
 //! Speed steps, and the motion that a locomotive is asked for.
 ghost use Rattle.std.specs.Prelude.{◌≡◌, ◌<◌, IsTrue};
-ghost use Rattle.dcc_packet.specs.Steps.{steps_of_kind, motion_of, is_motion};
+ghost use Rattle.dcc_packet.specs.Motions.{is_motion};
+ghost use Rattle.dcc_packet.specs.Steps.{steps_of_kind, motion_of};
 
 /// How many steps a decoder has between standing and full speed.
 #[derive(Clone, Copy, Debug, PartialEq, Eq)]

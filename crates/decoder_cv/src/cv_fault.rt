@@ -1,6 +1,8 @@
 //! Why values of configuration variables are refused.
 
-/// Why four values are not those of a locomotive decoder, in the order in which it is tested.
+/// Why values are not those of a locomotive decoder.
+///
+/// The first three are tested in this order, and `BadList`, of a list alone, before them.
 #[derive(Clone, Copy, Debug, PartialEq, Eq)]
 pub enum CvFault {
     /// CV1, the short address, is outside 1 to 127.
@@ -9,4 +11,6 @@ pub enum CvFault {
     BadCv17,
     /// CV29 bit 7 says that this is an accessory decoder.
     NotLoco,
+    /// A number is outside 1 to 1024 or stands twice, or CV1 or CV29 is missing.
+    BadList,
 }

@@ -4,6 +4,8 @@ ghost use Rattle.dcc_packet.specs.Address.{is_legal};
 ghost use Rattle.decoder_cv.specs.Settings.{is_set, is_short, is_first_of_two};
 
 use crate::cv_fault::CvFault;
+use crate::cv_pair::CvPair;
+use crate::list::{are_variables, value_in};
 use dcc_packet::Address;
 use std::marker::Model;
 
@@ -44,6 +46,7 @@ impl Model for CvSet {
 }
 
 impl CvSet {
+    ghost use Rattle.decoder_cv.specs.Listed.{listed, settings_with};
     ghost use Rattle.decoder_cv.specs.Settings.{settings_of};
 
     /// The settings that these values make: CV1 the short address, CV17 and CV18 the two bytes of the long one on
@@ -72,6 +75,43 @@ impl CvSet {
             reversed: is_set(cv29, REVERSED),
             fourteen: !is_set(cv29, MORE_STEPS),
         })
+    }
+
+    /// The settings that a list of variables with their values makes, in any order.
+    ///
+    /// `BadList` is tested first: each number has to be 1 to 1024 and may stand once, and CV1 and CV29 have to be
+    /// there. Then the values are those of [`CvSet::new`], with 192 where CV17 is left out and 0 where CV18 is. Other
+    /// variables have no effect.
+    pub fn of_list(pairs: &[CvPair]) -> Result<CvSet, CvFault>
+        ensures { result ≡ listed pairs.now }
+    {
+        if !are_variables(pairs) {
+            return Err(CvFault::BadList);
+        }
+        CvSet::with(
+            value_in(1, pairs),
+            value_in(17, pairs),
+            value_in(18, pairs),
+            value_in(29, pairs),
+        )
+    }
+
+    /// The settings that these values make, where CV1 and CV29 are among them.
+    fn with(
+        cv1: Option<u8>,
+        cv17: Option<u8>,
+        cv18: Option<u8>,
+        cv29: Option<u8>,
+    ) -> Result<CvSet, CvFault>
+        ensures { result ≡ settings_with cv1 cv17 cv18 cv29 }
+    {
+        let Some(cv1) = cv1 else {
+            return Err(CvFault::BadList);
+        };
+        let Some(cv29) = cv29 else {
+            return Err(CvFault::BadList);
+        };
+        CvSet::new(cv1, cv17.unwrap_or(192), cv18.unwrap_or(0), cv29)
     }
 
     /// The address that the decoder obeys: short, or long where CV29 bit 5 is set.

@@ -1,12 +1,14 @@
 -- What packets do leaves a decoder with the functions F0 to F8 alone.
-use Rattle.std.proofs.Common.{ℕ, ◌%◌, ◌/◌, ◌<◌, ◌^◌, Bool, true, false, List, Option, Some, None, if◌then◌else◌, arith}
+use Rattle.std.proofs.Common.{ℕ, ◌+◌, ◌*◌, ◌%◌, ◌/◌, ◌<◌, ◌^◌, Bool, true, false, List, Option, Some, None, if◌then◌else◌, arith}
 use Rattle.std.proofs.lemmas.Bool.{cond_both}
 use Rattle.dcc_packet.specs.declared.instr.Instr.{Instr}
 use Rattle.dcc_packet.specs.declared.instr.Instr.TheVariants.{Idle, Reset, StopAll, Speed, Speed128, GroupOne, GroupTwo, Accessory}
 use Rattle.dcc_packet.specs.Reading.{instruction_of}
 use Rattle.decoder_cv.specs.Settings.{Settings}
 use Rattle.decoder_node.specs.declared.running.Running.{Running}
-use Rattle.decoder_node.specs.Obey.{IsAble, is_own, driven, lit, with_bits, obeyed, obeyed_if, obey}
+use Rattle.decoder_node.specs.Bits.{with_bits}
+use Rattle.decoder_node.specs.Obey.{is_own, driven, lit, obeyed, obeyed_if, obey}
+use Rattle.decoder_node.specs.Running.{IsAble}
 
 own : (b : Bool) (new old : Running) → IsAble new → IsAble old → IsAble (if b then new else old)
 own true new old n o = n
@@ -31,7 +33,7 @@ obeyed-able cv r (Speed address d low) h = own (is_own cv.address address) (driv
 obeyed-able cv r (Speed128 address d s) h = own (is_own cv.address address) _ r h h
 obeyed-able cv r (GroupOne address bits) h = own (is_own cv.address address) _ r (lit-able cv r.functions bits h) h
 obeyed-able cv r (GroupTwo address bits) h =
-    let next : with_bits r.functions 5 4 (bits % 16) < 2 ^ 9 = omega arith in
+    let next : 32 * (bits % 16) + r.functions % 32 < 2 ^ 9 = omega arith in
     own (is_own cv.address address) _ r next h
 obeyed-able cv r (Accessory number pair closed on) h = h
 

@@ -1,9 +1,11 @@
 -- What an accessory decoder makes of whole waves.
 use Rattle.std.proofs.Common.{◌≡◌, ℕ, List, [], ◌∷◌, ◌++◌, fold, refl, ap, sym, ◌∙◌}
 use Rattle.std.proofs.lemmas.List.Sums.{fold-append}
-use Rattle.decoder_rx.specs.Table.{after_all, answers, is_hunting}
+use Rattle.decoder_rx.specs.Place.{is_hunting}
+use Rattle.decoder_rx.specs.Table.{after_all, answers}
 use Rattle.decoder_node.specs.Heard.{told}
-use Rattle.decoder_node.specs.Accessory.{AccessoryDecoder, heard, heard_all, HearsAccessory}
+use Rattle.decoder_node.specs.Accessory.{heard, heard_all, HearsAccessory}
+use Rattle.decoder_node.specs.AccessoryDecoder.{AccessoryDecoder}
 use Rattle.decoder_node.specs.Switched.{switch, switched_if}
 use Rattle.decoder_node.proofs.Waves.{Laws, Ignores, spells_none, obeyed, ran}
 
@@ -27,13 +29,13 @@ ignores number outputs packet h = ap (switched_if number outputs) (spells_none p
 pub heard_next : (old d : AccessoryDecoder) (halves : List ℕ) (half : ℕ) → d ≡ heard_all old halves → heard d half ≡ heard_all old (halves ++ half ∷ [])
 heard_next old d halves half h = ap (λ (e : AccessoryDecoder). heard e half) h ∙ sym (fold-append heard old halves (half ∷ []))
 
-pub hears : Laws → (old : AccessoryDecoder) (halves : List ℕ) (new : AccessoryDecoder) → new ≡ heard_all old halves → HearsAccessory old halves new
-hears laws old halves new h =
-    let outputs : new.outputs ≡ fold (told (switch old.number)) old.outputs (answers old.receiver halves) = ap (λ (d : AccessoryDecoder). d.outputs) h ∙ outputs_after halves old in
-    let hunting : is_hunting new.receiver ≡ is_hunting (after_all old.receiver halves) = ap (λ (d : AccessoryDecoder). is_hunting d.receiver) h ∙ ap is_hunting (receiver_after halves old) in
+pub hears : Laws → (old : AccessoryDecoder) (halves : List ℕ) → HearsAccessory old halves (heard_all old halves)
+hears laws old halves =
+    let outputs = outputs_after halves old in
+    let hunting = ap is_hunting (receiver_after halves old) in
     record {
-      in_turn = h;
-      kept = ap (λ (d : AccessoryDecoder). d.number) h ∙ number_after halves old;
+      in_turn = refl;
+      kept = number_after halves old;
       settles = λ packet p w. hunting ∙ laws.settles old.receiver packet halves p w;
       obeys = λ packet p w b. outputs ∙ obeyed (switch old.number) (ignores old.number) laws old.outputs old.receiver packet halves p w b;
       runs = λ packets w b.

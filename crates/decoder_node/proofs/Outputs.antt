@@ -4,7 +4,7 @@ use Rattle.std.proofs.lemmas.Bool.{cases_lt, cases_eq}
 use Rattle.std.proofs.lemmas.Nat.{pow-add, pow_pos, and_le_l, or_lt, div-add-mod'}
 use Rattle.std.proofs.lemmas.Nat.Bits.{bit_at-suc, bit_at_lowest, bit_at_cat_low, bit_at_cat_high, bit_at_set_same, bit_at_set_other, bit_at_clear_same, bit_at_clear_other, same_from_bits_below}
 use Rattle.std.specs.Int.{bit_at}
-use Rattle.decoder_node.specs.Obey.{with_bits}
+use Rattle.decoder_node.specs.Bits.{with_bits}
 
 twice : (p : ℕ) → 2 ^ (p + 1) ≡ 2 * 2 ^ p
 twice p = pow-add 2 p 1 ∙ omega arith

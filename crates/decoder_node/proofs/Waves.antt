@@ -5,7 +5,8 @@ use Rattle.std.specs.Prelude.{IsTrue}
 use Rattle.dcc_packet.specs.Packet.{IsPacket, is_packet, is_checked}
 use Rattle.dcc_packet.specs.Reading.{instruction_of, form_of}
 use Rattle.dcc_packet.specs.Wave.{IsWave}
-use Rattle.decoder_rx.specs.Table.{Place, given, after, after_all, answers, is_hunting}
+use Rattle.decoder_rx.specs.Place.{Place, is_hunting}
+use Rattle.decoder_rx.specs.Table.{given, after, after_all, answers}
 use Rattle.decoder_rx.specs.Reading.{IsRight, Reads, Passes}
 use Rattle.decoder_node.specs.Heard.{told, AreWaves}
 

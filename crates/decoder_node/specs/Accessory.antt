@@ -1,24 +1,11 @@
 -- What an accessory decoder makes of the half-bits that it hears.
-use Rattle.std.specs.Prelude.{ℕ, ◌≡◌, List, fold, IsTrue}
+use Rattle.std.specs.Prelude.{ℕ, ◌≡◌, List, fold}
 use Rattle.dcc_packet.specs.Packet.{IsPacket}
 use Rattle.dcc_packet.specs.Wave.{IsWave}
-use Rattle.decoder_rx.specs.Table.{Place, Hunting, after, given, is_hunting}
+use Rattle.decoder_rx.specs.Table.{after, given}
 use Rattle.decoder_node.specs.Heard.{told, AreWaves}
 use Rattle.decoder_node.specs.Switched.{switch, switches}
-
--- the number of its module, its outputs, bit j being output j, and where its receiver is
-pub record AccessoryDecoder : Type 0 where
-  pub number : ℕ
-  pub outputs : ℕ
-  pub receiver : Place
-
--- no packet is under way
-abbrev pub IsBetween : AccessoryDecoder → Type 0
-IsBetween accessory = IsTrue (is_hunting accessory.receiver)
-
--- as it is made: all outputs are off, and its receiver hunts, with no one half counted
-abbrev pub fresh : ℕ → AccessoryDecoder
-fresh number = record { number = number; outputs = 0; receiver = Hunting 0 }
+use Rattle.decoder_node.specs.AccessoryDecoder.{AccessoryDecoder, IsBetween}
 
 -- after one half, and after many
 abbrev pub heard : AccessoryDecoder → ℕ → AccessoryDecoder

@@ -1,6 +1,11 @@
+pub use Rattle.decoder_rx.specs.Place
 pub use Rattle.decoder_rx.specs.Table
 pub mod Accessory
+pub mod AccessoryDecoder
+pub mod Bits
 pub mod Heard
 pub mod Loco
+pub mod LocoDecoder
 pub mod Obey
+pub mod Running
 pub mod Switched

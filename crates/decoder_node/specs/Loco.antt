@@ -1,26 +1,11 @@
 -- What a locomotive decoder makes of the half-bits that it hears.
-use Rattle.std.specs.Prelude.{ℕ, ◌≡◌, List, fold, IsTrue}
+use Rattle.std.specs.Prelude.{ℕ, ◌≡◌, List, fold}
 use Rattle.dcc_packet.specs.Packet.{IsPacket}
 use Rattle.dcc_packet.specs.Wave.{IsWave}
-use Rattle.decoder_rx.specs.Table.{Place, Hunting, after, given, is_hunting}
-use Rattle.decoder_cv.specs.Settings.{Settings}
-use Rattle.decoder_node.specs.declared.running.Running.{Running}
+use Rattle.decoder_rx.specs.Table.{after, given}
 use Rattle.decoder_node.specs.Heard.{told, AreWaves}
-use Rattle.decoder_node.specs.Obey.{IsAble, first_running, obey, runs}
-
--- what it is set to, how it runs, and where its receiver is
-pub record LocoDecoder : Type 0 where
-  pub cv : Settings
-  pub running : Running
-  pub receiver : Place
-
--- no packet is under way
-abbrev pub IsBetween : LocoDecoder → Type 0
-IsBetween loco = IsTrue (is_hunting loco.receiver)
-
--- as it is made, and after the track was without power: its receiver hunts, with no one half counted
-abbrev pub fresh : Settings → LocoDecoder
-fresh cv = record { cv = cv; running = first_running; receiver = Hunting 0 }
+use Rattle.decoder_node.specs.Obey.{obey, runs}
+use Rattle.decoder_node.specs.LocoDecoder.{LocoDecoder, IsBetween}
 
 -- after one half, and after many
 abbrev pub heard : LocoDecoder → ℕ → LocoDecoder
@@ -39,7 +24,6 @@ heard_all = fold heard
 pub record HearsLoco (old : LocoDecoder) (halves : List ℕ) (new : LocoDecoder) : Type 0 where
   pub in_turn : new ≡ heard_all old halves
   pub kept : new.cv ≡ old.cv
-  pub able : IsAble old.running → IsAble new.running
   pub settles : (packet : List ℕ) → IsPacket packet → IsWave packet halves → IsBetween new
   pub obeys : (packet : List ℕ) → IsPacket packet → IsWave packet halves → IsBetween old
       → new.running ≡ obey old.cv old.running packet

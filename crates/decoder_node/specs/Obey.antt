@@ -1,42 +1,22 @@
 -- What packets do to a locomotive decoder. Where the standard leaves a rule open, (own) marks this project's profile.
-use Rattle.std.specs.Prelude.{ℕ, ◌+◌, ◌-◌, ◌*◌, ◌/◌, ◌%◌, ◌^◌, ◌==◌, ◌<◌, nat_lt, Bool, true, false, not, if◌then◌else◌, List, fold, Option, Some, None}
+-- Bit k of `functions` is Fk.
+use Rattle.std.specs.Prelude.{ℕ, ◌+◌, ◌*◌, ◌/◌, ◌%◌, ◌==◌, Bool, false, not, if◌then◌else◌, List, fold, Option, Some, None}
 use Rattle.dcc_packet.specs.declared.address.Address.{Address}
 use Rattle.dcc_packet.specs.declared.address.Address.TheVariants.{Short, Long}
 use Rattle.dcc_packet.specs.declared.instr.Instr.{Instr}
 use Rattle.dcc_packet.specs.declared.instr.Instr.TheVariants.{Idle, Reset, StopAll, Speed, Speed128, GroupOne, GroupTwo, Accessory}
-use Rattle.dcc_packet.specs.declared.steps.Steps.{Steps}
 use Rattle.dcc_packet.specs.declared.steps.Steps.TheVariants.{S14, S28, S128}
-use Rattle.dcc_packet.specs.declared.steps.Motion.{Motion}
-use Rattle.dcc_packet.specs.declared.steps.Motion.TheVariants.{Stop, Emergency, Step}
+use Rattle.dcc_packet.specs.declared.steps.Motion.TheVariants.{Stop, Emergency}
 use Rattle.dcc_packet.specs.Reading.{instruction_of}
+use Rattle.dcc_packet.specs.Told.{motion_told, number_28}
 use Rattle.decoder_cv.specs.Settings.{Settings}
 use Rattle.decoder_node.specs.declared.running.Running.{Running}
-
--- how a decoder starts, and starts again at Reset: it stands, forward, with all functions off
-abbrev pub first_running : Running
-first_running = record { motion = Stop; forward = true; functions = 0 }
-
--- a decoder has the functions F0 to F8 and no others
-abbrev pub IsAble : Running → Type 0
-IsAble running = running.functions < 2 ^ 9
+use Rattle.decoder_node.specs.Bits.{with_bits}
+use Rattle.decoder_node.specs.Running.{first_running}
 
 -- The forward of a decoder is the D of the packet, or where CV29 bit 0 is set the other way.
 abbrev pub own_forward : Settings → Bool → Bool
 own_forward cv d = if cv.reversed then not d else d
-
--- S-9.2.1, 2.3.3 with 14 steps and 2.3.2: 0 stop, 1 emergency stop, n + 1 step n
-abbrev pub motion_in : Steps → ℕ → Motion
-motion_in steps code = if code == 0 then Stop else (if code == 1 then Emergency else Step steps (code - 1))
-
--- S-9.2.1, 2.3.3 with 28 steps, C the lowest bit of the five: 0 and 1 stop, 2 and 3 emergency stop, n + 3 step n
-abbrev pub motion_in_28 : ℕ → Motion
-motion_in_28 code = if nat_lt code 2 then Stop else (if nat_lt code 4 then Emergency else Step S28 (code - 3))
-
--- Bit k of `functions` is Fk: as many as `count`, from F`first` on, are as in these bits, the lowest first, and the
--- others stay.
-abbrev pub with_bits : (functions first count bits : ℕ) → ℕ
-with_bits functions first count bits =
-    functions / 2 ^ (first + count) * 2 ^ (first + count) + bits * 2 ^ first + functions % 2 ^ first
 
 -- the address is the decoder's own
 abbrev pub is_own : Address → Address → Bool
@@ -50,8 +30,8 @@ is_own (Long own) (Short number) = false
 abbrev pub driven : Settings → Running → Bool → ℕ → Running
 driven cv running d low =
     if cv.fourteen
-    then record { motion = motion_in S14 (low % 16); forward = own_forward cv d; functions = with_bits running.functions 0 1 (low / 16 % 2) }
-    else record { motion = motion_in_28 (2 * (low % 16) + low / 16 % 2); forward = own_forward cv d; functions = running.functions }
+    then record { motion = motion_told S14 (low % 16); forward = own_forward cv d; functions = with_bits running.functions 0 1 (low / 16 % 2) }
+    else record { motion = motion_told S28 (number_28 low); forward = own_forward cv d; functions = running.functions }
 
 -- A packet of function group one: bit 4 is F0 where the decoder has 28 or 128 steps, and else means nothing.
 abbrev pub lit : Settings → ℕ → ℕ → ℕ
@@ -59,19 +39,20 @@ lit cv functions bits =
     let others = with_bits functions 1 4 (bits % 16) in
     if cv.fourteen then others else with_bits others 0 1 (bits / 16 % 2)
 
--- What one instruction does. A broadcast stop leaves the direction (own). Speeds of 128 steps are obeyed whatever the
--- mode (own). What is for another address, or for accessory decoders, does nothing.
+-- What one instruction does. Group two has the last functions of a decoder, so that it leaves none behind them. A
+-- broadcast stop leaves the direction (own). Speeds of 128 steps are obeyed whatever the mode (own). What is for another
+-- address, or for accessory decoders, does nothing.
 abbrev pub obeyed : Settings → Running → Instr → Running
 obeyed cv running Idle = running
 obeyed cv running Reset = first_running
 obeyed cv running (StopAll emergency) = record running { motion = if emergency then Emergency else Stop }
 obeyed cv running (Speed address d low) = if is_own cv.address address then driven cv running d low else running
 obeyed cv running (Speed128 address d s) =
-    if is_own cv.address address then record running { motion = motion_in S128 s; forward = own_forward cv d } else running
+    if is_own cv.address address then record running { motion = motion_told S128 s; forward = own_forward cv d } else running
 obeyed cv running (GroupOne address bits) =
     if is_own cv.address address then record running { functions = lit cv running.functions bits } else running
 obeyed cv running (GroupTwo address bits) =
-    if is_own cv.address address then record running { functions = with_bits running.functions 5 4 (bits % 16) } else running
+    if is_own cv.address address then record running { functions = 32 * (bits % 16) + running.functions % 32 } else running
 obeyed cv running (Accessory number pair closed on) = running
 
 abbrev pub obeyed_if : Settings → Running → Option Instr → Running

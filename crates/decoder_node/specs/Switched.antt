@@ -3,7 +3,7 @@ use Rattle.std.specs.Prelude.{ℕ, ◌+◌, ◌*◌, ◌%◌, ◌==◌, Bool, if
 use Rattle.dcc_packet.specs.declared.instr.Instr.{Instr}
 use Rattle.dcc_packet.specs.declared.instr.Instr.TheVariants.{Idle, Reset, StopAll, Speed, Speed128, GroupOne, GroupTwo, Accessory}
 use Rattle.dcc_packet.specs.Reading.{instruction_of}
-use Rattle.decoder_node.specs.Obey.{with_bits}
+use Rattle.decoder_node.specs.Bits.{with_bits}
 
 -- S-9.2.1, 2.4.1: the output DDD, which is the pair and whether its second output, closed, is meant
 abbrev pub output_of : ℕ → Bool → ℕ

@@ -3,9 +3,10 @@ ghost use Rattle.std.specs.Prelude.{◌≡◌, ℕ, List, None};
 ghost use Rattle.std.specs.Iterator.{IsFinite, Drains};
 
 use crate::ONE;
+use crate::laws::waves_are_obeyed;
 use crate::switch::after_packet;
 use dcc_packet::Module;
-use decoder_rx::{Rx, bit_of, complete, settles};
+use decoder_rx::{Rx, bit_of};
 use std::marker::Model;
 
 /// An accessory decoder on the track, with eight outputs in four pairs, which hears it half by half.
@@ -19,7 +20,7 @@ pub struct Accessory {
 }
 
 impl Model for Accessory {
-    ghost use Rattle.decoder_node.specs.Accessory.{AccessoryDecoder};
+    ghost use Rattle.decoder_node.specs.AccessoryDecoder.{AccessoryDecoder};
 
     ghost Value = { AccessoryDecoder };
 
@@ -28,7 +29,8 @@ impl Model for Accessory {
 
 impl Accessory {
     ghost use Rattle.decoder_rx.specs.Table.{given};
-    ghost use Rattle.decoder_node.specs.Accessory.{HearsAccessory, fresh, heard};
+    ghost use Rattle.decoder_node.specs.Accessory.{HearsAccessory, heard};
+    ghost use Rattle.decoder_node.specs.AccessoryDecoder.{fresh};
 
     /// The decoder of this module, with all outputs off, which has heard nothing.
     pub fn new(module: Module) -> Accessory
@@ -61,8 +63,7 @@ impl Accessory {
         requires ends { IsFinite (I.remaining halves) }
         ensures { (items : List ℕ) × Drains I.next_gives halves items × HearsAccessory self.old items self.new }
     {
-        complete();
-        settles();
+        waves_are_obeyed();
         let mut halves = halves;
         // The two halves of a bit are heard together, which is quicker.
         while let Some(first) = halves.next() {

@@ -1,7 +1,9 @@
-//! The DCC decoders of a layout: what they make of the half-bits that they hear (NMRA S-9.2, S-9.2.1, S-9.2.2).
+//! The DCC decoders of a layout: what they make of the half-bits that they hear (NMRA S-9.1, S-9.2, S-9.2.1,
+//! S-9.2.2).
 #![tactic(auto)]
 
 mod accessory;
+mod laws;
 mod loco;
 mod node;
 mod obey;
@@ -9,6 +11,7 @@ mod running;
 mod switch;
 
 pub use accessory::Accessory;
+pub use laws::waves_are_obeyed;
 pub use loco::Loco;
 pub use node::{NodeList, NodeSpec};
 pub use running::Running;

@@ -3,10 +3,11 @@ ghost use Rattle.std.specs.Prelude.{◌≡◌, ℕ, List, None};
 ghost use Rattle.std.specs.Iterator.{IsFinite, Drains};
 
 use crate::ONE;
+use crate::laws::waves_are_obeyed;
 use crate::obey::obey_packet;
 use crate::running::{FIRST, Running};
 use decoder_cv::CvSet;
-use decoder_rx::{Rx, bit_of, complete, settles};
+use decoder_rx::{Rx, bit_of};
 use std::marker::Model;
 
 /// A locomotive decoder on the track, which hears it half by half.
@@ -20,17 +21,21 @@ pub struct Loco {
 }
 
 impl Model for Loco {
-    ghost use Rattle.decoder_node.specs.Loco.{LocoDecoder};
+    ghost use Rattle.decoder_node.specs.LocoDecoder.{LocoDecoder};
+    ghost use Rattle.decoder_node.specs.Running.{IsAble};
 
     ghost Value = { LocoDecoder };
 
     ghost view = { λ loco. record { cv = loco.cv; running = loco.running; receiver = loco.rx } };
+
+    ghost invariant = { λ loco. IsAble loco.running };
 }
 
 impl Loco {
     ghost use Rattle.decoder_rx.specs.Table.{given};
-    ghost use Rattle.decoder_node.specs.Obey.{IsAble};
-    ghost use Rattle.decoder_node.specs.Loco.{HearsLoco, fresh, heard};
+    ghost use Rattle.decoder_node.specs.Loco.{HearsLoco, heard};
+    ghost use Rattle.decoder_node.specs.LocoDecoder.{fresh};
+    ghost use Rattle.decoder_node.specs.Running.{IsAble};
 
     /// A decoder with these settings, which stands, forward, with all functions off, and has heard nothing.
     pub fn new(cv: CvSet) -> Loco
@@ -48,7 +53,6 @@ impl Loco {
     pub fn hear(&mut self, half: u16)
         ensures heard { self.new ≡ heard self.old half }
         ensures quiet { given self.old.receiver half ≡ None → self.new.running ≡ self.old.running }
-        ensures able { IsAble self.old.running → IsAble self.new.running }
     {
         if let Some(packet) = self.rx.hear(half) {
             obey_packet(&self.cv, &mut self.running, &packet);
@@ -64,8 +68,7 @@ impl Loco {
         requires ends { IsFinite (I.remaining halves) }
         ensures { (items : List ℕ) × Drains I.next_gives halves items × HearsLoco self.old items self.new }
     {
-        complete();
-        settles();
+        waves_are_obeyed();
         let mut halves = halves;
         // The two halves of a bit are heard together, which is quicker.
         while let Some(first) = halves.next() {
@@ -101,10 +104,11 @@ impl Loco {
         self.hear(second);
     }
 
-    /// How it runs.
+    /// How it runs. Of the functions, F0 to F8 alone may be on.
     #[inline]
     pub fn running(&self) -> Running
-        ensures { result ≡ self.now.running }
+        ensures value { result ≡ self.now.running }
+        ensures able { IsAble result }
     {
         self.running
     }

@@ -1,6 +1,8 @@
 //! What a packet does to a locomotive decoder.
 ghost use Rattle.std.specs.Prelude.{◌≡◌, ◌<◌, ◌/◌, ◌%◌};
-ghost use Rattle.decoder_node.specs.Obey.{obey, obeyed, driven, lit, is_own, own_forward, motion_in, motion_in_28, with_bits};
+ghost use Rattle.dcc_packet.specs.Told.{motion_told};
+ghost use Rattle.decoder_node.specs.Bits.{with_bits};
+ghost use Rattle.decoder_node.specs.Obey.{obey, obeyed, driven, lit, is_own, own_forward};
 
 use crate::running::{FIRST, Running};
 use dcc_packet::{Address, Instr, Motion, Packet, Steps, read};
@@ -33,7 +35,7 @@ fn after_instr(cv: &CvSet, running: Running, instr: Instr) -> Running
         },
         Instr::Speed { address, d, low } if is_own(cv, address) => drive(cv, running, d, low),
         Instr::Speed128 { address, d, s } if is_own(cv, address) => Running {
-            motion: motion_in(Steps::S128, s),
+            motion: motion_told(Steps::S128, s),
             forward: own_forward(cv, d),
             ..running
         },
@@ -42,9 +44,7 @@ fn after_instr(cv: &CvSet, running: Running, instr: Instr) -> Running
             ..running
         },
         Instr::GroupTwo { address, bits } if is_own(cv, address) => Running {
-            functions: running.functions / 512 * 512
-                + 32 * u16::from(bits % 16)
-                + running.functions % 32,
+            functions: 32 * u16::from(bits % 16) + running.functions % 32,
             ..running
         },
         _ => running,
@@ -72,44 +72,36 @@ fn drive(cv: &CvSet, running: Running, d: bool, low: u8) -> Running
     let forward = own_forward(cv, d);
     if cv.fourteen() {
         Running {
-            motion: motion_in(Steps::S14, low % 16),
+            motion: motion_told(Steps::S14, low % 16),
             forward,
             functions: with_light(running.functions, low),
         }
     } else {
         Running {
-            motion: motion_in_28(2 * (low % 16) + low / 16 % 2),
+            motion: motion_told(Steps::S28, 2 * (low % 16) + low / 16 % 2),
             forward,
             ..running
         }
     }
 }
 
-/// The motion of a number of 14 or 128 steps.
-fn motion_in(steps: Steps, code: u8) -> Motion
-    ensures { result ≡ motion_in steps code }
+/// The motion of a number on the track (S-9.2.1, 2.3.2 and 2.3.3).
+fn motion_told(steps: Steps, number: u8) -> Motion
+    ensures { result ≡ motion_told steps number }
 {
-    match code {
-        0 => Motion::Stop,
-        1 => Motion::Emergency,
-        _ => Motion::Step {
+    let (last_stop, last_emergency) = match steps {
+        Steps::S28 => (1, 3),
+        Steps::S14 | Steps::S128 => (0, 1),
+    };
+    if number <= last_stop {
+        Motion::Stop
+    } else if number <= last_emergency {
+        Motion::Emergency
+    } else {
+        Motion::Step {
             of: steps,
-            n: code - 1,
-        },
-    }
-}
-
-/// The motion of a number of 28 steps.
-fn motion_in_28(code: u8) -> Motion
-    ensures { result ≡ motion_in_28 code }
-{
-    match code {
-        0 | 1 => Motion::Stop,
-        2 | 3 => Motion::Emergency,
-        _ => Motion::Step {
-            of: Steps::S28,
-            n: code - 3,
-        },
+            n: number - last_emergency,
+        }
     }
 }
 

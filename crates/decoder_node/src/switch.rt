@@ -1,6 +1,6 @@
 //! What a packet does to an accessory decoder.
 ghost use Rattle.std.specs.Prelude.{◌≡◌, ◌<◌, Bool, if◌then◌else◌};
-ghost use Rattle.decoder_node.specs.Obey.{with_bits};
+ghost use Rattle.decoder_node.specs.Bits.{with_bits};
 ghost use Rattle.decoder_node.specs.Switched.{switch, switched, output_of};
 
 use dcc_packet::{Instr, Module, Packet, read};

@@ -4,6 +4,7 @@ use crate::{Accessory, Loco, NodeList, NodeSpec, Running};
 use arrayvec::ArrayVec;
 use dcc_packet::{Module, Motion, Steps};
 use decoder_cv::CvSet;
+use std::process::Abort;
 use std::test::Fail;
 
 /// Halves of 58 and 100 microseconds.
@@ -53,6 +54,17 @@ fn first() -> Running {
     running(Motion::Stop, true, 0)
 }
 
+// What a locomotive at address 3 with this CV29 hears, one after another, and how it runs then.
+fn hears_in_turn(rt: &impl Abort, cv29: u8, rows: &[Row]) -> Result<(), Fail> {
+    let mut loco = Loco::new(CvSet::new(3, 0, 0, cv29)?);
+    assert_eq!(rt; loco.running(), first());
+    for (bytes, then) in rows {
+        loco.hear_all(wave_of(bytes).iter().copied());
+        assert_eq!(rt; loco.running(), *then, "{cv29} {bytes:?}");
+    }
+    Ok(())
+}
+
 #[test]
 fn a_locomotive_obeys_packets_in_turn(rt: HostRuntime) -> Result<(), Fail> {
     let fourteen: [Row; 3] = [
@@ -67,6 +79,19 @@ fn a_locomotive_obeys_packets_in_turn(rt: HostRuntime) -> Result<(), Fail> {
         (&[0x03, 0x90, 0x93], running(step(Steps::S28, 14), true, 1)),
         (&[0x03, 0x81, 0x82], running(step(Steps::S28, 14), true, 2)),
     ];
+    // Each group leaves the functions of the other.
+    let groups: [Row; 3] = [
+        (&[0x03, 0x9F, 0x9C], running(Motion::Stop, true, 0x1F)),
+        (&[0x03, 0xBA, 0xB9], running(Motion::Stop, true, 0x15F)),
+        (&[0x03, 0x84, 0x87], running(Motion::Stop, true, 0x148)),
+    ];
+    hears_in_turn(&rt, 0, &fourteen)?;
+    hears_in_turn(&rt, 2, &twenty_eight)?;
+    hears_in_turn(&rt, 2, &groups)
+}
+
+#[test]
+fn a_locomotive_obeys_broadcasts_and_not_what_is_for_others(rt: HostRuntime) -> Result<(), Fail> {
     let reversed: [Row; 3] = [
         (
             &[0x03, 0x3F, 0xC0, 0xFC],
@@ -82,20 +107,8 @@ fn a_locomotive_obeys_packets_in_turn(rt: HostRuntime) -> Result<(), Fail> {
         (&[0x04, 0x3F, 0xC0, 0xFB], first()),
         (&[0x03, 0x3F, 0xC0, 0xFD], first()),
     ];
-    for (cv29, rows) in [
-        (0, fourteen),
-        (2, twenty_eight),
-        (3, reversed),
-        (2, not_for_it),
-    ] {
-        let mut loco = Loco::new(CvSet::new(3, 0, 0, cv29)?);
-        assert_eq!(rt; loco.running(), first());
-        for (bytes, then) in rows {
-            loco.hear_all(wave_of(bytes).iter().copied());
-            assert_eq!(rt; loco.running(), then, "{cv29} {bytes:?}");
-        }
-    }
-    Ok(())
+    hears_in_turn(&rt, 3, &reversed)?;
+    hears_in_turn(&rt, 2, &not_for_it)
 }
 
 #[test]

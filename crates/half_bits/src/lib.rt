@@ -1,4 +1,5 @@
-//! The half-bits of a DCC packet: how long the voltage on the track stands one way and then the other (NMRA S-9.2).
+//! The half-bits of a DCC packet (NMRA S-9.2): how long the voltage on the track stands one way and then the other (NMRA
+//! S-9.1).
 #![tactic(auto)]
 
 ghost use Rattle.std.specs.Prelude.{◌≡◌, ◌+◌, ◌*◌, length};
@@ -16,8 +17,8 @@ mod tests;
 
 /// The half-bits of `packet` from its preamble of 14 ones to the one that closes it, in microseconds.
 ///
-/// A one is two halves of 58, a zero two of 100: a wave that each receiver of S-9.2 has to take. A packet of `b`
-/// bytes has `2 * (15 + 9 * b)` of them, 84 to 138.
+/// A one is two halves of 58, a zero two of 100, which each decoder has to take (S-9.1), as it has to take 14 ones
+/// before a packet (S-9.2, A). A packet of `b` bytes has `2 * (15 + 9 * b)` of them, 84 to 138.
 #[inline]
 pub fn halves(packet: &Packet) -> Halves
     ensures items { result ≡ halves_of packet.now }

@@ -40,14 +40,14 @@ pub struct Halves {
 }
 
 impl Model for Halves {
-    ghost use Rattle.std.specs.Prelude.{ℕ, ◌≤◌, ◌<◌, ◌^◌, List};
+    ghost use Rattle.std.specs.Prelude.{ℕ, ◌+◌, ◌≤◌, ◌<◌, ◌^◌, List, is_some, if◌then◌else◌};
     ghost use Rattle.half_bits.specs.Remaining.{remaining};
 
     ghost Value = { List ℕ };
 
     ghost view = { λ halves. remaining halves.zeros halves.bits halves.second };
 
-    ghost invariant = { λ halves. (halves.bits ≤ 69) × (halves.zeros < 2 ^ 63) };
+    ghost invariant = { λ halves. (halves.bits + (if is_some halves.second then 1 else 0) ≤ 69) × (halves.zeros < 2 ^ 63) };
 }
 
 impl Halves {
@@ -64,11 +64,12 @@ impl Halves {
         }
     }
 
-    /// How many are still to come.
+    /// How many are still to come, at most 138.
     #[inline]
     #[tactic(auto, using(crate::proofs::Numbers::length_of_halves))]
     pub fn left(&self) -> u16
-        ensures { result ≡ length self.now }
+        ensures count { result ≡ length self.now }
+        ensures most { result ≤ 138 }
     {
         let left = 2 * self.bits as u16;
         match self.second {

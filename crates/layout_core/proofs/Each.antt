@@ -1,25 +1,24 @@
 -- The nodes in the midst of a packet: those before place i have heard or missed it, the others are as they were.
-use Rattle.std.proofs.Common.{◌≡◌, ℕ, ◌+◌, ◌<◌, ◌≤◌, Bool, true, false, List, All, length, map, refl, ap, sym, subst, ◌∙◌, arith, inl, inr}
+use Rattle.std.proofs.Common.{◌≡◌, ℕ, ◌+◌, ◌<◌, ◌≤◌, Bool, true, false, List, [], ◌∷◌, ◌++◌, length, map, take, append-nil, drop_of_length-le, refl, ap, sym, subst, ◌∙◌, arith, inl, inr}
 use Rattle.std.proofs.lemmas.Bool.{cases_eq}
-use Rattle.std.proofs.lemmas.List.{length-set, get_or-set_same, get_or-set_other, get_or_default, get_or-map, set-get_or, map-set}
-use Rattle.std.proofs.lemmas.List.Elements.{All-set}
-use Rattle.std.specs.List.{slice_index_or, slice_set}
+use Rattle.std.proofs.lemmas.List.{length-set, get_or-set_same, get_or-set_other, get_or_default, get_or-map, set-get_or, map-set, take_all}
+use Rattle.std.specs.List.{refill, slice_index_or, slice_set}
 use Rattle.decoder_node.specs.declared.node.NodeSpec.{NodeSpec}
 use Rattle.layout_core.specs.declared.node.Node.{Node}
-use Rattle.layout_core.specs.Nodes.{spec_of, is_missed, IsAbleNode, HearsPacket, AfterPacket}
+use Rattle.layout_core.proofs.Heard.{half_keeps}
+use Rattle.layout_core.specs.Nodes.{spec_of, is_missed}
+use Rattle.layout_core.specs.Hearing.{HeardHalves, HearsPacket, AfterPacket}
 
 pub record IsThrough (missed : ℕ) (packet : List ℕ) (old now : List Node) (i : ℕ) : Type 0 where
   pub count : length now ≡ length old
   pub specs : map spec_of now ≡ map spec_of old
-  pub able : All IsAbleNode now
   pub done : (k : ℕ) (none : Node) → k < i → k < length old → AfterPacket (is_missed missed k) packet (slice_index_or old k none) (slice_index_or now k none)
   pub rest : (k : ℕ) (none : Node) → i ≤ k → slice_index_or now k none ≡ slice_index_or old k none
 
-pub none_through : (missed : ℕ) (packet : List ℕ) (old : List Node) → All IsAbleNode old → IsThrough missed packet old old 0
-none_through missed packet old able = record {
+pub none_through : (missed : ℕ) (packet : List ℕ) (old : List Node) → IsThrough missed packet old old 0
+none_through missed packet old = record {
   count = refl;
   specs = refl;
-  able = able;
   done = λ k none below. absurd (omega arith);
   rest = λ k none h. refl;
 }
@@ -30,7 +29,6 @@ module _ (missed : ℕ) (packet : List ℕ) (old now : List Node) (i : ℕ) (wit
   through_missed misses = record {
     count = through.count;
     specs = through.specs;
-    able = through.able;
     done = λ k none below inside. elim (cases_eq k i) [
       | inl here ↦
           let at : AfterPacket (is_missed missed i) packet (slice_index_or old i none) (slice_index_or now i none) =
@@ -42,7 +40,7 @@ module _ (missed : ℕ) (packet : List ℕ) (old now : List Node) (i : ℕ) (wit
   }
 
   -- node i heard it
-  module _ (node new : Node) (is : node ≡ slice_index_or now i node) (hears : HearsPacket packet node new) (able : IsAbleNode node → IsAbleNode new) where
+  module _ (node new : Node) (is : node ≡ slice_index_or now i node) (hears : HearsPacket packet node new) where
     inside_now : i < length now
     inside_now = omega (arith, through.count)
 
@@ -54,14 +52,10 @@ module _ (missed : ℕ) (packet : List ℕ) (old now : List Node) (i : ℕ) (wit
         ∙ set-get_or (map spec_of now) i (spec_of node)
         ∙ through.specs
 
-    was_able : IsAbleNode node
-    was_able = subst IsAbleNode (sym is) (through.able i node inside_now)
-
     pub through_heard : is_missed missed i ≡ false → IsThrough missed packet old (slice_set now i new) (i + 1)
     through_heard listens = record {
       count = length-set now i new ∙ through.count;
       specs = spec_kept;
-      able = All-set IsAbleNode now i new (able was_able) through.able;
       done = λ k none below inside. elim (cases_eq k i) [
         | inl here ↦
             let before : node ≡ slice_index_or old i none = is ∙ get_or_default now i node none inside_now ∙ through.rest i none (omega arith) in
@@ -76,3 +70,25 @@ module _ (missed : ℕ) (packet : List ℕ) (old now : List Node) (i : ℕ) (wit
       ];
       rest = λ k none h. get_or-set_other now i k new none (λ e. omega arith) ∙ through.rest k none (omega arith);
     }
+
+-- the nodes where the list of them was lent, and one heard a half
+module _ (all now : List Node) (i half : ℕ) (node new : Node) (same : now ≡ all) (within : i < length all) (hears : HeardHalves (half ∷ []) (slice_index_or now i node) new) where
+  refilled : refill (length all) all (slice_set now i new) ≡ slice_set all i new
+  refilled =
+      let size : length (slice_set all i new) ≡ length all = length-set all i new in
+      let past : length all ≤ length (slice_set all i new) = omega (arith, size) in
+      ap (λ (xs : List Node). refill (length all) all (slice_set xs i new)) same
+      ∙ ap (λ (rest : List Node). take (length all) (slice_set all i new ++ rest)) (drop_of_length-le all past)
+      ∙ ap (take (length all)) (append-nil (slice_set all i new))
+      ∙ take_all (length all) (slice_set all i new) (omega (arith, size))
+
+  pub half_specs : map spec_of (refill (length all) all (slice_set now i new)) ≡ map spec_of all
+  half_specs =
+      let was : spec_of new ≡ slice_index_or (map spec_of all) i (spec_of node) =
+      half_keeps half (slice_index_or now i node) new hears
+      ∙ ap (λ (xs : List Node). spec_of (slice_index_or xs i node)) same
+      ∙ sym (get_or-map spec_of all i node (spec_of node) within) in
+      ap (map spec_of) refilled
+      ∙ map-set spec_of all i new
+      ∙ ap (λ (s : NodeSpec). slice_set (map spec_of all) i s) was
+      ∙ set-get_or (map spec_of all) i (spec_of node)

@@ -9,14 +9,16 @@ use Rattle.dcc_packet.specs.declared.steps.Steps.{Steps}
 use Rattle.dcc_packet.specs.declared.steps.Steps.TheVariants.{S14, S28, S128}
 use Rattle.dcc_packet.specs.declared.steps.Motion.{Motion}
 use Rattle.dcc_packet.specs.Address.{is_legal}
+use Rattle.dcc_packet.specs.Form.{bit}
 use Rattle.dcc_packet.specs.Sent.{speed_bytes, group_one_bytes, group_two_bytes}
-use Rattle.dcc_packet.specs.Spells.{bit}
 use Rattle.dcc_packet.specs.Steps.{motion_of}
 use Rattle.slot_table.specs.Entry.{Entry}
-use Rattle.station_core.specs.Packets.{address_sent, steps_asked, is_forward, is_lit, functions_asked, speed_packet, group_one_packet, group_two_packet}
+use Rattle.station_core.specs.Packets.{address_sent, is_lit, speed_packet, group_one_packet, group_two_packet}
+use Rattle.station_core.specs.Asking.{steps_asked, is_forward, functions_asked}
 use Rattle.decoder_cv.specs.Settings.{Settings}
 use Rattle.decoder_node.specs.declared.running.Running.{Running}
-use Rattle.decoder_node.specs.Obey.{IsAble, is_own, with_bits, lit, obey, runs}
+use Rattle.decoder_node.specs.Bits.{with_bits}
+use Rattle.decoder_node.specs.Obey.{is_own, lit, obey, runs}
 use Rattle.layout_core.specs.Wanted.{wanted}
 use Rattle.layout_core.specs.Settling.{IsPacketOf, speed, group_one, group_two, LeavesAsItIs, IsAskedBy, TellsAll}
 use Rattle.layout_core.proofs.Told.{Spelling, Speeds, run_by, motion-fits, own-sent, legal-sent, bit-lowest, own-speed_14, own-speed_28, own-speed_128, own-group_one, own-group_two}
@@ -32,7 +34,7 @@ record OneSet (cv : Settings) (want r : Running) : Type 0 where
   f0 : cv.fourteen ≡ false → r.functions % 2 ≡ want.functions % 2
 
 record TwoSet (want r : Running) : Type 0 where
-  high : r.functions / 32 % 16 ≡ want.functions / 32 % 16
+  high : r.functions / 32 ≡ want.functions / 32 % 16
 
 -- what each packet makes of a state
 record AfterSpeed (cv : Settings) (want r t : Running) : Type 0 where
@@ -52,7 +54,6 @@ record AfterTwo (want r t : Running) : Type 0 where
   motion : t.motion ≡ r.motion
   forward : t.forward ≡ r.forward
   low : t.functions % 32 ≡ r.functions % 32
-  rest : t.functions / 512 ≡ r.functions / 512
 
 -- the decoder reads 14 steps where these steps are 14
 abbrev Agrees : Bool → Steps → Type 0
@@ -120,7 +121,6 @@ module _ (laws : Spelling) (cv : Settings) (address : Address) (legal : IsTrue (
     motion = refl;
     forward = refl;
     low = omega arith;
-    rest = omega arith;
   })
 
 -- a packet of the list
@@ -130,30 +130,30 @@ IsHarmless cv a e packet = IsPacketOf a e packet ⊎ LeavesAsItIs cv packet
 module _ (cv : Settings) (a : ℕ) (e : Entry) where
   -- a fact that each packet of the list keeps
   IsKept : (Running → Type 0) → Type 0
-  IsKept P = (r : Running) (packet : List ℕ) → IsHarmless cv a e packet → IsAble r → P r → P (obey cv r packet)
+  IsKept P = (r : Running) (packet : List ℕ) → IsHarmless cv a e packet → P r → P (obey cv r packet)
 
   -- it is enough to see the three packets
   kept_by : (P : Running → Type 0) → ((r : Running) → P r → P (obey cv r (speed_packet a e))) → ((r : Running) → P r → P (obey cv r (group_one_packet a e))) → ((r : Running) → P r → P (obey cv r (group_two_packet a e))) → IsKept P
   unfolding IsKept
-  kept_by P by_speed by_one by_two r packet (inl (speed h)) able p = subst (λ (bytes : List ℕ). P (obey cv r bytes)) (sym h) (by_speed r p)
-  kept_by P by_speed by_one by_two r packet (inl (group_one h)) able p = subst (λ (bytes : List ℕ). P (obey cv r bytes)) (sym h) (by_one r p)
-  kept_by P by_speed by_one by_two r packet (inl (group_two h)) able p = subst (λ (bytes : List ℕ). P (obey cv r bytes)) (sym h) (by_two r p)
-  kept_by P by_speed by_one by_two r packet (inr leaves) able p = subst P (sym (leaves r able)) p
+  kept_by P by_speed by_one by_two r packet (inl (speed h)) p = subst (λ (bytes : List ℕ). P (obey cv r bytes)) (sym h) (by_speed r p)
+  kept_by P by_speed by_one by_two r packet (inl (group_one h)) p = subst (λ (bytes : List ℕ). P (obey cv r bytes)) (sym h) (by_one r p)
+  kept_by P by_speed by_one by_two r packet (inl (group_two h)) p = subst (λ (bytes : List ℕ). P (obey cv r bytes)) (sym h) (by_two r p)
+  kept_by P by_speed by_one by_two r packet (inr leaves) p = subst P (sym (leaves r)) p
 
-  module _ (able_kept : IsKept IsAble) (P : Running → Type 0) (kept : IsKept P) where
-    stays : (packets : List (List ℕ)) (r : Running) → AllByRecursion (IsHarmless cv a e) packets → IsAble r → P r → P (runs cv r packets)
+  module _ (P : Running → Type 0) (kept : IsKept P) where
+    stays : (packets : List (List ℕ)) (r : Running) → AllByRecursion (IsHarmless cv a e) packets → P r → P (runs cv r packets)
     unfolding IsKept
-    stays [] r all able p = p
-    stays (packet ∷ packets) r all able p = stays packets (obey cv r packet) all.1 (able_kept r packet all.0 able able) (kept r packet all.0 able p)
+    stays [] r all p = p
+    stays (packet ∷ packets) r all p = stays packets (obey cv r packet) all.1 (kept r packet all.0 p)
 
     -- a fact that one packet of the list brings about and each keeps
-    comes : (packet : List ℕ) → ((r : Running) → P (obey cv r packet)) → (packets : List (List ℕ)) (r : Running) → AllByRecursion (IsHarmless cv a e) packets → IsAble r → Contains packets packet → P (runs cv r packets)
+    comes : (packet : List ℕ) → ((r : Running) → P (obey cv r packet)) → (packets : List (List ℕ)) (r : Running) → AllByRecursion (IsHarmless cv a e) packets → Contains packets packet → P (runs cv r packets)
     unfolding IsKept
-    comes packet sets [] r all able (k, within, is) = absurd (omega arith)
-    comes packet sets (first ∷ packets) r all able (zero, within, is) =
-        stays packets (obey cv r first) all.1 (able_kept r first all.0 able able) (subst (λ (bytes : List ℕ). P (obey cv r bytes)) (sym is) (sets r))
-    comes packet sets (first ∷ packets) r all able (suc k, within, is) =
-        comes packet sets packets (obey cv r first) all.1 (able_kept r first all.0 able able) (k, omega arith, is)
+    comes packet sets [] r all (k, within, is) = absurd (omega arith)
+    comes packet sets (first ∷ packets) r all (zero, within, is) =
+        stays packets (obey cv r first) all.1 (subst (λ (bytes : List ℕ). P (obey cv r bytes)) (sym is) (sets r))
+    comes packet sets (first ∷ packets) r all (suc k, within, is) =
+        comes packet sets packets (obey cv r first) all.1 (k, omega arith, is)
 
 abbrev same_with : Motion → Bool → ℕ → Running
 same_with motion forward functions = record { motion = motion; forward = forward; functions = functions }
@@ -189,12 +189,6 @@ module _ (laws : Spelling) (speeds : Speeds) (cv : Settings) (a : ℕ) (e : Entr
   unfolding want
   after_two r = two_after laws cv (address_sent a) legal mine (wanted e cv.reversed) r
 
-  able_kept : IsKept cv a e IsAble
-  able_kept = kept_by cv a e IsAble
-      (λ r h. let s = after_speed r in omega (arith, s.rest, h))
-      (λ r h. let s = after_one r in omega (arith, s.rest, h))
-      (λ r h. let s = after_two r in omega (arith, s.rest, h))
-
   speed_kept : IsKept cv a e (SpeedSet cv want)
   speed_kept = kept_by cv a e (SpeedSet cv want)
       (λ r h. (after_speed r).sets)
@@ -213,18 +207,17 @@ module _ (laws : Spelling) (speeds : Speeds) (cv : Settings) (a : ℕ) (e : Entr
       (λ r h. let s = after_one r in record { high = omega (arith, s.rest, h.high) })
       (λ r h. (after_two r).sets)
 
-  all_set : (r : Running) → SpeedSet cv want r → OneSet cv want r → TwoSet want r → IsAble r → r ≡ wanted e cv.reversed
+  all_set : (r : Running) → SpeedSet cv want r → OneSet cv want r → TwoSet want r → r ≡ wanted e cv.reversed
   unfolding want
-  all_set r s o t able = same_running r (wanted e cv.reversed) s.motion s.forward
+  all_set r s o t = same_running r (wanted e cv.reversed) s.motion s.forward
       (let low : r.functions % 2 ≡ functions_asked e % 2 = elim (cases_Bool cv.fourteen) [ inl b ↦ s.f0 b | inr b ↦ o.f0 b ] in
       let top : functions_asked e < 512 = omega arith in
-      omega (arith, low, o.middle, t.high, able, top))
+      omega (arith, low, o.middle, t.high, top))
 
-  pub settles : (start : Running) (packets : List (List ℕ)) → IsAble start → TellsAll cv a e packets → runs cv start packets ≡ wanted e cv.reversed
-  settles start packets able tells =
+  pub settles : (start : Running) (packets : List (List ℕ)) → TellsAll cv a e packets → runs cv start packets ≡ wanted e cv.reversed
+  settles start packets tells =
       let all = recursion_from_All (IsHarmless cv a e) packets tells.only in
       all_set (runs cv start packets)
-      (comes cv a e able_kept (SpeedSet cv want) speed_kept (speed_packet a e) (λ r. (after_speed r).sets) packets start all able tells.has_speed)
-      (comes cv a e able_kept (OneSet cv want) one_kept (group_one_packet a e) (λ r. (after_one r).sets) packets start all able tells.has_group_one)
-      (comes cv a e able_kept (TwoSet want) two_kept (group_two_packet a e) (λ r. (after_two r).sets) packets start all able tells.has_group_two)
-      (stays cv a e able_kept IsAble able_kept packets start all able able)
+      (comes cv a e (SpeedSet cv want) speed_kept (speed_packet a e) (λ r. (after_speed r).sets) packets start all tells.has_speed)
+      (comes cv a e (OneSet cv want) one_kept (group_one_packet a e) (λ r. (after_one r).sets) packets start all tells.has_group_one)
+      (comes cv a e (TwoSet want) two_kept (group_two_packet a e) (λ r. (after_two r).sets) packets start all tells.has_group_two)

@@ -1,16 +1,17 @@
 -- How a node is made, and what it makes of the half-bits of a packet.
-use Rattle.std.proofs.Common.{◌≡◌, ℕ, List, [], ◌∷◌, All, map, ap, ap₂, refl, subst, arith}
-use Rattle.std.proofs.lemmas.List.Elements.{All-map}
-use Rattle.std.specs.List.{slice_index_or}
+use Rattle.std.proofs.Common.{◌≡◌, ℕ, List, [], ◌∷◌, map, ap, ap₂, refl, subst}
 use Rattle.std.specs.Iterator.{Drains, YieldsFirst}
 use Rattle.dcc_packet.specs.Packet.{IsPacket}
 use Rattle.dcc_packet.specs.Wave.{IsWave}
 use Rattle.decoder_node.specs.declared.node.NodeSpec.{NodeSpec}
 use Rattle.decoder_node.specs.declared.node.NodeSpec.TheVariants.{Loco as LocoSpec, Accessory as AccessorySpec}
-use Rattle.decoder_node.specs.Loco.{LocoDecoder, HearsLoco}
-use Rattle.decoder_node.specs.Accessory.{AccessoryDecoder, HearsAccessory}
+use Rattle.decoder_node.specs.Loco.{HearsLoco}
+use Rattle.decoder_node.specs.LocoDecoder.{LocoDecoder}
+use Rattle.decoder_node.specs.Accessory.{HearsAccessory}
+use Rattle.decoder_node.specs.AccessoryDecoder.{AccessoryDecoder}
 use Rattle.layout_core.specs.declared.node.Node.TheVariants.{Loco, Accessory}
-use Rattle.layout_core.specs.Nodes.{node_of, spec_of, IsAbleNode, HearsPacket}
+use Rattle.layout_core.specs.Nodes.{node_of, spec_of}
+use Rattle.layout_core.specs.Hearing.{HearsPacket}
 use Rattle.layout_core.proofs.Drained.{drained}
 
 module _ (packet halves items : List ℕ) (form : IsPacket packet) (wave : IsWave packet halves) (all : Drains (YieldsFirst (λ (left : List ℕ). left)) halves items) where
@@ -32,13 +33,6 @@ module _ (packet halves items : List ℕ) (form : IsPacket packet) (wave : IsWav
     settles = h.settles packet form wave_heard;
     obeys = λ between. h.obeys packet form wave_heard between;
   }
-
-made_able : (spec : NodeSpec) → IsAbleNode (node_of spec)
-made_able (LocoSpec cv) = omega arith
-made_able (AccessorySpec number) = tt
-
-pub all_made_able : (specs : List NodeSpec) → All IsAbleNode (map node_of specs)
-all_made_able specs = All-map IsAbleNode node_of specs (λ k d h. made_able (slice_index_or specs k d))
 
 made_from : (spec : NodeSpec) → spec_of (node_of spec) ≡ spec
 made_from (LocoSpec cv) = refl

@@ -6,9 +6,10 @@ pub mod Each
 pub mod Heard
 pub mod Others
 pub mod Examples
+pub mod Premises
 pub mod Played
 pub mod Cycle
 pub mod Known
+pub mod Moments
 pub mod Serving
 pub mod Stopping
-pub mod Premises

@@ -1,21 +1,21 @@
 -- What is not for a decoder does nothing to it.
 use Rattle.std.specs.Prelude.{nat_le}
-use Rattle.std.proofs.Common.{◌≡◌, ℕ, ◌+◌, ◌*◌, ◌/◌, ◌%◌, ◌^◌, ◌<◌, ◌≤◌, Bool, true, false, List, [], ◌∷◌, Option, Some, None, refl, ap, sym, subst, ◌∙◌, arith}
-use Rattle.std.proofs.lemmas.Bool.{and_parts, cond_both, eqb-true, leb-true, false_from_ne_true}
+use Rattle.std.proofs.Common.{◌≡◌, ℕ, ◌+◌, ◌/◌, ◌<◌, ◌≤◌, Bool, true, false, List, [], ◌∷◌, Option, Some, None, refl, ap, sym, subst, ◌∙◌, arith}
+use Rattle.std.proofs.lemmas.Bool.{and_parts, eqb-true, leb-true, false_from_ne_true}
 use Rattle.dcc_packet.specs.declared.address.Address.{Address}
 use Rattle.dcc_packet.specs.declared.address.Address.TheVariants.{Short, Long}
 use Rattle.dcc_packet.specs.declared.instr.Instr.{Instr}
 use Rattle.dcc_packet.specs.declared.instr.Instr.TheVariants.{Idle, Reset, StopAll, Speed, Speed128, GroupOne, GroupTwo, Accessory}
-use Rattle.dcc_packet.specs.declared.steps.Steps.TheVariants.{S14, S128}
 use Rattle.dcc_packet.specs.Reading.{instruction_of}
 use Rattle.dcc_packet.specs.Sent.{idle_bytes, accessory_bytes}
 use Rattle.dcc_packet.specs.Spells.{Spells, Tells}
 use Rattle.slot_table.specs.Entry.{Entry, IsAddress, IsEntry}
-use Rattle.station_core.specs.Packets.{address_sent, steps_asked, motion_asked, is_forward, is_lit, functions_asked}
+use Rattle.station_core.specs.Packets.{address_sent, is_lit}
+use Rattle.station_core.specs.Asking.{steps_asked, motion_asked, is_forward, functions_asked}
 use Rattle.decoder_cv.specs.Answering.{is_at, answers_to}
 use Rattle.decoder_cv.specs.Settings.{Settings}
 use Rattle.decoder_node.specs.declared.running.Running.{Running}
-use Rattle.decoder_node.specs.Obey.{IsAble, is_own, with_bits, motion_in, motion_in_28, own_forward, driven, lit, obey, obeyed, obeyed_if, runs}
+use Rattle.decoder_node.specs.Obey.{is_own, obey, obeyed, obeyed_if}
 use Rattle.layout_core.specs.Settling.{IsPacketOf, speed, group_one, group_two, LeavesAsItIs}
 use Rattle.layout_core.proofs.Told.{Spelling, obey-told, motion-fits, own-sent, legal-sent, other-speed, other-group_one, other-group_two}
 
@@ -28,7 +28,7 @@ pub silent : (cv : Settings) (a b : ℕ) → answers_to cv a ≡ true → (a ≡
 silent cv a b h differs = false_from_ne_true (answers_to cv b) (λ k. differs (one_number cv.address a b h k))
 
 pub not_for_it : Spelling → (cv : Settings) (b : ℕ) (e : Entry) (packet : List ℕ) → IsAddress b → IsEntry e → answers_to cv b ≡ false → IsPacketOf b e packet → LeavesAsItIs cv packet
-not_for_it laws cv b e packet is entry silent of r able = by_packet of where
+not_for_it laws cv b e packet is entry silent of r = by_packet of where
   other : is_own cv.address (address_sent b) ≡ false
   other = own-sent cv.address b ∙ silent
 
@@ -38,7 +38,7 @@ not_for_it laws cv b e packet is entry silent of r able = by_packet of where
   by_packet (group_two h) = subst (λ (bytes : List ℕ). obey cv r bytes ≡ r) (sym h) (other-group_two laws cv (address_sent b) (legal-sent b is) r other (functions_asked e))
 
 pub idle_leaves : Spelling → Spells idle_bytes Idle → (cv : Settings) → LeavesAsItIs cv idle_bytes
-idle_leaves laws idle cv r able = obey-told laws cv r idle_bytes Idle idle
+idle_leaves laws idle cv r = obey-told laws cv r idle_bytes Idle idle
 
 -- the first byte of a packet
 abbrev front : List ℕ → ℕ
@@ -72,37 +72,6 @@ by_reading laws cv r packet low high (Some i) e = by_instr cv r packet low high 
 -- whatever the number: such bytes speak to no locomotive decoder
 pub switch_leaves : Spelling → (number : ℕ) (closed on : Bool) → (cv : Settings) → LeavesAsItIs cv (accessory_bytes number closed on)
 unfolding obey
-switch_leaves laws number closed on cv r able =
+switch_leaves laws number closed on cv r =
     let packet : List ℕ = accessory_bytes number closed on in
     by_reading laws cv r packet (omega arith) (omega arith) (instruction_of packet) refl
-
--- a decoder never has another function
-able_instr : (cv : Settings) (r : Running) (i : Instr) → IsAble r → IsAble (obeyed cv r i)
-able_instr cv r Idle able = able
-able_instr cv r Reset able = omega arith
-able_instr cv r (StopAll emergency) able = able
-able_instr cv r (Speed address d low) able =
-    cond_both (is_own cv.address address) (driven cv r d low) r IsAble
-    (λ own. cond_both cv.fourteen (record { motion = motion_in S14 (low % 16); forward = own_forward cv d; functions = with_bits r.functions 0 1 (low / 16 % 2) }) (record { motion = motion_in_28 (2 * (low % 16) + low / 16 % 2); forward = own_forward cv d; functions = r.functions }) IsAble (λ e. omega (arith, able)) (λ e. able))
-    (λ other. able)
-able_instr cv r (Speed128 address d s) able =
-    cond_both (is_own cv.address address) (record r { motion = motion_in S128 s; forward = own_forward cv d }) r IsAble (λ own. able) (λ other. able)
-able_instr cv r (GroupOne address bits) able =
-    cond_both (is_own cv.address address) (record r { functions = lit cv r.functions bits }) r IsAble
-    (λ own. cond_both cv.fourteen (with_bits r.functions 1 4 (bits % 16)) (with_bits (with_bits r.functions 1 4 (bits % 16)) 0 1 (bits / 16 % 2)) (λ n. n < 2 ^ 9) (λ e. omega (arith, able)) (λ e. omega (arith, able)))
-    (λ other. able)
-able_instr cv r (GroupTwo address bits) able =
-    cond_both (is_own cv.address address) (record r { functions = with_bits r.functions 5 4 (bits % 16) }) r IsAble (λ own. omega (arith, able)) (λ other. able)
-able_instr cv r (Accessory number pair closed on) able = able
-
-able_if : (cv : Settings) (r : Running) (read : Option Instr) → IsAble r → IsAble (obeyed_if cv r read)
-able_if cv r None able = able
-able_if cv r (Some i) able = able_instr cv r i able
-
-able_after : (cv : Settings) (r : Running) (packet : List ℕ) → IsAble r → IsAble (obey cv r packet)
-unfolding obey
-able_after cv r packet able = able_if cv r (instruction_of packet) able
-
-pub stays_able : (cv : Settings) (packets : List (List ℕ)) (r : Running) → IsAble r → IsAble (runs cv r packets)
-stays_able cv [] r able = able
-stays_able cv (packet ∷ packets) r able = stays_able cv packets (obey cv r packet) (able_after cv r packet able)

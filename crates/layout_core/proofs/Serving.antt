@@ -1,28 +1,28 @@
 -- Events that are served one after another add up.
-use Rattle.std.proofs.Common.{zero, suc, ◌*◌, replicate, Option, Some, None, ◌≡◌, ℕ, ◌+◌, ◌<◌, ◌≤◌, List, [], ◌∷◌, ◌++◌, length, length-append, map, take, get_or, refl, ap, ap₂, sym, subst, ◌∙◌, append_assoc, arith}
+use Rattle.std.proofs.Common.{zero, suc, ◌*◌, replicate, Option, Some, None, ◌≡◌, ℕ, ◌+◌, ◌<◌, ◌≤◌, List, [], ◌∷◌, ◌++◌, length, length-append, take, get_or, refl, ap, ap₂, sym, subst, ◌∙◌, append_assoc, arith}
 use Rattle.std.proofs.lemmas.List.{append-nil, replicate_more, take_more}
 use Rattle.std.specs.Io.KnownBytes.{Appends, Consumes, Keeps}
 use Rattle.station_core.specs.declared.call.Step.{Step}
 use Rattle.ln_ops.specs.declared.reply.Reply.{Reply as ReplyValue}
 use Rattle.station_core.specs.declared.call.Call.TheVariants.{Byte as ByteCall, Turn as TurnCall}
-use Rattle.station_core.specs.Moved.{answer_to_byte, moved, packet_of_turn, replied, sent}
-use Rattle.station_core.specs.Runs.{answer_of, state_after, state_of}
+use Rattle.station_core.specs.Moved.{answer_to_byte, packet_of_turn, replied, sent}
+use Rattle.station_core.specs.Runs.{answer_of, state_of}
 use Rattle.station_core.specs.Seen.{Seen}
 use Rattle.layout_core.specs.declared.event.Event.{Event}
 use Rattle.layout_core.specs.declared.event.Event.TheVariants.{Byte, Turn}
-use Rattle.layout_core.specs.Served.{HasRead, Input, Moment, Serves, answers_to_events, byte_events, bytes_of_answer, line_of_answer, replies_in, served_events, traced_from, turns_in, turns_of_answer, written_for}
-use Rattle.layout_core.specs.World.{AreDesks, HaveHeard, call_of, sent_in}
-use Rattle.layout_core.proofs.Cycle.{sent-append}
+use Rattle.layout_core.specs.Served.{HasRead, Input, Moment, Serves, byte_events, bytes_of_answer, line_of_answer, replies_in, served_events, traced_from, turns_in, turns_of_answer, written_for}
+use Rattle.layout_core.specs.Played.{after_event, after_events, answer_to, answers_to}
+use Rattle.layout_core.specs.World.{HaveHeard}
 use Rattle.layout_core.proofs.Known.{appends_more, appends_none, consumes_end, consumes_kept, consumes_more, consumes_none}
 use Rattle.layout_core.proofs.Played.{both_heard, nothing_heard}
 
-pub state-append : (seen : Seen) (events later : List Event) → state_after seen (map call_of (events ++ later)) ≡ state_after (state_after seen (map call_of events)) (map call_of later)
+pub state-append : (seen : Seen) (events later : List Event) → after_events seen (events ++ later) ≡ after_events (after_events seen events) later
 state-append seen [] later = refl
-state-append seen (event ∷ events) later = state-append (state_of seen (call_of event)) events later
+state-append seen (event ∷ events) later = state-append (after_event seen event) events later
 
-pub answers-append : (seen : Seen) (events later : List Event) → answers_to_events seen (events ++ later) ≡ answers_to_events seen events ++ answers_to_events (state_after seen (map call_of events)) later
+pub answers-append : (seen : Seen) (events later : List Event) → answers_to seen (events ++ later) ≡ answers_to seen events ++ answers_to (after_events seen events) later
 answers-append seen [] later = refl
-answers-append seen (event ∷ events) later = ap (λ (steps : List Step). answer_of seen (call_of event) ∷ steps) (answers-append (state_of seen (call_of event)) events later)
+answers-append seen (event ∷ events) later = ap (λ (steps : List Step). answer_to seen event ∷ steps) (answers-append (after_event seen event) events later)
 
 pub written-append : (steps more : List Step) → written_for (steps ++ more) ≡ written_for steps ++ written_for more
 written-append [] more = refl
@@ -49,19 +49,14 @@ turns-append (step ∷ steps) more =
     let rest : turns_in (steps ++ more) ≡ turns_in steps + turns_in more = turns-append steps more in
     omega (arith, rest)
 
-desks-append : (seen : Seen) (events later : List Event) → AreDesks seen events → AreDesks (state_after seen (map call_of events)) later → AreDesks seen (events ++ later)
-desks-append seen [] later first second = second
-desks-append seen (event ∷ events) later first second = (first.0, desks-append (state_of seen (call_of event)) events later first.1 second)
-
 pub serves_none : (line : ℕ) (moment : Moment) → Serves line [] moment moment
 serves_none line moment = record {
   station = refl;
-  nodes = nothing_heard moment.world.nodes;
+  nodes = nothing_heard moment.world.station moment.world.nodes;
   written = appends_none moment.written;
   traced = appends_none moment.traced;
   replies = omega arith;
   turns = omega arith;
-  desks = tt;
   lines = refl;
 }
 
@@ -69,22 +64,21 @@ serves_none line moment = record {
 pub serves_more : (line : ℕ) (events later : List Event) (old mid new : Moment) → Serves line events old mid → Serves line later mid new → Serves line (events ++ later) old new
 serves_more line events later old mid new first second =
     let seen : Seen = old.world.station in
-    let after : Seen = state_after seen (map call_of events) in
-    let front : List Step = answers_to_events seen events in
-    let back : List Step = answers_to_events after later in
-    let all : answers_to_events seen (events ++ later) ≡ front ++ back = answers-append seen events later in
+    let after : Seen = after_events seen events in
+    let front : List Step = answers_to seen events in
+    let back : List Step = answers_to after later in
+    let all : answers_to seen (events ++ later) ≡ front ++ back = answers-append seen events later in
     let from : mid.world.station ≡ after = first.station in
-    let here : answers_to_events mid.world.station later ≡ back = ap (λ (s : Seen). answers_to_events s later) from in
+    let here : answers_to mid.world.station later ≡ back = ap (λ (s : Seen). answers_to s later) from in
     let turn : mid.turns + 1 ≡ old.turns + 1 + turns_in front = omega (arith, first.turns) in
     record {
       station =
           second.station
-          ∙ ap (λ (s : Seen). state_after s (map call_of later)) from
+          ∙ ap (λ (s : Seen). after_events s later) from
           ∙ sym (state-append seen events later);
       nodes =
-          subst (λ sent. HaveHeard sent old.world.nodes new.world.nodes) (sym (sent-append seen events later))
-          (both_heard (sent_in seen events) (sent_in after later) old.world.nodes mid.world.nodes new.world.nodes first.nodes
-          (subst (λ (s : Seen). HaveHeard (sent_in s later) mid.world.nodes new.world.nodes) from second.nodes));
+          both_heard seen events later old.world.nodes mid.world.nodes new.world.nodes first.nodes
+          (subst (λ (s : Seen). HaveHeard s later mid.world.nodes new.world.nodes) from second.nodes);
       written =
           subst (λ (bs : List ℕ). Appends old.written new.written bs) (sym (ap written_for all ∙ written-append front back))
           (appends_more old.written mid.written new.written (written_for front) (written_for back) first.written
@@ -94,14 +88,13 @@ serves_more line events later old mid new first second =
           (appends_more old.traced mid.traced new.traced (traced_from line (old.turns + 1) front) (traced_from line (old.turns + 1 + turns_in front) back) first.traced
           (subst (λ (bs : List ℕ). Appends mid.traced new.traced bs) (ap₂ (λ (t : ℕ) (steps : List Step). traced_from line t steps) turn here) second.traced));
       replies =
-          let counted : replies_in (answers_to_events seen (events ++ later)) ≡ replies_in front + replies_in back = ap replies_in all ∙ replies-append front back in
-          let behind : replies_in (answers_to_events mid.world.station later) ≡ replies_in back = ap replies_in here in
+          let counted : replies_in (answers_to seen (events ++ later)) ≡ replies_in front + replies_in back = ap replies_in all ∙ replies-append front back in
+          let behind : replies_in (answers_to mid.world.station later) ≡ replies_in back = ap replies_in here in
           omega (arith, first.replies, second.replies, counted, behind);
       turns =
-          let counted : turns_in (answers_to_events seen (events ++ later)) ≡ turns_in front + turns_in back = ap turns_in all ∙ turns-append front back in
-          let behind : turns_in (answers_to_events mid.world.station later) ≡ turns_in back = ap turns_in here in
+          let counted : turns_in (answers_to seen (events ++ later)) ≡ turns_in front + turns_in back = ap turns_in all ∙ turns-append front back in
+          let behind : turns_in (answers_to mid.world.station later) ≡ turns_in back = ap turns_in here in
           omega (arith, first.turns, second.turns, counted, behind);
-      desks = desks-append seen events later first.desks (subst (λ (s : Seen). AreDesks s later) from second.desks);
       lines = second.lines ∙ first.lines;
     }
 
@@ -161,35 +154,34 @@ reads_failed made bytes old mid new so_far kept counted = record {
 }
 
 -- a byte is answered by no packet, and a turn by one or by none
-no_turn : (seen : Seen) (line byte : ℕ) → turns_of_answer (answer_of seen (ByteCall line byte)) ≡ 0
-unfolding moved
-no_turn seen line byte = by_reply (answer_to_byte seen line byte)
-  where
-    by_reply : (reply : Option ReplyValue) → turns_of_answer (replied reply) ≡ 0
-    by_reply None = refl
-    by_reply (Some reply) = refl
+by_reply : (reply : Option ReplyValue) → turns_of_answer (replied reply) ≡ 0
+by_reply None = refl
+by_reply (Some reply) = refl
 
-one_turn : (seen : Seen) → turns_of_answer (answer_of seen TurnCall) ≡ 1
-unfolding moved
-one_turn seen = by_packet (packet_of_turn seen)
-  where
-    by_packet : (packet : Option (List ℕ)) → turns_of_answer (sent packet) ≡ 1
-    by_packet None = refl
-    by_packet (Some packet) = refl
+by_packet : (packet : Option (List ℕ)) → turns_of_answer (sent packet) ≡ 1
+by_packet None = refl
+by_packet (Some packet) = refl
 
-so_many_turns : (turns : ℕ) (seen : Seen) → turns_in (answers_to_events seen (replicate turns (Turn 0))) ≡ turns
-so_many_turns zero seen = refl
-so_many_turns (suc turns) seen = ap₂ (λ (one more : ℕ). one + more) (one_turn seen) (so_many_turns turns (state_of seen TurnCall)) ∙ omega arith
+module _ (to_byte : (seen : Seen) (line byte : ℕ) → answer_of seen (ByteCall line byte) ≡ replied (answer_to_byte seen line byte)) (to_turn : (seen : Seen) → answer_of seen TurnCall ≡ sent (packet_of_turn seen)) where
+  no_turn : (seen : Seen) (line byte : ℕ) → turns_of_answer (answer_of seen (ByteCall line byte)) ≡ 0
+  no_turn seen line byte = ap turns_of_answer (to_byte seen line byte) ∙ by_reply (answer_to_byte seen line byte)
 
--- so many turns for each byte
-pub turns_served : (line turns : ℕ) (bytes : List ℕ) (seen : Seen) → turns_in (answers_to_events seen (served_events line turns bytes)) ≡ turns * length bytes
-turns_served line turns [] seen = omega arith
-turns_served line turns (byte ∷ bytes) seen =
-    let front : List Event = byte_events line turns byte in
-    let back : List Event = served_events line turns bytes in
-    let first : turns_in (answers_to_events seen front) ≡ turns =
-    ap₂ (λ (none more : ℕ). none + more) (no_turn seen line byte) (so_many_turns turns (state_of seen (ByteCall line byte))) ∙ omega arith in
-    let rest : turns_in (answers_to_events (state_after seen (map call_of front)) back) ≡ turns * length bytes = turns_served line turns bytes (state_after seen (map call_of front)) in
-    let all : turns_in (answers_to_events seen (front ++ back)) ≡ turns_in (answers_to_events seen front) + turns_in (answers_to_events (state_after seen (map call_of front)) back) =
-    ap turns_in (answers-append seen front back) ∙ turns-append (answers_to_events seen front) (answers_to_events (state_after seen (map call_of front)) back) in
-    grind (arith, all, first, rest)
+  one_turn : (seen : Seen) → turns_of_answer (answer_of seen TurnCall) ≡ 1
+  one_turn seen = ap turns_of_answer (to_turn seen) ∙ by_packet (packet_of_turn seen)
+
+  so_many_turns : (turns : ℕ) (seen : Seen) → turns_in (answers_to seen (replicate turns (Turn 0))) ≡ turns
+  so_many_turns zero seen = refl
+  so_many_turns (suc turns) seen = ap₂ (λ (one more : ℕ). one + more) (one_turn seen) (so_many_turns turns (state_of seen TurnCall)) ∙ omega arith
+
+  -- so many turns for each byte
+  pub turns_served : (line turns : ℕ) (bytes : List ℕ) (seen : Seen) → turns_in (answers_to seen (served_events line turns bytes)) ≡ turns * length bytes
+  turns_served line turns [] seen = omega arith
+  turns_served line turns (byte ∷ bytes) seen =
+      let front : List Event = byte_events line turns byte in
+      let back : List Event = served_events line turns bytes in
+      let first : turns_in (answers_to seen front) ≡ turns =
+      ap₂ (λ (none more : ℕ). none + more) (no_turn seen line byte) (so_many_turns turns (state_of seen (ByteCall line byte))) ∙ omega arith in
+      let rest : turns_in (answers_to (after_events seen front) back) ≡ turns * length bytes = turns_served line turns bytes (after_events seen front) in
+      let all : turns_in (answers_to seen (front ++ back)) ≡ turns_in (answers_to seen front) + turns_in (answers_to (after_events seen front) back) =
+      ap turns_in (answers-append seen front back) ∙ turns-append (answers_to seen front) (answers_to (after_events seen front) back) in
+      grind (arith, all, first, rest)

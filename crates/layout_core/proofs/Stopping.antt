@@ -1,20 +1,19 @@
 -- Events that are served, and then one that stops.
-use Rattle.std.proofs.Common.{◌≡◌, ℕ, ◌+◌, ◌-◌, ◌<◌, List, [], ◌∷◌, ◌++◌, length, map, replicate, take, drop, get_or, refl, ap, sym, subst, ◌∙◌, append_assoc, arith, Option, false}
+use Rattle.std.proofs.Common.{◌≡◌, ℕ, ◌+◌, ◌-◌, ◌<◌, List, [], ◌∷◌, ◌++◌, length, replicate, take, drop, get_or, refl, ap, sym, subst, ◌∙◌, append_assoc, arith, Option}
 use Rattle.std.proofs.lemmas.List.{drop_more, replicate-append-replicate, take-append-drop}
 use Rattle.std.specs.Prelude.{Result, Ok, Err, IfErr}
 use Rattle.std.specs.Result.{IsErrAnd}
 use Rattle.std.specs.Io.KnownBytes.{Appends}
 use Rattle.station_core.specs.declared.call.Step.{Step}
-use Rattle.station_core.specs.Runs.{answer_of, state_after, state_of}
 use Rattle.station_core.specs.Seen.{Seen}
 use Rattle.layout_core.specs.declared.engine.ServeFault.{ServeFault}
 use Rattle.layout_core.specs.declared.engine.ServeFault.TheVariants.{Read, Write, Trace, TooManyReads}
 use Rattle.layout_core.specs.declared.event.Event.{Event}
 use Rattle.layout_core.specs.declared.event.Event.TheVariants.{Byte, Turn}
-use Rattle.layout_core.specs.Faults.{AppendsFront, Leaves, PutsOut, StopsAt, StopsWithin, is_read}
-use Rattle.layout_core.specs.Served.{Moment, Serves, answers_to_events, byte_events, bytes_of_answer, line_of_answer, served_events, traced_from, turns_in, written_for}
-use Rattle.layout_core.specs.World.{AfterEvent, HaveHeard, call_of, sent_in}
-use Rattle.layout_core.proofs.Cycle.{sent-append}
+use Rattle.layout_core.specs.Faults.{AppendsFront, Leaves, PutsOut, StopsAt, StopsWithin}
+use Rattle.layout_core.specs.Served.{Moment, Serves, byte_events, bytes_of_answer, line_of_answer, served_events, traced_from, turns_in, written_for}
+use Rattle.layout_core.specs.Played.{after_event, after_events, answer_to, answers_to}
+use Rattle.layout_core.specs.World.{AfterEvent, HaveHeard}
 use Rattle.layout_core.proofs.Known.{appends_more, front_behind}
 use Rattle.layout_core.proofs.Played.{both_heard, next_heard, nothing_heard}
 use Rattle.layout_core.proofs.Serving.{answers-append, served-append, state-append, traced-append, turns-append, written-append}
@@ -46,42 +45,41 @@ puts_out_behind Trace line turn later front steps last w w' w'' t t' t'' at writ
 stops_at_then : (fault : ServeFault) (line : ℕ) (events before : List Event) (last : Event) (old mid new : Moment) → Serves line events old mid → StopsAt fault line before last mid new → StopsAt fault line (events ++ before) last old new
 stops_at_then fault line events before last old mid new first stop =
     let seen : Seen = old.world.station in
-    let after : Seen = state_after seen (map call_of events) in
+    let after : Seen = after_events seen events in
     let from : mid.world.station ≡ after = first.station in
     let parts : (events ++ before) ++ last ∷ [] ≡ events ++ (before ++ last ∷ []) = append_assoc events before (last ∷ []) in
-    let answer : answer_of (state_after mid.world.station (map call_of before)) (call_of last) ≡ answer_of (state_after seen (map call_of (events ++ before))) (call_of last) =
-    ap (λ (s : Seen). answer_of (state_after s (map call_of before)) (call_of last)) from ∙ ap (λ (s : Seen). answer_of s (call_of last)) (sym (state-append seen events before)) in
-    let steps : answers_to_events seen events ++ answers_to_events mid.world.station before ≡ answers_to_events seen (events ++ before) =
-    ap (λ (s : Seen). answers_to_events seen events ++ answers_to_events s before) from ∙ sym (answers-append seen events before) in
+    let answer : answer_to (after_events mid.world.station before) last ≡ answer_to (after_events seen (events ++ before)) last =
+    ap (λ (s : Seen). answer_to (after_events s before) last) from ∙ ap (λ (s : Seen). answer_to s last) (sym (state-append seen events before)) in
+    let steps : answers_to seen events ++ answers_to mid.world.station before ≡ answers_to seen (events ++ before) =
+    ap (λ (s : Seen). answers_to seen events ++ answers_to s before) from ∙ sym (answers-append seen events before) in
     record {
       station =
           stop.station
-          ∙ ap (λ (s : Seen). state_after s (map call_of (before ++ last ∷ []))) from
+          ∙ ap (λ (s : Seen). after_events s (before ++ last ∷ [])) from
           ∙ sym (state-append seen events (before ++ last ∷ []))
-          ∙ ap (λ (es : List Event). state_after seen (map call_of es)) (sym parts);
+          ∙ ap (λ (es : List Event). after_events seen es) (sym parts);
       nodes =
-          subst (λ (es : List Event). HaveHeard (sent_in seen es) old.world.nodes new.world.nodes) (sym parts)
-          (subst (λ sent. HaveHeard sent old.world.nodes new.world.nodes) (sym (sent-append seen events (before ++ last ∷ [])))
-          (both_heard (sent_in seen events) (sent_in after (before ++ last ∷ [])) old.world.nodes mid.world.nodes new.world.nodes first.nodes
-          (subst (λ (s : Seen). HaveHeard (sent_in s (before ++ last ∷ [])) mid.world.nodes new.world.nodes) from stop.nodes)));
+          subst (λ (es : List Event). HaveHeard seen es old.world.nodes new.world.nodes) (sym parts)
+          (both_heard seen events (before ++ last ∷ []) old.world.nodes mid.world.nodes new.world.nodes first.nodes
+          (subst (λ (s : Seen). HaveHeard s (before ++ last ∷ []) mid.world.nodes new.world.nodes) from stop.nodes));
       puts_out =
-          subst (λ (step : Step). PutsOut fault line (old.turns + 1) (answers_to_events seen (events ++ before)) step old.written new.written old.traced new.traced) answer
-          (subst (λ (ss : List Step). PutsOut fault line (old.turns + 1) ss (answer_of (state_after mid.world.station (map call_of before)) (call_of last)) old.written new.written old.traced new.traced) steps
-          (puts_out_behind fault line (old.turns + 1) (mid.turns + 1) (answers_to_events seen events) (answers_to_events mid.world.station before) _ _ _ _ _ _ _ (omega (arith, first.turns)) first.written first.traced stop.puts_out));
+          subst (λ (step : Step). PutsOut fault line (old.turns + 1) (answers_to seen (events ++ before)) step old.written new.written old.traced new.traced) answer
+          (subst (λ (ss : List Step). PutsOut fault line (old.turns + 1) ss (answer_to (after_events mid.world.station before) last) old.written new.written old.traced new.traced) steps
+          (puts_out_behind fault line (old.turns + 1) (mid.turns + 1) (answers_to seen events) (answers_to mid.world.station before) _ _ _ _ _ _ _ (omega (arith, first.turns)) first.written first.traced stop.puts_out));
     }
 
 -- Where all of the events are three parts, the first served and the stop in the second.
 pub stops_then : (fault : ServeFault) (line : ℕ) (all events now later : List Event) (old mid new : Moment) → all ≡ events ++ (now ++ later) → Serves line events old mid → StopsWithin fault line now mid new → StopsWithin fault line all old new
 stops_then fault line all events now later old mid new parts first stop =
-    let before = stop.0 in
-    let behind = stop.1 in
-    let last = stop.2 in
+    let before = stop.1.0 in
+    let behind = stop.1.1 in
+    let last = stop.1.2 in
     let cut : all ≡ (events ++ before) ++ (last ∷ (behind ++ later)) =
     parts
-    ∙ ap (λ (es : List Event). events ++ (es ++ later)) stop.3
+    ∙ ap (λ (es : List Event). events ++ (es ++ later)) stop.1.3
     ∙ ap (λ (es : List Event). events ++ es) (append_assoc before (last ∷ behind) later)
     ∙ sym (append_assoc events before (last ∷ (behind ++ later))) in
-    (events ++ before, behind ++ later, last, cut, stops_at_then fault line events before last old mid new first stop.4)
+    ((events ++ before) ++ last ∷ [], (events ++ before, behind ++ later, last, cut, refl, stops_at_then fault line events before last old mid new first stop.1.5))
 
 -- a turn, and those behind it
 pub byte_parts : (line turns i byte : ℕ) → i < turns → byte_events line turns byte ≡ byte_events line i byte ++ ((Turn 0 ∷ []) ++ replicate (turns - i - 1) (Turn 0))
@@ -93,18 +91,17 @@ byte_parts line turns i byte below =
     ∙ ap (λ (events : List Event). Byte line byte ∷ (replicate i (Turn 0) ++ events)) (sym one)
 
 -- a fault that stops at an event leaves those before it and it
-pub stops_leave : (fault : ServeFault) (line : ℕ) (events : List Event) (old new : Moment) → StopsWithin fault line events old new → Leaves fault line events old new
-stops_leave Read line events old new stop = absurd stop.4.puts_out
-stops_leave TooManyReads line events old new stop = absurd stop.4.puts_out
-stops_leave Write line events old new stop = stop
-stops_leave Trace line events old new stop = stop
+pub stops_leave : (fault : ServeFault) (line : ℕ) (events : List Event) (old new : Moment) (stop : StopsWithin fault line events old new) → Leaves fault line events stop.0 old new
+stops_leave Read line events old new stop = absurd stop.1.5.puts_out
+stops_leave TooManyReads line events old new stop = absurd stop.1.5.puts_out
+stops_leave Write line events old new stop = stop.1
+stops_leave Trace line events old new stop = stop.1
 
--- and it is no fault of reading
-pub stop_reads_well : (fault : ServeFault) (line : ℕ) (events : List Event) (old new : Moment) → StopsWithin fault line events old new → is_read fault ≡ false
-stop_reads_well Read line events old new stop = absurd stop.4.puts_out
-stop_reads_well TooManyReads line events old new stop = refl
-stop_reads_well Write line events old new stop = refl
-stop_reads_well Trace line events old new stop = refl
+-- and each node heard those
+pub stop_heard : (fault : ServeFault) (line : ℕ) (events : List Event) (old new : Moment) (stop : StopsWithin fault line events old new)
+    → HaveHeard old.world.station stop.0 old.world.nodes new.world.nodes
+stop_heard fault line events old new stop =
+    subst (λ (es : List Event). HaveHeard old.world.station es old.world.nodes new.world.nodes) (sym stop.1.4) stop.1.5.nodes
 
 -- a fault that is handed on
 pub passed_up : {T : Type 0} (result : Result T ServeFault) (fault : ServeFault) (P : ServeFault → Type 0) → IsErrAnd result (λ e. e ≡ fault) → P fault → IfErr result P
@@ -118,14 +115,14 @@ served_parts line turns i bytes below =
     ∙ served-append line turns (take i bytes) (get_or bytes i 0 ∷ drop (i + 1) bytes)
 
 -- an event that is not put out whole
-pub stops_at_event : (fault : ServeFault) (line : ℕ) (event : Event) (step : Step) (old new : Moment) → new.world.station ≡ state_of old.world.station (call_of event)
-    → step ≡ answer_of old.world.station (call_of event) → AfterEvent event step old.world.nodes new.world.nodes → PutsOut fault line (old.turns + 1) [] step old.written new.written old.traced new.traced
+pub stops_at_event : (fault : ServeFault) (line : ℕ) (event : Event) (step : Step) (old new : Moment) → new.world.station ≡ after_event old.world.station event
+    → step ≡ answer_to old.world.station event → AfterEvent event step old.world.nodes new.world.nodes → PutsOut fault line (old.turns + 1) [] step old.written new.written old.traced new.traced
     → StopsWithin fault line (event ∷ []) old new
 stops_at_event fault line event step old new moves answers after out =
-    let turned : AfterEvent event (answer_of old.world.station (call_of event)) old.world.nodes new.world.nodes = subst (λ (s : Step). AfterEvent event s old.world.nodes new.world.nodes) answers after in
+    let turned : AfterEvent event (answer_to old.world.station event) old.world.nodes new.world.nodes = subst (λ (s : Step). AfterEvent event s old.world.nodes new.world.nodes) answers after in
     let stop : StopsAt fault line [] event old new = record {
       station = moves;
-      nodes = next_heard old.world.station event [] old.world.nodes new.world.nodes new.world.nodes turned (nothing_heard new.world.nodes);
+      nodes = next_heard old.world.station event [] old.world.nodes new.world.nodes new.world.nodes turned (nothing_heard (after_event old.world.station event) new.world.nodes);
       puts_out = subst (λ (s : Step). PutsOut fault line (old.turns + 1) [] s old.written new.written old.traced new.traced) answers out;
     } in
-    ([], [], event, refl, stop)
+    (event ∷ [], ([], [], event, refl, refl, stop))

@@ -9,16 +9,21 @@ use Rattle.dcc_packet.specs.declared.steps.Steps.TheVariants.{S14, S28, S128}
 use Rattle.dcc_packet.specs.declared.steps.Motion.{Motion}
 use Rattle.dcc_packet.specs.declared.steps.Motion.TheVariants.{Stop, Emergency, Step}
 use Rattle.dcc_packet.specs.Address.{is_legal}
+use Rattle.dcc_packet.specs.Form.{bit}
+use Rattle.dcc_packet.specs.Meant.{speed_instr, group_one_instr, group_two_instr}
+use Rattle.dcc_packet.specs.Motions.{is_motion}
 use Rattle.dcc_packet.specs.Reading.{instruction_of}
-use Rattle.dcc_packet.specs.Sent.{code_of, low_14, low_28, speed_instr, speed_bytes, group_one_instr, group_one_bytes, group_two_instr, group_two_bytes}
-use Rattle.dcc_packet.specs.Spells.{bit, Spells}
-use Rattle.dcc_packet.specs.Steps.{is_motion, motion_of, step_of, motion_told, number_28}
+use Rattle.dcc_packet.specs.Sent.{code_of, low_14, low_28, speed_bytes, group_one_bytes, group_two_bytes}
+use Rattle.dcc_packet.specs.Spells.{Spells}
+use Rattle.dcc_packet.specs.Steps.{motion_of, step_of}
+use Rattle.dcc_packet.specs.Told.{motion_told, number_28}
 use Rattle.slot_table.specs.Entry.{IsAddress}
 use Rattle.station_core.specs.Packets.{address_sent}
 use Rattle.decoder_cv.specs.Answering.{is_at}
 use Rattle.decoder_cv.specs.Settings.{Settings}
 use Rattle.decoder_node.specs.declared.running.Running.{Running}
-use Rattle.decoder_node.specs.Obey.{is_own, own_forward, with_bits, driven, lit, obeyed, obeyed_if, obey}
+use Rattle.decoder_node.specs.Bits.{with_bits}
+use Rattle.decoder_node.specs.Obey.{is_own, own_forward, driven, lit, obeyed, obeyed_if, obey}
 
 -- what the crate of packets promises: how packets are read, and what those of an address spell
 pub record Spelling : Type 0 where
@@ -108,10 +113,10 @@ module _ (laws : Spelling) (cv : Settings) (address : Address) (legal : IsTrue (
         to-own (group_one_bytes address functions) (group_one_instr address functions)
         (record r { functions = lit cv r.functions (16 * (functions % 2) + functions / 2 % 16) }) (laws.group_one address functions legal) refl
 
-    pub own-group_two : (functions : ℕ) → obey cv r (group_two_bytes address functions) ≡ record r { functions = with_bits r.functions 5 4 (functions / 32 % 16 % 16) }
+    pub own-group_two : (functions : ℕ) → obey cv r (group_two_bytes address functions) ≡ record r { functions = 32 * (functions / 32 % 16 % 16) + r.functions % 32 }
     own-group_two functions =
         to-own (group_two_bytes address functions) (group_two_instr address functions)
-        (record r { functions = with_bits r.functions 5 4 (functions / 32 % 16 % 16) }) (laws.group_two address functions legal) refl
+        (record r { functions = 32 * (functions / 32 % 16 % 16) + r.functions % 32 }) (laws.group_two address functions legal) refl
 
     module _ (speeds : Speeds) (forward f0 : Bool) where
       pub own-speed_14 : (motion : Motion) → IsTrue (is_motion S14 motion) → cv.fourteen ≡ true → obey cv r (speed_bytes address S14 motion forward f0) ≡ run_by cv motion forward (with_bits r.functions 0 1 (bit f0))
@@ -120,17 +125,15 @@ module _ (laws : Spelling) (cv : Settings) (address : Address) (legal : IsTrue (
           let light : low_14 motion f0 / 16 % 2 ≡ bit f0 = ap (λ n. n % 2) told.1 ∙ bit-low f0 in
           to-own (speed_bytes address S14 motion forward f0) (speed_instr address S14 motion forward f0)
           (driven cv r forward (low_14 motion f0)) (laws.speed address S14 motion forward f0 legal fits) refl
-          ∙ cond-true cv.fourteen (run_by cv (motion_told S14 (low_14 motion f0 % 16)) forward (with_bits r.functions 0 1 (low_14 motion f0 / 16 % 2))) (run_by cv (motion_told S28 (2 * (low_14 motion f0 % 16) + low_14 motion f0 / 16 % 2)) forward r.functions) fourteen
+          ∙ cond-true cv.fourteen (run_by cv (motion_told S14 (low_14 motion f0 % 16)) forward (with_bits r.functions 0 1 (low_14 motion f0 / 16 % 2))) (run_by cv (motion_told S28 (number_28 (low_14 motion f0))) forward r.functions) fourteen
           ∙ ap (λ (m : Motion). run_by cv m forward (with_bits r.functions 0 1 (low_14 motion f0 / 16 % 2))) told.0
           ∙ ap (λ (n : ℕ). run_by cv motion forward (with_bits r.functions 0 1 n)) light
 
       pub own-speed_28 : (motion : Motion) → IsTrue (is_motion S28 motion) → cv.fourteen ≡ false → obey cv r (speed_bytes address S28 motion forward f0) ≡ run_by cv motion forward r.functions
       own-speed_28 motion fits more =
           let spelled = laws.speed address S28 motion forward f0 legal fits in
-          let top : low_28 motion / 16 % 2 ≡ low_28 motion / 16 = omega (arith, spelled.0) in
           to-own (speed_bytes address S28 motion forward f0) (speed_instr address S28 motion forward f0) (driven cv r forward (low_28 motion)) spelled refl
-          ∙ cond-false cv.fourteen (run_by cv (motion_told S14 (low_28 motion % 16)) forward (with_bits r.functions 0 1 (low_28 motion / 16 % 2))) (run_by cv (motion_told S28 (2 * (low_28 motion % 16) + low_28 motion / 16 % 2)) forward r.functions) more
-          ∙ ap (λ (n : ℕ). run_by cv (motion_told S28 (2 * (low_28 motion % 16) + n)) forward r.functions) top
+          ∙ cond-false cv.fourteen (run_by cv (motion_told S14 (low_28 motion % 16)) forward (with_bits r.functions 0 1 (low_28 motion / 16 % 2))) (run_by cv (motion_told S28 (number_28 (low_28 motion))) forward r.functions) more
           ∙ ap (λ (m : Motion). run_by cv m forward r.functions) (speeds.twenty_eight motion fits)
 
       pub own-speed_128 : (motion : Motion) → IsTrue (is_motion S128 motion) → obey cv r (speed_bytes address S128 motion forward f0) ≡ run_by cv motion forward r.functions
@@ -162,4 +165,4 @@ module _ (laws : Spelling) (cv : Settings) (address : Address) (legal : IsTrue (
     pub other-group_two : (functions : ℕ) → obey cv r (group_two_bytes address functions) ≡ r
     other-group_two functions =
         to-other (group_two_bytes address functions) (group_two_instr address functions)
-        (record r { functions = with_bits r.functions 5 4 (functions / 32 % 16 % 16) }) (laws.group_two address functions legal) refl
+        (record r { functions = 32 * (functions / 32 % 16 % 16) + r.functions % 32 }) (laws.group_two address functions legal) refl

@@ -1,52 +1,76 @@
--- A locomotive that hears a full refresh cycle of its address.
-use Rattle.std.specs.Prelude.{ℕ, ◌≡◌, ◌<◌, false, List, [], ◌∷◌, ◌++◌, Some, length, map, IsTrue}
+-- The headline: a locomotive that hears a full refresh cycle of its address runs as its slot says. All of it is said of
+-- what throttles can know.
+use Rattle.std.specs.Prelude.{ℕ, ◌≡◌, ◌+◌, ◌*◌, ◌<◌, ◌≤◌, false, List, [], ◌∷◌, ◌++◌, Some, length, IsTrue}
 use Rattle.std.specs.List.{slice_index_or}
-use Rattle.slot_table.specs.Entry.{Entry, IsSlot, row_with}
+use Rattle.slot_table.specs.Entry.{Entry, IsSlot}
 use Rattle.slot_table.specs.Reading.{row_of}
 use Rattle.station_core.specs.declared.call.Call.{Call}
-use Rattle.station_core.specs.Runs.{AtEveryMoment, IsFullCycle, state_after}
-use Rattle.station_core.specs.Seen.{Seen}
+use Rattle.station_core.specs.Known.{Known, told_all}
+use Rattle.station_core.specs.Moments.{AtEveryMoment, IsFullCycle, slots_refreshed, turns_in}
+use Rattle.station_core.specs.Powered.{PoweredDesk}
 use Rattle.decoder_cv.specs.Answering.{answers_to, AgreesInSteps}
-use Rattle.decoder_node.specs.Loco.{LocoDecoder, IsBetween}
+use Rattle.decoder_node.specs.LocoDecoder.{LocoDecoder, IsBetween as IsBetweenLoco}
 use Rattle.layout_core.specs.declared.event.Event.{Event}
-use Rattle.layout_core.specs.declared.event.Event.TheVariants.{Byte, Turn}
+use Rattle.layout_core.specs.declared.event.Event.TheVariants.{Byte, Turn, Noise}
 use Rattle.layout_core.specs.declared.node.Node.{Node}
 use Rattle.layout_core.specs.declared.node.Node.TheVariants.{Loco}
-use Rattle.layout_core.specs.Nodes.{is_missed, running_of}
+use Rattle.layout_core.specs.Events.{calls_in, NoNoise}
+use Rattle.layout_core.specs.Nodes.{is_missed, running_of, IsBetween}
 use Rattle.layout_core.specs.Wanted.{wanted}
-use Rattle.layout_core.specs.World.{call_of}
 
 -- node i misses no turn of these
 abbrev pub MissesNone : ℕ → List Event → Type 0
 MissesNone i [] = Unit {0}
 MissesNone i (Byte line byte ∷ events) = MissesNone i events
 MissesNone i (Turn missed ∷ events) = (is_missed missed i ≡ false) × MissesNone i events
+MissesNone i (Noise node half ∷ events) = MissesNone i events
 
--- the slot reads as this address with this entry
-abbrev pub StandsIn : (slot a : ℕ) → Entry → Seen → Type 0
-StandsIn slot a e seen = row_of seen.powered.desk slot ≡ row_with a e
+-- The slot reads as this address, and as the entry in all that its packets say: type, speed, direction and functions. Its
+-- state may change between common and in use, and so may SS2, ID1 and ID2.
+pub record StandsIn (slot a : ℕ) (e : Entry) (powered : PoweredDesk) : Type 0 where
+  pub address : (row_of powered.desk slot).address ≡ a
+  pub kind : (row_of powered.desk slot).kind ≡ e.kind
+  pub spd : (row_of powered.desk slot).spd ≡ e.spd
+  pub dirf : (row_of powered.desk slot).dirf ≡ e.dirf
+  pub snd : (row_of powered.desk slot).snd ≡ e.snd
 
--- a full refresh cycle of an address: at every moment it stands in the same slot with the same entry
-pub record IsCycleOf (slot a : ℕ) (e : Entry) (seen : Seen) (calls : List Call) : Type 0 where
+-- a full refresh cycle of an address: at every moment it stands in the same slot and the same is asked of it
+pub record IsCycleOf (slot a : ℕ) (e : Entry) (known : Known) (calls : List Call) : Type 0 where
   pub is_slot : IsSlot slot
-  pub full : IsFullCycle slot seen calls
-  pub stands : AtEveryMoment (StandsIn slot a e) seen calls
+  pub full : IsFullCycle slot known calls
+  pub stands : AtEveryMoment (StandsIn slot a e) known calls
 
--- Node i is this locomotive and no packet is under way; it answers to the address of the cycle, agrees with its entry
--- in the step mode, and misses no turn of the cycle.
+-- The locomotive answers to the address of the cycle and agrees with its entry in the step mode; and, as node i, it
+-- misses no turn of the cycle, and no noise of the cycle names it.
 pub record HearsCycle (i a : ℕ) (e : Entry) (loco : LocoDecoder) (cycle : List Event) : Type 0 where
-  pub between : IsBetween loco
   pub answers : IsTrue (answers_to loco.cv a)
   pub steps : AgreesInSteps loco.cv e.kind
   pub misses : MissesNone i cycle
+  pub quiet : NoNoise i cycle
 
--- Whatever came before: after the cycle the locomotive runs as the entry wants it, which is what the station promised.
-abbrev pub RunsAsWanted : Seen → List Event → (old new : List Node) → Type 0
+-- The headline. Where no packet was under way at the start, and no noise names the locomotive, node i: after the cycle it
+-- runs as the entry wants it, whatever came before.
+abbrev pub RunsAsWanted : Known → List Event → (old new : List Node) → Type 0
 RunsAsWanted start events old new =
     (before cycle : List Event) (i slot a : ℕ) (e : Entry) (loco : LocoDecoder) (none : Node)
     → events ≡ before ++ cycle
     → i < length old
     → slice_index_or old i none ≡ Loco loco
+    → IsBetweenLoco loco
+    → NoNoise i before
     → HearsCycle i a e loco cycle
-    → IsCycleOf slot a e (state_after start (map call_of before)) (map call_of cycle)
+    → IsCycleOf slot a e (told_all start (calls_in before)) (calls_in cycle)
     → running_of (slice_index_or new i none) ≡ Some (wanted e loco.cv.reversed)
+
+-- The headline after noise. Whatever noise came before the cycle, and wherever it left the receiver: where the cycle has
+-- one turn more than a full one needs, the locomotive runs as the entry wants it then, and no packet is under way.
+abbrev pub RunsAfterNoise : Known → List Event → (old new : List Node) → Type 0
+RunsAfterNoise start events old new =
+    (before cycle : List Event) (i slot a : ℕ) (e : Entry) (loco : LocoDecoder) (none : Node)
+    → events ≡ before ++ cycle
+    → i < length old
+    → slice_index_or old i none ≡ Loco loco
+    → HearsCycle i a e loco cycle
+    → IsCycleOf slot a e (told_all start (calls_in before)) (calls_in cycle)
+    → 12 * slots_refreshed (told_all start (calls_in before)) (calls_in cycle) + 1 ≤ turns_in (calls_in cycle)
+    → (running_of (slice_index_or new i none) ≡ Some (wanted e loco.cv.reversed)) × IsBetween (slice_index_or new i none)

@@ -1,14 +1,16 @@
 -- What a fault leaves of a served connection.
-use Rattle.std.specs.Prelude.{ℕ, ◌≡◌, ◌+◌, ◌<◌, Bool, true, false, Option, Result, Ok, Err, List, [], ◌∷◌, ◌++◌, length, map, take}
+use Rattle.std.specs.Prelude.{ℕ, ◌≡◌, ◌+◌, ◌<◌, Bool, true, false, Option, Result, Ok, Err, List, [], ◌∷◌, ◌++◌, length, take}
 use Rattle.std.specs.Io.KnownBytes.{Appends}
 use Rattle.station_core.specs.declared.call.Step.{Step}
-use Rattle.station_core.specs.Runs.{answer_of, state_after}
 use Rattle.layout_core.specs.declared.engine.ServeFault.{ServeFault}
 use Rattle.layout_core.specs.declared.engine.ServeFault.TheVariants.{Read, Write, Trace, TooManyReads}
 use Rattle.layout_core.specs.declared.event.Event.{Event}
 use Rattle.layout_core.specs.declared.world.World.{World}
-use Rattle.layout_core.specs.Served.{HasRead, Input, Moment, Serves, answers_to_events, bytes_of_answer, line_of_answer, moment_of, served_events, traced_from, turns_in, written_for}
-use Rattle.layout_core.specs.World.{HaveHeard, call_of, sent_in}
+use Rattle.station_core.specs.Seen.{known_of}
+use Rattle.layout_core.specs.Cycle.{RunsAsWanted}
+use Rattle.layout_core.specs.Served.{HasRead, Input, Moment, Serves, bytes_of_answer, line_of_answer, moment_of, served_events, traced_from, turns_in, written_for}
+use Rattle.layout_core.specs.Played.{after_events, answer_to, answers_to}
+use Rattle.layout_core.specs.World.{HaveHeard}
 
 abbrev pub is_read : ServeFault → Bool
 is_read Read = true
@@ -49,25 +51,30 @@ PutsOut TooManyReads line turn steps last written written' traced traced' = ⊥
 
 -- The events before and a last one are done, and no other; all is put out but for the end of what the last one puts out.
 pub record StopsAt (fault : ServeFault) (line : ℕ) (before : List Event) (last : Event) (old new : Moment) : Type 0 where
-  pub station : new.world.station ≡ state_after old.world.station (map call_of (before ++ last ∷ []))
-  pub nodes : HaveHeard (sent_in old.world.station (before ++ last ∷ [])) old.world.nodes new.world.nodes
-  pub puts_out : PutsOut fault line (old.turns + 1) (answers_to_events old.world.station before) (answer_of (state_after old.world.station (map call_of before)) (call_of last)) old.written new.written old.traced new.traced
+  pub station : new.world.station ≡ after_events old.world.station (before ++ last ∷ [])
+  pub nodes : HaveHeard old.world.station (before ++ last ∷ []) old.world.nodes new.world.nodes
+  pub puts_out : PutsOut fault line (old.turns + 1) (answers_to old.world.station before) (answer_to (after_events old.world.station before) last) old.written new.written old.traced new.traced
 
--- it stops so at one of these events
+-- it stops so at one of these events, and then these are done of them
+abbrev pub StopsAfter : ServeFault → (line : ℕ) → (events done : List Event) → (old new : Moment) → Type 0
+StopsAfter fault line events done old new =
+    (before later : List Event) × (last : Event) × (events ≡ before ++ last ∷ later) × (done ≡ before ++ last ∷ []) × StopsAt fault line before last old new
+
 abbrev pub StopsWithin : ServeFault → (line : ℕ) → List Event → (old new : Moment) → Type 0
-StopsWithin fault line events old new =
-    (before later : List Event) × (last : Event) × (events ≡ before ++ last ∷ later) × StopsAt fault line before last old new
+StopsWithin fault line events old new = (done : List Event) × StopsAfter fault line events done old new
 
 -- What is done of the events of the bytes that were read: all of them where the source failed or too many reads were
 -- made, and else those up to one that was not put out whole.
-abbrev pub Leaves : ServeFault → (line : ℕ) → List Event → (old new : Moment) → Type 0
-Leaves Read line events old new = Serves line events old new
-Leaves TooManyReads line events old new = Serves line events old new
-Leaves Write line events old new = StopsWithin Write line events old new
-Leaves Trace line events old new = StopsWithin Trace line events old new
+abbrev pub Leaves : ServeFault → (line : ℕ) → (events done : List Event) → (old new : Moment) → Type 0
+Leaves Read line events done old new = (done ≡ events) × Serves line events old new
+Leaves TooManyReads line events done old new = (done ≡ events) × Serves line events old new
+Leaves Write line events done old new = StopsAfter Write line events done old new
+Leaves Trace line events done old new = StopsAfter Trace line events done old new
 
--- these bytes were read, and then it ended in this fault
+-- These bytes were read, of their events these were done, and then it ended in this fault. A locomotive that heard a full
+-- refresh cycle meanwhile runs as its slot says, as at the end of a connection that is served whole.
 abbrev pub HasFaulted : ServeFault → (line turns : ℕ) → (input input' : Input) → (old : Moment) → World → (written traced : Option (List ℕ)) → Type 0
 HasFaulted fault line turns input input' old world written traced =
-    (reads replies made : ℕ) × (bytes : List ℕ) × HasRead reads bytes input input'
-    × Leaves fault line (served_events line turns bytes) old (moment_of world written traced replies made)
+    (reads replies made : ℕ) × (bytes : List ℕ) × (done : List Event) × HasRead reads bytes input input'
+    × Leaves fault line (served_events line turns bytes) done old (moment_of world written traced replies made)
+    × RunsAsWanted (known_of old.world.station) done old.world.nodes world.nodes

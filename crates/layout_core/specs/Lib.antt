@@ -1,6 +1,9 @@
 pub mod Wanted
 pub mod Settling
+pub mod Events
+pub mod Played
 pub mod Nodes
+pub mod Hearing
 pub mod Heard
 pub mod World
 pub mod Cycle
@@ -10,6 +13,10 @@ pub mod Faults
 pub mod Counts
 -- words of the layers below that public clauses cite
 pub use Rattle.slot_table.specs.Entry.{Entry, IsEntry, IsAddress}
-pub use Rattle.station_core.specs.Packets.{motion_asked, is_forward, functions_asked, speed_packet, group_one_packet, group_two_packet}
+pub use Rattle.station_core.specs.Packets.{speed_packet, group_one_packet, group_two_packet}
+pub use Rattle.station_core.specs.Asking.{motion_asked, is_forward, functions_asked}
 pub use Rattle.decoder_cv.specs.Answering.{answers_to, AgreesInSteps}
-pub use Rattle.decoder_node.specs.Obey.{IsAble, obey, runs}
+pub use Rattle.decoder_node.specs.Obey.{obey, runs}
+pub use Rattle.station_core.specs.Known.{Known, told, told_all}
+pub use Rattle.station_core.specs.Moments.{AtEveryMoment, IsFullCycle, IsLive}
+pub use Rattle.station_core.specs.Seen.{known_of}

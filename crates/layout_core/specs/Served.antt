@@ -1,18 +1,18 @@
 -- What a served connection does: its events, the bytes that it writes, and its trace.
-use Rattle.std.specs.Prelude.{ℕ, ◌≡◌, ◌+◌, ◌*◌, ◌≤◌, Option, List, [], ◌∷◌, ◌++◌, length, map, replicate}
+use Rattle.std.specs.Prelude.{ℕ, ◌≡◌, ◌+◌, ◌*◌, ◌≤◌, Option, List, [], ◌∷◌, ◌++◌, length, replicate}
 use Rattle.std.specs.Io.KnownBytes.{Appends, Consumes}
 use Rattle.ln_ops.specs.Reply.{IsSendable, reply_bytes}
 use Rattle.show_text.specs.Lines.{off_text, reply_text, track_text}
 use Rattle.station_core.specs.declared.call.Step.{Step}
 use Rattle.station_core.specs.declared.call.Step.TheVariants.{Quiet, Reply, Packet, Off}
-use Rattle.station_core.specs.Runs.{answers, state_after}
-use Rattle.station_core.specs.Seen.{Seen}
+use Rattle.station_core.specs.Seen.{known_of}
 use Rattle.layout_core.specs.declared.engine.Summary.{Summary}
 use Rattle.layout_core.specs.declared.event.Event.{Event}
 use Rattle.layout_core.specs.declared.event.Event.TheVariants.{Byte, Turn}
 use Rattle.layout_core.specs.declared.world.World.{World}
 use Rattle.layout_core.specs.Cycle.{RunsAsWanted}
-use Rattle.layout_core.specs.World.{AreDesks, HaveHeard, call_of, sent_in}
+use Rattle.layout_core.specs.Played.{after_events, answers_to}
+use Rattle.layout_core.specs.World.{HaveHeard}
 
 -- the events of a byte: it comes, and then so many turns that nobody misses
 abbrev pub byte_events : (line turns : ℕ) → ℕ → List Event
@@ -22,10 +22,6 @@ byte_events line turns byte = Byte line byte ∷ replicate turns (Turn 0)
 abbrev pub served_events : (line turns : ℕ) → List ℕ → List Event
 served_events line turns [] = []
 served_events line turns (byte ∷ bytes) = byte_events line turns byte ++ served_events line turns bytes
-
--- what a station answers to events
-abbrev pub answers_to_events : Seen → List Event → List Step
-answers_to_events seen events = answers seen (map call_of events)
 
 -- a reply is written as its bytes, and nothing else is written
 abbrev pub bytes_of_answer : Step → List ℕ
@@ -98,14 +94,13 @@ moment_of world written traced replies turns = record { world = world; written =
 -- The events are done, one after another, and each node heard what they send; their replies are written, their lines are
 -- traced, and both are counted.
 pub record Serves (line : ℕ) (events : List Event) (old new : Moment) : Type 0 where
-  pub station : new.world.station ≡ state_after old.world.station (map call_of events)
-  pub nodes : HaveHeard (sent_in old.world.station events) old.world.nodes new.world.nodes
-  pub written : Appends old.written new.written (written_for (answers_to_events old.world.station events))
-  pub traced : Appends old.traced new.traced (traced_from line (old.turns + 1) (answers_to_events old.world.station events))
-  pub replies : new.replies ≡ old.replies + replies_in (answers_to_events old.world.station events)
-  pub turns : new.turns ≡ old.turns + turns_in (answers_to_events old.world.station events)
-  -- as a station promises before each event, and after all
-  pub desks : AreDesks old.world.station events
+  pub station : new.world.station ≡ after_events old.world.station events
+  pub nodes : HaveHeard old.world.station events old.world.nodes new.world.nodes
+  pub written : Appends old.written new.written (written_for (answers_to old.world.station events))
+  pub traced : Appends old.traced new.traced (traced_from line (old.turns + 1) (answers_to old.world.station events))
+  pub replies : new.replies ≡ old.replies + replies_in (answers_to old.world.station events)
+  pub turns : new.turns ≡ old.turns + turns_in (answers_to old.world.station events)
+  -- as a station promises
   pub lines : length new.world.station.lines ≡ length old.world.station.lines
 
 -- a source: the bytes that it has left, where those are known, and how many reads were made
@@ -127,4 +122,4 @@ pub record HasRead (made : ℕ) (bytes : List ℕ) (old new : Input) : Type 0 wh
 abbrev pub HasServed : (line turns : ℕ) → Summary → (input input' : Input) → (old new : Moment) → Type 0
 HasServed line turns summary input input' old new =
     (bytes : List ℕ) × HasRead summary.reads bytes input input' × (summary.bytes ≡ length bytes) × Serves line (served_events line turns bytes) old new
-    × RunsAsWanted old.world.station (served_events line turns bytes) old.world.nodes new.world.nodes
+    × RunsAsWanted (known_of old.world.station) (served_events line turns bytes) old.world.nodes new.world.nodes

@@ -5,7 +5,7 @@ use Rattle.station_core.specs.Packets.{speed_packet, group_one_packet, group_two
 use Rattle.decoder_cv.specs.Settings.{Settings}
 use Rattle.decoder_cv.specs.Answering.{answers_to, AgreesInSteps}
 use Rattle.decoder_node.specs.declared.running.Running.{Running}
-use Rattle.decoder_node.specs.Obey.{IsAble, obey}
+use Rattle.decoder_node.specs.Obey.{obey}
 
 -- the packet is one of the three of this address and its entry
 pub data IsPacketOf (a : ℕ) (e : Entry) (packet : List ℕ) : Type 0 where
@@ -15,7 +15,7 @@ pub data IsPacketOf (a : ℕ) (e : Entry) (packet : List ℕ) : Type 0 where
 
 -- the packet leaves the decoder as it is, however it runs
 abbrev pub LeavesAsItIs : Settings → List ℕ → Type 0
-LeavesAsItIs cv packet = (running : Running) → IsAble running → obey cv running packet ≡ running
+LeavesAsItIs cv packet = (running : Running) → obey cv running packet ≡ running
 
 -- the decoder answers to this address of a slot, and its step mode agrees with the entry
 pub record IsAskedBy (cv : Settings) (a : ℕ) (e : Entry) : Type 0 where

@@ -1,45 +1,27 @@
--- A layout: a station, and the decoders on its track.
-use Rattle.std.specs.Prelude.{ℕ, ◌≡◌, ◌<◌, List, [], ◌∷◌, ◌++◌, length}
+-- What events make of the decoders of a layout.
+use Rattle.std.specs.Prelude.{ℕ, ◌≡◌, ◌==◌, ◌<◌, Bool, true, false, List, [], ◌∷◌, length}
 use Rattle.std.specs.List.{slice_index_or}
-use Rattle.slot_table.specs.Desk.{IsDesk}
-use Rattle.station_core.specs.declared.call.Call.{Call}
-use Rattle.station_core.specs.declared.call.Call.TheVariants.{Byte as ByteCall, Turn as TurnCall}
 use Rattle.station_core.specs.declared.call.Step.{Step}
 use Rattle.station_core.specs.declared.call.Step.TheVariants.{Quiet, Reply, Packet, Off}
-use Rattle.station_core.specs.Runs.{answer_of, state_of}
 use Rattle.station_core.specs.Seen.{Seen}
 use Rattle.layout_core.specs.declared.event.Event.{Event}
-use Rattle.layout_core.specs.declared.event.Event.TheVariants.{Byte, Turn}
+use Rattle.layout_core.specs.declared.event.Event.TheVariants.{Byte, Turn, Noise}
 use Rattle.layout_core.specs.declared.node.Node.{Node}
-use Rattle.layout_core.specs.Heard.{Sent, heard, HasHeard}
-use Rattle.layout_core.specs.Nodes.{is_missed, AfterPacket}
+use Rattle.layout_core.specs.Events.{NoNoise}
+use Rattle.layout_core.specs.Heard.{HearsAll, heard, sounds_in}
+use Rattle.layout_core.specs.Hearing.{AfterPacket, HeardHalves, Obeyed}
+use Rattle.layout_core.specs.Nodes.{IsBetween, is_missed}
 
--- what an event is for the station
-abbrev pub call_of : Event → Call
-call_of (Byte line byte) = ByteCall line byte
-call_of (Turn missed) = TurnCall
-
--- what is on the track where the station answers so
-abbrev pub packet_sent : (missed : ℕ) → Step → List Sent
-packet_sent missed (Packet packet) = record { packet = packet; missed = missed } ∷ []
-packet_sent missed (Reply reply) = []
-packet_sent missed Quiet = []
-packet_sent missed Off = []
-
--- what one event sends
-abbrev pub sent_at : Seen → Event → List Sent
-sent_at seen (Byte line byte) = []
-sent_at seen (Turn missed) = packet_sent missed (answer_of seen TurnCall)
-
--- what events send, in order
-abbrev pub sent_in : Seen → List Event → List Sent
-sent_in seen [] = []
-sent_in seen (event ∷ events) = sent_at seen event ++ sent_in (state_of seen (call_of event)) events
-
--- each node obeyed what it heard of these
-pub record HaveHeard (sent : List Sent) (old new : List Node) : Type 0 where
+-- each node heard what it hears of these events, one thing after another, and nothing else
+pub record HaveHeard (seen : Seen) (events : List Event) (old new : List Node) : Type 0 where
   pub count : length new ≡ length old
-  pub each : (i : ℕ) (none : Node) → i < length old → HasHeard (heard i sent) (slice_index_or old i none) (slice_index_or new i none)
+  pub each : (i : ℕ) (none : Node) → i < length old → HearsAll (sounds_in i seen events) (slice_index_or old i none) (slice_index_or new i none)
+
+-- So a node that no noise names, and that had no packet under way, obeyed the packets that it heard, in order, and
+-- nothing else; and none is under way again.
+abbrev pub HaveObeyed : Seen → List Event → (old new : List Node) → Type 0
+HaveObeyed seen events old new = (i : ℕ) (none : Node) → i < length old → NoNoise i events → IsBetween (slice_index_or old i none)
+    → Obeyed (heard i seen events) (slice_index_or old i none) (slice_index_or new i none) × IsBetween (slice_index_or new i none)
 
 -- each node hears the packet or misses it
 pub record EachHears (missed : ℕ) (packet : List ℕ) (old new : List Node) : Type 0 where
@@ -53,12 +35,18 @@ AfterTurn missed (Reply reply) old new = new ≡ old
 AfterTurn missed Quiet old new = new ≡ old
 AfterTurn missed Off old new = new ≡ old
 
--- the nodes after an event
+-- a half that a node hears, or that another one hears
+abbrev pub AfterHalf : (is_its_own : Bool) (half : ℕ) (old new : Node) → Type 0
+AfterHalf true half old new = HeardHalves (half ∷ []) old new
+AfterHalf false half old new = new ≡ old
+
+-- one node hears the half, and the others are as they were
+pub record OneHears (node half : ℕ) (old new : List Node) : Type 0 where
+  pub count : length new ≡ length old
+  pub each : (i : ℕ) (none : Node) → i < length old → AfterHalf (node == i) half (slice_index_or old i none) (slice_index_or new i none)
+
+-- the nodes after an event that is answered so
 abbrev pub AfterEvent : Event → Step → List Node → List Node → Type 0
 AfterEvent (Byte line byte) step old new = new ≡ old
 AfterEvent (Turn missed) step old new = AfterTurn missed step old new
-
--- before each event the desk is one, as a station promises
-abbrev pub AreDesks : Seen → List Event → Type 0
-AreDesks seen [] = Unit {0}
-AreDesks seen (event ∷ events) = IsDesk seen.powered.desk × AreDesks (state_of seen (call_of event)) events
+AfterEvent (Noise node half) step old new = OneHears node half old new

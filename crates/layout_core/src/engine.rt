@@ -2,8 +2,7 @@
 ghost use Rattle.std.specs.Prelude.{◌≡◌, ◌+◌, ◌*◌, ◌<◌, ◌≤◌, true, false, [], ◌∷◌, length, IfOk, IfErr, OnOk, IsErrOf, IsTrue, map};
 ghost use Rattle.std.specs.Io.KnownBytes.{Appends, IsAtEnd};
 ghost use Rattle.layout_core.specs.Nodes.{spec_of};
-ghost use Rattle.station_core.specs.Runs.{is_call};
-ghost use Rattle.layout_core.specs.World.{call_of};
+ghost use Rattle.layout_core.specs.Played.{is_event};
 ghost use Rattle.layout_core.specs.Counts.{GrowsTo, HasRoom};
 ghost use Rattle.layout_core.specs.Faults.{HasFaulted, PutsOut, StopsWithin, ended_by, is_read, is_trace, is_write};
 ghost use Rattle.layout_core.specs.Served.{HasServed, IsSendableAnswer, Serves, byte_events, bytes_of_answer, input_of, line_of_answer, moment_of, replies_of_answer, served_events, turns_of_answer};
@@ -15,7 +14,7 @@ use crate::world::World;
 use crate::writing::{put_all, put_line};
 use ln_ops::to_msg;
 use show_text::{off_line, reply_line, track_line};
-use station_core::Step;
+use station_core::{Step, calls_are_moves};
 
 /// How far a connection is served.
 #[derive(Clone, Copy, Debug, PartialEq, Eq)]
@@ -113,7 +112,7 @@ fn serve_event<K: Sink, T: Sink>(
     trace: &mut T,
     counts: &mut Counts,
 ) -> Result<(), ServeFault>
-    requires call { IsTrue (is_call (length world.old.station.lines) (call_of event)) }
+    requires call { IsTrue (is_event (length world.old.station.lines) (length world.old.nodes) event) }
     requires sink_works { K.failed sink.old ≡ false }
     requires trace_works { T.failed trace.old ≡ false }
     requires room { HasRoom 1 counts.old }
@@ -229,7 +228,7 @@ pub fn serve<S: Source, K: Sink, T: Sink>(
         (moment_of world.new (K.held sink.new) (T.held trace.new) summary.replies summary.turns)) }
     ensures turns { IfOk result (λ summary. summary.turns ≡ limits.turns * summary.bytes) }
     ensures end { OnOk result ((S.ended source.new ≡ true) × IsAtEnd (S.left source.new)) }
-    // Else what was read is served, but for what comes behind a write that failed.
+    // Else what was read is served, but for what comes behind a write that failed. The headline holds of both.
     ensures faulted { IfErr result (λ fault. HasFaulted fault line limits.turns
         (input_of (S.left source.old) (S.reads source.old)) (input_of (S.left source.new) (S.reads source.new))
         (moment_of world.old (K.held sink.old) (T.held trace.old) 0 0)
@@ -244,8 +243,9 @@ pub fn serve<S: Source, K: Sink, T: Sink>(
     ensures specs { map spec_of world.new.nodes ≡ map spec_of world.old.nodes }
 {
     headline();
-    // The nodes promise there that each is able.
-    let _ = world.nodes();
+    calls_are_moves();
+    // The station promises there that it has a desk.
+    let _ = world.station.lines();
     let mut counts = Counts {
         replies: 0,
         turns: 0,

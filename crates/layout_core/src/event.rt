@@ -7,4 +7,7 @@ pub enum Event {
     Byte { line: u8, byte: u8 },
     /// The track has room for a packet, which node i misses where bit i of `missed` is set.
     Turn { missed: u64 },
+    /// A dirty track: the receiver of one node, counted from 0, hears a half-bit of this many microseconds that belongs
+    /// to no packet.
+    Noise { node: u8, half: u16 },
 }

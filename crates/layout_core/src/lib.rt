@@ -15,7 +15,7 @@ mod writing;
 pub use device::{Broken, Sink, Source};
 pub use engine::{Limits, ServeFault, Summary, serve};
 pub use event::Event;
-pub use laws::{events_add_up, headline, others_leave_it, packets_add_up, settling};
+pub use laws::{events_add_up, headline, others_leave_it, settling};
 pub use nodes::Nodes;
 pub use port::Port;
 pub use world::World;

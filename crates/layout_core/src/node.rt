@@ -1,5 +1,5 @@
 //! A decoder on the track.
-ghost use Rattle.std.specs.Prelude.{◌≡◌};
+ghost use Rattle.std.specs.Prelude.{◌≡◌, ◌∷◌, []};
 
 use dcc_packet::Packet;
 use decoder_cv::CvSet;
@@ -16,7 +16,8 @@ pub(crate) enum Node {
 }
 
 impl Node {
-    ghost use Rattle.layout_core.specs.Nodes.{node_of, running_of, outputs_of, IsAbleNode, HearsPacket};
+    ghost use Rattle.layout_core.specs.Nodes.{node_of, running_of, outputs_of};
+    ghost use Rattle.layout_core.specs.Hearing.{HeardHalves, HearsPacket};
 
     /// A decoder in its first state, which has heard nothing.
     pub(crate) fn new(spec: NodeSpec) -> Node
@@ -31,11 +32,20 @@ impl Node {
     /// Hears a packet, half by half through its receiver.
     pub(crate) fn hear(&mut self, packet: &Packet)
         ensures hears { HearsPacket packet.now self.old self.new }
-        ensures able { IsAbleNode self.old → IsAbleNode self.new }
     {
         match self {
             Node::Loco(loco) => loco.hear_all(halves(packet)),
             Node::Accessory(accessory) => accessory.hear_all(halves(packet)),
+        }
+    }
+
+    /// Its receiver hears a half-bit of this many microseconds.
+    pub(crate) fn hear_half(&mut self, half: u16)
+        ensures { HeardHalves (half ∷ []) self.old self.new }
+    {
+        match self {
+            Node::Loco(loco) => loco.hear(half),
+            Node::Accessory(accessory) => accessory.hear(half),
         }
     }
 
@@ -62,7 +72,7 @@ impl Node {
 
 impl Default for Node {
     ghost use Rattle.decoder_cv.specs.Settings.{settings};
-    ghost use Rattle.decoder_node.specs.Loco.{fresh};
+    ghost use Rattle.decoder_node.specs.LocoDecoder.{fresh};
     ghost use Rattle.layout_core.specs.declared.node.Node.TheVariants.{Loco};
 
     ghost is_default = { λ node. node ≡ Loco (fresh (settings 3 0 0 0)) };

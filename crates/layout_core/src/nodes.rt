@@ -1,8 +1,10 @@
 //! The decoders of a layout.
-ghost use Rattle.std.specs.Prelude.{◌≡◌, ◌==◌, ℕ, ◌<◌, ◌≤◌, List, All, length, map};
+ghost use Rattle.std.specs.Prelude.{◌≡◌, ◌==◌, ℕ, ◌<◌, ◌≤◌, List, length, map};
 ghost use Rattle.std.specs.List.{slice_index_or};
 ghost use Rattle.layout_core.specs.declared.node.Node.{Node as NodeValue};
-ghost use Rattle.layout_core.specs.Nodes.{node_of, spec_of, running_of, outputs_of, is_missed, IsAbleNode, AfterPacket};
+ghost use Rattle.layout_core.specs.Nodes.{node_of, spec_of, running_of, outputs_of, is_missed};
+ghost use Rattle.layout_core.specs.Hearing.{AfterPacket};
+ghost use Rattle.layout_core.specs.World.{OneHears};
 
 use crate::node::Node;
 use arrayvec::ArrayVec;
@@ -22,22 +24,18 @@ pub struct Nodes {
 }
 
 impl Model for Nodes {
-    ghost use Rattle.std.specs.Prelude.{List, All};
+    ghost use Rattle.std.specs.Prelude.{List};
     ghost use Rattle.layout_core.specs.declared.node.Node.{Node};
-    ghost use Rattle.layout_core.specs.Nodes.{IsAbleNode};
 
     ghost Value = { List Node };
 
     ghost view = { λ nodes. nodes.nodes.items };
-
-    ghost invariant = { λ nodes. All IsAbleNode nodes.nodes.items };
 }
 
 impl Nodes {
     /// These decoders, each in its first state, having heard nothing.
     pub fn new(specs: &NodeList) -> Nodes
         ensures made { result ≡ map node_of specs.now.items }
-        ensures able { All IsAbleNode result }
     {
         let mut nodes = ArrayVec::new();
         for spec in specs.as_slice() {
@@ -50,17 +48,24 @@ impl Nodes {
     pub fn hear(&mut self, packet: &Packet, missed: u64)
         ensures count { length self.new ≡ length self.old }
         ensures specs { map spec_of self.new ≡ map spec_of self.old }
-        ensures able { All IsAbleNode self.new }
         ensures each { (i : ℕ) (none : NodeValue) → i < length self.old → AfterPacket (is_missed missed i) packet.now (slice_index_or self.old i none) (slice_index_or self.new i none) }
     {
         hear_each(self.nodes.as_mut_slice(), packet, missed);
+    }
+
+    /// Node i alone hears a half-bit of this many microseconds that belongs to no packet.
+    pub fn noise(&mut self, i: usize, half: u16)
+        requires { i < length self.old }
+        ensures noise { OneHears i half self.old self.new }
+        ensures specs { map spec_of self.new ≡ map spec_of self.old }
+    {
+        self.nodes.as_mut_slice()[i].hear_half(half);
     }
 
     /// How many there are.
     pub fn len(&self) -> usize
         ensures count { result ≡ length self.now }
         ensures most { result ≤ 64 }
-        ensures able { All IsAbleNode self.now }
     {
         self.nodes.len()
     }
@@ -92,9 +97,7 @@ impl Nodes {
 /// Each of these nodes hears the packet, but for those whose bit is set.
 fn hear_each(nodes: &mut [Node], packet: &Packet, missed: u64)
     requires fits { length nodes.old ≤ 64 }
-    requires able { All IsAbleNode nodes.old }
     ensures specs { map spec_of nodes.new ≡ map spec_of nodes.old }
-    ensures able { All IsAbleNode nodes.new }
     ensures each { (i : ℕ) (none : NodeValue) → i < length nodes.old → AfterPacket (is_missed missed i) packet.now (slice_index_or nodes.old i none) (slice_index_or nodes.new i none) }
 {
     for (i, node) in nodes.iter_mut().enumerate() {

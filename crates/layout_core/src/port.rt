@@ -1,11 +1,14 @@
 //! Readers and writers as devices.
 ghost use Rattle.std.specs.Prelude.{◌≡◌, false};
+ghost use Rattle.layout_core.specs.Port.{count_of, some_count_of};
 
 use crate::device::{Broken, Sink, Source};
 use crate::tally::Tally;
+use std::io;
 use std::io::{Read, Write};
 
-/// A reader as a source, or a writer as a sink. A write that takes no byte is an error.
+/// A reader as a source, or a writer as a sink. Each call of theirs is one call of the reader or the writer, whatever that
+/// answers. A write that takes no byte is an error.
 #[derive(Drop)]
 pub struct Port<T> {
     inner: T,
@@ -33,6 +36,23 @@ impl<T> Port<T> {
     }
 }
 
+/// What a port makes of the answer of its reader. No error is tried again.
+fn given(answer: io::Result<usize>) -> Result<usize, Broken>
+    ensures { count_of result ≡ count_of answer }
+{
+    answer.map_err(|_| Broken)
+}
+
+/// What a port makes of the answer of its writer. A write of no byte is an error, and none is tried again.
+fn taken(answer: io::Result<usize>) -> Result<usize, Broken>
+    ensures { count_of result ≡ some_count_of answer }
+{
+    match answer {
+        Ok(n) if n > 0 => Ok(n),
+        _ => Err(Broken),
+    }
+}
+
 impl<T: Read> Source for Port<T> {
     ghost left = { λ p. T.remaining p.inner };
 
@@ -44,16 +64,12 @@ impl<T: Read> Source for Port<T> {
 
     fn get(&mut self, buf: &mut [u8]) -> Result<usize, Broken> {
         self.reads.step();
-        match self.inner.read(buf) {
-            Ok(n) => {
-                self.ended = n == 0;
-                Ok(n)
-            }
-            Err(_) => {
-                self.failed = true;
-                Err(Broken)
-            }
+        let count = given(self.inner.read(buf));
+        match count {
+            Ok(n) => self.ended = n == 0,
+            Err(_) => self.failed = true,
         }
+        count
     }
 }
 
@@ -63,12 +79,10 @@ impl<T: Write> Sink for Port<T> {
     ghost failed = { λ p. p.failed };
 
     fn put(&mut self, bytes: &[u8]) -> Result<usize, Broken> {
-        match self.inner.write(bytes) {
-            Ok(n) if n > 0 => Ok(n),
-            _ => {
-                self.failed = true;
-                Err(Broken)
-            }
+        let count = taken(self.inner.write(bytes));
+        if count.is_err() {
+            self.failed = true;
         }
+        count
     }
 }

@@ -1,8 +1,8 @@
 //! Connections over readers and writers that fail, stop or take little at a time.
 
-ghost use Rattle.std.specs.Prelude.{◌≡◌, IfOk, length};
+ghost use Rattle.std.specs.Prelude.{◌≡◌, ◌≤◌, IfOk, length};
 
-use crate::{Limits, Port, ServeFault, Summary, World, serve};
+use crate::{Broken, Limits, Port, ServeFault, Sink, Source, Summary, World, serve};
 use decoder_node::NodeList;
 use ln_ops::State;
 use std::alloc::Global;
@@ -68,19 +68,26 @@ impl Read for Pieces<'_> {
     }
 }
 
-/// A writer that takes so many bytes at a time, while it has room. Then it fails, or takes none.
+/// A writer that takes so many bytes at a time, while it has room. Then it fails, or takes none, and so it does at call
+/// number `bad` alone, counted from 1.
 #[derive(Drop)]
 struct Room {
     taken: Vec<u8>,
     each: usize,
     room: usize,
+    bad: u32,
     fails: bool,
 }
 
 impl Write for Room {
     fn write(&mut self, buf: &[u8]) -> io::Result<usize> {
-        if self.room == 0 && self.fails {
-            return Err(io::Error::from(io::ErrorKind::Other));
+        self.bad = self.bad.wrapping_sub(1);
+        if self.bad == 0 || self.room == 0 {
+            return if self.fails {
+                Err(io::Error::from(io::ErrorKind::Other))
+            } else {
+                Ok(0)
+            };
         }
         let most = if self.each < self.room {
             self.each
@@ -101,7 +108,7 @@ impl Write for Room {
 }
 
 /// The devices of a connection: where its pieces end, which read fails, how many reads are allowed, how much each writer
-/// takes at a time and in all, and whether a full one fails.
+/// takes at a time and in all, which write fails, and whether it is an error or takes no byte.
 #[derive(Clone, Copy)]
 struct Devices {
     ends: u16,
@@ -110,6 +117,8 @@ struct Devices {
     each: usize,
     sink: usize,
     trace: usize,
+    bad_reply: u32,
+    bad_line: u32,
     fails: bool,
 }
 
@@ -121,13 +130,24 @@ const SOUND: Devices = Devices {
     each: 1000,
     sink: 1000,
     trace: 1000,
+    bad_reply: 0,
+    bad_line: 0,
     fails: true,
 };
 
-/// How a connection ended, what was written and traced, and the layout.
+/// The sum of the ten bytes in one read.
+const WHOLE: Summary = Summary {
+    reads: 2,
+    bytes: 10,
+    replies: 2,
+    turns: 10,
+};
+
+/// How a connection ended, how many bytes were left unread, what was written and traced, and the layout.
 #[derive(Drop)]
 struct Served {
     outcome: Result<Summary, ServeFault>,
+    unread: usize,
     written: Vec<u8>,
     traced: Vec<u8>,
     world: World,
@@ -136,24 +156,35 @@ struct Served {
 fn serve_ten(alloc: Global, devices: &Devices) -> Result<Served, Fail>
     ensures { IfOk result (λ served. length served.world.station.lines ≡ 1) }
 {
-    let mut world = World::new(alloc, 1, NodeList::new())?;
-    let mut source = Port::new(Pieces {
+    let world = World::new(alloc, 1, NodeList::new())?;
+    Ok(serve_ten_on(alloc, world, devices))
+}
+
+/// The ten bytes on this layout.
+fn serve_ten_on(alloc: Global, mut world: World, devices: &Devices) -> Served
+    requires { length world.station.lines ≡ 1 }
+    ensures { length result.world.station.lines ≡ 1 }
+{
+    let mut pieces = Pieces {
         bytes: TEN,
         ends: devices.ends,
         bad: devices.bad,
-    });
+    };
     let mut written = Room {
         taken: Vec::new(alloc),
         each: devices.each,
         room: devices.sink,
+        bad: devices.bad_reply,
         fails: devices.fails,
     };
     let mut traced = Room {
         taken: Vec::new(alloc),
         each: devices.each,
         room: devices.trace,
+        bad: devices.bad_line,
         fails: devices.fails,
     };
+    let mut source = Port::new(&mut pieces);
     let mut sink = Port::new(&mut written);
     let mut trace = Port::new(&mut traced);
     let limits = Limits {
@@ -163,12 +194,13 @@ fn serve_ten(alloc: Global, devices: &Devices) -> Result<Served, Fail>
     let outcome = serve(&mut world, 0, &mut source, &mut sink, &mut trace, limits);
     let Room { taken: written, .. } = written;
     let Room { taken: traced, .. } = traced;
-    Ok(Served {
+    Served {
         outcome,
+        unread: pieces.bytes.len(),
         written,
         traced,
         world,
-    })
+    }
 }
 
 /// Whether it ended so, with so much of the replies and of the lines.
@@ -208,10 +240,20 @@ fn power_comes_on(rt: HostRuntime) -> Result<(), Fail> {
     Ok(())
 }
 
+/// How many bytes of the replies are written once the trace has come so far.
+fn replied_before(traced: usize) -> usize {
+    match traced {
+        0..36 => 0,
+        36..178 => 14,
+        _ => 28,
+    }
+}
+
 /// The first message of the ten bytes on line 1 of two, with so many turns after each byte.
 fn on_line_1(alloc: Global, turns: u8) -> Result<Served, Fail> {
     let mut world = World::new(alloc, 2, NodeList::new())?;
-    let mut source = Port::new(&TEN[..4]);
+    let mut bytes = &TEN[..4];
+    let mut source = Port::new(&mut bytes);
     let mut written = Vec::new(alloc);
     let mut traced = Vec::new(alloc);
     let mut sink = Port::new(&mut written);
@@ -220,6 +262,7 @@ fn on_line_1(alloc: Global, turns: u8) -> Result<Served, Fail> {
     let outcome = serve(&mut world, 1, &mut source, &mut sink, &mut trace, limits);
     Ok(Served {
         outcome,
+        unread: bytes.len(),
         written,
         traced,
         world,
@@ -273,13 +316,9 @@ fn no_cut_of_the_bytes_matters(rt: HostRuntime) -> Result<(), Fail> {
 #[test]
 fn a_read_that_fails_ends_it(rt: HostRuntime) -> Result<(), Fail> {
     let second = Devices { bad: 2, ..SOUND };
-    assert!(rt;
-        ended(
-            &serve_ten(rt.alloc(), &second)?,
-            Err(ServeFault::Read),
-            DONE[10]
-        )
-    );
+    let served = serve_ten(rt.alloc(), &second)?;
+    assert!(rt; ended(&served, Err(ServeFault::Read), DONE[10]));
+    assert_eq!(rt; served.world.station().row(1).state, State::InUse);
     for (bytes, done) in DONE.iter().enumerate() {
         let devices = Devices {
             ends: 0x3FF,
@@ -302,6 +341,7 @@ fn a_connection_may_be_too_long(rt: HostRuntime) -> Result<(), Fail> {
     let one = Devices { reads: 1, ..SOUND };
     let served = serve_ten(rt.alloc(), &one)?;
     assert!(rt; ended(&served, Err(ServeFault::TooManyReads), DONE[10]));
+    assert_eq!(rt; served.world.station().row(1).state, State::InUse);
     for (bytes, done) in DONE.iter().enumerate() {
         let devices = Devices {
             ends: 0x3FF,
@@ -310,7 +350,23 @@ fn a_connection_may_be_too_long(rt: HostRuntime) -> Result<(), Fail> {
         };
         let served = serve_ten(rt.alloc(), &devices)?;
         assert!(rt; ended(&served, Err(ServeFault::TooManyReads), *done));
+        assert_eq!(rt; served.unread, 10 - bytes);
     }
+    Ok(())
+}
+
+#[test]
+fn no_reads_change_nothing(rt: HostRuntime) -> Result<(), Fail> {
+    let none = Devices { reads: 0, ..SOUND };
+    let served = serve_ten(rt.alloc(), &none)?;
+    assert!(rt; ended(&served, Err(ServeFault::TooManyReads), (0, 0)));
+    assert_eq!(rt; served.unread, 10);
+    let new = World::new(rt.alloc(), 1, NodeList::new())?;
+    for slot in 1..=119 {
+        assert_eq!(rt; served.world.station().row(slot), new.station().row(slot));
+    }
+    let served = serve_ten_on(rt.alloc(), served.world, &SOUND);
+    assert!(rt; ended(&served, Ok(WHOLE), DONE[10]));
     Ok(())
 }
 
@@ -364,14 +420,148 @@ fn a_trace_that_fails_ends_it(rt: HostRuntime) -> Result<(), Fail> {
                 fails,
                 ..SOUND
             };
-            let bytes = match trace {
-                0..36 => 0,
-                36..178 => 14,
-                _ => 28,
-            };
+            let bytes = replied_before(trace);
             let served = serve_ten(rt.alloc(), &devices)?;
             assert!(rt; ended(&served, Err(ServeFault::Trace), (bytes, trace)));
         }
     }
     Ok(())
+}
+
+/// The ten bytes end well, and this much is put out.
+fn ends_well(alloc: Global, devices: &Devices) -> Result<bool, Fail> {
+    Ok(ended(&serve_ten(alloc, devices)?, Ok(WHOLE), DONE[10]))
+}
+
+/// Each write of a reply fails alone, and then none does: after so many bytes, where so many are taken at a time.
+#[test]
+fn each_write_may_fail_alone(rt: HostRuntime) -> Result<(), Fail> {
+    for (each, fails) in [(1, true), (1, false), (14, true), (14, false)] {
+        let calls = 28 / each;
+        for before in 0..calls {
+            let devices = Devices {
+                each,
+                bad_reply: before as u32 + 1,
+                fails,
+                ..SOUND
+            };
+            let sink = before * each;
+            let lines = if sink < 14 { 36 } else { 178 };
+            let served = serve_ten(rt.alloc(), &devices)?;
+            assert!(rt; ended(&served, Err(ServeFault::Write), (sink, lines)));
+        }
+        let none = Devices {
+            each,
+            bad_reply: calls as u32 + 1,
+            fails,
+            ..SOUND
+        };
+        assert!(rt; ends_well(rt.alloc(), &none)?);
+    }
+    Ok(())
+}
+
+/// How many bytes of the lines are traced before each call, where the trace takes all that it is given: a line comes by
+/// one call, and its line feed by another.
+fn starts_of_calls(alloc: Global) -> Result<Vec<usize>, Fail> {
+    let mut starts = Vec::new(alloc);
+    let mut at_start = true;
+    for (at, byte) in LINES.iter().enumerate() {
+        if at_start || *byte == b'\n' {
+            starts.push(at)?;
+        }
+        at_start = *byte == b'\n';
+    }
+    Ok(starts)
+}
+
+#[test]
+fn each_line_may_fail_alone(rt: HostRuntime) -> Result<(), Fail> {
+    let mut single = Vec::new(rt.alloc());
+    for at in 0..LINES.len() {
+        single.push(at)?;
+    }
+    let whole = starts_of_calls(rt.alloc())?;
+    for (each, starts) in [(1, &single), (1000, &whole)] {
+        for fails in [true, false] {
+            let mut call = 1u32;
+            for traced in starts {
+                let devices = Devices {
+                    each,
+                    bad_line: call,
+                    fails,
+                    ..SOUND
+                };
+                let served = serve_ten(rt.alloc(), &devices)?;
+                let bytes = replied_before(*traced);
+                assert!(rt; ended(&served, Err(ServeFault::Trace), (bytes, *traced)));
+                call = call.saturating_add(1);
+            }
+            let none = Devices {
+                each,
+                bad_line: call,
+                fails,
+                ..SOUND
+            };
+            assert!(rt; ends_well(rt.alloc(), &none)?);
+        }
+    }
+    Ok(())
+}
+
+/// A device whose first call answers so, and whose later calls answer with a byte, and how many calls were made.
+#[derive(Drop)]
+struct Once {
+    first: Result<usize, io::ErrorKind>,
+    calls: u32,
+}
+
+impl Once {
+    fn answer(&mut self, most: usize) -> io::Result<usize>
+        ensures { IfOk result (λ n. n ≤ most) }
+    {
+        self.calls = self.calls.wrapping_add(1);
+        match self.first {
+            _ if self.calls > 1 => Ok(most.min(1)),
+            Ok(count) => Ok(count.min(most)),
+            Err(kind) => Err(io::Error::from(kind)),
+        }
+    }
+}
+
+impl Read for Once {
+    fn read(&mut self, buf: &mut [u8]) -> io::Result<usize> {
+        self.answer(buf.len())
+    }
+}
+
+impl Write for Once {
+    fn write(&mut self, buf: &[u8]) -> io::Result<usize> {
+        self.answer(buf.len())
+    }
+
+    fn flush(&mut self) -> io::Result<()> {
+        Ok(())
+    }
+}
+
+#[test]
+fn a_port_calls_its_device_once(rt: HostRuntime) {
+    // What the device answers, what a read gives then, and what a write gives.
+    for (first, given, taken) in [
+        (Ok(0), Ok(0), Err(Broken)),
+        (Ok(1), Ok(1), Ok(1)),
+        (Ok(3), Ok(3), Ok(3)),
+        (Err(io::ErrorKind::Other), Err(Broken), Err(Broken)),
+        (Err(io::ErrorKind::Interrupted), Err(Broken), Err(Broken)),
+        (Err(io::ErrorKind::WouldBlock), Err(Broken), Err(Broken)),
+    ] {
+        let mut device = Once { first, calls: 0 };
+        let mut buf = [0; 3];
+        assert_eq!(rt; Port::new(&mut device).get(&mut buf), given);
+        assert_eq!(rt; device.calls, 1);
+        let mut device = Once { first, calls: 0 };
+        assert_eq!(rt; Port::new(&mut device).put(&buf), taken);
+        assert_eq!(rt; device.calls, 1);
+    }
 }

@@ -5,6 +5,7 @@ use crate::{Event, Nodes, World};
 use dcc_packet::{Module, Motion, Packet, Steps};
 use decoder_cv::CvSet;
 use decoder_node::{NodeList, NodeSpec, Running};
+use half_bits::halves;
 use station_core::{StationFault, Step};
 use std::test::Fail;
 
@@ -56,6 +57,15 @@ fn runs(motion: Motion, forward: bool, functions: u16) -> (Option<Running>, Opti
 
 fn step(of: Steps, n: u8) -> Motion {
     Motion::Step { of, n }
+}
+
+#[test]
+fn each_number_of_lines_makes_a_layout(rt: HostRuntime) -> Result<(), Fail> {
+    for lines in 1..=8u8 {
+        let world = World::new(rt.alloc(), lines, NodeList::new())?;
+        assert_eq!(rt; world.station().lines(), lines);
+    }
+    Ok(())
 }
 
 #[test]
@@ -443,5 +453,161 @@ fn a_request_is_sent_twice_and_sets_its_output(rt: HostRuntime) -> Result<(), Fa
         }
         assert_eq!(rt; state_in(&world, 0), (None, Some(0x02)));
     }
+    Ok(())
+}
+
+/// Noise of these half-bits to node `i`, and whether each was answered with nothing.
+fn is_quiet(world: &mut World, node: u8, noise: &[u16]) -> bool {
+    let mut quiet = true;
+    for half in noise {
+        if usize::from(node) < world.nodes() {
+            let step = world.step(Event::Noise { node, half: *half });
+            quiet = quiet && step == Step::Quiet;
+        } else {
+            quiet = false;
+        }
+    }
+    quiet
+}
+
+/// Noise to node `i` that spells this packet, and whether each half was answered with nothing.
+fn is_spelt_quietly(world: &mut World, node: u8, bytes: &[u8]) -> Result<bool, Fail> {
+    let mut quiet = true;
+    for half in halves(&Packet::of(bytes).ok_or("no packet")?) {
+        quiet = quiet && is_quiet(world, node, &[half]);
+    }
+    Ok(quiet)
+}
+
+/// Messages, noise to a decoder of address 3 and then the halves of a packet as noise, and how it runs after so many
+/// turns.
+#[derive(Clone, Copy, Drop)]
+struct Dirt {
+    name: &'static str,
+    messages: [&'static [u8]; 2],
+    noise: &'static [u16],
+    spelt: &'static [&'static [u8]],
+    after: &'static [(u8, Motion)],
+}
+
+/// Ten ones and a zero: a preamble, and the start of a byte.
+const PREAMBLE: &[u16] = &[
+    58, 58, 58, 58, 58, 58, 58, 58, 58, 58, 58, 58, 58, 58, 58, 58, 58, 58, 58, 58, 100, 100,
+];
+
+const DIRT: [Dirt; 3] = [
+    Dirt {
+        name: "a start of a packet loses the first packet",
+        messages: [IN_USE, DRIVE],
+        noise: PREAMBLE,
+        spelt: &[],
+        after: &[
+            (0, Motion::Stop),
+            (1, Motion::Stop),
+            (3, DRIVEN),
+            (13, DRIVEN),
+        ],
+    },
+    Dirt {
+        name: "noise that spells a packet is obeyed until the cycle ends",
+        messages: [IN_USE, &[]],
+        noise: &[],
+        spelt: &[&[0x03, 0x3F, 0xC0, 0xFC]],
+        after: &[(0, DRIVEN), (13, Motion::Stop)],
+    },
+    Dirt {
+        name: "a packet behind a start of one is lost, and the next one is heard",
+        messages: [IN_USE, &[]],
+        noise: PREAMBLE,
+        spelt: &[&[0x03, 0x78, 0x7B], &[0x03, 0x3F, 0xC0, 0xFC]],
+        after: &[(0, DRIVEN), (13, Motion::Stop)],
+    },
+];
+
+#[test]
+fn a_cycle_ends_what_noise_began(rt: HostRuntime) -> Result<(), Fail> {
+    for dirt in DIRT {
+        for (turns, motion) in dirt.after {
+            let mut world = world_of(&rt, &[at_3(2)?])?;
+            for message in dirt.messages {
+                hear_bytes(&mut world, message);
+            }
+            assert!(rt; is_quiet(&mut world, 0, dirt.noise), "{}", dirt.name);
+            for bytes in dirt.spelt {
+                assert!(rt; is_spelt_quietly(&mut world, 0, bytes)?, "{}", dirt.name);
+            }
+            take_turns(&mut world, *turns);
+            assert_eq!(rt;
+                state_in(&world, 0),
+                runs(*motion, true, 0),
+                "{}: {turns} turns",
+                dirt.name
+            );
+        }
+    }
+    Ok(())
+}
+
+#[test]
+fn noise_reaches_one_node_alone(rt: HostRuntime) -> Result<(), Fail> {
+    let drive = Packet::of(&[0x03, 0x3F, 0xC0, 0xFC]).ok_or("no packet")?;
+    // The node that hears the packet as noise, the one that hears a half in its middle that no packet has, and how
+    // the two locomotives run then.
+    for (hears, is_hit, motions) in [
+        (0, 1, [DRIVEN, Motion::Stop]),
+        (1, 0, [Motion::Stop, DRIVEN]),
+        (0, 0, [Motion::Stop, Motion::Stop]),
+        (1, 1, [Motion::Stop, Motion::Stop]),
+    ] {
+        let mut world = world_of(&rt, &[at_3(2)?, at_3(2)?])?;
+        for (at, half) in halves(&drive).enumerate() {
+            assert!(rt; is_quiet(&mut world, hears, &[half]));
+            if at == 60 {
+                assert!(rt; is_quiet(&mut world, is_hit, &[65535]));
+            }
+        }
+        for (i, motion) in motions.iter().enumerate() {
+            assert_eq!(rt; state_in(&world, i), runs(*motion, true, 0));
+        }
+    }
+    Ok(())
+}
+
+#[test]
+fn noise_that_spells_its_packet_sets_an_output(rt: HostRuntime) -> Result<(), Fail> {
+    let module = Module::new(1).ok_or("no module")?;
+    let mut world = world_of(&rt, &[at_3(2)?, NodeSpec::Accessory(module)])?;
+    assert!(rt; is_spelt_quietly(&mut world, 1, &[0x81, 0xF9, 0x78])?);
+    assert_eq!(rt; state_in(&world, 1), (None, Some(0x02)));
+    assert_eq!(rt; state_in(&world, 0), runs(Motion::Stop, true, 0));
+    Ok(())
+}
+
+#[test]
+fn a_run_answers_noise_with_nothing(rt: HostRuntime) -> Result<(), Fail> {
+    let mut world = world_of(&rt, &[at_3(2)?, at_3(2)?])?;
+    hear_bytes(&mut world, IN_USE);
+    hear_bytes(&mut world, DRIVE);
+    assert!(rt; is_quiet(&mut world, 1, PREAMBLE));
+    let mut steps = [Step::Off, Step::Off, Step::Off, Step::Off];
+    assert!(rt; 1 < world.nodes());
+    let turn = Event::Turn { missed: 0 };
+    let noise = Event::Noise {
+        node: 0,
+        half: 65535,
+    };
+    world.run(&[noise, turn, noise, noise], &mut steps);
+    for (step, is_turn) in steps.iter().zip([false, true, false, false]) {
+        match step {
+            Step::Packet(packet) => {
+                assert!(rt; is_turn);
+                assert_eq!(rt; packet.bytes(), [0x03, 0x3F, 0xC0, 0xFC].as_slice());
+            }
+            step => assert!(rt; !is_turn && *step == Step::Quiet),
+        }
+    }
+    // Node 1 was in the middle of a packet, and lost the one that was sent.
+    assert_eq!(rt; state_in(&world, 0), runs(DRIVEN, true, 0));
+    assert_eq!(rt; state_in(&world, 1), runs(Motion::Stop, true, 0));
     Ok(())
 }

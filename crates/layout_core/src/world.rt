@@ -1,20 +1,23 @@
 //! A layout: a station, and the decoders on its track.
-ghost use Rattle.std.specs.Prelude.{◌≡◌, ◌<◌, ◌≤◌, List, All, IfOk, IfErr, IsTrue, length, map, true, false};
+ghost use Rattle.std.specs.Prelude.{◌≡◌, ◌<◌, ◌≤◌, List, IfOk, IfErr, IsTrue, length, map, true, false};
 ghost use Rattle.std.specs.List.{slice_index_or};
 ghost use Rattle.slot_table.specs.Desk.{IsDesk};
-ghost use Rattle.station_core.specs.Runs.{AreCalls, answer_of, answers, is_call, state_after, state_of};
-ghost use Rattle.station_core.specs.Seen.{first_seen, is_line_count};
+ghost use Rattle.station_core.specs.Moments.{AtEveryMoment};
+ghost use Rattle.station_core.specs.Powered.{HasDesk};
+ghost use Rattle.station_core.specs.Seen.{first_seen, is_line_count, known_of};
 ghost use Rattle.layout_core.specs.declared.node.Node.{Node as NodeValue};
-ghost use Rattle.layout_core.specs.Cycle.{RunsAsWanted};
-ghost use Rattle.layout_core.specs.Nodes.{IsAbleNode, node_of, outputs_of, running_of, spec_of};
+ghost use Rattle.layout_core.specs.Cycle.{RunsAfterNoise, RunsAsWanted};
+ghost use Rattle.layout_core.specs.Nodes.{node_of, outputs_of, running_of, spec_of};
 ghost use Rattle.layout_core.specs.Served.{IsSendableAnswer};
-ghost use Rattle.layout_core.specs.World.{AfterEvent, HaveHeard, call_of, sent_in};
+ghost use Rattle.layout_core.specs.Events.{calls_in};
+ghost use Rattle.layout_core.specs.Played.{AreEvents, after_event, after_events, answer_to, answers_to, is_event};
+ghost use Rattle.layout_core.specs.World.{AfterEvent, HaveHeard, HaveObeyed, OneHears};
 
 use crate::event::Event;
 use crate::laws::headline;
 use crate::nodes::Nodes;
 use decoder_node::{NodeList, Running};
-use station_core::{Station, StationFault, Step};
+use station_core::{Station, StationFault, Step, calls_are_moves, stays_a_desk};
 use std::alloc::Global;
 
 /// A station, and the decoders on its track: nothing but its packets moves them.
@@ -52,7 +55,6 @@ impl World {
     pub fn nodes(&self) -> usize
         ensures count { result ≡ length self.now.nodes }
         ensures most { result ≤ 64 }
-        ensures able { All IsAbleNode self.now.nodes }
     {
         self.nodes.len()
     }
@@ -73,14 +75,16 @@ impl World {
         self.nodes.outputs(i)
     }
 
-    /// One event: the station moves, and each decoder hears what it sends, but for those that miss it.
+    /// One event: the station moves, and each decoder hears what it sends, but for those that miss it. Noise reaches one
+    /// decoder alone.
     #[inline]
     pub fn step(&mut self, event: Event) -> Step
-        requires { IsTrue (is_call (length self.old.station.lines) (call_of event)) }
-        ensures station { self.new.station ≡ state_of self.old.station (call_of event) }
-        ensures answer { result ≡ answer_of self.old.station (call_of event) }
+        requires { IsTrue (is_event (length self.old.station.lines) (length self.old.nodes) event) }
+        ensures station { self.new.station ≡ after_event self.old.station event }
+        ensures answer { result ≡ answer_to self.old.station event }
         ensures nodes { AfterEvent event result self.old.nodes self.new.nodes }
         ensures lines { length self.new.station.lines ≡ length self.old.station.lines }
+        ensures count { length self.new.nodes ≡ length self.old.nodes }
         ensures specs { map spec_of self.new.nodes ≡ map spec_of self.old.nodes }
         ensures desk { IsDesk self.old.station.powered.desk }
         ensures sendable { IsSendableAnswer result }
@@ -88,41 +92,52 @@ impl World {
         match event {
             Event::Byte { line, byte } => self.byte(line, byte),
             Event::Turn { missed } => self.turn(missed),
+            Event::Noise { node, half } => self.noise(node, half),
         }
     }
 
     /// Each event in order, its answer written at its place. A list of events may be cut anywhere.
     pub fn run(&mut self, events: &[Event], steps: &mut [Step])
         requires places { length events.now ≡ length steps.old }
-        requires lines { AreCalls (length self.old.station.lines) (map call_of events.now) }
-        ensures station { self.new.station ≡ state_after self.old.station (map call_of events.now) }
-        ensures answers { steps.new ≡ answers self.old.station (map call_of events.now) }
-        ensures nodes { HaveHeard (sent_in self.old.station events.now) self.old.nodes self.new.nodes }
+        requires events { AreEvents (length self.old.station.lines) (length self.old.nodes) events.now }
+        ensures station { self.new.station ≡ after_events self.old.station events.now }
+        ensures answers { steps.new ≡ answers_to self.old.station events.now }
+        ensures nodes { HaveHeard self.old.station events.now self.old.nodes self.new.nodes }
         ensures specs { map spec_of self.new.nodes ≡ map spec_of self.old.nodes }
+        ensures lines { length self.new.station.lines ≡ length self.old.station.lines }
+        ensures count { length self.new.nodes ≡ length self.old.nodes }
+        // At each moment no address has two slots, and each slot that is not free has its entry.
+        ensures desks { AtEveryMoment HasDesk (known_of self.old.station) (calls_in events.now) }
+        // A node that no noise names obeys exactly the packets that it hears.
+        ensures obeyed { HaveObeyed self.old.station events.now self.old.nodes self.new.nodes }
         // A locomotive that hears a full refresh cycle runs as its slot says.
-        ensures headline { RunsAsWanted self.old.station events.now self.old.nodes self.new.nodes }
+        ensures headline { RunsAsWanted (known_of self.old.station) events.now self.old.nodes self.new.nodes }
+        // So does one whose receiver noise left anywhere, where it hears one turn more.
+        ensures after_noise { RunsAfterNoise (known_of self.old.station) events.now self.old.nodes self.new.nodes }
     {
         headline();
-        // The nodes promise there that each is able.
-        let _ = self.nodes();
+        stays_a_desk();
+        // The station promises there that it has a desk.
+        let _ = self.station.lines();
         for (i, event) in events.iter().enumerate() {
             steps[i] = self.step(*event);
         }
     }
 
     // A byte moves no decoder.
-    #[tactic(auto, unfolding(station_core::specs::Moved::moved))]
     #[inline]
     fn byte(&mut self, line: u8, byte: u8) -> Step
         requires { line < length self.old.station.lines }
-        ensures station { self.new.station ≡ state_of self.old.station (call_of (Event.Byte line byte)) }
-        ensures answer { result ≡ answer_of self.old.station (call_of (Event.Byte line byte)) }
+        ensures station { self.new.station ≡ after_event self.old.station (Event.Byte line byte) }
+        ensures answer { result ≡ answer_to self.old.station (Event.Byte line byte) }
         ensures nodes { self.new.nodes ≡ self.old.nodes }
         ensures lines { length self.new.station.lines ≡ length self.old.station.lines }
+        ensures count { length self.new.nodes ≡ length self.old.nodes }
         ensures specs { map spec_of self.new.nodes ≡ map spec_of self.old.nodes }
         ensures desk { IsDesk self.old.station.powered.desk }
         ensures sendable { IsSendableAnswer result }
     {
+        calls_are_moves();
         match self.station.byte(line, byte) {
             Some(reply) => Step::Reply(reply),
             None => Step::Quiet,
@@ -130,17 +145,18 @@ impl World {
     }
 
     // A packet is heard by the decoders that do not miss it.
-    #[tactic(auto, unfolding(station_core::specs::Moved::moved))]
     #[inline(never)]
     fn turn(&mut self, missed: u64) -> Step
-        ensures station { self.new.station ≡ state_of self.old.station (call_of (Event.Turn missed)) }
-        ensures answer { result ≡ answer_of self.old.station (call_of (Event.Turn missed)) }
+        ensures station { self.new.station ≡ after_event self.old.station (Event.Turn missed) }
+        ensures answer { result ≡ answer_to self.old.station (Event.Turn missed) }
         ensures nodes { AfterEvent (Event.Turn missed) result self.old.nodes self.new.nodes }
         ensures lines { length self.new.station.lines ≡ length self.old.station.lines }
+        ensures count { length self.new.nodes ≡ length self.old.nodes }
         ensures specs { map spec_of self.new.nodes ≡ map spec_of self.old.nodes }
         ensures desk { IsDesk self.old.station.powered.desk }
         ensures sendable { IsSendableAnswer result }
     {
+        calls_are_moves();
         match self.station.turn() {
             Some(packet) => {
                 self.nodes.hear(&packet, missed);
@@ -148,5 +164,21 @@ impl World {
             }
             None => Step::Off,
         }
+    }
+
+    // Noise reaches one decoder, and the station knows nothing of it.
+    fn noise(&mut self, node: u8, half: u16) -> Step
+        requires { node < length self.old.nodes }
+        ensures station { self.new.station ≡ self.old.station }
+        ensures answer { result ≡ Step.Quiet }
+        ensures nodes { OneHears node half self.old.nodes self.new.nodes }
+        ensures count { length self.new.nodes ≡ length self.old.nodes }
+        ensures specs { map spec_of self.new.nodes ≡ map spec_of self.old.nodes }
+        ensures desk { IsDesk self.old.station.powered.desk }
+    {
+        // The station promises there that it has a desk.
+        let _ = self.station.lines();
+        self.nodes.noise(usize::from(node), half);
+        Step::Quiet
     }
 }

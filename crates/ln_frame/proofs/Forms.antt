@@ -1,8 +1,8 @@
 -- What the form of a whole message says of its bytes.
-use Rattle.std.proofs.Common.{◌≡◌, ℕ, ◌+◌, ◌<◌, ◌≤◌, ◌&&◌, Bool, true, false, List, [], ◌∷◌, length, get_or, suc, zero, Option, Some, None, nat_lt, refl, ap, sym, ◌∙◌, arith}
+use Rattle.std.proofs.Common.{◌≡◌, ℕ, ◌<◌, ◌≤◌, true, List, [], ◌∷◌, length, get_or, suc, zero, Option, Some, None, nat_lt, ap, arith}
 use Rattle.std.proofs.lemmas.Bool.{and_parts, eqb-true, ltb-true}
 use Rattle.std.proofs.lemmas.Bool.Decides.{nat_tests}
-use Rattle.ln_frame.specs.Message.{message_len, are_data, is_len, has_form, is_whole, IsWhole}
+use Rattle.ln_frame.specs.Message.{message_len, are_data, is_len, has_form, IsWhole}
 use Rattle.ln_frame.proofs.Positions.{message_len-least}
 
 pub form-of_whole : (m : List ℕ) → IsWhole m → has_form m ≡ true

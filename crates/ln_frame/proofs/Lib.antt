@@ -3,3 +3,4 @@ pub mod Forms
 pub mod Framing
 pub mod Overlaps
 pub mod Positions
+pub mod Rest

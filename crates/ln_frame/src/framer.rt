@@ -1,7 +1,8 @@
 //! The framer.
 ghost use Rattle.std.specs.Prelude.{◌≡◌, ℕ, List, [], ◌∷◌, ◌++◌, IsTrue};
 ghost use Rattle.std.specs.Option.{option_to_list};
-ghost use Rattle.ln_frame.specs.Stream.{is_unfinished, unfinished_of, message_at_end, messages_of, messages_along, NeverOverlap};
+ghost use Rattle.ln_frame.specs.Stream.{message_at_end, messages_of, NeverOverlap};
+ghost use Rattle.ln_frame.specs.Unfinished.{is_unfinished, unfinished_of, messages_along};
 
 use crate::msg::{MAX_LEN, Msg, OPCODE, message_len};
 use arrayvec::ArrayVec;
@@ -73,7 +74,16 @@ impl Default for Framer {
 
 /// Byte by byte, and so in whatever pieces, a line gives the messages in its bytes, and no others.
 pub fn any_cut()
-    ensures { (bytes : List ℕ) → messages_along [] bytes ≡ messages_of bytes }
+    ensures whole { (bytes : List ℕ) → messages_along [] bytes ≡ messages_of bytes }
+    // So it does behind what an earlier piece left unfinished.
+    ensures behind { (left bytes : List ℕ) → unfinished_of left ≡ left → messages_along left bytes ≡ messages_of (left ++ bytes) }
+{}
+
+/// What the bytes of a line leave unfinished is all of them that a further byte goes on with.
+pub fn left_is_enough()
+    ensures message { (bytes : List ℕ) (byte : ℕ) → message_at_end (bytes ++ byte ∷ []) ≡ message_at_end (unfinished_of bytes ++ byte ∷ []) }
+    ensures unfinished { (bytes : List ℕ) (byte : ℕ) → unfinished_of (bytes ++ byte ∷ []) ≡ unfinished_of (unfinished_of bytes ++ byte ∷ []) }
+    ensures once { (bytes : List ℕ) → unfinished_of (unfinished_of bytes) ≡ unfinished_of bytes }
 {}
 
 /// Two whole messages of the same bytes never overlap.

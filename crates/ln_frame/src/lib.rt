@@ -4,7 +4,7 @@
 mod framer;
 mod msg;
 
-pub use framer::{Framer, any_cut, never_overlap};
+pub use framer::{Framer, any_cut, left_is_enough, never_overlap};
 pub use msg::{MAX_LEN, Msg};
 
 #[cfg(test)]

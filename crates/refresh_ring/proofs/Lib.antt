@@ -1,3 +1,6 @@
+pub mod Masks
+pub mod Spread
+pub mod Told
 pub mod Waiting
 pub mod Marks
 pub mod Firsts

@@ -78,13 +78,13 @@ places_in-append [] more = refl
 places_in-append (Place slot kind ∷ jobs) more = ap (λ l. place_of slot kind ∷ l) (places_in-append jobs more)
 places_in-append (Request number closed on again ∷ jobs) more = places_in-append jobs more
 
-requests_in-append : (jobs more : List Job) → requests_in (jobs ++ more) ≡ requests_in jobs + requests_in more
+pub requests_in-append : (jobs more : List Job) → requests_in (jobs ++ more) ≡ requests_in jobs + requests_in more
 requests_in-append [] more = omega arith
 requests_in-append (Place slot kind ∷ jobs) more = requests_in-append jobs more
 requests_in-append (Request number closed on again ∷ jobs) more = omega (arith, requests_in-append jobs more)
 
 -- places differ where slot or kind do
-place_of-other : (slot : ℕ) (kind : Kind) (other : ℕ) (other_kind : Kind) → IsSlot slot → IsSlot other → is_place slot kind (Place other other_kind) ≡ false → eqb (place_of slot kind) (place_of other other_kind) ≡ false
+pub place_of-other : (slot : ℕ) (kind : Kind) (other : ℕ) (other_kind : Kind) → IsSlot slot → IsSlot other → is_place slot kind (Place other other_kind) ≡ false → eqb (place_of slot kind) (place_of other other_kind) ≡ false
 place_of-other slot kind other other_kind in_range other_in h =
     ne_eqb (place_of slot kind) (place_of other other_kind) (λ e.
     let same_kind : number_of other_kind ≡ number_of kind = omega (arith, number_of-le kind, number_of-le other_kind) in

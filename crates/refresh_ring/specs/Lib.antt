@@ -1,5 +1,7 @@
 pub mod Places
 pub mod Jobs
+pub mod Words
+pub mod Calls
 pub mod Marked
 pub mod Scheduled
 pub mod Picked

@@ -1,20 +1,18 @@
--- Which places wait, by a mark for each.
-use Rattle.std.specs.Prelude.{ℕ, ◌≡◌, ◌-◌, Bool, false, List, slice_index_or}
+-- Which places wait, by a mark for each, and how many switch requests do. No public clause cites these.
+use Rattle.std.specs.Prelude.{ℕ, ◌≡◌, List}
 use Rattle.refresh_ring.specs.Places.{IsSlot, place_of}
-use Rattle.refresh_ring.specs.Jobs.{IsQueue, waits}
+use Rattle.refresh_ring.specs.Jobs.{IsQueue, waits, requests_in}
+use Rattle.refresh_ring.specs.Words.{is_in}
 use Rattle.refresh_ring.specs.declared.kind.Kind.{Kind}
 use Rattle.refresh_ring.specs.declared.job.Job.{Job}
 
--- whether a place is marked, of the list of the places from 1 on
-abbrev pub is_marked : ℕ → Kind → List Bool → Bool
-is_marked slot kind marks = slice_index_or marks (place_of slot kind - 1) false
-
 -- exactly the places that wait are marked
-abbrev pub IsMarked : List Bool → List Job → Type 0
-IsMarked marks jobs = (slot : ℕ) (kind : Kind) → IsSlot slot → is_marked slot kind marks ≡ waits slot kind jobs
+abbrev pub IsMarked : List ℕ → List Job → Type 0
+IsMarked marks jobs = (slot : ℕ) (kind : Kind) → IsSlot slot → is_in marks (place_of slot kind) ≡ waits slot kind jobs
 
--- a queue stands in a buffer with room for each of its jobs, and its places are marked
-pub record IsBuffered (jobs : List Job) (capacity : ℕ) (marks : List Bool) : Type 0 where
+-- a queue stands in a buffer with room for each of its jobs, its places are marked, and its switch requests are counted
+pub record IsBuffered (jobs : List Job) (capacity : ℕ) (marks : List ℕ) (requests : ℕ) : Type 0 where
   pub queue : IsQueue jobs
   pub room : capacity ≡ 389
   pub marked : IsMarked marks jobs
+  pub counted : requests ≡ requests_in jobs

@@ -4,6 +4,8 @@
 //! are what was changed or asked for and waits to be sent at once, and ring and jobs take turns.
 #![tactic(auto)]
 
+mod bit_ring;
+mod bits;
 mod fault;
 mod job;
 mod kind;
@@ -13,10 +15,12 @@ mod place_set;
 mod plain;
 mod queue;
 mod ring;
+mod rings;
 mod schedule;
 mod turn;
 mod view;
 
+pub use bit_ring::BitRing;
 pub use fault::{Full, NoMemory};
 pub use job::{Destination, Job};
 pub use kind::Kind;
@@ -24,6 +28,7 @@ pub use laws::{changes_first, four_turns, neighbours, picks_are_due, switches_in
 pub use pick::{Pick, Power};
 pub use plain::PlainRing;
 pub use ring::Ring;
+pub use rings::both;
 pub use schedule::Schedule;
 pub use view::View;
 

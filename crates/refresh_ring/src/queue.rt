@@ -9,6 +9,7 @@ use crate::job::Job;
 use crate::kind::Kind;
 use crate::place_set::PlaceSet;
 use crate::ring::Ring;
+use crate::turn::place_of;
 use circular_buffer::HeapCircularBuffer;
 use std::alloc::Global;
 use std::marker::Model;
@@ -22,6 +23,8 @@ pub(crate) struct JobQueue {
     jobs: HeapCircularBuffer<Job>,
     // The places among the jobs, so that nobody has to search for one.
     waiting: PlaceSet,
+    // How many of the jobs are switch requests, so that nobody has to count them.
+    requests: u8,
 }
 
 impl Model for JobQueue {
@@ -34,7 +37,7 @@ impl Model for JobQueue {
 
     ghost view = { λ q. q.jobs.items };
 
-    ghost invariant = { λ q. IsBuffered q.jobs.items q.jobs.capacity q.waiting };
+    ghost invariant = { λ q. IsBuffered q.jobs.items q.jobs.capacity q.waiting q.requests };
 }
 
 impl JobQueue {
@@ -47,6 +50,7 @@ impl JobQueue {
             Ok(jobs) => Ok(JobQueue {
                 jobs,
                 waiting: PlaceSet::empty(),
+                requests: 0,
             }),
             Err(_) => Err(NoMemory),
         }
@@ -58,21 +62,16 @@ impl JobQueue {
         requires { IsSlot slot }
         ensures { result ≡ waits slot kind self.now }
     {
-        self.waiting.has(slot, kind)
+        self.waiting.has(place_of(slot, kind))
     }
 
     // How many switch requests wait.
+    #[inline]
     pub(crate) fn requests(&self) -> u8
         ensures count { result ≡ requests_in self.now }
         ensures queue { IsQueue self.now }
     {
-        let mut count = 0;
-        for job in self.jobs.iter() {
-            if let Job::Request { .. } = *job {
-                count += 1;
-            }
-        }
-        count
+        self.requests
     }
 
     // The sends that wait ahead of a place, where the place waits.
@@ -97,7 +96,7 @@ impl JobQueue {
         ensures queue { IsQueue self.new }
     {
         self.jobs.push_back(Job::Place { slot, kind });
-        self.waiting.set(slot, kind, true);
+        self.waiting.set(place_of(slot, kind), true);
     }
 
     // A switch request waits behind all others, and is sent twice.
@@ -113,6 +112,7 @@ impl JobQueue {
             on,
             again: true,
         });
+        self.requests += 1;
     }
 
     // The first job.
@@ -147,8 +147,10 @@ impl JobQueue {
         ensures queue { IsQueue self.new }
     {
         let job = self.jobs.pop_front();
-        if let Some(Job::Place { slot, kind }) = job {
-            self.waiting.set(slot, kind, false);
+        match job {
+            Some(Job::Place { slot, kind }) => self.waiting.set(place_of(slot, kind), false),
+            Some(Job::Request { .. }) => self.requests -= 1,
+            None => {}
         }
         job
     }
@@ -175,6 +177,7 @@ impl JobQueue {
                     on,
                     again: false,
                 });
+                self.requests += 1;
             }
         }
     }

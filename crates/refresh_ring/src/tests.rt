@@ -1,7 +1,8 @@
 //! The ring's wrap, the turns of two locomotives and of two switch requests, and a queue that is full.
 ghost use Rattle.std.specs.Prelude.{◌≡◌, length};
 
-use crate::{Full, Kind, NoMemory, Pick, PlainRing, Power, Ring, Schedule, View};
+use crate::{BitRing, Full, Kind, NoMemory, Pick, PlainRing, Power, Ring, Schedule, View, both};
+use std::process::Abort;
 
 // A table of addresses.
 #[derive(Drop)]
@@ -31,13 +32,30 @@ fn two_addresses() -> Addresses {
 const KINDS: [Kind; 3] = [Kind::Speed, Kind::GroupOne, Kind::GroupTwo];
 
 #[test]
-fn the_ring_wraps_after_the_last_place(rt: HostRuntime) {
-    let mut ring = PlainRing::default();
-    assert_eq!(rt; ring.next(0), None);
-    ring.set(1, true);
-    ring.set(119, true);
+fn an_empty_ring_has_no_next_place(rt: HostRuntime) {
+    assert_eq!(rt; PlainRing::default().next(0), None);
+    assert_eq!(rt; BitRing::default().next(0), None);
+}
+
+#[test]
+fn both_rings_wrap_after_the_last_place(rt: HostRuntime) {
+    let (plain, bits) = both(&[(1, true), (119, true)]);
     for (cursor, place) in [(1, 119), (119, 120), (357, 1)] {
-        assert_eq!(rt; ring.next(cursor), Some(place));
+        assert_eq!(rt; plain.next(cursor), Some(place));
+        assert_eq!(rt; bits.next(cursor), Some(place));
+    }
+}
+
+#[test]
+fn both_rings_go_over_the_borders_of_words(rt: HostRuntime) {
+    let (plain, bits) = both(&[(64, true), (9, true), (82, true), (118, true), (118, false)]);
+    for (cursor, place) in [(9, 64), (82, 128), (302, 320), (320, 9)] {
+        assert_eq!(rt; plain.next(cursor), Some(place));
+        assert_eq!(rt; bits.next(cursor), Some(place));
+    }
+    for (slot, refreshed) in [(64, true), (82, true), (118, false)] {
+        assert_eq!(rt; plain.has(slot), refreshed);
+        assert_eq!(rt; bits.has(slot), refreshed);
     }
 }
 
@@ -50,9 +68,15 @@ fn a_new_schedule_has_nothing_waiting(rt: HostRuntime) -> Result<(), NoMemory> {
 }
 
 #[test]
-fn two_locomotives_take_turns(rt: HostRuntime) -> Result<(), NoMemory> {
+fn two_locomotives_take_turns_on_both_rings(rt: HostRuntime) -> Result<(), NoMemory> {
+    two_locomotives_take_turns(&rt, Schedule::<PlainRing>::new(rt.alloc())?);
+    two_locomotives_take_turns(&rt, Schedule::<BitRing>::new(rt.alloc())?);
+    Ok(())
+}
+
+// The turns of a new schedule after both slots were loaded and changed.
+fn two_locomotives_take_turns<R: Ring>(rt: &impl Abort, mut schedule: Schedule<R>) {
     let view = two_addresses();
-    let mut schedule: Schedule<PlainRing> = Schedule::new(rt.alloc())?;
     assert_eq!(rt; schedule.pick(&view, Power::Off), Pick::Off);
     assert_eq!(rt; schedule.pick(&view, Power::Paused), Pick::StopAll);
     for slot in 1..3u8 {
@@ -82,7 +106,6 @@ fn two_locomotives_take_turns(rt: HostRuntime) -> Result<(), NoMemory> {
         };
         assert_eq!(rt; schedule.pick(&view, Power::Running), expected);
     }
-    Ok(())
 }
 
 #[test]

@@ -1,6 +1,6 @@
 //! What a turn chooses from, and where it goes.
 ghost use Rattle.std.specs.Prelude.{◌≡◌, ◌≤◌, IfSome};
-ghost use Rattle.refresh_ring.specs.Places.{IsSlot, IsPlace, slot_of, kind_of};
+ghost use Rattle.refresh_ring.specs.Places.{IsSlot, IsPlace, place_of, slot_of, kind_of};
 ghost use Rattle.refresh_ring.specs.Jobs.{IsJob};
 ghost use Rattle.refresh_ring.specs.Sent.{IsLegalPick};
 ghost use Rattle.refresh_ring.specs.Picked.{IsCandidate, candidate, destination_of, pick_of, is_last};
@@ -83,6 +83,15 @@ pub(crate) fn pick_of(job: Job) -> Pick
             ..
         } => Pick::Switch { number, closed, on },
     }
+}
+
+#[inline]
+pub(crate) fn place_of(slot: u8, kind: Kind) -> u16
+    requires { IsSlot slot }
+    ensures place { result ≡ place_of slot kind }
+    ensures range { IsPlace result }
+{
+    119 * kind.number() + u16::from(slot)
 }
 
 #[inline]

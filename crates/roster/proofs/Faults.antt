@@ -5,12 +5,17 @@ use Rattle.toml.specs.Data.{Data, Members}
 use Rattle.dcc_packet.specs.Module.{is_module}
 use Rattle.decoder_cv.specs.Settings.{Settings}
 use Rattle.decoder_cv.specs.declared.cv_fault.CvFault.{CvFault}
+use Rattle.decoder_cv.specs.declared.cv_fault.CvFault.TheVariants.{BadCv1, BadCv17, NotLoco, BadList}
 use Rattle.roster.specs.declared.described.Described.{Described}
-use Rattle.roster.specs.declared.described.Described.TheVariants.{Loco, Accessory}
+use Rattle.roster.specs.declared.described.Described.TheVariants.{Loco, Listed, Accessory}
+use Rattle.roster.specs.declared.pair.Pair.{Pair}
+use Rattle.roster.specs.declared.version.Version.{Version}
+use Rattle.roster.specs.declared.version.Version.TheVariants.{One, Two}
 use Rattle.roster.specs.declared.fault.Why.{Why}
-use Rattle.roster.specs.declared.fault.Why.TheVariants.{BadShape, BadName, BadCv, BadModule, NoMemory}
+use Rattle.roster.specs.declared.fault.Why.TheVariants.{BadShape, BadName, BadCv, BadCvList, BadModule, NoMemory}
 use Rattle.roster.specs.Entry.{Entry}
-use Rattle.roster.specs.Format.{accessory_in, accessory_of, byte_of, described_as, entry_of, loco_in, loco_of, name_after, decoder_of}
+use Rattle.roster.specs.Format.{accessory_in, accessory_of, byte_of, described_as, entry_of, loco_in, loco_in_keys, loco_in_list, loco_listed, loco_of, name_after, decoder_of}
+use Rattle.roster.specs.Pairs.{cvs_of}
 use Rattle.roster.specs.Steps.{◌>>=◌, or_fault}
 use Rattle.roster.specs.Toml.{integer_or}
 
@@ -33,6 +38,9 @@ bad_name A = record { fault = λ e. cc }
 bad_cv : (A : Type 0) → NeverMemory {A = A} (Err BadCv)
 bad_cv A = record { fault = λ e. cc }
 
+bad_cv_list : (A : Type 0) → NeverMemory {A = A} (Err BadCvList)
+bad_cv_list A = record { fault = λ e. cc }
+
 bad_module : (A : Type 0) → NeverMemory {A = A} (Err BadModule)
 bad_module A = record { fault = λ e. cc }
 
@@ -52,14 +60,24 @@ or_other : (o : Option Data) (z : ℤ) → NeverMemory (integer_or o z)
 or_other None z = done z
 or_other (Some value) z = shaped _
 
-in_loco : (table : Members) → NeverMemory (loco_in table)
-in_loco table = search (in_both, in_turn, shaped, or_other, done, bad_shape) depth 12
+in_keys : (table : Members) → NeverMemory (loco_in_keys table)
+in_keys table = search (in_both, in_turn, shaped, or_other, done, bad_shape) depth 12
+
+in_cvs : (value : Data) → NeverMemory (cvs_of value)
+in_cvs value = search (in_both, in_turn, shaped, done, bad_shape)
+
+in_list : (table : Members) → NeverMemory (loco_in_list table)
+in_list table = search (in_both, in_turn, shaped, in_cvs, done, bad_shape)
+
+in_loco : (version : Version) (table : Members) → NeverMemory (loco_in version table)
+in_loco One table = in_keys table
+in_loco Two table = in_list table
 
 in_accessory : (table : Members) → NeverMemory (accessory_in table)
 in_accessory table = search (in_both, in_turn, shaped, done, bad_shape)
 
-as_kind : (kind : List ℕ) (table : Members) → NeverMemory (described_as kind table)
-as_kind kind table = search (in_both, in_loco, in_accessory, bad_shape)
+as_kind : (version : Version) (kind : List ℕ) (table : Members) → NeverMemory (described_as version kind table)
+as_kind version kind table = search (in_both, in_loco, in_accessory, bad_shape)
 
 of_byte : (z : ℤ) → NeverMemory (byte_of z)
 of_byte (pos n) = in_both (nat_lt n 256) _ _ (done n) (bad_cv _)
@@ -67,7 +85,13 @@ of_byte (negsuc n) = bad_cv _
 
 of_settings : (r : Result Settings CvFault) → NeverMemory (loco_of r)
 of_settings (Ok cv) = done _
-of_settings (Err fault) = bad_cv _
+of_settings (Err BadCv1) = bad_cv _
+of_settings (Err BadCv17) = bad_cv _
+of_settings (Err NotLoco) = bad_cv _
+of_settings (Err BadList) = bad_cv_list _
+
+of_list : (pairs : List Pair) → NeverMemory (loco_listed pairs)
+of_list pairs = search (in_both, of_settings, bad_cv, bad_cv_list)
 
 of_module : (z : ℤ) → NeverMemory (accessory_of z)
 of_module (pos n) = in_both (is_module n) _ _ (done _) (bad_module _)
@@ -75,10 +99,11 @@ of_module (negsuc n) = bad_module _
 
 of_values : (described : Described) → NeverMemory (decoder_of described)
 of_values (Accessory number) = of_module number
+of_values (Listed pairs) = of_list pairs
 of_values (Loco cv1 cv17 cv18 cv29) = search (in_turn, of_byte, of_settings) depth 12
 
 of_name : (earlier : List Entry) (name : List ℕ) → NeverMemory (name_after earlier name)
 of_name earlier name = search (in_both, done, bad_name)
 
-pub of_entry : (earlier : List Entry) (value : Data) → NeverMemory (entry_of earlier value)
-of_entry earlier value = search (in_turn, shaped, as_kind, of_name, of_values, done) depth 12
+pub of_entry : (version : Version) (earlier : List Entry) (value : Data) → NeverMemory (entry_of version earlier value)
+of_entry version earlier value = search (in_turn, shaped, as_kind, of_name, of_values, done) depth 12

@@ -1,4 +1,5 @@
 pub mod Examples
+pub mod Cvs
 pub mod Faults
 pub mod Keys
 pub mod Names

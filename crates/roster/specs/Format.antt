@@ -1,25 +1,34 @@
--- The format of a roster, version 1. Each part is read in the order in which its faults count, and the first decides.
-use Rattle.std.specs.Prelude.{ℕ, ◌+◌, ◌==◌, nat_lt, Bool, false, if◌then◌else◌, List, [], ◌∷◌, ◌++◌, length, Option, Some, None, Result, Ok, Err, ℤ, pos, negsuc, codes}
+-- The format of a roster, versions 1 and 2. Each part is read in the order in which its faults count, and the first
+-- decides. The versions differ in how the variables of a locomotive are given, and in nothing else.
+use Rattle.std.specs.Prelude.{ℕ, ◌+◌, ◌==◌, nat_lt, if◌then◌else◌, List, [], ◌∷◌, ◌++◌, length, map, Option, Some, None, Result, Ok, Err, ℤ, pos, negsuc, codes}
+use Rattle.std.specs.List.{list_all}
 use Rattle.std.specs.Str.{bytes_eq}
 use Rattle.toml.specs.Data.{Data, Items, no_items, item, Members, get_member, as_array, as_table}
 use Rattle.dcc_packet.specs.Module.{is_module}
 use Rattle.decoder_cv.specs.Settings.{Settings, settings_of}
+use Rattle.decoder_cv.specs.Listed.{listed}
 use Rattle.decoder_cv.specs.declared.cv_fault.CvFault.{CvFault}
+use Rattle.decoder_cv.specs.declared.cv_fault.CvFault.TheVariants.{BadCv1, BadCv17, NotLoco, BadList}
 use Rattle.decoder_node.specs.declared.node.NodeSpec.{NodeSpec}
 use Rattle.decoder_node.specs.declared.node.NodeSpec.TheVariants as node
 use Rattle.roster.specs.declared.fault.Why.{Why}
-use Rattle.roster.specs.declared.fault.Why.TheVariants.{NotToml, BadShape, TooMany, BadName, BadCv, BadModule, Empty}
+use Rattle.roster.specs.declared.fault.Why.TheVariants.{NotToml, BadShape, TooMany, BadName, BadCv, BadModule, Empty, BadCvList}
 use Rattle.roster.specs.declared.fault.RosterFault.{RosterFault}
 use Rattle.roster.specs.declared.described.Described.{Described}
-use Rattle.roster.specs.declared.described.Described.TheVariants.{Loco, Accessory}
+use Rattle.roster.specs.declared.described.Described.TheVariants.{Loco, Listed, Accessory}
+use Rattle.roster.specs.declared.pair.Pair.{Pair}
+use Rattle.roster.specs.declared.version.Version.{Version}
+use Rattle.roster.specs.declared.version.Version.TheVariants.{One, Two}
 use Rattle.roster.specs.Entry.{Entry, is_free}
+use Rattle.roster.specs.Pairs.{cv_pair_of, cvs_of, has_byte, has_word}
 use Rattle.roster.specs.Steps.{◌>>=◌, or_fault}
 use Rattle.roster.specs.Toml.{table_in, items_len, knows_only, text_at, integer_at, integer_or}
 
 -- Node by node. First the shape of its table: which keys it has, and of which types their values are.
 
-abbrev pub loco_in : Members → Result Described Why
-loco_in table =
+-- version 1: a key for each of the four variables
+abbrev pub loco_in_keys : Members → Result Described Why
+loco_in_keys table =
     if knows_only (codes "name" ∷ codes "kind" ∷ codes "cv1" ∷ codes "cv17" ∷ codes "cv18" ∷ codes "cv29" ∷ []) table
     then (do
       cv1 ← integer_at (codes "cv1") table
@@ -29,6 +38,20 @@ loco_in table =
       Ok (Loco cv1 cv17 cv18 cv29))
     else Err BadShape
 
+-- version 2: a list of variables
+abbrev pub loco_in_list : Members → Result Described Why
+loco_in_list table =
+    if knows_only (codes "name" ∷ codes "kind" ∷ codes "cvs" ∷ []) table
+    then (do
+      value ← or_fault (get_member (codes "cvs") table) BadShape
+      pairs ← cvs_of value
+      Ok (Listed pairs))
+    else Err BadShape
+
+abbrev pub loco_in : Version → Members → Result Described Why
+loco_in One table = loco_in_keys table
+loco_in Two table = loco_in_list table
+
 abbrev pub accessory_in : Members → Result Described Why
 accessory_in table =
     if knows_only (codes "name" ∷ codes "kind" ∷ codes "module" ∷ []) table
@@ -37,24 +60,37 @@ accessory_in table =
       Ok (Accessory number))
     else Err BadShape
 
-abbrev pub described_as : List ℕ → Members → Result Described Why
-described_as kind table =
-    if bytes_eq kind (codes "loco") then loco_in table else
+abbrev pub described_as : Version → List ℕ → Members → Result Described Why
+described_as version kind table =
+    if bytes_eq kind (codes "loco") then loco_in version table else
     (if bytes_eq kind (codes "accessory") then accessory_in table else Err BadShape)
 
 -- Then its name, which no earlier node has.
 abbrev pub name_after : List Entry → List ℕ → Result (List ℕ) Why
 name_after earlier name = if is_free earlier name then Ok name else Err BadName
 
--- Then its values: those of configuration variables are bytes that make a locomotive decoder, and a module is 1 to 510.
+-- Then its values: those of variables are bytes that make a locomotive decoder, and a module is 1 to 510.
 
 abbrev pub byte_of : ℤ → Result ℕ Why
 byte_of (pos n) = if nat_lt n 256 then Ok n else Err BadCv
 byte_of (negsuc n) = Err BadCv
 
+abbrev pub fault_of : CvFault → Why
+fault_of BadList = BadCvList
+fault_of BadCv1 = BadCv
+fault_of BadCv17 = BadCv
+fault_of NotLoco = BadCv
+
 abbrev pub loco_of : Result Settings CvFault → Result NodeSpec Why
 loco_of (Ok cv) = Ok (node.Loco cv)
-loco_of (Err fault) = Err BadCv
+loco_of (Err fault) = Err (fault_of fault)
+
+-- Of a list all values are looked at first, then whether 16 bits hold the numbers, and then the list as a whole.
+abbrev pub loco_listed : List Pair → Result NodeSpec Why
+loco_listed pairs =
+    if list_all has_byte pairs then
+    (if list_all has_word pairs then loco_of (listed (map cv_pair_of pairs)) else Err BadCvList)
+    else Err BadCv
 
 abbrev pub accessory_of : ℤ → Result NodeSpec Why
 accessory_of (pos n) = if is_module n then Ok (node.Accessory n) else Err BadModule
@@ -62,6 +98,7 @@ accessory_of (negsuc n) = Err BadModule
 
 abbrev pub decoder_of : Described → Result NodeSpec Why
 decoder_of (Accessory number) = accessory_of number
+decoder_of (Listed pairs) = loco_listed pairs
 decoder_of (Loco cv1 cv17 cv18 cv29) = do
   a ← byte_of cv1
   b ← byte_of cv17
@@ -70,12 +107,12 @@ decoder_of (Loco cv1 cv17 cv18 cv29) = do
   loco_of (settings_of a b c d)
 
 -- the node of this table, after those before it
-abbrev pub entry_of : List Entry → Data → Result Entry Why
-entry_of earlier value = do
+abbrev pub entry_of : Version → List Entry → Data → Result Entry Why
+entry_of version earlier value = do
   table ← or_fault (as_table value) BadShape
   given ← text_at (codes "name") table
   kind ← text_at (codes "kind") table
-  described ← described_as kind table
+  described ← described_as version kind table
   name ← name_after earlier given
   spec ← decoder_of described
   Ok (record { name = name; spec = spec })
@@ -86,16 +123,22 @@ at_node k (Ok x) = Ok x
 at_node k (Err why) = Err (record { why = why; node = k })
 
 -- these nodes, after those before them; they count from 1
-abbrev pub entries_after : List Entry → Items → Result (List Entry) RosterFault
-entries_after earlier no_items = Ok earlier
-entries_after earlier (item value items) =
-    at_node (length earlier + 1) (entry_of earlier value) >>= (λ entry. entries_after (earlier ++ entry ∷ []) items)
+abbrev pub entries_after : Version → List Entry → Items → Result (List Entry) RosterFault
+entries_after version earlier no_items = Ok earlier
+entries_after version earlier (item value items) =
+    at_node (length earlier + 1) (entry_of version earlier value) >>= (λ entry. entries_after version (earlier ++ entry ∷ []) items)
 
--- The top level: `version`, which is 1, and `node`, an array of 1 to 64 members, counted before they are looked at.
+-- The top level: `version`, which is 1 or 2, and `node`, an array of 1 to 64 members, counted before they are looked at.
 
-abbrev pub is_one : ℤ → Bool
-is_one (pos n) = n == 1
-is_one (negsuc n) = false
+abbrev pub version_of : ℤ → Result Version Why
+version_of (pos n) = if n == 1 then Ok One else (if n == 2 then Ok Two else Err BadShape)
+version_of (negsuc n) = Err BadShape
+
+abbrev pub version_in : Members → Result Version Why
+version_in table =
+    if knows_only (codes "version" ∷ codes "node" ∷ []) table
+    then integer_at (codes "version") table >>= version_of
+    else Err BadShape
 
 -- `node` left out is an empty array
 abbrev pub array_or_none : Option Data → Result Items Why
@@ -108,17 +151,15 @@ counted items =
     (if nat_lt 64 (items_len items) then Err TooMany else Ok items)
 
 abbrev pub nodes_in : Members → Result Items Why
-nodes_in table =
-    if knows_only (codes "version" ∷ codes "node" ∷ []) table
-    then (do
-      version ← integer_at (codes "version") table
-      if is_one version then array_or_none (get_member (codes "node") table) >>= counted else Err BadShape)
-    else Err BadShape
+nodes_in table = array_or_none (get_member (codes "node") table) >>= counted
 
 -- What a table says, and what a text does.
 
 abbrev pub roster_of : Members → Result (List Entry) RosterFault
-roster_of table = at_node 0 (nodes_in table) >>= entries_after []
+roster_of table = do
+  version ← at_node 0 (version_in table)
+  nodes ← at_node 0 (nodes_in table)
+  entries_after version [] nodes
 
 unfoldable pub roster_in : List ℕ → Result (List Entry) RosterFault
 roster_in text = at_node 0 (or_fault (table_in text) NotToml) >>= roster_of

@@ -1,4 +1,5 @@
 pub mod Entry
 pub mod Format
+pub mod Pairs
 pub mod Steps
 pub mod Toml

@@ -1,24 +1,30 @@
 //! What the table of a node says of its decoder.
 ghost use Rattle.std.specs.Prelude.{◌≡◌};
 ghost use Rattle.toml.specs.View.{table_view};
-ghost use Rattle.roster.specs.Format.{accessory_in, accessory_of, byte_of, decoder_of, described_as, loco_in};
+ghost use Rattle.roster.specs.Format.{accessory_in, byte_of, decoder_of, described_as, loco_in_keys, loco_in_list};
 
+use crate::decoder::{accessory, loco};
 use crate::fault::Why;
-use crate::table::{integer_at, integer_or, knows_only};
-use dcc_packet::Module;
+use crate::pairs::Pairs;
+use crate::table::{integer_at, integer_or, knows_only, value_at};
+use crate::version::Version;
 use decoder_cv::CvSet;
 use decoder_node::NodeSpec;
 use toml::Table;
 
 /// What the table of a node says of its decoder, whatever its values are.
-#[derive(Clone, Copy)]
-pub(crate) enum Described {
-    /// A locomotive decoder with these configuration variables.
+#[derive(Drop)]
+pub(crate) enum Described<'a> {
+    /// A locomotive decoder with these configuration variables (version 1).
     Loco {
         cv1: i64,
         cv17: i64,
         cv18: i64,
         cv29: i64,
+    },
+    /// A locomotive decoder with this list of them (version 2).
+    Listed {
+        pairs: Pairs<'a>,
     },
     /// The accessory decoder of this module.
     Accessory {
@@ -26,21 +32,24 @@ pub(crate) enum Described {
     },
 }
 
-impl Described {
+impl<'a> Described<'a> {
     /// What the table says, with `kind` the value at that key, or `BadShape`.
-    pub(crate) fn read(kind: &str, table: &Table) -> Result<Described, Why>
-        ensures { result ≡ described_as kind.now (table_view table.now) }
+    pub(crate) fn read(version: Version, kind: &str, table: &'a Table) -> Result<Described<'a>, Why>
+        ensures { result ≡ described_as version kind.now (table_view table.now) }
     {
         match kind {
-            "loco" => read_loco(table),
+            "loco" => match version {
+                Version::One => read_keys(table),
+                Version::Two => read_list(table),
+            },
             "accessory" => read_accessory(table),
             _ => Err(Why::BadShape),
         }
     }
 
-    /// The decoder that these values make, or `BadCv` or `BadModule`.
+    /// The decoder that these values make, or `BadCv`, `BadCvList` or `BadModule`.
     pub(crate) fn spec(self) -> Result<NodeSpec, Why>
-        ensures { result ≡ decoder_of self }
+        ensures { result ≡ decoder_of self.entry }
     {
         match self {
             Described::Loco {
@@ -48,20 +57,16 @@ impl Described {
                 cv17,
                 cv18,
                 cv29,
-            } => {
-                let cv = CvSet::new(byte(cv1)?, byte(cv17)?, byte(cv18)?, byte(cv29)?);
-                match cv {
-                    Ok(cv) => Ok(NodeSpec::Loco(cv)),
-                    Err(_) => Err(Why::BadCv),
-                }
-            }
+            } => loco(CvSet::new(byte(cv1)?, byte(cv17)?, byte(cv18)?, byte(cv29)?)),
+            Described::Listed { pairs } => pairs.decoder(),
             Described::Accessory { module } => accessory(module),
         }
     }
 }
 
-fn read_loco(table: &Table) -> Result<Described, Why>
-    ensures { result ≡ loco_in (table_view table.now) }
+/// A locomotive of version 1, with a key for each variable.
+fn read_keys<'a>(table: &'a Table) -> Result<Described<'a>, Why>
+    ensures { result ≡ loco_in_keys (table_view table.now) }
 {
     if !knows_only(table, &["name", "kind", "cv1", "cv17", "cv18", "cv29"]) {
         return Err(Why::BadShape);
@@ -74,7 +79,22 @@ fn read_loco(table: &Table) -> Result<Described, Why>
     })
 }
 
-fn read_accessory(table: &Table) -> Result<Described, Why>
+/// A locomotive of version 2, with a list of variables.
+fn read_list<'a>(table: &'a Table) -> Result<Described<'a>, Why>
+    ensures { result ≡ loco_in_list (table_view table.now) }
+{
+    if !knows_only(table, &["name", "kind", "cvs"]) {
+        return Err(Why::BadShape);
+    }
+    match value_at(table, "cvs") {
+        Some(value) => Ok(Described::Listed {
+            pairs: Pairs::read(value)?,
+        }),
+        None => Err(Why::BadShape),
+    }
+}
+
+fn read_accessory<'a>(table: &'a Table) -> Result<Described<'a>, Why>
     ensures { result ≡ accessory_in (table_view table.now) }
 {
     if !knows_only(table, &["name", "kind", "module"]) {
@@ -91,18 +111,5 @@ fn byte(value: i64) -> Result<u8, Why>
     match value {
         0..=255 => Ok(value as u8),
         _ => Err(Why::BadCv),
-    }
-}
-
-/// The accessory decoder of a module, or `BadModule` outside 1 to 510.
-fn accessory(number: i64) -> Result<NodeSpec, Why>
-    ensures { result ≡ accessory_of number }
-{
-    match number {
-        1..=510 => match Module::new(number as u16) {
-            Some(module) => Ok(NodeSpec::Accessory(module)),
-            None => Err(Why::BadModule),
-        },
-        _ => Err(Why::BadModule),
     }
 }

@@ -8,6 +8,7 @@ ghost use Rattle.roster.specs.Format.{entry_of, name_after};
 use crate::described::Described;
 use crate::fault::Why;
 use crate::table::text_at;
+use crate::version::Version;
 use arrayvec::ArrayString;
 use decoder_node::NodeSpec;
 use std::marker::Model;
@@ -38,13 +39,13 @@ impl Model for Entry {
 
 impl Entry {
     /// The entry of a node after the `earlier` ones, or its first fault.
-    pub(crate) fn read(earlier: &[Entry], value: &Value) -> Result<Entry, Why>
-        ensures answer { result ≡ entry_of earlier.now (view value.now) }
+    pub(crate) fn read(version: Version, earlier: &[Entry], value: &Value) -> Result<Entry, Why>
+        ensures answer { result ≡ entry_of version earlier.now (view value.now) }
         ensures free { IfOk result (λ entry. IsTrue (is_free earlier.now entry.name)) }
     {
         let table = value.as_table().ok_or(Why::BadShape)?;
         let name = text_at(table, "name")?;
-        let described = Described::read(text_at(table, "kind")?, table)?;
+        let described = Described::read(version, text_at(table, "kind")?, table)?;
         let name = read_name(earlier, name)?;
         let spec = described.spec()?;
         Ok(Entry { name, spec })

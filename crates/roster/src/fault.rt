@@ -11,7 +11,7 @@ pub enum Why {
     TooMany,
     /// A name is not 1 to 16 ASCII letters, digits, `-` or `_`, or an earlier node has it.
     BadName,
-    /// A value of a configuration variable is outside 0 to 255, or they make no locomotive decoder.
+    /// The value of a configuration variable is outside 0 to 255, or they make no locomotive decoder.
     BadCv,
     /// A module is outside 1 to 510.
     BadModule,
@@ -19,6 +19,9 @@ pub enum Why {
     Empty,
     /// A growth was refused.
     NoMemory,
+    /// The variables of a locomotive in version 2 are no legal list: a number is outside 1 to 1024 or stands twice, or
+    /// 1 or 29 is missing.
+    BadCvList,
 }
 
 /// The first fault of a roster, and its node: nodes count from 1, and 0 is the whole.

@@ -3,13 +3,14 @@ ghost use Rattle.std.specs.Prelude.{◌≡◌, ◌≢◌, ◌≤◌, [], Ok, Err
 ghost use Rattle.toml.specs.View.{items_view, table_view, view};
 ghost use Rattle.roster.specs.declared.fault.Why.TheVariants.{NoMemory, NotToml};
 ghost use Rattle.roster.specs.Entry.{IsRoster};
-ghost use Rattle.roster.specs.Format.{array_or_none, entries_after, nodes_in, roster_in, roster_of};
+ghost use Rattle.roster.specs.Format.{array_or_none, entries_after, nodes_in, roster_in, roster_of, version_in};
 ghost use Rattle.roster.specs.Toml.{table_in};
 
 use crate::entry::Entry;
 use crate::fault::{RosterFault, Why};
 use crate::roster::{Entries, MOST_NODES, Roster};
 use crate::table::{integer_at, knows_only, value_at};
+use crate::version::Version;
 use std::alloc::Global;
 use std::str;
 use toml::{Table, Value};
@@ -24,13 +25,12 @@ fn of_all(why: Why) -> RosterFault
 /// Reads a roster, a text in TOML of any length.
 ///
 /// ```toml
-/// version = 1
+/// version = 2
 ///
 /// [[node]]
 /// name = "shunter"
 /// kind = "loco"
-/// cv1 = 3
-/// cv29 = 2
+/// cvs = [[1, 3], [29, 2]]
 ///
 /// [[node]]
 /// name = "yard"
@@ -38,12 +38,15 @@ fn of_all(why: Why) -> RosterFault
 /// module = 1
 /// ```
 ///
-/// The top level has `version`, which is 1, and `node`, an array of 1 to 64 tables. Each has a `name`, 1 to 16 ASCII
-/// letters, digits, `-` or `_`, which no earlier node has. A `loco` has `cv1` and `cv29`, and may have `cv17` (192
-/// where it is left out) and `cv18` (0). An `accessory` has its `module`. There are no other keys.
+/// The top level has `version`, which is 1 or 2, and `node`, an array of 1 to 64 tables. Each has a `name`, 1 to 16
+/// ASCII letters, digits, `-` or `_`, which no earlier node has. A `loco` of version 2 has `cvs`, an array of pairs of a
+/// variable's number and its value, of which 1 and 29 have to be there; one of version 1 has `cv1` and `cv29`, and may
+/// have `cv17` and `cv18`. Where 17 is left out it is 192, where 18 is, 0. An `accessory` has its `module`. There are no
+/// other keys.
 ///
 /// The first fault is told: `NotToml`, `BadShape` of the top level, `Empty` and `TooMany`, all four at node 0; then
-/// node after node, counted from 1, `BadShape`, `BadName`, and `BadCv` or `BadModule`. `NoMemory`, at node 0, comes
+/// node after node, counted from 1, `BadShape`, `BadName`, and `BadModule` or `BadCv`; in version 2 `BadCv` for a value
+/// outside 0 to 255, `BadCvList`, and `BadCv` for values that make no locomotive decoder. `NoMemory`, at node 0, comes
 /// where a growth is refused before that.
 #[tactic(auto, unfolding(crate::specs::Format::roster_in))]
 pub fn read(alloc: Global, text: &[u8]) -> Result<Roster, RosterFault>
@@ -83,13 +86,23 @@ fn read_table(table: &Table) -> Result<Roster, RosterFault>
     ensures roster { IfOk result IsRoster }
     ensures memory { IfErr result (λ fault. fault.why ≢ NoMemory) }
 {
-    match read_nodes(table) {
-        Ok(values) => Ok(Roster::new(read_entries(values)?)),
-        Err(why) => Err(of_all(why)),
-    }
+    let version = read_version(table).map_err(of_all)?;
+    let values = read_nodes(table).map_err(of_all)?;
+    Ok(Roster::new(read_entries(version, values)?))
 }
 
-/// The members of `node`, 1 to 64, or the fault of the top level, `Empty` or `TooMany`.
+/// The version of the format, or `BadShape` of the top level.
+fn read_version(table: &Table) -> Result<Version, Why>
+    ensures answer { result ≡ version_in (table_view table.now) }
+    ensures memory { IfErr result (λ why. why ≢ NoMemory) }
+{
+    if !knows_only(table, &["version", "node"]) {
+        return Err(Why::BadShape);
+    }
+    Version::of_number(integer_at(table, "version")?)
+}
+
+/// The members of `node`, 1 to 64, or `BadShape`, `Empty` or `TooMany`.
 #[tactic(auto, using(crate::proofs::Keys::items_len_view))]
 fn read_nodes(table: &Table) -> Result<&[Value], Why>
     ensures answer { MatchResult result (λ values. nodes_in (table_view table.now) ≡ Ok (items_view values.now)) (λ why. nodes_in (table_view table.now) ≡ Err why) }
@@ -97,9 +110,6 @@ fn read_nodes(table: &Table) -> Result<&[Value], Why>
     ensures most { IfOk result (λ values. length values.now ≤ 64) }
     ensures memory { IfErr result (λ why. why ≢ NoMemory) }
 {
-    if !knows_only(table, &["version", "node"]) || integer_at(table, "version")? != 1 {
-        return Err(Why::BadShape);
-    }
     let values = read_array(value_at(table, "node"))?;
     match values.len() {
         0 => Err(Why::Empty),
@@ -123,10 +133,10 @@ fn read_array(value: Option<&Value>) -> Result<&[Value], Why>
 
 /// The entries of these nodes, or the first fault.
 #[tactic(auto, using(crate::proofs::Names::named_nil, crate::proofs::Names::named_push))]
-fn read_entries(values: &[Value]) -> Result<Entries, RosterFault>
+fn read_entries(version: Version, values: &[Value]) -> Result<Entries, RosterFault>
     requires some { 1 ≤ length values.now }
     requires most { length values.now ≤ 64 }
-    ensures answer { MatchResult result (λ entries. entries_after [] (items_view values.now) ≡ Ok entries.items) (λ fault. entries_after [] (items_view values.now) ≡ Err fault) }
+    ensures answer { MatchResult result (λ entries. entries_after version [] (items_view values.now) ≡ Ok entries.items) (λ fault. entries_after version [] (items_view values.now) ≡ Err fault) }
     ensures roster { IfOk result (λ entries. IsRoster entries.items) }
     ensures memory { IfErr result (λ fault. fault.why ≢ NoMemory) }
 {
@@ -134,7 +144,7 @@ fn read_entries(values: &[Value]) -> Result<Entries, RosterFault>
     let mut node = 0;
     for value in values {
         node += 1;
-        match Entry::read(entries.as_slice(), value) {
+        match Entry::read(version, entries.as_slice(), value) {
             Ok(entry) => entries.push(entry),
             Err(why) => return Err(RosterFault { why, node }),
         }

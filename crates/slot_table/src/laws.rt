@@ -1,7 +1,7 @@
 //! What holds of every desk, and of every call on it, for the crates above.
 ghost use Rattle.std.specs.Prelude.{ℕ};
 ghost use Rattle.slot_table.specs.Desk.{Desk, IsDesk};
-ghost use Rattle.slot_table.specs.Laws.{LeavesDesk, OthersStay, OwnSlots, RowsAreLegal};
+ghost use Rattle.slot_table.specs.Laws.{LeavesDesk, MarkFollows, OthersStay, OwnSlots, RowsAreLegal};
 
 /// The rows of a desk are legal, no address stands in two slots, and the mark names a slot that is not free.
 pub fn rows_are_legal()
@@ -16,6 +16,11 @@ pub fn others_stay()
 /// What a call makes of the rows of its own slots.
 pub fn own_slots()
     ensures { (desk : Desk) → IsDesk desk → OwnSlots desk }
+{}
+
+/// What a call makes of the mark.
+pub fn mark_follows()
+    ensures { (desk : Desk) → MarkFollows desk }
 {}
 
 /// What the calls make of a desk is a desk.

@@ -1,8 +1,7 @@
-//! The rows of a slot table, and the search through them.
-ghost use Rattle.std.specs.Prelude.{◌≡◌, replicate, find};
+//! The rows of a slot table.
+ghost use Rattle.std.specs.Prelude.{◌≡◌, replicate};
 ghost use Rattle.slot_table.specs.{free_row};
-ghost use Rattle.slot_table.specs.Reading.{all_slots};
-ghost use Rattle.slot_table.specs.Rows.{has, row_has, row_is_free};
+ghost use Rattle.slot_table.specs.Rows.{address_in};
 
 use crate::bytes::is_held;
 use ln_ops::{Row, State};
@@ -30,33 +29,13 @@ pub(crate) fn free_rows() -> Rows
     [FREE; 119]
 }
 
-/// The first slot whose row holds the address.
-pub(crate) fn find_row(rows: &Rows, address: u16) -> Option<u8>
-    ensures { result ≡ find (row_has rows.now address) all_slots }
+/// The address in a row that is not free.
+pub(crate) fn address_in(row: Row) -> Option<u16>
+    ensures { result ≡ address_in row }
 {
-    for n in 1..120u8 {
-        if has(rows[(n - 1) as usize], address) {
-            return Some(n);
-        }
+    if is_held(row.state) {
+        Some(row.address)
+    } else {
+        None
     }
-    None
-}
-
-/// The first slot whose row is free.
-pub(crate) fn find_free(rows: &Rows) -> Option<u8>
-    ensures { result ≡ find (row_is_free rows.now) all_slots }
-{
-    for n in 1..120u8 {
-        if !is_held(rows[(n - 1) as usize].state) {
-            return Some(n);
-        }
-    }
-    None
-}
-
-// Whether the row holds the address.
-fn has(row: Row, address: u16) -> bool
-    ensures { result ≡ has address row }
-{
-    is_held(row.state) && row.address == address
 }

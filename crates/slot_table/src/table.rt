@@ -10,7 +10,8 @@ ghost use Rattle.slot_table.specs.Rows.{written, IsAt};
 
 use crate::bytes::{is_held, is_slot};
 use crate::fault::SlotFault;
-use crate::rows::{FREE, Rows, find_free, find_row, free_rows};
+use crate::places::Places;
+use crate::rows::{FREE, Rows, address_in, free_rows};
 use ln_ops::Row;
 use std::marker::Model;
 
@@ -21,6 +22,8 @@ use std::marker::Model;
 pub struct SlotTable {
     rows: Rows,
     mark: Option<u8>,
+    // The addresses of the rows, so that nobody has to go through them.
+    places: Places,
 }
 
 impl Model for SlotTable {
@@ -30,11 +33,11 @@ impl Model for SlotTable {
 
     ghost coded = { desk_code };
 
-    ghost use Rattle.slot_table.specs.Rows.{desk_of, IsTable};
+    ghost use Rattle.slot_table.specs.Rows.{desk_of, IsKept};
 
     ghost view = { λ t. desk_of t.rows t.mark };
 
-    ghost invariant = { λ t. IsTable t.rows t.mark };
+    ghost invariant = { λ t. IsKept t.rows t.mark t.places };
 }
 
 impl Default for SlotTable {
@@ -55,6 +58,7 @@ impl SlotTable {
         SlotTable {
             rows: free_rows(),
             mark: None,
+            places: Places::new(),
         }
     }
 
@@ -86,7 +90,7 @@ impl SlotTable {
         ensures nowhere { IfNone result ((n : ℕ) → get self.now.place n ≢ Some address) }
         ensures desk { IsDesk self.now }
     {
-        find_row(&self.rows, address)
+        self.places.slot_of(address)
     }
 
     /// The least free slot.
@@ -95,7 +99,7 @@ impl SlotTable {
         ensures slot { IfSome result IsSlot }
         ensures none { IfSome result (λ n. get self.now.place n ≡ None) }
     {
-        find_free(&self.rows)
+        self.places.least_free()
     }
 
     /// The row of a slot that is not free. Refused for any other number.
@@ -136,7 +140,10 @@ impl SlotTable {
         ensures after { self.new ≡ written self.old n row }
         ensures desk { IsDesk self.new }
     {
-        self.rows[(n - 1) as usize] = row;
+        let index = (n - 1) as usize;
+        self.places
+            .change(n, address_in(self.rows[index]), address_in(row));
+        self.rows[index] = row;
     }
 
     /// The slot, which is not free, waits to be dispatched in place of any other; or none does.
@@ -158,7 +165,9 @@ impl SlotTable {
         ensures after { self.new ≡ record self.old { asked = insert self.old.asked row.address (entry_of row) } }
         ensures desk { IsDesk self.new }
     {
-        self.put(n, row);
+        // The address stays, so the index does.
+        let index = (n - 1) as usize;
+        self.rows[index] = row;
     }
 
     /// The slot is free, and does not wait to be dispatched.

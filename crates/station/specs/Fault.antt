@@ -50,6 +50,7 @@ roster_fault roster.BadCv node = Roster 5 node
 roster_fault roster.BadModule node = Roster 6 node
 roster_fault roster.Empty node = Roster 7 node
 roster_fault roster.NoMemory node = NoMemory
+roster_fault roster.BadCvList node = Roster 9 node
 
 abbrev pub of_roster : RosterFault → RunFault
 of_roster fault = roster_fault fault.why fault.node

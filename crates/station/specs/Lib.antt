@@ -3,3 +3,4 @@ pub mod Fault
 pub mod Input
 pub mod Layout
 pub mod Order
+pub mod Printed

@@ -1,5 +1,6 @@
 //! The program on its words and streams.
-ghost use Rattle.std.specs.Prelude.{◌≤◌};
+ghost use Rattle.std.specs.Prelude.{◌≡◌, ◌≤◌};
+ghost use Rattle.station.specs.Fault.{status_of};
 
 use crate::fault::RunFault;
 use crate::layout::{new_world, read_roster};
@@ -33,19 +34,19 @@ where
 {
     match run(rt, words, input, output) {
         Ok(()) => 0,
-        Err(fault) => {
-            tell(&fault, faults);
-            fault.status()
-        }
+        Err(fault) => tell(&fault, faults),
     }
 }
 
-/// Tells a fault. Where that fails too, nobody can be told.
-fn tell<E: Write>(fault: &RunFault, faults: &mut E) {
+/// Tells a fault, and answers its status. Where it cannot be told, nobody can be told that.
+pub(crate) fn tell<E: Write>(fault: &RunFault, faults: &mut E) -> u8
+    ensures { result ≡ status_of fault.now }
+{
     let _ = match fault {
         RunFault::Usage(error) => write!(faults, "{error}"),
         _ => writeln!(faults, "station: {fault}"),
     };
+    fault.status()
 }
 
 /// Does what the words ask for.

@@ -1,5 +1,6 @@
 //! Why a run ends with a status other than 0.
 ghost use Rattle.std.specs.Prelude.{◌≡◌};
+ghost use Rattle.station.specs.declared.fault.RunFault.TheVariants.{NoMemory};
 ghost use Rattle.station.specs.Fault.{of_hex, of_order, of_roster, of_script, of_serve, of_station, status_of};
 
 use crate::orders::OrderFault;
@@ -8,6 +9,7 @@ use layout_core::ServeFault;
 use roster::RosterFault;
 use show_text::{HexFault, HexWhy, ScriptFault};
 use station_core::StationFault;
+use std::alloc::AllocError;
 use thiserror::Error;
 
 /// Why a run ends with a status other than 0. Its text is what follows `station: ` on standard error, but for `Usage`,
@@ -79,6 +81,14 @@ impl From<OrderFault> for RunFault {
     }
 }
 
+impl From<AllocError> for RunFault {
+    ghost from_gives = { λ _ run. run ≡ NoMemory };
+
+    fn from(_error: AllocError) -> RunFault {
+        RunFault::NoMemory
+    }
+}
+
 impl From<StationFault> for RunFault {
     ghost from_gives = { λ station run. run ≡ of_station station };
 
@@ -103,6 +113,7 @@ impl From<RosterFault> for RunFault {
             roster::Why::BadModule => 6,
             roster::Why::Empty => 7,
             roster::Why::NoMemory => return RunFault::NoMemory,
+            roster::Why::BadCvList => 9,
         };
         RunFault::Roster {
             number,

@@ -10,16 +10,19 @@ mod layout;
 mod monitor;
 mod orders;
 mod output;
+mod reading;
 mod replay;
 mod serving;
 mod words;
 
 pub use execute::execute;
+use execute::tell;
 pub use fault::RunFault;
 pub use orders::{OrderFault, order};
+use reading::{read_words, texts};
 pub use serving::serve_on;
+use std::io;
 use std::process::ExitCode;
-use std::{env, io};
 pub use words::{FileName, Order};
 
 #[cfg(test)]
@@ -29,28 +32,23 @@ fn main(rt: HostRuntime) -> ExitCode {
     ExitCode::from(run(&rt))
 }
 
-// Runs the words behind the program's name, on the standard streams.
+/// Runs the program on the standard streams, and answers its exit status.
 fn run(rt: &HostRuntime) -> u8 {
-    let Ok(words) = env::args(rt) else {
-        return RunFault::NoMemory.status();
-    };
-    let mut texts: Vec<String> = Vec::new(rt.alloc());
-    for word in words.skip(1) {
-        if texts.push(word).is_err() {
-            return RunFault::NoMemory.status();
-        }
+    match run_words(rt) {
+        Ok(status) => status,
+        Err(fault) => tell(&fault, &mut rt.stderr()),
     }
-    let mut views: Vec<&str> = Vec::new(rt.alloc());
-    for text in &texts {
-        if views.push(text.as_str()).is_err() {
-            return RunFault::NoMemory.status();
-        }
-    }
-    execute(
+}
+
+/// The same, where the words can be had.
+fn run_words(rt: &HostRuntime) -> Result<u8, RunFault> {
+    let words = read_words(rt.alloc(), rt)?;
+    let texts = texts(rt.alloc(), words.as_slice())?;
+    Ok(execute(
         rt,
-        views.as_slice(),
+        texts.as_slice(),
         &mut rt.reader(),
         &mut io::writer(rt),
         &mut rt.stderr(),
-    )
+    ))
 }

@@ -1,12 +1,16 @@
 //! `station monitor`: the messages in captured bytes.
-ghost use Rattle.std.specs.Prelude.{◌<◌};
+ghost use Rattle.std.specs.Prelude.{◌<◌, OnOk};
+ghost use Rattle.std.specs.Io.KnownBytes.{Appends};
+ghost use Rattle.ln_frame.specs.Stream.{messages_of};
+ghost use Rattle.station.specs.Printed.{PrintsMessages, messages_text};
 
 use crate::fault::RunFault;
 use crate::input::read_file;
 use crate::output::print;
 use crate::words::FileName;
-use ln_frame::Framer;
+use ln_frame::{Framer, any_cut};
 use show_text::{LONGEST_TEXT, message_line, read_hex};
+use std::alloc::Global;
 use std::io::{BufWriter, Write};
 use std::rt::Files;
 
@@ -20,16 +24,26 @@ pub(crate) fn monitor<R: Files + AllocGlobal, O: Write>(
         Ok(text) => text,
         Err(fault) => return Err(fault.of_file(file)),
     };
-    let bytes = read_hex(rt.alloc(), text.as_slice())?;
     let Ok(mut buffered) = BufWriter::new(rt.alloc(), output) else {
         return Err(RunFault::NoMemory);
     };
-    print_messages(bytes.as_slice(), &mut buffered)?;
+    monitor_text(rt.alloc(), text.as_slice(), &mut buffered)?;
     buffered.flush().map_err(|_| RunFault::Output)
 }
 
+/// Prints each message in the bytes of a hex text.
+fn monitor_text<O: Write>(alloc: Global, text: &[u8], output: &mut O) -> Result<(), RunFault>
+    ensures { OnOk result (PrintsMessages text.now (O.contents output.old) (O.contents output.new)) }
+{
+    let bytes = read_hex(alloc, text)?;
+    print_messages(bytes.as_slice(), output)
+}
+
 /// Prints each message that ends in these bytes.
-fn print_messages<O: Write>(bytes: &[u8], output: &mut O) -> Result<(), RunFault> {
+fn print_messages<O: Write>(bytes: &[u8], output: &mut O) -> Result<(), RunFault>
+    ensures { OnOk result (Appends (O.contents output.old) (O.contents output.new) (messages_text (messages_of bytes.now))) }
+{
+    any_cut();
     let mut framer = Framer::new();
     for byte in bytes {
         if let Some(message) = framer.push(*byte) {

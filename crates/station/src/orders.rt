@@ -75,8 +75,22 @@ fn file_name(
 
 // Clap has checked each value that is read here, so no words come to this.
 fn out_of_range(alloc: Global) -> OrderFault {
+    usage(
+        alloc,
+        ErrorKind::ValueValidation,
+        "a value is out of its range",
+    )
+}
+
+/// A word is no text: it is not UTF-8.
+pub(crate) fn no_text(alloc: Global) -> OrderFault {
+    usage(alloc, ErrorKind::InvalidValue, "a word is not UTF-8")
+}
+
+/// Tells the usage, behind this message.
+fn usage(alloc: Global, kind: ErrorKind, message: &str) -> OrderFault {
     let error = match station_command(alloc) {
-        Ok(mut command) => command.error(ErrorKind::ValueValidation, "a value is out of its range"),
+        Ok(mut command) => command.error(kind, message),
         Err(error) => Err(error),
     };
     match error {

@@ -3,6 +3,7 @@
 mod devices;
 mod examples;
 mod files;
+mod memory;
 mod scripts;
 mod sockets;
 mod words;

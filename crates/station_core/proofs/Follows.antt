@@ -1,9 +1,8 @@
 -- The schedule follows the desk.
-use Rattle.std.proofs.Common.{◌≡◌, ◌≢◌, ℕ, ◌-◌, Bool, true, false, not, ◌&&◌, List, [], ◌∷◌, ◌++◌, if◌then◌else◌, Result, Ok, Err, is_ok, OnOk, set, refl, ap, ap₂, sym, ◌∙◌}
+use Rattle.std.proofs.Common.{◌≡◌, ◌≢◌, ℕ, ◌-◌, Bool, true, false, List, [], ◌∷◌, if◌then◌else◌, Result, Ok, Err, is_ok, OnOk, set, refl, ap, ap₂, sym, ◌∙◌}
 use Rattle.std.proofs.Common.{Option, Some, None}
 use Rattle.std.specs.Result.{is_err}
 use Rattle.slot_table.specs.Moves.{dispatch_get_answer}
-use Rattle.std.proofs.lemmas.Bool.{cond_both}
 use Rattle.slot_table.specs.declared.fault.SlotFault.{SlotFault}
 use Rattle.slot_table.specs.Changes.{done_if, slot_if}
 use Rattle.slot_table.specs.Desk.{Desk, IsDesk}
@@ -16,8 +15,9 @@ use Rattle.station_core.specs.Asked.{after_places, of_write, places_with}
 use Rattle.station_core.specs.declared.schedule.Change.TheVariants.{All}
 use Rattle.station_core.specs.Kept.{InStep}
 use Rattle.station_core.specs.Moved.{after_change}
-use Rattle.station_core.specs.Refreshed.{is_refreshed, refreshed_slots}
-use Rattle.station_core.specs.Seen.{Seen, seen_with}
+use Rattle.station_core.specs.Refreshed.{is_refreshed}
+use Rattle.station_core.specs.Slots.{refreshed_slots}
+use Rattle.station_core.specs.Seen.{seen_with}
 use Rattle.station_core.proofs.Steps.{followed, followed_both}
 
 -- all slots but this one read as before

@@ -1,8 +1,13 @@
+pub mod Agreeing
 pub mod Apart
-pub mod Waits
+pub mod Counted
+pub mod Desks
 pub mod Follows
+pub mod Framed
 pub mod Picks
 pub mod Rounds
 pub mod Sent
 pub mod Steps
+pub mod Switches
+pub mod Waits
 pub mod Walks

@@ -1,5 +1,5 @@
 -- What a turn sends can be sent.
-use Rattle.std.proofs.Common.{◌≡◌, ℕ, ◌+◌, ◌-◌, ◌≤◌, ◌&&◌, Bool, true, false, nat_le, List, get_or, refl, ap, sym, ◌∙◌, arith}
+use Rattle.std.proofs.Common.{◌≡◌, ℕ, ◌+◌, ◌-◌, Bool, true, nat_le, List, refl, ap, sym, ◌∙◌, arith}
 use Rattle.std.proofs.lemmas.Bool.{le-leb}
 use Rattle.ln_ops.specs.Slot.{is_held}
 use Rattle.ln_ops.specs.declared.row.State.{State}
@@ -15,7 +15,8 @@ use Rattle.refresh_ring.specs.declared.pick.Pick.TheVariants as pick
 use Rattle.refresh_ring.specs.declared.pick.Power.{Power}
 use Rattle.refresh_ring.specs.declared.pick.Power.TheVariants as power
 use Rattle.station_core.specs.Packets.{IsPickOf}
-use Rattle.station_core.specs.Refreshed.{is_driven, is_refreshed, refreshed_slots}
+use Rattle.station_core.specs.Refreshed.{is_driven, is_refreshed}
+use Rattle.station_core.specs.Slots.{refreshed_slots}
 use Rattle.station_core.proofs.Steps.{get-refreshed_slots}
 
 pub driven_held : (s : State) → is_driven s ≡ true → is_held s ≡ true

@@ -1,5 +1,5 @@
 -- Coverage, from the four-turn law of the ring.
-use Rattle.std.proofs.Common.{◌≡◌, ℕ, ◌+◌, ◌-◌, ◌*◌, ◌<◌, ◌≤◌, ◌⊎◌, Bool, true, false, nat_le, List, [], ◌∷◌, Option, Some, None, length, get_or, refl, ap, sym, ◌∙◌, arith, inl, inr, zero, suc}
+use Rattle.std.proofs.Common.{◌≡◌, ℕ, ◌+◌, ◌-◌, ◌*◌, ◌≤◌, ◌⊎◌, Bool, true, false, nat_le, List, [], ◌∷◌, Option, Some, None, get_or, refl, ap, sym, ◌∙◌, arith, inl, inr, zero, suc}
 use Rattle.std.proofs.lemmas.Bool.{and_parts, or_left, or_right, cases_lt, both_ways}
 use Rattle.std.proofs.Math.ListN.{get_or-eq_default}
 use Rattle.ln_ops.specs.declared.op.Op.{Op}
@@ -12,19 +12,21 @@ use Rattle.refresh_ring.specs.Scheduled.{Scheduled, after_changed}
 use Rattle.refresh_ring.specs.Picked.{picked}
 use Rattle.refresh_ring.specs.Left.{count_to, turns_left}
 use Rattle.refresh_ring.specs.declared.kind.Kind.{Kind}
-use Rattle.refresh_ring.specs.declared.job.Destination.{Destination}
 use Rattle.refresh_ring.specs.declared.pick.Pick.TheVariants.{Place}
-use Rattle.refresh_ring.specs.declared.pick.Power.TheVariants.{Running}
 use Rattle.station_core.specs.After.{desk_after}
 use Rattle.station_core.specs.Asked.{after_places, after_request, changed_places, schedule_asked}
-use Rattle.station_core.specs.Moved.{moved, message_ended, after_message, after_op, after_byte, turn_of}
-use Rattle.station_core.specs.Packets.{place_packet}
-use Rattle.station_core.specs.Refreshed.{is_refreshed, refreshed_slots, addresses}
-use Rattle.station_core.specs.Runs.{state_of, answer_of, AtEveryMoment, ever_refreshed, slots_refreshed, turns_in, Sends, IsLive, IsFullCycle, Covers}
-use Rattle.station_core.specs.Seen.{Seen, scheduled}
+use Rattle.station_core.specs.Moved.{moved, message_ended, after_message, after_byte}
+use Rattle.station_core.specs.Refreshed.{is_refreshed}
+use Rattle.station_core.specs.Slots.{refreshed_slots, addresses}
+use Rattle.station_core.specs.Known.{Known, told}
+use Rattle.station_core.specs.Moments.{ever_refreshed, turns_in, IsLive}
+use Rattle.station_core.specs.Powered.{PoweredDesk}
+use Rattle.station_core.specs.Runs.{state_of, Sends, Covers}
+use Rattle.station_core.specs.Seen.{Seen, known_of, scheduled}
 use Rattle.station_core.specs.declared.call.Call.{Call}
 use Rattle.station_core.specs.declared.call.Call.TheVariants.{Byte, Turn}
-use Rattle.station_core.specs.declared.call.Step.TheVariants.{Packet}
+use Rattle.station_core.proofs.Agreeing.{Enough, Agree, agree_at_first, agree_after, AtEach, moments}
+use Rattle.station_core.proofs.Counted.{counted}
 use Rattle.station_core.proofs.Picks.{slot_on}
 use Rattle.station_core.proofs.Steps.{length-refreshed_slots}
 
@@ -98,19 +100,24 @@ byte_same ever slot kind seen line byte =
 abbrev Knows : (ℕ → Bool) → Seen → Type 0
 Knows ever seen = (n : ℕ) → is_refreshed seen.powered.desk n ≡ true → ever n ≡ true
 
-all_known : (ever : ℕ → Bool) (seen : Seen) (calls : List Call) → ((n : ℕ) → ever_refreshed seen calls n ≡ true → ever n ≡ true) → AtEveryMoment (Knows ever) seen calls
-all_known ever seen [] within = λ n h. within n h
-all_known ever seen (call ∷ calls) within = (
-  λ n h. within n (or_left (is_refreshed seen.powered.desk n) (ever_refreshed (state_of seen call) calls n) h),
-  all_known ever (state_of seen call) calls (λ n h. within n (or_right (is_refreshed seen.powered.desk n) (ever_refreshed (state_of seen call) calls n) h)),
+all_known : (enough : Enough) (ever : ℕ → Bool) (seen : Seen) (known : Known) (calls : List Call) → Agree seen known → ((n : ℕ) → ever_refreshed known calls n ≡ true → ever n ≡ true) → AtEach (Knows ever) seen calls
+all_known enough ever seen known [] agree within = λ n h. within n (ap (λ (p : PoweredDesk). is_refreshed p.desk n) (sym agree.powered) ∙ h)
+all_known enough ever seen known (call ∷ calls) agree within = (
+  λ n h. within n (or_left (is_refreshed known.powered.desk n) (ever_refreshed (told known call) calls n) (ap (λ (p : PoweredDesk). is_refreshed p.desk n) (sym agree.powered) ∙ h)),
+  all_known enough ever (state_of seen call) (told known call) calls (agree_after enough seen known call agree)
+      (λ n h. within n (or_right (is_refreshed known.powered.desk n) (ever_refreshed (told known call) calls n) h)),
 )
 
-now : (P : Seen → Type 0) (seen : Seen) (calls : List Call) → AtEveryMoment P seen calls → P seen
+now : (P : Seen → Type 0) (seen : Seen) (calls : List Call) → AtEach P seen calls → P seen
 now P seen [] h = h
 now P seen (call ∷ calls) h = h.0
 
+-- power runs and the slot is refreshed
+abbrev pub Live : ℕ → Seen → Type 0
+Live slot seen = IsLive slot seen.powered
+
 module _ (falls : Falls) (least : Least) (ever : ℕ → Bool) (slot : ℕ) (kind : Kind) (is : IsSlot slot) where
-  covers : (seen : Seen) (calls : List Call) → AtEveryMoment (IsLive slot) seen calls → AtEveryMoment (Knows ever) seen calls → turns_left ever slot kind (scheduled seen) ≤ turns_in calls → Sends slot kind seen calls
+  covers : (seen : Seen) (calls : List Call) → AtEach (Live slot) seen calls → AtEach (Knows ever) seen calls → turns_left ever slot kind (scheduled seen) ≤ turns_in calls → Sends slot kind seen calls
   unfolding moved
   covers seen [] live known enough = absurd (omega (arith, least ever slot kind (scheduled seen) is (known slot live.refreshed)))
   covers seen (Byte line byte ∷ calls) live known enough =
@@ -122,9 +129,11 @@ module _ (falls : Falls) (least : Least) (ever : ℕ → Bool) (slot : ℕ) (kin
         | inr less ↦ inr (covers (state_of seen Turn) calls live.1 known.1 (rw running (omega arith)))
       ]
 
-pub coverage_from : Falls → Least → Most → (start : Seen) (calls : List Call) → Covers start calls
-coverage_from falls least most start calls slot kind is full =
-    let ever : ℕ → Bool = ever_refreshed start calls in
-    let known = all_known ever start calls (λ n h. h) in
-    let counts : ever slot ≡ true = now (Knows ever) start calls known slot (now (IsLive slot) start calls full.live).refreshed in
-    covers falls least ever slot kind is start calls full.live known (omega (arith, most ever slot kind (scheduled start) is counts, full.enough))
+pub coverage_from : Enough → Falls → Least → Most → (start : Seen) (calls : List Call) → Covers start calls
+coverage_from enough falls least most start calls slot kind is full =
+    let begin : Known = known_of start in
+    let ever : ℕ → Bool = ever_refreshed begin calls in
+    let live = moments enough (IsLive slot) start begin calls (agree_at_first start) full.live in
+    let known = all_known enough ever start begin calls (agree_at_first start) (λ n h. h) in
+    let counts : ever slot ≡ true = now (Knows ever) start calls known slot (now (Live slot) start calls live).refreshed in
+    covers falls least ever slot kind is start calls live known (omega (arith, most ever slot kind (scheduled start) is counts, full.enough, counted ever))

@@ -1,6 +1,5 @@
 -- What a turn sends is a packet of the desk.
-use Rattle.std.proofs.Common.{◌≡◌, ℕ, List, Option, Some, refl, inl, inr, sym, ◌∙◌}
-use Rattle.slot_table.specs.Entry.{IsSlot}
+use Rattle.std.proofs.Common.{◌≡◌, ℕ, List, Option, Some, refl, inl, inr}
 use Rattle.refresh_ring.specs.Picked.{picked, turned}
 use Rattle.refresh_ring.specs.Scheduled.{Scheduled}
 use Rattle.refresh_ring.specs.Sent.{IsDue}
@@ -9,7 +8,7 @@ use Rattle.refresh_ring.specs.declared.pick.Pick.TheVariants.{Off, StopAll, Idle
 use Rattle.refresh_ring.specs.declared.pick.Power.{Power}
 use Rattle.refresh_ring.specs.declared.pick.Power.TheVariants as power
 use Rattle.station_core.specs.Moved.{packet_of}
-use Rattle.station_core.specs.Refreshed.{addresses}
+use Rattle.station_core.specs.Slots.{addresses}
 use Rattle.station_core.specs.Seen.{Seen, scheduled}
 use Rattle.station_core.specs.Sent.{IsRunningPacket, IsPacketOfDesk}
 use Rattle.station_core.proofs.Rounds.{on_desk}

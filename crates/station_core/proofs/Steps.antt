@@ -1,5 +1,5 @@
 -- One slot follows the desk, and the others are as they were.
-use Rattle.std.proofs.Common.{◌≡◌, ◌≢◌, ℕ, suc, zero, ◌+◌, ◌-◌, ◌<◌, Bool, true, false, List, length, get_or, set, map, replicate, refl, ap, sym, ◌∙◌, inl, inr, arith, Result, Ok, Err, is_ok, OnOk}
+use Rattle.std.proofs.Common.{◌≡◌, ◌≢◌, ℕ, suc, zero, ◌+◌, ◌-◌, ◌<◌, Bool, false, length, get_or, set, map, replicate, refl, ap, sym, ◌∙◌, inl, inr, arith}
 use Rattle.std.proofs.lemmas.Bool.{cases_eq}
 use Rattle.std.proofs.lemmas.List.{ext_get_or, length-set, get_or-set_same, get_or-set_other, get_or-replicate}
 use Rattle.std.specs.FinMap.{get-empty}
@@ -7,9 +7,10 @@ use Rattle.std.specs.List.{range_with_len}
 use Rattle.std.specs.Ordering.{nat_cmp}
 use Rattle.ln_ops.specs.declared.row.Row.{Row}
 use Rattle.slot_table.specs.Entry.{IsSlot}
-use Rattle.slot_table.specs.Desk.{Desk, IsDesk, first_desk}
+use Rattle.slot_table.specs.Desk.{Desk, first_desk}
 use Rattle.slot_table.specs.Reading.{row_of}
-use Rattle.station_core.specs.Refreshed.{is_driven, is_refreshed, refreshed_slots, addresses}
+use Rattle.station_core.specs.Refreshed.{is_driven, is_refreshed}
+use Rattle.station_core.specs.Slots.{refreshed_slots, addresses}
 
 map_range : (f : ℕ → Bool) (n k i : ℕ) → i < k → get_or (map f (range_with_len n k)) i false ≡ f (n + i)
 map_range f n zero i low = absurd (omega arith)

@@ -13,7 +13,7 @@ use Rattle.refresh_ring.specs.declared.job.Job.{Job}
 use Rattle.station_core.specs.After.{desk_after}
 use Rattle.station_core.specs.Asked.{after_places, changed_places, schedule_asked}
 use Rattle.station_core.specs.Promises.{ChangesWait}
-use Rattle.station_core.specs.Refreshed.{refreshed_slots}
+use Rattle.station_core.specs.Slots.{refreshed_slots}
 use Rattle.station_core.specs.Seen.{Seen, scheduled}
 use Rattle.station_core.proofs.Picks.{slot_on}
 

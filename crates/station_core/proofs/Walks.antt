@@ -1,6 +1,6 @@
 -- Changes first, and switches twice, in order, from the laws of one turn.
 use Rattle.std.proofs.Common.{◌≡◌, ℕ, ◌+◌, ◌*◌, ◌<◌, ◌≤◌, ◌&&◌, nat_le, nat_lt, if◌then◌else◌, Bool, true, false, List, [], ◌∷◌, ◌++◌, Option, Some, None, refl, sym, ap, subst, ◌∙◌, arith, inl, inr, ◌⊎◌, append_assoc, append-nil}
-use Rattle.std.proofs.lemmas.Bool.{ltb-true, cases_lt, le-ltb, lt-ltb}
+use Rattle.std.proofs.lemmas.Bool.{cases_lt, le-ltb, lt-ltb}
 use Rattle.ln_ops.specs.declared.op.Op.{Op}
 use Rattle.ln_ops.specs.declared.op.Op.TheVariants.{PowerOff, PowerOn, ForceIdle, Speed, Dirf, Snd, SwReq, SwAck, LongAck, SlotStat, Move, SlotRead, LocoAddr, SlotData, SlotWrite, Other}
 use Rattle.ln_ops.specs.Message.{op_of}
@@ -21,14 +21,17 @@ use Rattle.refresh_ring.specs.declared.pick.Power.TheVariants as power
 use Rattle.station_core.specs.After.{desk_after}
 use Rattle.station_core.specs.Answer.{is_taken}
 use Rattle.station_core.specs.Asked.{after_places, after_request, changed_places, schedule_asked}
-use Rattle.station_core.specs.Moved.{moved, message_ended, after_message, after_op, turn_of}
-use Rattle.station_core.specs.Promises.{ChangesFirst, sent_by, switches_sent, twice_if, asked_by_op, asked_by_message, asked_by, switches_asked, SwitchesInOrder, IsRunning, IsFrontOf, SwitchesAreSent}
-use Rattle.station_core.specs.Refreshed.{is_refreshed, refreshed_slots, addresses}
-use Rattle.station_core.specs.Runs.{state_of, state_after, AtEveryMoment, turns_in, Sends, IsLive}
+use Rattle.station_core.specs.Moved.{moved, message_ended, after_message, turn_of}
+use Rattle.station_core.specs.Moments.{turns_in}
+use Rattle.station_core.specs.Promises.{twice_if, asked_by_op, asked_by_message, asked_by, switches_asked}
+use Rattle.station_core.specs.Slots.{refreshed_slots, addresses}
+use Rattle.station_core.specs.Runs.{state_of, state_after, Sends}
 use Rattle.station_core.specs.Seen.{Seen, scheduled}
 use Rattle.station_core.specs.declared.call.Call.{Call}
 use Rattle.station_core.specs.declared.call.Call.TheVariants.{Byte, Turn}
+use Rattle.station_core.proofs.Agreeing.{AtEach}
 use Rattle.station_core.proofs.Picks.{slot_on}
+use Rattle.station_core.proofs.Rounds.{Live}
 
 -- what holds of each changed place and of each request holds of a message
 module _ (R : Scheduled → Scheduled → Type 0) (same : (s : Scheduled) → R s s) (chain : (s t u : Scheduled) → R s t → R t u → R s u)
@@ -86,7 +89,7 @@ module _ (falls : (slot : ℕ) (kind : Kind) (addresses : List ℕ) (s : Schedul
       let schedule = scheduled seen in
       ahead_op seen.powered.desk (op_of message) (record schedule { slots = refreshed_slots (desk_after seen.powered.desk (op_of message)) }) n h
 
-  reaches : (seen : Seen) (calls : List Call) (n : ℕ) → turns_ahead slot kind (scheduled seen) ≡ Some n → AtEveryMoment (IsLive slot) seen calls → n ≤ turns_in calls → Sends slot kind seen calls
+  reaches : (seen : Seen) (calls : List Call) (n : ℕ) → turns_ahead slot kind (scheduled seen) ≡ Some n → AtEach (Live slot) seen calls → n ≤ turns_in calls → Sends slot kind seen calls
   unfolding moved Ahead
   reaches seen [] n h live enough = absurd (omega (arith, least slot kind (scheduled seen) n h))
   reaches seen (Byte line byte ∷ calls) n h live enough =
@@ -98,12 +101,27 @@ module _ (falls : (slot : ℕ) (kind : Kind) (addresses : List ℕ) (s : Schedul
         | inr nearer ↦ inr (reaches (state_of seen Turn) calls nearer.0 (rw running nearer.1) live.1 (omega (arith, nearer.2)))
       ]
 
-  pub reaches_within : ((s : Scheduled) (q : ℕ) → sends_ahead slot kind s.jobs ≡ Some q → (n : ℕ) × (turns_ahead slot kind s ≡ Some n) × (n ≤ 4 * (q + 1))) → (start : Seen) (calls : List Call) (q : ℕ) → sends_ahead slot kind start.jobs ≡ Some q → AtEveryMoment (IsLive slot) start calls → 4 * (q + 1) ≤ turns_in calls → Sends slot kind start calls
+  pub reaches_within : ((s : Scheduled) (q : ℕ) → sends_ahead slot kind s.jobs ≡ Some q → (n : ℕ) × (turns_ahead slot kind s ≡ Some n) × (n ≤ 4 * (q + 1))) → (start : Seen) (calls : List Call) (q : ℕ) → sends_ahead slot kind start.jobs ≡ Some q → AtEach (Live slot) start calls → 4 * (q + 1) ≤ turns_in calls → Sends slot kind start calls
   reaches_within most start calls q h live enough =
       let n = most (scheduled start) q h in
       reaches start calls n.0 n.1 live (omega (arith, n.2))
 
--- ---- switches
+-- ---- switches, by what is picked
+
+-- the switch that a call sends, if it sends one
+abbrev pub sent_by : Seen → Call → List Pick
+sent_by seen (Byte line byte) = []
+sent_by seen Turn = switch_in (turn_of seen).answer
+
+abbrev pub picks_sent : Seen → List Call → List Pick
+picks_sent seen [] = []
+picks_sent seen (call ∷ calls) = sent_by seen call ++ picks_sent (state_of seen call) calls
+
+abbrev pub IsFront : List Pick → List Pick → Type 0
+IsFront front all = (rest : List Pick) × (front ++ rest ≡ all)
+
+abbrev pub Runs : Seen → Type 0
+Runs seen = seen.powered.power ≡ power.Running
 
 Kept : Scheduled → Scheduled → Type 0
 Kept s t = to_send t.jobs ≡ to_send s.jobs
@@ -165,21 +183,21 @@ module _ (turn : (addresses : List ℕ) (s : Scheduled) → switch_in (picked ad
   kept_turned power.Paused addresses s = refl
 
   -- what a call sends, and what then is to send, is what was to send and what it asks
-  kept_call : (seen : Seen) (call : Call) → sent_by seen call ++ to_send (state_of seen call).jobs ≡ to_send seen.jobs ++ asked_by seen call
+  pub kept_call : (seen : Seen) (call : Call) → sent_by seen call ++ to_send (state_of seen call).jobs ≡ to_send seen.jobs ++ asked_by seen call
   unfolding moved
   kept_call seen (Byte line byte) = kept_message seen (message_ended seen line byte)
   kept_call seen Turn = kept_turned seen.powered.power (addresses seen.powered.desk) (scheduled seen) ∙ sym (append-nil (to_send seen.jobs))
 
-  pub in_order : (start : Seen) (calls : List Call) → SwitchesInOrder start calls
+  pub in_order : (start : Seen) (calls : List Call) → picks_sent start calls ++ to_send (state_after start calls).jobs ≡ to_send start.jobs ++ switches_asked start calls
   in_order start [] = sym (append-nil (to_send start.jobs))
   in_order start (call ∷ calls) =
-      append_assoc (sent_by start call) (switches_sent (state_of start call) calls) (to_send (state_after (state_of start call) calls).jobs)
+      append_assoc (sent_by start call) (picks_sent (state_of start call) calls) (to_send (state_after (state_of start call) calls).jobs)
       ∙ ap (λ (xs : List Pick). sent_by start call ++ xs) (in_order (state_of start call) calls)
       ∙ sym (append_assoc (sent_by start call) (to_send (state_of start call).jobs) (switches_asked (state_of start call) calls))
       ∙ ap (λ (xs : List Pick). xs ++ switches_asked (state_of start call) calls) (kept_call start call)
       ∙ append_assoc (to_send start.jobs) (asked_by start call) (switches_asked (state_of start call) calls)
 
-front_more : (xs ys zs : List Pick) → IsFrontOf ys zs → IsFrontOf (xs ++ ys) (xs ++ zs)
+front_more : (xs ys zs : List Pick) → IsFront ys zs → IsFront (xs ++ ys) (xs ++ zs)
 front_more xs ys zs h = (h.0, append_assoc xs ys h.0 ∙ ap (λ (ws : List Pick). xs ++ ws) h.1)
 
 module _ (falls : (addresses : List ℕ) (s : Scheduled) (front back : List Job) → s.jobs ≡ front ++ back → (to_send front ≡ []) ⊎ LessLeft front back (turns_for front s) (picked addresses s))
@@ -209,7 +227,7 @@ module _ (falls : (addresses : List ℕ) (s : Scheduled) (front back : List Job)
       let schedule = scheduled seen in
       behind_op seen.powered.desk (op_of message) (record schedule { slots = refreshed_slots (desk_after seen.powered.desk (op_of message)) })
 
-  drains : (front back : List Job) (seen : Seen) (calls : List Call) → seen.jobs ≡ front ++ back → AtEveryMoment IsRunning seen calls → turns_for front (scheduled seen) ≤ turns_in calls + 4 → IsFrontOf (to_send front) (switches_sent seen calls)
+  drains : (front back : List Job) (seen : Seen) (calls : List Call) → seen.jobs ≡ front ++ back → AtEach Runs seen calls → turns_for front (scheduled seen) ≤ turns_in calls + 4 → IsFront (to_send front) (picks_sent seen calls)
   unfolding moved Behind
   drains front back seen [] e runs enough = rw (done (scheduled seen) front enough) ([], refl)
   drains front back seen (Byte line byte ∷ calls) e runs enough =
@@ -217,14 +235,14 @@ module _ (falls : (addresses : List ℕ) (s : Scheduled) (front back : List Job)
       let jobs = after.0.1 ∙ ap (λ (js : List Job). js ++ after.0.0) e ∙ append_assoc front back after.0.0 in
       drains front (back ++ after.0.0) (state_of seen (Byte line byte)) calls jobs runs.1 (rw (after.1, after.2) (omega arith))
   drains front back seen (Turn ∷ calls) e runs enough = elim (falls (addresses seen.powered.desk) (scheduled seen) front back e) [
-    | inl none ↦ rw none (switches_sent seen (Turn ∷ calls), refl)
+    | inl none ↦ rw none (picks_sent seen (Turn ∷ calls), refl)
     | inr less ↦
         let running : seen.powered.power ≡ power.Running = runs.0 in
-        let rest : IsFrontOf (to_send less.left) (switches_sent (state_of seen Turn) calls) = drains less.left back (state_of seen Turn) calls (rw running less.jobs_are) runs.1 (rw running (omega (arith, less.falls))) in
+        let rest : IsFront (to_send less.left) (picks_sent (state_of seen Turn) calls) = drains less.left back (state_of seen Turn) calls (rw running less.jobs_are) runs.1 (rw running (omega (arith, less.falls))) in
         let answer : switch_in (turn_of seen).answer ≡ switch_in (picked (addresses seen.powered.desk) (scheduled seen)).answer = rw running refl in
         let sends : switch_in (turn_of seen).answer ++ to_send less.left ≡ to_send front = ap (λ (xs : List Pick). xs ++ to_send less.left) answer ∙ less.sends in
-        subst (λ (xs : List Pick). IsFrontOf xs (switches_sent seen (Turn ∷ calls))) sends (front_more (switch_in (turn_of seen).answer) (to_send less.left) (switches_sent (state_of seen Turn) calls) rest)
+        subst (λ (xs : List Pick). IsFront xs (picks_sent seen (Turn ∷ calls))) sends (front_more (switch_in (turn_of seen).answer) (to_send less.left) (picks_sent (state_of seen Turn) calls) rest)
   ]
 
-  pub all_sent : (start : Seen) (calls : List Call) → turns_for start.jobs (scheduled start) ≤ 1684 + 4 → SwitchesAreSent start calls
+  pub all_sent : (start : Seen) (calls : List Call) → turns_for start.jobs (scheduled start) ≤ 1684 + 4 → AtEach Runs start calls → 1684 ≤ turns_in calls → IsFront (to_send start.jobs) (picks_sent start calls)
   all_sent start calls few runs enough = drains start.jobs [] start calls (sym (append-nil start.jobs)) runs (omega arith)

@@ -8,7 +8,7 @@ use Rattle.slot_table.specs.Moves.{after_null_move, after_dispatch_put, after_di
 use Rattle.slot_table.specs.Writes.{after_take, after_speed, after_dirf, after_snd, after_stat, after_write}
 use Rattle.refresh_ring.specs.declared.pick.Power.{Power}
 use Rattle.refresh_ring.specs.declared.pick.Power.TheVariants.{Off, Running, Paused}
-use Rattle.station_core.specs.Seen.{PoweredDesk}
+use Rattle.station_core.specs.Powered.{PoweredDesk}
 
 -- OPC_IDLE pauses a running track, and has no effect on another (own)
 abbrev pub paused : Power → Power

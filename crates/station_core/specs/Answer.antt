@@ -15,7 +15,7 @@ use Rattle.slot_table.specs.Writes.{take_answer, write_answer}
 use Rattle.slot_table.specs.declared.fault.SlotFault.{SlotFault}
 use Rattle.refresh_ring.specs.declared.pick.Power.{Power}
 use Rattle.refresh_ring.specs.declared.pick.Power.TheVariants.{Off, Running, Paused}
-use Rattle.station_core.specs.Seen.{PoweredDesk}
+use Rattle.station_core.specs.Powered.{PoweredDesk}
 use Rattle.station_core.specs.After.{after}
 
 -- TRK: bit 0 power on, bit 1 is 0 while paused, bit 2 LocoNet 1.1

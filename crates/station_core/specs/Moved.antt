@@ -1,14 +1,14 @@
 -- What a byte and a turn make of a station, and what it answers.
-use Rattle.std.specs.Prelude.{ℕ, Bool, List, [], ◌∷◌, ◌++◌, Option, Some, None, slice_set}
+use Rattle.std.specs.Prelude.{ℕ, List, [], ◌∷◌, ◌++◌, Option, Some, None, slice_set}
 use Rattle.dcc_packet.specs.Sent.{idle_bytes, stop_all_bytes, accessory_bytes}
-use Rattle.ln_frame.specs.Stream.{message_at_end, unfinished_of}
+use Rattle.ln_frame.specs.Stream.{message_at_end}
+use Rattle.ln_frame.specs.Unfinished.{unfinished_of}
 use Rattle.ln_ops.specs.Message.{op_of}
 use Rattle.ln_ops.specs.declared.op.Op.{Op}
 use Rattle.ln_ops.specs.declared.reply.Reply.{Reply}
 use Rattle.slot_table.specs.Desk.{Desk}
 use Rattle.refresh_ring.specs.Jobs.{requests_in}
 use Rattle.refresh_ring.specs.Picked.{Picked, turned}
-use Rattle.refresh_ring.specs.Scheduled.{Scheduled}
 use Rattle.refresh_ring.specs.declared.kind.Kind.{Kind}
 use Rattle.refresh_ring.specs.declared.pick.Pick.{Pick}
 use Rattle.refresh_ring.specs.declared.pick.Pick.TheVariants.{Off, StopAll, Idle, Place, Switch}
@@ -16,7 +16,7 @@ use Rattle.station_core.specs.declared.call.Call.{Call}
 use Rattle.station_core.specs.declared.call.Call.TheVariants.{Byte, Turn}
 use Rattle.station_core.specs.declared.call.Step.{Step}
 use Rattle.station_core.specs.declared.call.Step.TheVariants as step
-use Rattle.station_core.specs.Refreshed.{refreshed_slots, addresses}
+use Rattle.station_core.specs.Slots.{refreshed_slots, addresses}
 use Rattle.station_core.specs.Seen.{Seen, scheduled, seen_with, line_of}
 use Rattle.station_core.specs.After.{after, desk_after}
 use Rattle.station_core.specs.Answer.{answer}

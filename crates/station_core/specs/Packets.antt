@@ -1,11 +1,7 @@
 -- The packets of an entry: from the bytes of a slot to what is sent on the track (S-9.2.1).
-use Rattle.std.specs.Prelude.{ℕ, ◌≡◌, ◌≤◌, true, ◌+◌, ◌*◌, ◌/◌, ◌%◌, ◌==◌, Bool, if◌then◌else◌, nat_lt, unwrap_or, List}
+use Rattle.std.specs.Prelude.{ℕ, ◌≡◌, ◌≤◌, true, ◌/◌, ◌%◌, ◌==◌, Bool, if◌then◌else◌, nat_lt, List}
 use Rattle.dcc_packet.specs.declared.address.Address.{Address}
 use Rattle.dcc_packet.specs.declared.address.Address.TheVariants.{Short, Long}
-use Rattle.dcc_packet.specs.declared.steps.Steps.{Steps}
-use Rattle.dcc_packet.specs.declared.steps.Steps.TheVariants.{S128}
-use Rattle.dcc_packet.specs.declared.steps.Motion.{Motion}
-use Rattle.dcc_packet.specs.Steps.{steps_of_kind, motion_of}
 use Rattle.dcc_packet.specs.Sent.{speed_bytes, group_one_bytes, group_two_bytes}
 use Rattle.refresh_ring.specs.declared.kind.Kind.{Kind}
 use Rattle.refresh_ring.specs.declared.kind.Kind.TheVariants.{Speed, GroupOne, GroupTwo}
@@ -14,30 +10,16 @@ use Rattle.refresh_ring.specs.declared.pick.Pick.TheVariants.{Off, StopAll, Idle
 use Rattle.slot_table.specs.Desk.{Desk}
 use Rattle.slot_table.specs.Entry.{Entry, IsSlot, entry_of}
 use Rattle.ln_ops.specs.Slot.{is_held}
+use Rattle.station_core.specs.Asking.{steps_asked, motion_asked, is_forward, functions_asked}
 use Rattle.slot_table.specs.Reading.{row_of}
 
 -- an address of a slot is sent as a short one up to 127, and as a long one from 128 on (own)
 abbrev pub address_sent : ℕ → Address
 address_sent a = if nat_lt a 128 then Short a else Long a
 
--- the steps of the entry's type. Every type that an entry may have has its steps.
-abbrev pub steps_asked : Entry → Steps
-steps_asked e = unwrap_or (steps_of_kind e.kind) S128
-
-abbrev pub motion_asked : Entry → Motion
-motion_asked e = motion_of (steps_asked e) e.spd
-
--- bit 5 of DIRF is 0 for forward (own)
-abbrev pub is_forward : Entry → Bool
-is_forward e = e.dirf / 32 % 2 == 0
-
 -- bit 4 of DIRF is F0
 abbrev pub is_lit : Entry → Bool
 is_lit e = e.dirf / 16 % 2 == 1
-
--- bit k is Fk: F0 is bit 4 of DIRF, F1 to F4 are its bits 0 to 3, F5 to F8 are bits 0 to 3 of SND
-abbrev pub functions_asked : Entry → ℕ
-functions_asked e = e.dirf / 16 % 2 + 2 * (e.dirf % 16) + 32 * (e.snd % 16)
 
 -- the three packets of an entry, for its address
 abbrev pub speed_packet : ℕ → Entry → List ℕ

@@ -1,17 +1,13 @@
 -- A station, as contracts see it.
 use Rattle.std.specs.Prelude.{ℕ, Bool, true, List, [], replicate, slice_index_or, Option, None, ◌&&◌, nat_le}
-use Rattle.slot_table.specs.Desk.{Desk, first_desk}
+use Rattle.slot_table.specs.Desk.{first_desk}
 use Rattle.refresh_ring.specs.Scheduled.{Scheduled}
 use Rattle.refresh_ring.specs.declared.job.Job.{Job}
 use Rattle.refresh_ring.specs.declared.job.Destination.{Destination}
-use Rattle.refresh_ring.specs.declared.pick.Power.{Power}
 use Rattle.refresh_ring.specs.declared.pick.Power.TheVariants.{Off}
-use Rattle.station_core.specs.Refreshed.{refreshed_slots}
-
--- the desk with its power
-pub record PoweredDesk : Type 0 where
-  pub power : Power
-  pub desk : Desk
+use Rattle.station_core.specs.Known.{Known}
+use Rattle.station_core.specs.Powered.{PoweredDesk}
+use Rattle.station_core.specs.Slots.{refreshed_slots}
 
 -- The unfinished bytes of each line, the desk, and what decides which packet is sent next: the jobs that wait, the
 -- place that the ring sent last, where the last packet went, and whether jobs are preferred. Which slots are
@@ -23,6 +19,10 @@ pub record Seen : Type 0 where
   pub cursor : ℕ
   pub last : Option Destination
   pub prefers_jobs : Bool
+
+-- what throttles can know of a station: of the bytes that came before, those that are unfinished are enough
+abbrev pub known_of : Seen → Known
+known_of seen = record { lines = seen.lines; powered = seen.powered }
 
 -- the schedule of a station
 abbrev pub scheduled : Seen → Scheduled

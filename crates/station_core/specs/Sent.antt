@@ -3,7 +3,6 @@ use Rattle.std.specs.Prelude.{ℕ, ◌≡◌, ◌⊎◌, Bool, true, List, Optio
 use Rattle.dcc_packet.specs.Sent.{idle_bytes, stop_all_bytes, accessory_bytes}
 use Rattle.refresh_ring.specs.Sent.{to_send}
 use Rattle.refresh_ring.specs.declared.kind.Kind.{Kind}
-use Rattle.refresh_ring.specs.declared.pick.Pick.{Pick}
 use Rattle.refresh_ring.specs.declared.pick.Pick.TheVariants.{Switch}
 use Rattle.refresh_ring.specs.declared.pick.Power.{Power}
 use Rattle.refresh_ring.specs.declared.pick.Power.TheVariants.{Off, Running, Paused}

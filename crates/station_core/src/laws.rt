@@ -1,21 +1,42 @@
 //! What holds of every list of calls.
-ghost use Rattle.std.specs.Prelude.{List};
-ghost use Rattle.station_core.specs.Promises.{ChangesFirst, ChangesWait, NeighboursApart, SwitchesAreSent, SwitchesInOrder};
+ghost use Rattle.std.specs.Prelude.{◌≡◌, ◌<◌, ◌++◌, ℕ, List, length};
+ghost use Rattle.ln_frame.specs.Stream.{messages_of};
+ghost use Rattle.ln_frame.specs.Unfinished.{unfinished_of};
+ghost use Rattle.station_core.specs.Known.{Known, bytes_of, told_all};
+ghost use Rattle.station_core.specs.Messages.{bytes_on, carried_out_on};
+ghost use Rattle.station_core.specs.Moments.{AtEveryMoment};
+ghost use Rattle.station_core.specs.Neighbours.{NeighboursApart};
+ghost use Rattle.station_core.specs.Powered.{HasDesk};
+ghost use Rattle.station_core.specs.Promises.{ChangesFirst, ChangesWait, SwitchesAreSent, SwitchesInOrder};
 ghost use Rattle.ln_ops.specs.declared.op.Op.{Op as OpOf};
-ghost use Rattle.station_core.specs.Runs.{Covers};
-ghost use Rattle.station_core.specs.Moved.{packet_of_turn};
-ghost use Rattle.station_core.specs.Seen.{Seen, scheduled};
+ghost use Rattle.station_core.specs.Runs.{Covers, answer_of, state_after, state_of};
+ghost use Rattle.station_core.specs.Moved.{after_byte, after_turn, answer_to_byte, packet_of_turn, replied, sent};
+ghost use Rattle.station_core.specs.Seen.{Seen, known_of, scheduled};
 ghost use Rattle.refresh_ring.specs.Scheduled.{IsScheduled};
 ghost use Rattle.station_core.specs.Sent.{IsPacketOfDesk};
 ghost use Rattle.station_core.specs.declared.call.Call.{Call as CallOf};
+ghost use Rattle.station_core.specs.declared.call.Call.TheVariants.{Byte as ByteCall, Turn as TurnCall};
 
+use ln_frame::{any_cut, left_is_enough};
 use refresh_ring::{four_turns, picks_are_due};
+use slot_table::leaves_desk;
+
+/// What a call makes of a station, and what it answers, by its kind: a byte is answered by a reply or by nothing, a turn by
+/// a packet or, while off, by none.
+#[tactic(auto, unfolding(crate::specs::Moved::moved))]
+pub fn calls_are_moves()
+    ensures after_byte { (seen : Seen) (line byte : ℕ) → state_of seen (ByteCall line byte) ≡ after_byte seen line byte }
+    ensures to_byte { (seen : Seen) (line byte : ℕ) → answer_of seen (ByteCall line byte) ≡ replied (answer_to_byte seen line byte) }
+    ensures after_turn { (seen : Seen) → state_of seen TurnCall ≡ after_turn seen }
+    ensures to_turn { (seen : Seen) → answer_of seen TurnCall ≡ sent (packet_of_turn seen) }
+{}
 
 /// From any start, in a full refresh cycle of a slot each of its three packets is sent, for what stands in the slot at
 /// that turn.
 pub fn coverage()
     ensures { (start : Seen) (calls : List CallOf) → Covers start calls }
 {
+    left_is_enough();
     four_turns();
 }
 
@@ -31,6 +52,7 @@ pub fn packets_of_the_desk()
 pub fn changes_first()
     ensures { (start : Seen) (calls : List CallOf) → ChangesFirst start calls }
 {
+    left_is_enough();
     refresh_ring::changes_first();
 }
 
@@ -53,12 +75,40 @@ pub fn switches_in_order()
 pub fn switches_are_sent()
     ensures { (start : Seen) (calls : List CallOf) → IsScheduled (scheduled start) → SwitchesAreSent start calls }
 {
+    left_is_enough();
     refresh_ring::switches_in_order();
 }
 
-/// From any start, no two neighbouring packets go to one locomotive address or one module.
+/// From a start that a station can have, no two neighbouring packets go to one locomotive address or one module.
 pub fn neighbours()
-    ensures { (start : Seen) (calls : List CallOf) → NeighboursApart start calls }
+    ensures { (start : Seen) (calls : List CallOf) → IsScheduled (scheduled start) → NeighboursApart start calls }
 {
     refresh_ring::neighbours();
+    refresh_ring::switches_in_order();
+    picks_are_due();
+}
+
+/// From any start, the power and the desk of a station are what throttles can know: those that the messages of its lines
+/// make, whatever is sent meanwhile.
+pub fn desk_of_messages()
+    ensures { (start : Seen) (calls : List CallOf) → (state_after start calls).powered ≡ (told_all (known_of start) calls).powered }
+{
+    left_is_enough();
+}
+
+/// The messages that are carried out on a line are the whole messages of its bytes: of those that were unfinished and
+/// then those that came.
+pub fn messages_of_a_line()
+    ensures { (known : Known) (calls : List CallOf) (line : ℕ) → line < length known.lines → unfinished_of (bytes_of known line) ≡ bytes_of known line
+        → carried_out_on line known calls ≡ messages_of (bytes_of known line ++ bytes_on line calls) }
+{
+    left_is_enough();
+    any_cut();
+}
+
+/// From a desk every list of calls leaves a desk, at each of its moments.
+pub fn stays_a_desk()
+    ensures { (known : Known) (calls : List CallOf) → HasDesk known.powered → AtEveryMoment HasDesk known calls }
+{
+    leaves_desk();
 }

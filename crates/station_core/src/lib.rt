@@ -11,8 +11,8 @@ mod station;
 
 pub use call::{Call, Step};
 pub use laws::{
-    changes_first, changes_wait, coverage, neighbours, packets_of_the_desk, switches_are_sent,
-    switches_in_order,
+    calls_are_moves, changes_first, changes_wait, coverage, desk_of_messages, messages_of_a_line,
+    neighbours, packets_of_the_desk, stays_a_desk, switches_are_sent, switches_in_order,
 };
 pub use refresh_ring::{Kind, Power};
 pub use station::{Station, StationFault};

@@ -2,11 +2,12 @@
 ghost use Rattle.std.specs.Prelude.{◌≡◌};
 ghost use Rattle.slot_table.specs.Entry.{IsSlot};
 ghost use Rattle.refresh_ring.specs.Scheduled.{after_refresh, IsScheduled};
-ghost use Rattle.station_core.specs.Refreshed.{addresses, is_driven, is_refreshed, length-addresses};
+ghost use Rattle.station_core.specs.Refreshed.{is_driven, is_refreshed};
+ghost use Rattle.station_core.specs.Slots.{addresses, length-addresses};
 ghost use Rattle.station_core.specs.Asked.{after_places, places_with};
 
 use ln_ops::State;
-use refresh_ring::{Kind, PlainRing, Schedule, View};
+use refresh_ring::{BitRing, Kind, Schedule, View};
 use slot_table::SlotTable;
 
 /// Which packets of a slot a message changes.
@@ -46,7 +47,7 @@ fn is_driven(state: State) -> bool
 }
 
 // The schedule goes by what a slot now reads as.
-pub(crate) fn follow(table: &SlotTable, schedule: &mut Schedule<PlainRing>, slot: u8)
+pub(crate) fn follow(table: &SlotTable, schedule: &mut Schedule<BitRing>, slot: u8)
     requires { IsSlot slot }
     ensures state { schedule.new ≡ after_refresh slot (is_refreshed table.now slot) schedule.old }
     ensures legal { IsScheduled schedule.new }
@@ -55,7 +56,7 @@ pub(crate) fn follow(table: &SlotTable, schedule: &mut Schedule<PlainRing>, slot
 }
 
 // The schedule goes by what a slot now reads as, and its changed packets wait where it is refreshed.
-pub(crate) fn note(table: &SlotTable, schedule: &mut Schedule<PlainRing>, slot: u8, change: Change)
+pub(crate) fn note(table: &SlotTable, schedule: &mut Schedule<BitRing>, slot: u8, change: Change)
     requires { IsSlot slot }
     ensures state { schedule.new ≡ after_places (places_with slot change) (after_refresh slot (is_refreshed table.now slot) schedule.old) }
     ensures legal { IsScheduled schedule.new }

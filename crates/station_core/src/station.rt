@@ -9,24 +9,29 @@ ghost use Rattle.slot_table.specs.Desk.{IsDesk};
 ghost use Rattle.slot_table.specs.Entry.{IsRow, IsSlot};
 ghost use Rattle.slot_table.specs.Reading.{row_of};
 ghost use Rattle.station_core.specs.Packets.{IsPickOf};
-ghost use Rattle.station_core.specs.Promises.{ChangesFirst, ChangesWait, NeighboursApart, SwitchesAreSent, SwitchesInOrder};
+ghost use Rattle.station_core.specs.Known.{told_all};
+ghost use Rattle.station_core.specs.Messages.{bytes_on, carried_out_on};
+ghost use Rattle.station_core.specs.Moments.{AtEveryMoment};
+ghost use Rattle.station_core.specs.Neighbours.{NeighboursApart};
+ghost use Rattle.station_core.specs.Powered.{HasDesk};
+ghost use Rattle.station_core.specs.Promises.{ChangesFirst, ChangesWait, SwitchesAreSent, SwitchesInOrder};
 ghost use Rattle.station_core.specs.Runs.{AreCalls, Covers, answer_of, answers, is_call, state_after, state_of};
-ghost use Rattle.station_core.specs.Seen.{first_seen, is_line_count, line_of};
+ghost use Rattle.station_core.specs.Seen.{first_seen, is_line_count, known_of, line_of};
 ghost use Rattle.station_core.specs.Sent.{IsPacketOfDesk};
 ghost use Rattle.station_core.specs.Moved.{after_byte, after_turn, answer_to_byte, message_ended, packet_of, packet_of_turn};
 
 use crate::call::{Call, Step};
 use crate::laws::{
-    changes_first, changes_wait, coverage, neighbours, packets_of_the_desk, switches_are_sent,
-    switches_in_order,
+    changes_first, changes_wait, coverage, desk_of_messages, messages_of_a_line, neighbours,
+    packets_of_the_desk, stays_a_desk, switches_are_sent, switches_in_order,
 };
 use crate::packets::entry_packet;
 use crate::schedule::Addresses;
 use arrayvec::ArrayVec;
 use dcc_packet::{Packet, accessory, idle, stop_all};
-use ln_frame::Framer;
+use ln_frame::{Framer, left_is_enough};
 use ln_ops::{Reply, Row, read};
-use refresh_ring::{Kind, Pick, PlainRing, Power, Schedule, picks_are_due};
+use refresh_ring::{BitRing, Kind, Pick, Power, Schedule, picks_are_due};
 use slot_table::SlotTable;
 use std::alloc::Global;
 use std::marker::Model;
@@ -50,7 +55,7 @@ pub struct Station {
     framers: ArrayVec<Framer, MOST_LINES>,
     pub(crate) table: SlotTable,
     pub(crate) power: Power,
-    pub(crate) schedule: Schedule<PlainRing>,
+    pub(crate) schedule: Schedule<BitRing>,
 }
 
 impl Model for Station {
@@ -101,7 +106,7 @@ impl Station {
     pub fn lines(&self) -> u8
         ensures lines { result ≡ length self.now.lines }
         ensures count { is_line_count result ≡ true }
-        // No address has two slots, and each slot in use has its entry.
+        // No address has two slots, and each slot that is not free has its entry.
         ensures desk { IsDesk self.now.powered.desk }
     {
         self.framers.len() as u8
@@ -158,10 +163,11 @@ impl Station {
             ≡ option_to_list (message_ended self.old line byte) ++ messages_of (line_of self.new line ++ z) }
         // Each place that a message changes waits after it, where its slot is refreshed.
         ensures waits { (message : List ℕ) → message_ended self.old line byte ≡ Some message → ChangesWait self.old (op_of message) }
-        // No address has two slots, and each slot in use has its entry.
+        // No address has two slots, and each slot that is not free has its entry.
         ensures desk { IsDesk self.old.powered.desk }
     {
         changes_wait();
+        left_is_enough();
         let framer = &mut self.framers[line as usize];
         let message = framer.push(byte)?;
         self.obey(read(&message))
@@ -173,7 +179,7 @@ impl Station {
         ensures state { self.new ≡ after_turn self.old }
         // Made of the slots at this moment, and never of an older value.
         ensures of_the_desk { IsPacketOfDesk self.old.powered.power self.old result }
-        // No address has two slots, and each slot in use has its entry.
+        // No address has two slots, and each slot that is not free has its entry.
         ensures desk { IsDesk self.old.powered.desk }
     {
         picks_are_due();
@@ -189,6 +195,14 @@ impl Station {
         requires lines { AreCalls (length self.old.lines) calls.now }
         ensures state { self.new ≡ state_after self.old calls.now }
         ensures answers { steps.new ≡ answers self.old calls.now }
+        ensures lines { length self.new.lines ≡ length self.old.lines }
+        // What was asked is what the bytes of the lines ask, whatever was sent meanwhile.
+        ensures told { self.new.powered ≡ (told_all (known_of self.old) calls.now).powered }
+        // On each line the whole messages of its bytes are carried out, and no others.
+        ensures messages { (line : ℕ) → line < length self.old.lines
+            → carried_out_on line (known_of self.old) calls.now ≡ messages_of (line_of self.old line ++ bytes_on line calls.now) }
+        // At each moment no address has two slots, and each slot that is not free has its entry.
+        ensures desks { AtEveryMoment HasDesk (known_of self.old) calls.now }
         // In a full refresh cycle of a slot each of its three packets is sent.
         ensures coverage { Covers self.old calls.now }
         // No two neighbouring packets go to one locomotive address or one module.
@@ -199,8 +213,11 @@ impl Station {
         ensures switches_in_order { SwitchesInOrder self.old calls.now }
         ensures switches_are_sent { SwitchesAreSent self.old calls.now }
     {
-        // What the type keeps of its schedule, the last law asks for.
+        // What the type keeps of itself, the laws of a start that a station can have ask for.
         let _ = &self.schedule;
+        desk_of_messages();
+        messages_of_a_line();
+        stays_a_desk();
         coverage();
         neighbours();
         changes_first();

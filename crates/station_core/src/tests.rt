@@ -1,5 +1,7 @@
 //! Messages and replies of whole conversations, byte by byte.
 
+mod hostile;
+
 use crate::{Call, Power, Station, StationFault, Step};
 use dcc_packet::idle;
 use ln_ops::to_msg;
@@ -343,9 +345,11 @@ fn has_one_to_eight_lines(rt: HostRuntime) -> Result<(), Fail> {
             Some(StationFault::BadLines)
         );
     }
-    let station = Station::new(rt.alloc(), 8)?;
-    assert_eq!(rt; station.lines(), 8);
-    assert_eq!(rt; station.power(), Power::Off);
+    for lines in 1..=8 {
+        let station = Station::new(rt.alloc(), lines)?;
+        assert_eq!(rt; station.lines(), lines);
+        assert_eq!(rt; station.power(), Power::Off);
+    }
     Ok(())
 }
 

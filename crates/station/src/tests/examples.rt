@@ -5,6 +5,27 @@ use std::fs;
 use std::test::Fail;
 
 const LAYOUT: &[u8] = b"# The decoders of a small layout: a shunter and a turnout.
+version = 2
+
+[[node]]
+name = \"shunter\"
+kind = \"loco\"
+# The configuration variables: pairs of a number and a value.
+cvs = [
+    [1, 3],    # CV1, the short address: 3.
+    [3, 10],   # CV3, acceleration. Any variable may stand here, and this one has no effect.
+    [17, 192], # CV17, the first byte of the long address: 192, as where it is left out.
+    [18, 0],   # CV18, the second byte of the long address: 0, as where it is left out.
+    [29, 2],   # CV29, the flags: bit 1 for 28 or 128 speed steps, and not bit 5 for the long address.
+]
+
+[[node]]
+name = \"yard\"
+kind = \"accessory\"
+module = 1
+";
+
+const LAYOUT_1: &[u8] = b"# The decoders of layout.toml in version 1 of the format.
 version = 1
 
 [[node]]
@@ -123,12 +144,164 @@ msg BA 01 01 45 move 1 1
 msg A0 01 40 1E speed slot 1 spd 64
 ";
 
+const LONG: &[u8] = b"# One locomotive at a long address.
+version = 2
+
+[[node]]
+name = \"express\"
+kind = \"loco\"
+# CV1 is there but not in use: bit 5 of CV29 takes the long address of CV17 and CV18, (196 - 192) * 256 + 210 = 1234.
+cvs = [[1, 3], [17, 196], [18, 210], [29, 34]]
+";
+
+const THROTTLES: &[u8] =
+    b"# Two throttles, each on a line of its own: run with --lines 2 and long.toml.
+# Line 0 asks for locomotive 1234 (ADR2 09, ADR 52), and gets slot 1, idle.
+line 0 BF 09 52 1B
+# It takes the slot into use by a null move, and turns the power on.
+line 0 BA 01 01 45 83 7C
+# Speed 40, backwards with F0, F5 and F8.
+line 0 A0 01 28 76
+line 0 A1 01 30 6F
+line 0 A2 01 09 55
+turn 12
+show
+# Line 1 asks for the same locomotive, and sees it in use (stat 33). A null move is not refused: it steals or shares it.
+line 1 BF 09 52 1B
+line 1 BA 01 01 45
+# Now both drive it: the last message counts.
+line 1 A0 01 50 0E
+line 0 A0 01 14 4A
+turn 12
+show
+# Line 0 puts it up for dispatch (move to slot 0): common, still refreshed. Line 1 gets it (move from slot 0).
+line 0 BA 01 00 44
+line 1 BA 00 00 45
+# Nothing waits for dispatch any more.
+line 1 BA 00 00 45
+# Release: stop, then common (13), then free (03). Messages for a free slot are ignored.
+line 1 A0 01 00 5E
+line 1 B5 01 13 58
+line 1 B5 01 03 48
+line 1 A0 01 50 0E
+line 1 BB 01 00 45
+turn 4
+show
+";
+
+const SHARED: &[u8] = b"reply 0 E7 0E 01 23 52 00 00 06 00 09 00 00 00 69
+reply 0 E7 0E 01 33 52 00 00 06 00 09 00 00 00 79
+track 1 C4 D2 3F 28 01
+track 2 FF 00 FF
+track 3 C4 D2 3F 28 01
+track 4 FF 00 FF
+track 5 C4 D2 90 86
+track 6 FF 00 FF
+track 7 C4 D2 90 86
+track 8 FF 00 FF
+track 9 C4 D2 B9 AF
+track 10 FF 00 FF
+track 11 C4 D2 B9 AF
+track 12 FF 00 FF
+node express long 1234 step 39 of 128 reverse F 100001001
+reply 1 E7 0E 01 33 52 28 30 07 00 09 09 00 00 69
+reply 1 E7 0E 01 33 52 28 30 07 00 09 09 00 00 69
+track 13 C4 D2 3F 14 3D
+track 14 FF 00 FF
+track 15 C4 D2 3F 14 3D
+track 16 FF 00 FF
+track 17 C4 D2 90 86
+track 18 FF 00 FF
+track 19 C4 D2 90 86
+track 20 FF 00 FF
+track 21 C4 D2 B9 AF
+track 22 FF 00 FF
+track 23 C4 D2 B9 AF
+track 24 FF 00 FF
+node express long 1234 step 19 of 128 reverse F 100001001
+reply 0 E7 0E 01 13 52 14 30 07 00 09 09 00 00 75
+reply 1 E7 0E 01 33 52 14 30 07 00 09 09 00 00 55
+reply 1 B4 3A 00 71
+reply 1 E7 0E 01 00 00 00 00 07 00 00 00 00 00 10
+track 25 FF 00 FF
+track 26 FF 00 FF
+track 27 FF 00 FF
+track 28 FF 00 FF
+node express long 1234 step 19 of 128 reverse F 100001001
+";
+
+const FUNCTIONS: &[u8] =
+    b"# Functions: F0 is a bit of DIRF (OPC_LOCO_DIRF), F5 to F8 are SND (OPC_LOCO_SND).
+line 0 BF 00 03 43 83 7C BA 01 01 45
+# F0, the light: bit 4 of DIRF.
+line 0 A1 01 10 4F
+# F5 and F7: bits 0 and 2 of SND.
+line 0 A2 01 05 59
+# The speed packet, group one (F0 to F4) and group two (F5 to F8), each as a change and as a refresh.
+turn 12
+show
+";
+
+const LIT: &[u8] = b"reply 0 E7 0E 01 23 03 00 00 06 00 00 00 00 00 31
+reply 0 E7 0E 01 33 03 00 00 07 00 00 00 00 00 20
+track 1 03 3F 80 BC
+track 2 FF 00 FF
+track 3 03 3F 80 BC
+track 4 FF 00 FF
+track 5 03 90 93
+track 6 FF 00 FF
+track 7 03 90 93
+track 8 FF 00 FF
+track 9 03 B5 B6
+track 10 FF 00 FF
+track 11 03 B5 B6
+track 12 FF 00 FF
+node shunter short 3 stop forward F 100001010
+node yard module 1 outputs 00000000
+";
+
+const REFUSALS: &[u8] =
+    b"# Each refusal of the station, a long acknowledge with code 00: B4, the opcode with bit 7 clear, 00 and the check.
+# OPC_LOCO_ADR for address 0, which is none of a locomotive; for 10240, which is above the last.
+line 0 BF 00 00 40
+line 0 BF 50 00 10
+# OPC_RQ_SL_DATA for slot 127, which is none of a locomotive.
+line 0 BB 7F 00 3B
+# OPC_MOVE_SLOTS from slot 0, the dispatch get, where nothing waits to be dispatched.
+line 0 BA 00 00 45
+# OPC_WR_SL_DATA that puts address 3 into slot 2, when it stands in slot 1.
+line 0 BF 00 03 43
+line 0 EF 0E 02 33 03 00 00 07 00 00 00 00 00 2B
+# OPC_SW_REQ and OPC_SW_ACK for switch 2040, above the last.
+line 0 B0 78 1F 28
+line 0 BD 78 1F 25
+";
+
+const REFUSED: &[u8] = b"reply 0 B4 3F 00 74
+reply 0 B4 3F 00 74
+reply 0 B4 3B 00 70
+reply 0 B4 3A 00 71
+reply 0 E7 0E 01 23 03 00 00 06 00 00 00 00 00 31
+reply 0 B4 6F 00 24
+reply 0 B4 30 00 7B
+reply 0 B4 3D 00 76
+";
+
 #[test]
 fn scripts_of_the_examples(rt: HostRuntime) -> Result<(), Fail> {
     let file = "station-test-layout.toml";
-    fs::write(&rt, file, LAYOUT)?;
-    for (script, printed) in [(DRIVE, DRIVEN), (TURNOUT, THROWN), (LOSSES, SETTLED)] {
-        let ran = run(&rt, &["replay", "--roster", file], script);
+    for (lines, layout, script, printed) in [
+        ("1", LAYOUT, DRIVE, DRIVEN),
+        ("1", LAYOUT, TURNOUT, THROWN),
+        ("1", LAYOUT, LOSSES, SETTLED),
+        ("1", LAYOUT_1, DRIVE, DRIVEN),
+        ("1", LAYOUT_1, TURNOUT, THROWN),
+        ("2", LONG, THROTTLES, SHARED),
+        ("1", LAYOUT, FUNCTIONS, LIT),
+        ("1", LAYOUT, REFUSALS, REFUSED),
+    ] {
+        fs::write(&rt, file, layout)?;
+        let ran = run(&rt, &["replay", "--lines", lines, "--roster", file], script);
         assert_eq!(rt; ran.faults.as_slice(), b"".as_slice());
         assert_eq!(rt; ran.output.as_slice(), printed);
         assert_eq!(rt; ran.status, 0);

@@ -57,31 +57,53 @@ fn files_that_are_missing(rt: HostRuntime) {
     }
 }
 
+/// Texts of rosters, and what is told of them.
+const ROSTERS: [(&'static [u8], &'static [u8]); 12] = [
+    (b"\xFF", b"station: roster fault 1 at node 0\n"),
+    (b"version = 3", b"station: roster fault 2 at node 0\n"),
+    (
+        b"version = 1\nnode = [{}]",
+        b"station: roster fault 2 at node 1\n",
+    ),
+    (
+        b"version = 1\n[[node]]\nname = \"\"\nkind = \"accessory\"\nmodule = 1",
+        b"station: roster fault 4 at node 1\n",
+    ),
+    (
+        b"version = 1\n[[node]]\nname = \"a\"\nkind = \"loco\"\ncv1 = 0\ncv29 = 2",
+        b"station: roster fault 5 at node 1\n",
+    ),
+    (
+        b"version = 1\n[[node]]\nname = \"a\"\nkind = \"accessory\"\nmodule = 511",
+        b"station: roster fault 6 at node 1\n",
+    ),
+    (b"version = 1", b"station: roster fault 7 at node 0\n"),
+    (
+        b"version = 2\n[[node]]\nname = \"a\"\nkind = \"loco\"\ncvs = [[1, 3], [1, 4], [29, 2]]",
+        b"station: roster fault 9 at node 1\n",
+    ),
+    (
+        b"version = 2\n[[node]]\nname = \"a\"\nkind = \"loco\"\ncvs = [[1, 3]]",
+        b"station: roster fault 9 at node 1\n",
+    ),
+    (
+        b"version = 2\n[[node]]\nname = \"a\"\nkind = \"loco\"\ncvs = [[1, 3], [29, 2], [0, 1]]",
+        b"station: roster fault 9 at node 1\n",
+    ),
+    (
+        b"version = 2\n[[node]]\nname = \"a\"\nkind = \"loco\"\ncvs = [[1, 3], [29, 256]]",
+        b"station: roster fault 5 at node 1\n",
+    ),
+    (
+        b"version = 2\n[[node]]\nname = \"a\"\nkind = \"loco\"\ncvs = [[1, 3], [29, 160]]",
+        b"station: roster fault 5 at node 1\n",
+    ),
+];
+
 #[test]
 fn rosters_with_faults(rt: HostRuntime) -> Result<(), Fail> {
-    let rows: [(&[u8], &[u8]); 7] = [
-        (b"\xFF", b"station: roster fault 1 at node 0\n"),
-        (b"version = 2", b"station: roster fault 2 at node 0\n"),
-        (
-            b"version = 1\nnode = [{}]",
-            b"station: roster fault 2 at node 1\n",
-        ),
-        (
-            b"version = 1\n[[node]]\nname = \"\"\nkind = \"accessory\"\nmodule = 1",
-            b"station: roster fault 4 at node 1\n",
-        ),
-        (
-            b"version = 1\n[[node]]\nname = \"a\"\nkind = \"loco\"\ncv1 = 0\ncv29 = 2",
-            b"station: roster fault 5 at node 1\n",
-        ),
-        (
-            b"version = 1\n[[node]]\nname = \"a\"\nkind = \"accessory\"\nmodule = 511",
-            b"station: roster fault 6 at node 1\n",
-        ),
-        (b"version = 1", b"station: roster fault 7 at node 0\n"),
-    ];
     let file = "station-test-bad.toml";
-    for (text, fault) in rows {
+    for (text, fault) in ROSTERS {
         let ran = run_on(&rt, &["replay", "--roster", file], file, text)?;
         assert_eq!(rt; ran.faults.as_slice(), fault);
         assert_eq!(rt; ran.status, 3);

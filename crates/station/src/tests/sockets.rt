@@ -1,10 +1,10 @@
 //! Clients on loopback, all in one process, one after another.
 
 use super::run;
-use crate::fault::RunFault;
 use crate::layout::new_world;
 use crate::serve_on;
 use layout_core::Limits;
+use ln_ops::State;
 use std::io::{Read, Write};
 use std::net::{Shutdown, TcpListener, TcpStream};
 use std::test::Fail;
@@ -60,15 +60,24 @@ track 2 off
     Ok(())
 }
 
+// The first of two clients has too many reads, and the second is not served.
 #[test]
 fn a_connection_with_too_many_reads(rt: HostRuntime) -> Result<(), Fail> {
     let listener = TcpListener::bind(&rt, "127.0.0.1:0")?;
-    let _first = client(&rt, &listener, &[0x83, 0x7C])?;
+    let _first = client(&rt, &listener, &[0xBF, 0x00])?;
+    let mut second = client(&rt, &listener, &[0x03, 0x43])?;
     let mut world = new_world(rt.alloc(), 1, None).ok().ok_or("no world")?;
     let mut output = Vec::new(rt.alloc());
     let limits = Limits { reads: 1, turns: 1 };
     let served = serve_on(&listener, &mut world, None, limits, 2, &mut output);
-    assert!(rt; matches!(served, Err(RunFault::Serve(4))));
+    let fault = served.err().ok_or("no fault")?;
+    let text = format!(in rt.alloc(); "{fault}")?;
+    assert_eq!(rt; text.as_str(), "serve fault 4");
+    assert_eq!(rt; output.as_slice(), b"track 1 off\ntrack 2 off\n".as_slice());
+    assert_eq!(rt; world.station().row(1).state, State::Free);
+    drop(listener);
+    let mut byte = [0; 1];
+    assert!(rt; !matches!(second.read(&mut byte), Ok(1)));
     Ok(())
 }
 

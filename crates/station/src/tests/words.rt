@@ -1,8 +1,66 @@
 //! The words of the command line.
 
 use super::run;
+use crate::execute::tell;
+use crate::reading::{read_words, texts};
 use crate::{Order, OrderFault, order};
+use std::env::{Env, FillError};
 use std::test::Fail;
+
+/// The words that a system gives, the program's name first.
+#[derive(Drop)]
+struct Given<'a> {
+    words: &'a [&'a [u8]],
+}
+
+impl Env for Given<'_> {
+    fn arg(&self, i: usize, buf: &mut [u8]) -> Result<usize, FillError> {
+        let Some(word) = self.words.get(i) else {
+            return Err(FillError::NotPresent);
+        };
+        if word.len() > buf.len() {
+            return Err(FillError::TooLong);
+        }
+        buf[..word.len()].copy_from_slice(word);
+        Ok(word.len())
+    }
+
+    fn var(&self, _name: &str, _buf: &mut [u8]) -> Result<usize, FillError> {
+        Err(FillError::NotPresent)
+    }
+
+    fn var_at(&self, _i: usize, _buf: &mut [u8]) -> Result<usize, FillError> {
+        Err(FillError::NotPresent)
+    }
+}
+
+#[test]
+fn words_behind_the_name(rt: HostRuntime) -> Result<(), Fail> {
+    let given = Given {
+        words: &[b"station", b"monitor", b"caf\xC3\xA9.hex"],
+    };
+    let words = read_words(rt.alloc(), &given)?;
+    let texts = texts(rt.alloc(), words.as_slice())?;
+    assert_eq!(rt; texts.as_slice(), ["monitor", "caf\u{e9}.hex"].as_slice());
+    Ok(())
+}
+
+#[test]
+fn a_word_that_is_not_utf_8(rt: HostRuntime) -> Result<(), Fail> {
+    let given = Given {
+        words: &[b"station", b"monitor", b"caf\xE9.hex"],
+    };
+    let fault = read_words(rt.alloc(), &given).err().ok_or("a fault")?;
+    let mut faults = Vec::new(rt.alloc());
+    assert_eq!(rt; tell(&fault, &mut faults), 1);
+    let text = std::str::from_utf8(faults.as_slice())
+        .ok()
+        .ok_or("no text")?;
+    for part in ["a word is not UTF-8", "Usage: station"] {
+        assert!(rt; text.contains(part), "{text}");
+    }
+    Ok(())
+}
 
 #[test]
 fn words_that_are_no_order(rt: HostRuntime) {

@@ -5,10 +5,11 @@ use Rattle.std.specs.Io.KnownBytes.{Consumes}
 use Rattle.station_core.specs.declared.call.Step.{Step}
 use Rattle.layout_core.specs.declared.engine.ServeFault.{ServeFault}
 use Rattle.layout_core.specs.declared.event.Event.{Event}
-use Rattle.layout_core.specs.Faults.{HasFaulted}
-use Rattle.layout_core.specs.Served.{Input, Moment, answers_to_events, input_of, moment_of, served_events, turns_in}
+use Rattle.layout_core.specs.Faults.{HasFaulted, StopsWithin}
+use Rattle.layout_core.specs.Served.{Input, Moment, input_of, moment_of, served_events, turns_in}
+use Rattle.layout_core.specs.Played.{answers_to}
 use Rattle.layout_core.proofs.Serving.{reads_end, reads_failed, reads_more, reads_none, served-append, serves_none, serves_then, turns_served}
-use Rattle.layout_core.proofs.Stopping.{passed_up, stops_leave, stops_then}
+use Rattle.layout_core.proofs.Stopping.{passed_up, stop_heard, stops_leave, stops_then}
 use Rattle.layout_core.proofs.engine.serve.Goals as goal
 
 pub loop-reads-init : goal.loop-reads-init
@@ -61,14 +62,14 @@ returns-then-n-eq0-clause-served g c =
     let after : Input = input_of (g.S.Source.left c.get.new.self) (g.S.Source.reads c.get.new.self) in
     let end : Consumes (g.S.Source.left c.loop-reads.source) (g.S.Source.left c.get.new.self) [] =
     subst (λ (n : ℕ). Consumes (g.S.Source.left c.loop-reads.source) (g.S.Source.left c.get.new.self) (take n c.get.new.buf)) c.if-n-eq0.true c.in-Ok.ensures.bytes.0 in
-    (so_far.0, reads_end c.loop-reads.reads so_far.0 first here after so_far.1 end c.get.ensures.counted, so_far.2, so_far.3, c.headline.ensures c.args.world.now.station (served_events c.args.line c.args.limits.turns so_far.0) c.args.world.now.nodes c.loop-reads.world.nodes so_far.3.desks c.nodes.ensures.able so_far.3.nodes)
+    (so_far.0, reads_end c.loop-reads.reads so_far.0 first here after so_far.1 end c.get.ensures.counted, so_far.2, so_far.3, c.headline.ensures.headline c.args.world.now.station (served_events c.args.line c.args.limits.turns so_far.0) c.args.world.now.nodes c.loop-reads.world.nodes c.lines.ensures.desk so_far.3.nodes)
 
 pub returns-then-n-eq0-clause-turns : goal.returns-then-n-eq0-clause-turns
 returns-then-n-eq0-clause-turns g c =
     let so_far = c.loop-reads.invariant.served in
-    let steps : List Step = answers_to_events c.args.world.now.station (served_events c.args.line c.args.limits.turns so_far.0) in
+    let steps : List Step = answers_to c.args.world.now.station (served_events c.args.line c.args.limits.turns so_far.0) in
     let all : turns_in steps ≡ c.args.limits.turns * c.loop-reads.bytes =
-    turns_served c.args.line c.args.limits.turns so_far.0 c.args.world.now.station ∙ ap (λ (n : ℕ). c.args.limits.turns * n) (sym so_far.2) in
+    turns_served c.calls_are_moves.ensures.to_byte c.calls_are_moves.ensures.to_turn c.args.line c.args.limits.turns so_far.0 c.args.world.now.station ∙ ap (λ (n : ℕ). c.args.limits.turns * n) (sym so_far.2) in
     let counted : c.loop-reads.counts.turns ≡ 0 + turns_in steps = so_far.3.turns in
     omega (arith, counted, all)
 
@@ -77,8 +78,16 @@ returns-in_default-clause-faulted g c =
     let so_far = c.loop-reads.invariant.served in
     let first : Input = input_of (g.S.Source.left c.args.source.now) (g.S.Source.reads c.args.source.now) in
     let here : Input = input_of (g.S.Source.left c.loop-reads.source) (g.S.Source.reads c.loop-reads.source) in
-    let after : Input = input_of (g.S.Source.left c.get.new.self) (g.S.Source.reads c.get.new.self) in
-    (c.loop-reads.reads + 1, c.loop-reads.counts.replies, c.loop-reads.counts.turns, so_far.0, reads_failed c.loop-reads.reads so_far.0 first here after so_far.1 c.in_default.ensures.bytes c.get.ensures.counted, so_far.3)
+    let after : Input = input_of (g.S.Source.left c.get.new.self) (g.S.Source.reads c.get.new.self) in (
+      c.loop-reads.reads + 1,
+      c.loop-reads.counts.replies,
+      c.loop-reads.counts.turns,
+      so_far.0,
+      served_events c.args.line c.args.limits.turns so_far.0,
+      reads_failed c.loop-reads.reads so_far.0 first here after so_far.1 c.in_default.ensures.bytes c.get.ensures.counted,
+      (refl, so_far.3),
+      c.headline.ensures.headline c.args.world.now.station (served_events c.args.line c.args.limits.turns so_far.0) c.args.world.now.nodes c.loop-reads.world.nodes c.lines.ensures.desk so_far.3.nodes,
+    )
 
 pub returns-in_err-serve_bytes-clause-faulted : goal.returns-in_err-serve_bytes-clause-faulted
 returns-in_err-serve_bytes-clause-faulted g c =
@@ -96,6 +105,7 @@ returns-in_err-serve_bytes-clause-faulted g c =
     let all : List Event = served_events c.args.line c.args.limits.turns (so_far.0 ++ chunk) in
     let parts : all ≡ front ++ (now ++ []) = served-append c.args.line c.args.limits.turns so_far.0 chunk ∙ ap (λ (events : List Event). front ++ events) (sym (append-nil now)) in
     let fault : ServeFault = c.in_err-serve_bytes.field-0.0 in
+    let stop : StopsWithin fault c.args.line all old new = stops_then fault c.args.line all front now [] old mid new parts so_far.3 c.in_err-serve_bytes.ensures.stops in
     passed_up c.from_residual.result fault
     (λ (e : ServeFault). HasFaulted e c.args.line c.args.limits.turns first after old c.serve_bytes.new.world (g.K.Sink.held c.serve_bytes.new.sink) (g.T.Sink.held c.serve_bytes.new.trace))
     c.from_residual.ensures.1 (
@@ -103,6 +113,22 @@ returns-in_err-serve_bytes-clause-faulted g c =
       c.serve_bytes.new.counts.replies,
       c.serve_bytes.new.counts.turns,
       so_far.0 ++ chunk,
+      stop.0,
       reads_more c.loop-reads.reads so_far.0 chunk first here after so_far.1 c.in-Ok.ensures.bytes.0 c.get.ensures.counted (omega (arith, size, c.in-Ok.ensures.bound)),
-      stops_leave fault c.args.line all old new (stops_then fault c.args.line all front now [] old mid new parts so_far.3 c.in_err-serve_bytes.ensures.stops),
+      stops_leave fault c.args.line all old new stop,
+      c.headline.ensures.headline c.args.world.now.station stop.0 c.args.world.now.nodes c.serve_bytes.new.world.nodes c.lines.ensures.desk (stop_heard fault c.args.line all old new stop),
+    )
+
+pub returns-clause-faulted : goal.returns-clause-faulted
+returns-clause-faulted g c =
+    let so_far = c.loop-reads.invariant.served in
+    let done : List Event = served_events c.args.line c.args.limits.turns so_far.0 in (
+      c.loop-reads.reads,
+      c.loop-reads.counts.replies,
+      c.loop-reads.counts.turns,
+      so_far.0,
+      done,
+      so_far.1,
+      (refl, so_far.3),
+      c.headline.ensures.headline c.args.world.now.station done c.args.world.now.nodes c.loop-reads.world.nodes c.lines.ensures.desk so_far.3.nodes,
     )

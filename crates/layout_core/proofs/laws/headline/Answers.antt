@@ -1,9 +1,12 @@
-use Rattle.layout_core.proofs.Cycle.{Laws, runs_as_wanted}
+use Rattle.layout_core.proofs.Cycle.{Laws, runs_after_noise, runs_as_wanted}
 use Rattle.layout_core.proofs.laws.headline.Goals as goal
 
 pub returns : goal.returns
 returns c =
     let laws : Laws = record {
+      turns = c.calls_are_moves.ensures.to_turn;
+      told = c.desk_of_messages.ensures;
+      desks = c.stays_a_desk.ensures;
       coverage = c.coverage.ensures;
       packets = c.packets_of_the_desk.ensures;
       rows = c.rows_are_legal.ensures;
@@ -12,4 +15,4 @@ returns c =
       idle = c.others_leave_it.ensures.idle;
       accessory = c.others_leave_it.ensures.accessory;
     } in
-    runs_as_wanted laws
+    record { headline = runs_as_wanted laws; after_noise = runs_after_noise laws }

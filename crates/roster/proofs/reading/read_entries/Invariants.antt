@@ -9,5 +9,5 @@ invariant-loop-value l = record {
   node : l.node ≡ l.value-index;
   count : length l.entries.items ≡ l.value-index;
   names : AreNamed l.entries.items;
-  same : entries_after [] (items_view l.values) ≡ entries_after l.entries.items (items_view (drop l.value-index l.values));
+  same : entries_after l.version [] (items_view l.values) ≡ entries_after l.version l.entries.items (items_view (drop l.value-index l.values));
 }

@@ -1,5 +1,5 @@
 use Rattle.std.proofs.Common.{◌≡◌, refl}
-use Rattle.dcc_packet.specs.Spells.{with_check}
+use Rattle.dcc_packet.specs.Form.{with_check}
 use Rattle.dcc_packet.proofs.Bytes.{packet-sealed}
 use Rattle.dcc_packet.proofs.packet.Packet.ended.Goals as goal
 

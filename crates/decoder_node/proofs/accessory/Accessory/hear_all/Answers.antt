@@ -1,8 +1,8 @@
-use Rattle.std.proofs.Common.{refl, ◌≡◌, ◌∙◌}
+use Rattle.std.proofs.Common.{refl, subst, sym, ◌≡◌, ◌∙◌}
 use Rattle.std.proofs.iter.Next as it
-use Rattle.decoder_node.specs.Accessory.{heard, heard_all}
-use Rattle.decoder_node.proofs.Accessories.{heard_next, hears}
-use Rattle.decoder_node.proofs.Waves.{Laws}
+use Rattle.decoder_node.specs.Accessory.{heard, heard_all, HearsAccessory}
+use Rattle.decoder_node.specs.AccessoryDecoder.{AccessoryDecoder}
+use Rattle.decoder_node.proofs.Accessories.{heard_next}
 use Rattle.decoder_node.proofs.accessory.Accessory.hear_all.Goals as goal
 
 pub loop-first-init : goal.loop-first-init
@@ -21,12 +21,16 @@ returns-in_default-next g c =
     let i = c.loop-first.invariant in
     let old = c.args.self.now in
     let after_first = heard_next old c.loop-first.self i.seen c.in-Some.first i.holds in
-    let j = it.again i {Q = λ xs. heard c.loop-first.self c.in-Some.first ≡ heard_all old xs} c.in-Some.first c.in-Some.is (c.next.ensures.steps, c.next.ensures.goes) after_first in
-    let laws : Laws = record { reads = c.complete.ensures.wave; passes = c.complete.ensures.wrong; settles = c.settles.ensures.between } in
-    (j.seen, it.drained j c.in_default-next.is c.next-in-Some.ensures.steps, hears laws old j.seen c.hear.new.self (c.hear.ensures.heard ∙ j.holds))
+    let j = it.again i {Q = λ xs. heard c.loop-first.self c.in-Some.first ≡ heard_all old xs} c.in-Some.first c.in-Some.is (c.next.ensures.steps, c.next.ensures.goes) after_first in (
+      j.seen,
+      it.drained j c.in_default-next.is c.next-in-Some.ensures.steps,
+      subst (λ (d : AccessoryDecoder). HearsAccessory old j.seen d) (sym (c.hear.ensures.heard ∙ j.holds)) (c.waves_are_obeyed.ensures.accessory old j.seen),
+    )
 
 pub returns : goal.returns
 returns g c =
-    let i = c.loop-first.invariant in
-    let laws : Laws = record { reads = c.complete.ensures.wave; passes = c.complete.ensures.wrong; settles = c.settles.ensures.between } in
-    (i.seen, it.drained i c.in_default.is c.next.ensures.steps, hears laws c.args.self.now i.seen c.loop-first.self i.holds)
+    let i = c.loop-first.invariant in (
+      i.seen,
+      it.drained i c.in_default.is c.next.ensures.steps,
+      subst (λ (d : AccessoryDecoder). HearsAccessory c.args.self.now i.seen d) (sym i.holds) (c.waves_are_obeyed.ensures.accessory c.args.self.now i.seen),
+    )

@@ -1,4 +1,3 @@
-use Rattle.std.proofs.Common.{◌≡◌, subst, sym}
 use Rattle.ln_frame.specs.Message.{IsWhole}
 use Rattle.ln_frame.proofs.Checks.{check-of_whole}
 use Rattle.ln_frame.proofs.Forms.{data-of_whole, length-said}

@@ -1,4 +1,4 @@
-use Rattle.std.proofs.Common.{◌≡◌, ap, []}
+use Rattle.std.proofs.Common.{◌≡◌, ap, [], refl}
 use Rattle.refresh_ring.proofs.Waiting.{queue-empty}
 use Rattle.refresh_ring.proofs.Marks.{marked-empty}
 use Rattle.refresh_ring.proofs.queue.JobQueue.new.Goals as goal
@@ -10,6 +10,7 @@ invariant_of-result c =
       queue = rw empty queue-empty;
       room = ap (λ b. b.capacity) c.in-Ok.ensures;
       marked = rw (empty, c.empty.ensures) marked-empty;
+      counted = rw empty refl;
     }
 
 pub returns-in-Ok-clause-queue : goal.returns-in-Ok-clause-queue

@@ -1,17 +1,17 @@
-use Rattle.std.proofs.Common.{◌≡◌, ◌+◌, ◌≤◌, ap, ◌∙◌, drop, ◌∷◌, false, true, Some, length, arith}
+use Rattle.std.proofs.Common.{◌≡◌, ◌+◌, ◌≤◌, ap, ◌∙◌, drop, ◌∷◌, false, true, Some, length, refl, arith}
 use Rattle.std.proofs.lemmas.List.{take_all}
 use Rattle.refresh_ring.specs.Jobs.{first_of, after_send}
 use Rattle.refresh_ring.specs.declared.job.Job.TheVariants.{Request}
 use Rattle.refresh_ring.proofs.Waiting.{queue-sent, sent_once, fits_again}
 use Rattle.refresh_ring.proofs.queue.JobQueue.note_sent.Goals as goal
 
-first : (c : goal.After-push_front) → first_of c.args.self.now ≡ Some (Request c.in-Some-Request.number c.in-Some-Request.closed c.in-Some-Request.on true)
+first : (c : goal.After-self-1) → first_of c.args.self.now ≡ Some (Request c.in-Some-Request.number c.in-Some-Request.closed c.in-Some-Request.on true)
 first c = cc
 
-left : (c : goal.After-push_front) → c.self.inside.jobs.items ≡ drop 1 c.args.self.now
+left : (c : goal.After-self-1) → c.self.inside.jobs.items ≡ drop 1 c.args.self.now
 left c = c.self.view_is ∙ c.drop_first.ensures.jobs
 
-kept : (c : goal.After-push_front) → c.push_front.new.self.items ≡ Request c.in-Some-Request.number c.in-Some-Request.closed c.in-Some-Request.on false ∷ c.self.inside.jobs.items
+kept : (c : goal.After-self-1) → c.push_front.new.self.items ≡ Request c.in-Some-Request.number c.in-Some-Request.closed c.in-Some-Request.on false ∷ c.self.inside.jobs.items
 kept c =
     let few : length (drop 1 c.args.self.now) + 1 ≤ 389 = fits_again c.args.self.now c.in-Some-Request.number c.in-Some-Request.closed c.in-Some-Request.on (first c) c.drop_first.ensures.before in
     let same : length c.self.inside.jobs.items ≡ length (drop 1 c.args.self.now) = ap length (left c) in
@@ -19,7 +19,7 @@ kept c =
     ap (λ b. b.items) c.push_front.ensures.items
     ∙ take_all c.self.inside.jobs.capacity (Request c.in-Some-Request.number c.in-Some-Request.closed c.in-Some-Request.on false ∷ c.self.inside.jobs.items) fits
 
-sent : (c : goal.After-push_front) → c.push_front.new.self.items ≡ after_send c.args.self.now
+sent : (c : goal.After-self-1) → c.push_front.new.self.items ≡ after_send c.args.self.now
 sent c =
     kept c
     ∙ ap (λ jobs. Request c.in-Some-Request.number c.in-Some-Request.closed c.in-Some-Request.on false ∷ jobs) (left c)
@@ -30,6 +30,7 @@ invariant_of-self c = record {
   queue = rw (sent c) (queue-sent c.args.self.now c.drop_first.ensures.before);
   room = ap (λ b. b.capacity) c.push_front.ensures.items ∙ c.self.invariant.room;
   marked = rw (kept c) c.self.invariant.marked;
+  counted = ap (λ n. n + 1) c.self.invariant.counted ∙ rw (kept c) refl;
 }
 
 pub returns-then-again-clause-jobs : goal.returns-then-again-clause-jobs

@@ -1,9 +1,9 @@
-use Rattle.std.proofs.Common.{◌≡◌, ℕ, Some, refl, ap, sym, ◌∙◌}
+use Rattle.std.proofs.Common.{refl, ap, sym, ◌∙◌}
 use Rattle.slot_table.specs.Desk.{Desk}
 use Rattle.slot_table.specs.Reading.{row_of, is_placed}
 use Rattle.station_core.specs.Asked.{places_with}
 use Rattle.station_core.specs.declared.schedule.Change.TheVariants.{All}
-use Rattle.station_core.proofs.Follows.{Others, noted_as, in_step, given_slot, marked_slot}
+use Rattle.station_core.proofs.Follows.{Others, noted_as, in_step, given_slot}
 use Rattle.station_core.proofs.station.Station.dispatch_put.Goals as goal
 use Rattle.slot_table.specs.Moves.{after_dispatch_put}
 
@@ -15,6 +15,7 @@ others c = λ m ne.
 pub invariant_of-self-2 : goal.invariant_of-self-2
 invariant_of-self-2 c = record {
   lines = c.self.invariant.lines;
+  unfinished = c.self.invariant.unfinished;
   in_step = in_step c.self.inside.table c.dispatch_put.new.self c.in_ok-slot.slot c.self.inside.schedule c.note.new.schedule (places_with c.in_ok-slot.slot All) c.dispatch_put.ensures.desk c.note.ensures.legal c.in_ok-slot.ensures.slot c.self.invariant.in_step.slots (others c) c.note.ensures.state;
 }
 

@@ -22,6 +22,7 @@ others c = λ m ne.
 pub invariant_of-self-2 : goal.invariant_of-self-2
 invariant_of-self-2 c = record {
   lines = c.self.invariant.lines;
+  unfinished = c.self.invariant.unfinished;
   in_step = in_step c.self.inside.table c.set_dirf.new.self c.args.slot c.self.inside.schedule c.note.new.schedule (places_with c.args.slot SpeedAndGroupOne) c.set_dirf.ensures.desk c.note.ensures.legal (slot_is c) c.self.invariant.in_step.slots (others c) c.note.ensures.state;
 }
 

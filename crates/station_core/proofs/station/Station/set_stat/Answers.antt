@@ -1,7 +1,7 @@
 use Rattle.std.proofs.Common.{◌≡◌, true, is_ok, ap, sym, ◌∙◌}
 use Rattle.slot_table.specs.Desk.{Desk}
 use Rattle.slot_table.specs.Entry.{IsSlot}
-use Rattle.slot_table.specs.Reading.{row_of, is_placed}
+use Rattle.slot_table.specs.Reading.{row_of}
 use Rattle.station_core.specs.Asked.{places_with}
 use Rattle.station_core.specs.declared.schedule.Change.TheVariants.{All}
 use Rattle.station_core.proofs.Follows.{Others, noted_as, in_step, chosen_if, ok_of, from_ok, done}
@@ -22,6 +22,7 @@ others c = λ m ne.
 pub invariant_of-self-2 : goal.invariant_of-self-2
 invariant_of-self-2 c = record {
   lines = c.self.invariant.lines;
+  unfinished = c.self.invariant.unfinished;
   in_step = in_step c.self.inside.table c.set_stat.new.self c.args.slot c.self.inside.schedule c.note.new.schedule (places_with c.args.slot All) c.set_stat.ensures.desk c.note.ensures.legal (slot_is c) c.self.invariant.in_step.slots (others c) c.note.ensures.state;
 }
 

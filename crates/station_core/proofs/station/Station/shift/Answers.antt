@@ -25,6 +25,7 @@ others c = λ m away ne.
 pub invariant_of-self-2 : goal.invariant_of-self-2
 invariant_of-self-2 c = record {
   lines = c.self.invariant.lines;
+  unfinished = c.self.invariant.unfinished;
   in_step = moved_in_step c.self.inside.table c.shift.new.self c.args.src c.in_ok-slot.slot c.self.inside.schedule c.follow.new.schedule c.note.new.schedule (places_with c.in_ok-slot.slot All) c.shift.ensures.desk c.note.ensures.legal (src_is c) c.in_ok-slot.ensures.slot (apart c) c.self.invariant.in_step.slots (others c) c.follow.ensures.state c.note.ensures.state;
 }
 

@@ -1,9 +1,9 @@
-use Rattle.std.proofs.Common.{◌≡◌, ℕ, Some, ap, sym, ◌∙◌}
+use Rattle.std.proofs.Common.{ap, ◌∙◌}
 use Rattle.slot_table.specs.Desk.{Desk}
-use Rattle.slot_table.specs.Reading.{row_of, is_placed}
+use Rattle.slot_table.specs.Reading.{row_of}
 use Rattle.station_core.specs.Asked.{places_with}
 use Rattle.station_core.specs.declared.schedule.Change.TheVariants.{Nothing}
-use Rattle.station_core.proofs.Follows.{Others, noted_as, in_step, given_slot, marked_slot}
+use Rattle.station_core.proofs.Follows.{Others, in_step}
 use Rattle.station_core.proofs.station.Station.take.Goals as goal
 
 others : (c : goal.After-note) → Others c.self.inside.table c.take.new.self c.in_ok-slot.slot
@@ -14,5 +14,6 @@ others c = λ m ne.
 pub invariant_of-self-2 : goal.invariant_of-self-2
 invariant_of-self-2 c = record {
   lines = c.self.invariant.lines;
+  unfinished = c.self.invariant.unfinished;
   in_step = in_step c.self.inside.table c.take.new.self c.in_ok-slot.slot c.self.inside.schedule c.note.new.schedule (places_with c.in_ok-slot.slot Nothing) c.take.ensures.desk c.note.ensures.legal c.in_ok-slot.ensures.slot c.self.invariant.in_step.slots (others c) c.note.ensures.state;
 }

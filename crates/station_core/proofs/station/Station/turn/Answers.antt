@@ -1,14 +1,15 @@
-use Rattle.std.proofs.Common.{◌≡◌, ap, sym, ◌∙◌, List, Bool, ℕ}
+use Rattle.std.proofs.Common.{ap, ◌∙◌, List, Bool}
 use Rattle.refresh_ring.specs.Picked.{turned}
 use Rattle.refresh_ring.specs.Scheduled.{Scheduled}
-use Rattle.station_core.specs.Moved.{packet_of, packet_of_turn}
-use Rattle.station_core.specs.Refreshed.{addresses}
+use Rattle.station_core.specs.Moved.{packet_of}
+use Rattle.station_core.specs.Slots.{addresses}
 use Rattle.station_core.proofs.Picks.{is_pick_of, slots-turned}
 use Rattle.station_core.proofs.station.Station.turn.Goals as goal
 
 pub invariant_of-self : goal.invariant_of-self
 invariant_of-self c = record {
   lines = c.self.invariant.lines;
+  unfinished = c.self.invariant.unfinished;
   in_step = record {
     desk = c.self.invariant.in_step.desk;
     slots = ap (λ (s : Scheduled). s.slots) c.pick-pick.ensures.state ∙ slots-turned c.picks_are_due.ensures.slots c.self.inside.power (addresses c.self.inside.table) c.self.inside.schedule ∙ c.self.invariant.in_step.slots;

@@ -30,6 +30,7 @@ noted_at c =
 pub invariant_of-self-2 : goal.invariant_of-self-2
 invariant_of-self-2 c = record {
   lines = c.self.invariant.lines;
+  unfinished = c.self.invariant.unfinished;
   in_step = in_step c.self.inside.table c.write_row.new.self c.args.fields.now.slot c.self.inside.schedule c.note.new.schedule (places_with c.args.fields.now.slot All) c.write_row.ensures.desk c.note.ensures.legal (slot_is c) c.self.invariant.in_step.slots (others c) (noted_at c);
 }
 

@@ -1,0 +1,12 @@
+-- How a locomotive decoder may run.
+use Rattle.std.specs.Prelude.{◌^◌, ◌<◌, true}
+use Rattle.dcc_packet.specs.declared.steps.Motion.TheVariants.{Stop}
+use Rattle.decoder_node.specs.declared.running.Running.{Running}
+
+-- how a decoder starts, and starts again at Reset: it stands, forward, with all functions off
+abbrev pub first_running : Running
+first_running = record { motion = Stop; forward = true; functions = 0 }
+
+-- a decoder has the functions F0 to F8 and no others
+abbrev pub IsAble : Running → Type 0
+IsAble running = running.functions < 2 ^ 9

@@ -1,0 +1,37 @@
+-- What the decoders of a layout make of the packets that they hear.
+use Rattle.std.specs.Prelude.{ℕ, ◌≡◌, Bool, true, false, List, [], ◌∷◌}
+use Rattle.dcc_packet.specs.Wave.{IsWave}
+use Rattle.decoder_node.specs.Accessory.{heard_all as heard_all_accessory}
+use Rattle.decoder_node.specs.Loco.{heard_all as heard_all_loco}
+use Rattle.decoder_node.specs.Obey.{runs}
+use Rattle.decoder_node.specs.Switched.{switches}
+use Rattle.layout_core.specs.declared.node.Node.{Node}
+use Rattle.layout_core.specs.declared.node.Node.TheVariants.{Loco, Accessory}
+use Rattle.layout_core.specs.Nodes.{spec_of, IsBetween}
+
+-- it obeyed these packets, one after another, and nothing else
+abbrev pub Obeyed : List (List ℕ) → Node → Node → Type 0
+Obeyed packets (Loco old) (Loco new) = new.running ≡ runs old.cv old.running packets
+Obeyed packets (Accessory old) (Accessory new) = new.outputs ≡ switches old.number old.outputs packets
+Obeyed packets (Loco old) (Accessory new) = ⊥
+Obeyed packets (Accessory old) (Loco new) = ⊥
+
+-- these half-bits came to its receiver, one after another
+abbrev pub HeardHalves : List ℕ → Node → Node → Type 0
+HeardHalves halves (Loco old) (Loco new) = new ≡ heard_all_loco old halves
+HeardHalves halves (Accessory old) (Accessory new) = new ≡ heard_all_accessory old halves
+HeardHalves halves (Loco old) (Accessory new) = ⊥
+HeardHalves halves (Accessory old) (Loco new) = ⊥
+
+-- What a packet that it hears whole does: it comes as half-bits that are a wave of it; no packet is under way then,
+-- whatever was heard before, and where none was under way before, the node obeyed this packet.
+pub record HearsPacket (packet : List ℕ) (old new : Node) : Type 0 where
+  pub in_halves : (halves : List ℕ) × IsWave packet halves × HeardHalves halves old new
+  pub kept : spec_of new ≡ spec_of old
+  pub settles : IsBetween new
+  pub obeys : IsBetween old → Obeyed (packet ∷ []) old new
+
+-- a packet that the node misses leaves it as it is
+abbrev pub AfterPacket : (is_missed : Bool) (packet : List ℕ) (old new : Node) → Type 0
+AfterPacket true packet old new = new ≡ old
+AfterPacket false packet old new = HearsPacket packet old new

@@ -1,0 +1,277 @@
+//! Want of memory: each call with so few bytes left, from none until it succeeds. Its answer is want of memory or the
+//! ordinary one, and no third.
+//!
+//! These tests take the memory of the process, and so need the allocator of the C library: `rt test`, and not `rt try`.
+
+use crate::{OrderFault, execute, order};
+use decoder_node::NodeList;
+use layout_core::World;
+use refresh_ring::{BitRing, Schedule};
+use show_text::{Command, HexWhy, read_hex, read_script};
+use station_core::{Station, StationFault};
+use std::alloc::Global;
+use std::fs;
+use std::net::TcpListener;
+use std::test::Fail;
+
+const ROSTER: &[u8] = b"version = 2
+[[node]]
+name = \"shunter\"
+kind = \"loco\"
+cvs = [[1, 3], [29, 2]]
+[[node]]
+name = \"yard\"
+kind = \"accessory\"
+module = 1
+";
+
+const SHOWN: &[u8] = b"node shunter short 3 stop forward F 000000000
+node yard module 1 outputs 00000000
+";
+
+/// What is done with little memory.
+#[derive(Clone, Copy)]
+enum Work<'a> {
+    Schedule,
+    Station,
+    World,
+    Roster,
+    Hex,
+    Script,
+    Order(&'a [&'a str]),
+    Run(Run<'a>),
+}
+
+/// The words and standard input of a run, and then its status and what it prints and tells.
+#[derive(Clone, Copy)]
+struct Run<'a> {
+    words: &'a [&'a str],
+    text: &'a [u8],
+    status: u8,
+    printed: &'a [u8],
+    told: &'a [u8],
+}
+
+impl<'a> Run<'a> {
+    /// Whether the run is the ordinary one. None where it says that there is no memory, and prints nothing.
+    fn answer(self, rt: &HostRuntime, pages: &mut Pages) -> Option<bool> {
+        let mut input = self.text;
+        let found = execute(rt, self.words, &mut input, &mut pages.output, &mut pages.faults);
+        let told = pages.faults.as_slice();
+        if found == 6 {
+            return other_than(
+                pages.output.is_empty() && told == b"station: no memory\n".as_slice(),
+            );
+        }
+        Some(found == self.status && pages.output.as_slice() == self.printed && told == self.told)
+    }
+}
+
+/// What a run prints and tells. There is room for it from the start.
+#[derive(Drop)]
+struct Pages {
+    output: Vec<u8>,
+    faults: Vec<u8>,
+}
+
+impl Pages {
+    fn new(alloc: Global) -> Result<Pages, Fail> {
+        Ok(Pages {
+            output: Vec::with_capacity(alloc, 4096)?,
+            faults: Vec::with_capacity(alloc, 4096)?,
+        })
+    }
+}
+
+/// Whether the answer is the ordinary one. None where it is want of memory.
+fn answer(rt: &HostRuntime, work: Work<'_>, pages: &mut Pages) -> Option<bool> {
+    let alloc = rt.alloc();
+    match work {
+        Work::Schedule => match Schedule::<BitRing>::new(alloc) {
+            Ok(_) => Some(true),
+            Err(_) => None,
+        },
+        Work::Station => match Station::new(alloc, 8) {
+            Ok(station) => Some(station.lines() == 8),
+            Err(fault) => other_than(fault == StationFault::NoMemory),
+        },
+        Work::World => match World::new(alloc, 8, NodeList::new()) {
+            Ok(world) => Some(world.station().lines() == 8),
+            Err(fault) => other_than(fault == StationFault::NoMemory),
+        },
+        Work::Roster => match roster::read(alloc, ROSTER) {
+            Ok(roster) => Some(roster.len() == 2),
+            Err(fault) => other_than(fault.why == roster::Why::NoMemory),
+        },
+        Work::Hex => match read_hex(alloc, b"83 7C BF") {
+            Ok(bytes) => Some(bytes.as_slice() == [0x83, 0x7C, 0xBF].as_slice()),
+            Err(fault) => other_than(fault.why == HexWhy::NoMemory),
+        },
+        Work::Script => match read_script(alloc, b"show\nshow", 1, 0) {
+            Ok(commands) => {
+                Some(commands.as_slice() == [Command::Show, Command::Show].as_slice())
+            }
+            Err(fault) => other_than(fault.why == show_text::Why::NoMemory),
+        },
+        Work::Order(words) => match order(alloc, words) {
+            Ok(_) => Some(true),
+            Err(fault) => other_than(matches!(fault, OrderFault::NoMemory)),
+        },
+        Work::Run(run) => run.answer(rt, pages),
+    }
+}
+
+/// None for want of memory, and a wrong answer else.
+fn other_than(no_memory: bool) -> Option<bool> {
+    if no_memory { None } else { Some(false) }
+}
+
+/// Takes all memory that the process can still have: blocks of half the size wherever one is refused.
+fn take_all(alloc: Global, held: &mut Vec<Vec<u8>>) {
+    let mut size = 1usize << 46;
+    for _ in 0..1_000_000u32 {
+        if size < 16 || held.len() >= held.capacity() {
+            return;
+        }
+        match Vec::with_capacity(alloc, size) {
+            Ok(block) => {
+                if held.push(block).is_err() {
+                    return;
+                }
+            }
+            Err(_) => size /= 2,
+        }
+    }
+}
+
+/// The answer where so many bytes are left.
+fn answer_in(rt: &HostRuntime, work: Work<'_>, room: usize) -> Result<Option<bool>, Fail> {
+    let alloc = rt.alloc();
+    let mut pages = Pages::new(alloc)?;
+    let mut held: Vec<Vec<u8>> = Vec::with_capacity(alloc, 60_000)?;
+    let left: Vec<u8> = Vec::with_capacity(alloc, room)?;
+    take_all(alloc, &mut held);
+    drop(left);
+    let found = answer(rt, work, &mut pages);
+    drop(held);
+    Ok(found)
+}
+
+/// Whether it is refused with no memory, and at last done with more and more of it, by steps of so many bytes; and whether
+/// no answer is wrong, here and with ample memory twice after it.
+fn grows_or_says_so(rt: &HostRuntime, work: Work<'_>, step: usize) -> Result<bool, Fail> {
+    let mut refused = 0u32;
+    for count in 0..1000usize {
+        let Some(right) = answer_in(rt, work, count.saturating_mul(step))? else {
+            refused = refused.saturating_add(1);
+            continue;
+        };
+        println!(rt; "refused {refused} times")?;
+        let mut once = Pages::new(rt.alloc())?;
+        let mut again = Pages::new(rt.alloc())?;
+        return Ok(
+            right
+                && refused > 0
+                && answer(rt, work, &mut once) == Some(true)
+                && answer(rt, work, &mut again) == Some(true),
+        );
+    }
+    Err("it is never done".into())
+}
+
+#[test]
+fn what_is_made_once(rt: HostRuntime) -> Result<(), Fail> {
+    for work in [Work::Schedule, Work::Station, Work::World] {
+        assert!(rt; grows_or_says_so(&rt, work, 64)?);
+    }
+    Ok(())
+}
+
+#[test]
+fn texts_that_are_read(rt: HostRuntime) -> Result<(), Fail> {
+    for work in [Work::Hex, Work::Script] {
+        assert!(rt; grows_or_says_so(&rt, work, 16)?);
+    }
+    assert!(rt; grows_or_says_so(&rt, Work::Roster, 256)?);
+    Ok(())
+}
+
+#[test]
+fn words_that_are_read(rt: HostRuntime) -> Result<(), Fail> {
+    let rows: [&[&str]; 3] = [
+        &["replay", "--roster", "layout.toml", "--lines", "8"],
+        &["monitor", "capture.hex"],
+        &["serve", "--port", "5550", "--turns", "4"],
+    ];
+    for words in rows {
+        assert!(rt; grows_or_says_so(&rt, Work::Order(words), 512)?);
+    }
+    Ok(())
+}
+
+#[test]
+fn replays(rt: HostRuntime) -> Result<(), Fail> {
+    let file = "station-test-memory.toml";
+    fs::write(&rt, file, ROSTER)?;
+    let words = ["replay", "--roster", file];
+    let rows: [(&[&str], &[u8]); 3] = [(&[], b""), (&["replay"], b""), (&words, SHOWN)];
+    for (words, shown) in rows {
+        let run = Work::Run(Run {
+            words,
+            text: b"show",
+            status: 0,
+            printed: shown,
+            told: b"",
+        });
+        assert!(rt; grows_or_says_so(&rt, run, 512)?);
+    }
+    fs::remove_file(&rt, file)?;
+    Ok(())
+}
+
+#[test]
+fn monitors(rt: HostRuntime) -> Result<(), Fail> {
+    let file = "station-test-memory.hex";
+    fs::write(&rt, file, b"83 7C".as_slice())?;
+    let run = Work::Run(Run {
+        words: &["monitor", file],
+        text: b"",
+        status: 0,
+        printed: b"msg 83 7C power on\n",
+        told: b"",
+    });
+    assert!(rt; grows_or_says_so(&rt, run, 512)?);
+    fs::remove_file(&rt, file)?;
+    Ok(())
+}
+
+/// Whether a server grows or says so, on a port that is taken, so that no client is waited for.
+fn serves(rt: &HostRuntime, words: &[&str]) -> Result<bool, Fail> {
+    let run = Work::Run(Run {
+        words,
+        text: b"",
+        status: 4,
+        printed: b"",
+        told: b"station: network\n",
+    });
+    grows_or_says_so(rt, run, 512)
+}
+
+/// The same without a roster and with one.
+fn both_serve(rt: &HostRuntime, port: &str, file: &str) -> Result<bool, Fail> {
+    let alone = serves(rt, &["serve", "--port", port])?;
+    let with = serves(rt, &["serve", "--port", port, "--roster", file])?;
+    Ok(alone && with)
+}
+
+#[test]
+fn servers(rt: HostRuntime) -> Result<(), Fail> {
+    let listener: TcpListener = TcpListener::bind(&rt, "127.0.0.1:0")?;
+    let port = format!(in rt.alloc(); "{}", listener.local_addr()?.port())?;
+    let file = "station-test-memory-serve.toml";
+    fs::write(&rt, file, ROSTER)?;
+    let right = both_serve(&rt, port.as_str(), file)?;
+    assert!(rt; right);
+    fs::remove_file(&rt, file)?;
+    Ok(())
+}
