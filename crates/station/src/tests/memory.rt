@@ -56,7 +56,13 @@ impl<'a> Run<'a> {
     /// Whether the run is the ordinary one. None where it says that there is no memory, and prints nothing.
     fn answer(self, rt: &HostRuntime, pages: &mut Pages) -> Option<bool> {
         let mut input = self.text;
-        let found = execute(rt, self.words, &mut input, &mut pages.output, &mut pages.faults);
+        let found = execute(
+            rt,
+            self.words,
+            &mut input,
+            &mut pages.output,
+            &mut pages.faults,
+        );
         let told = pages.faults.as_slice();
         if found == 6 {
             return other_than(
