@@ -7,7 +7,7 @@ use Rattle.std.specs.Int.Bits.{xor_assoc, xor_self, xor_zero_l, xor_zero_r}
 use Rattle.dcc_packet.specs.declared.address.Address.{Address}
 use Rattle.dcc_packet.specs.declared.address.Address.TheVariants.{Short, Long}
 use Rattle.dcc_packet.specs.declared.instr.Instr.{Instr}
-use Rattle.dcc_packet.specs.declared.instr.Instr.TheVariants.{Idle, Reset, StopAll, Speed, Speed128, GroupOne, GroupTwo, Accessory}
+use Rattle.dcc_packet.specs.declared.instr.Instr.TheVariants.{Idle, Reset, StopAll, Speed, Speed128, GroupOne, GroupTwo, GroupThree, Accessory}
 use Rattle.dcc_packet.specs.Address.{is_legal}
 use Rattle.dcc_packet.specs.Form.{bit, with_check}
 use Rattle.dcc_packet.specs.Module.{is_module}
@@ -60,6 +60,9 @@ module _ (address : Address) (b : ℕ) where
   two_form : (bits : ℕ) → b / 16 ≡ 11 → b % 16 ≡ bits → short_form_of address b ≡ Some (GroupTwo address bits)
   two_form bits e f = rw (ne_eqb (b / 64) 1 (λ h. omega arith), ne_eqb (b / 32) 4 (λ h. omega arith), eq-eqb (b / 16) 11 e, f) refl
 
+  three_form : (bits : ℕ) → b / 16 ≡ 10 → b % 16 ≡ bits → short_form_of address b ≡ Some (GroupThree address bits)
+  three_form bits e f = rw (ne_eqb (b / 64) 1 (λ h. omega arith), ne_eqb (b / 32) 4 (λ h. omega arith), ne_eqb (b / 16) 11 (λ h. omega arith), eq-eqb (b / 16) 10 e, f) refl
+
   low_is : b / 64 ≡ 1 → b ≡ 64 + 32 * bit (is_set (b / 32)) + b % 32
   low_is e = omega (arith, set_bit (b / 32))
 
@@ -78,7 +81,14 @@ module _ (address : Address) (b : ℕ) where
             let same : GroupTwo address (b % 16) ≡ i = same_instr _ _ (rw (ne_eqb (b / 64) 1 not, ne_eqb (b / 32) 4 neither, eq-eqb (b / 16) 11 is) at e) in
             let low : b ≡ 176 + b % 16 = omega arith in
             subst (Spells bytes) same (omega arith, subst (λ n. Tells bytes address (n ∷ [])) low tells)
-        | inr none ↦ λ e. absurd (not_none i (rw (ne_eqb (b / 64) 1 not, ne_eqb (b / 32) 4 neither, ne_eqb (b / 16) 11 none) at e))
+        | inr nor ↦ elim (cases_eq (b / 16) 10) [
+          | inl is ↦ λ e.
+              let same : GroupThree address (b % 16) ≡ i =
+              same_instr _ _ (rw (ne_eqb (b / 64) 1 not, ne_eqb (b / 32) 4 neither, ne_eqb (b / 16) 11 nor, eq-eqb (b / 16) 10 is) at e) in
+              let low : b ≡ 160 + b % 16 = omega arith in
+              subst (Spells bytes) same (omega arith, subst (λ n. Tells bytes address (n ∷ [])) low tells)
+          | inr none ↦ λ e. absurd (not_none i (rw (ne_eqb (b / 64) 1 not, ne_eqb (b / 32) 4 neither, ne_eqb (b / 16) 11 nor, ne_eqb (b / 16) 10 none) at e))
+        ]
       ]
     ]
   ]
@@ -196,6 +206,8 @@ complete bytes (GroupOne address bits) s =
     one_told bytes address (128 + bits) (omega arith) s.1 ∙ one_form address (128 + bits) bits (omega arith) (omega arith)
 complete bytes (GroupTwo address bits) s =
     one_told bytes address (176 + bits) (omega arith) s.1 ∙ two_form address (176 + bits) bits (omega arith) (omega arith)
+complete bytes (GroupThree address bits) s =
+    one_told bytes address (160 + bits) (omega arith) s.1 ∙ three_form address (160 + bits) bits (omega arith) (omega arith)
 complete bytes (Accessory number pair closed on) s =
     let parts = and_parts (nat_le 1 number) (nat_le number 510) s.0 in
     let few : number ≤ 510 = leb-true number 510 parts.1 in

@@ -4,7 +4,7 @@ use Rattle.std.specs.Prelude.{ℕ, ◌+◌, ◌-◌, ◌*◌, ◌/◌, ◌%◌, 
 use Rattle.dcc_packet.specs.declared.address.Address.{Address}
 use Rattle.dcc_packet.specs.declared.address.Address.TheVariants.{Short, Long}
 use Rattle.dcc_packet.specs.declared.instr.Instr.{Instr}
-use Rattle.dcc_packet.specs.declared.instr.Instr.TheVariants.{Idle, Reset, StopAll, Speed, Speed128, GroupOne, GroupTwo, Accessory}
+use Rattle.dcc_packet.specs.declared.instr.Instr.TheVariants.{Idle, Reset, StopAll, Speed, Speed128, GroupOne, GroupTwo, GroupThree, Accessory}
 use Rattle.dcc_packet.specs.Module.{is_module}
 use Rattle.dcc_packet.specs.Packet.{is_checked, is_packet}
 
@@ -27,7 +27,8 @@ abbrev pub short_form_of : Address → ℕ → Option Instr
 short_form_of address byte =
     if byte / 64 == 1 then Some (Speed address (is_set (byte / 32)) (byte % 32)) else
     (if byte / 32 == 4 then Some (GroupOne address (byte % 32)) else
-    (if byte / 16 == 11 then Some (GroupTwo address (byte % 16)) else None))
+    (if byte / 16 == 11 then Some (GroupTwo address (byte % 16)) else
+    (if byte / 16 == 10 then Some (GroupThree address (byte % 16)) else None)))
 
 -- two bytes behind an address
 abbrev pub long_form_of : Address → ℕ → ℕ → Option Instr

@@ -46,6 +46,13 @@ group_two_bits functions = functions / 32 % 16
 abbrev pub group_two_bytes : Address → ℕ → List ℕ
 group_two_bytes address functions = to_decoder address ((176 + group_two_bits functions) ∷ [])
 
+-- F12, F11, F10, F9
+abbrev pub group_three_bits : ℕ → ℕ
+group_three_bits functions = functions / 512 % 16
+
+abbrev pub group_three_bytes : Address → ℕ → List ℕ
+group_three_bytes address functions = to_decoder address ((160 + group_three_bits functions) ∷ [])
+
 -- four switches to a module, switch 0 the first of module 1 (own)
 abbrev pub module_of : ℕ → ℕ
 module_of number = number / 4 + 1

@@ -2,7 +2,7 @@
 use Rattle.std.specs.Prelude.{ℕ, ◌≡◌, ◌+◌, ◌-◌, ◌*◌, ◌/◌, ◌%◌, ◌<◌, Bool, List, [], ◌∷◌, IsTrue}
 use Rattle.dcc_packet.specs.declared.address.Address.{Address}
 use Rattle.dcc_packet.specs.declared.instr.Instr.{Instr}
-use Rattle.dcc_packet.specs.declared.instr.Instr.TheVariants.{Idle, Reset, StopAll, Speed, Speed128, GroupOne, GroupTwo, Accessory}
+use Rattle.dcc_packet.specs.declared.instr.Instr.TheVariants.{Idle, Reset, StopAll, Speed, Speed128, GroupOne, GroupTwo, GroupThree, Accessory}
 use Rattle.dcc_packet.specs.Address.{is_legal}
 use Rattle.dcc_packet.specs.Form.{bit, with_check, to_decoder}
 use Rattle.dcc_packet.specs.Module.{is_module}
@@ -25,8 +25,10 @@ Spells bytes (Speed address d low) = (low < 32) × Tells bytes address ((64 + 32
 Spells bytes (Speed128 address d s) = (s < 128) × Tells bytes address (0x3F ∷ (128 * bit d + s) ∷ [])
 -- S-9.2.1, 2.3.4, function group one: 100DDDDD
 Spells bytes (GroupOne address bits) = (bits < 32) × Tells bytes address ((128 + bits) ∷ [])
--- S-9.2.1, 2.3.5, function group two: 1011DDDD
+-- S-9.2.1, 2.3.5, function group two with S 1: 1011DDDD
 Spells bytes (GroupTwo address bits) = (bits < 16) × Tells bytes address ((176 + bits) ∷ [])
+-- S-9.2.1, 2.3.5, function group two with S 0, here group three: 1010DDDD
+Spells bytes (GroupThree address bits) = (bits < 16) × Tells bytes address ((160 + bits) ∷ [])
 -- S-9.2.1, 2.4.1, basic accessory: 10AAAAAA 1AAACDDD, the high three bits of the address complemented
 Spells bytes (Accessory number pair closed on) =
     IsTrue (is_module number) × (pair < 4) × (bytes ≡ with_check ((128 + number % 64) ∷ (128 + 16 * (7 - number / 64) + 8 * bit on + 2 * pair + bit closed) ∷ []))

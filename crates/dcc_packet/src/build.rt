@@ -3,10 +3,10 @@ ghost use Rattle.std.specs.Prelude.{◌≡◌, ◌<◌, ◌≤◌, true, IsTrue,
 ghost use Rattle.dcc_packet.specs.Address.{is_legal};
 ghost use Rattle.dcc_packet.specs.Motions.{is_motion};
 ghost use Rattle.dcc_packet.specs.Form.{to_decoder};
-ghost use Rattle.dcc_packet.specs.Meant.{speed_instr, group_one_instr, group_two_instr, accessory_instr};
+ghost use Rattle.dcc_packet.specs.Meant.{speed_instr, group_one_instr, group_two_instr, group_three_instr, accessory_instr};
 ghost use Rattle.dcc_packet.specs.Spells.{Spells};
 ghost use Rattle.dcc_packet.specs.declared.instr.Instr.TheVariants.{Idle, StopAll};
-ghost use Rattle.dcc_packet.specs.Sent.{code_of, code_28_of, speed_bytes, group_one_bytes, group_two_bytes, accessory_bytes, idle_bytes, stop_all_bytes};
+ghost use Rattle.dcc_packet.specs.Sent.{code_of, code_28_of, speed_bytes, group_one_bytes, group_two_bytes, group_three_bytes, accessory_bytes, idle_bytes, stop_all_bytes};
 
 use crate::address::Address;
 use crate::packet::{MAX_LEN, Packet};
@@ -94,13 +94,22 @@ pub fn group_one(address: Address, functions: u16) -> Packet
     )
 }
 
-/// The function group two packet of an address: F5 to F8, where bit k of `functions` is Fk (S-9.2.1, 2.3.5).
+/// The function group two packet of an address: F5 to F8, where bit k of `functions` is Fk (S-9.2.1, 2.3.5 with S 1).
 pub fn group_two(address: Address, functions: u16) -> Packet
     requires { IsTrue (is_legal address) }
     ensures bytes { result ≡ group_two_bytes address functions }
     ensures spells { Spells result (group_two_instr address functions) }
 {
     to_decoder(address, &[176 + (functions / 32 % 16) as u8])
+}
+
+/// The function group three packet of an address: F9 to F12, where bit k of `functions` is Fk (S-9.2.1, 2.3.5 with S 0).
+pub fn group_three(address: Address, functions: u16) -> Packet
+    requires { IsTrue (is_legal address) }
+    ensures bytes { result ≡ group_three_bytes address functions }
+    ensures spells { Spells result (group_three_instr address functions) }
+{
+    to_decoder(address, &[160 + (functions / 512 % 16) as u8])
 }
 
 /// The packet of a switch, 0 to 2039, four to a module: which output of its pair, closed or thrown, goes on or off

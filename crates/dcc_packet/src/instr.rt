@@ -35,6 +35,11 @@ pub enum Instr {
         address: Address,
         bits: u8,
     },
+    /// Functions: bits 3 to 0 are F12 to F9.
+    GroupThree {
+        address: Address,
+        bits: u8,
+    },
     /// One of the two outputs of a pair, 0 to 3, of an accessory decoder is switched on or off.
     Accessory {
         module: Module,

@@ -8,11 +8,11 @@ ghost use Rattle.dcc_packet.specs.declared.steps.Steps.{Steps};
 ghost use Rattle.dcc_packet.specs.declared.steps.Steps.TheVariants.{S14, S28, S128};
 ghost use Rattle.dcc_packet.specs.Address.{is_legal};
 ghost use Rattle.dcc_packet.specs.Form.{bit};
-ghost use Rattle.dcc_packet.specs.Meant.{speed_instr, group_one_instr, group_two_instr, accessory_instr};
+ghost use Rattle.dcc_packet.specs.Meant.{speed_instr, group_one_instr, group_two_instr, group_three_instr, accessory_instr};
 ghost use Rattle.dcc_packet.specs.Motions.{is_motion};
 ghost use Rattle.dcc_packet.specs.Packet.{is_checked, IsPacket};
 ghost use Rattle.dcc_packet.specs.Reading.{instruction_of};
-ghost use Rattle.dcc_packet.specs.Sent.{code_of, low_14, low_28, speed_bytes, group_one_bytes, group_two_bytes, accessory_bytes, idle_bytes, stop_all_bytes};
+ghost use Rattle.dcc_packet.specs.Sent.{code_of, low_14, low_28, speed_bytes, group_one_bytes, group_two_bytes, group_three_bytes, accessory_bytes, idle_bytes, stop_all_bytes};
 ghost use Rattle.dcc_packet.specs.Spells.{Spells};
 ghost use Rattle.dcc_packet.specs.Told.{motion_told, number_28};
 
@@ -32,6 +32,7 @@ pub fn sent_packets_spell()
     ensures speed { (address : Address) (steps : Steps) (motion : Motion) (forward f0 : Bool) → IsTrue (is_legal address) → IsTrue (is_motion steps motion) → Spells (speed_bytes address steps motion forward f0) (speed_instr address steps motion forward f0) }
     ensures group_one { (address : Address) (functions : ℕ) → IsTrue (is_legal address) → Spells (group_one_bytes address functions) (group_one_instr address functions) }
     ensures group_two { (address : Address) (functions : ℕ) → IsTrue (is_legal address) → Spells (group_two_bytes address functions) (group_two_instr address functions) }
+    ensures group_three { (address : Address) (functions : ℕ) → IsTrue (is_legal address) → Spells (group_three_bytes address functions) (group_three_instr address functions) }
     ensures accessory { (number : ℕ) (closed on : Bool) → number ≤ 2039 → Spells (accessory_bytes number closed on) (accessory_instr number closed on) }
     ensures idle { Spells idle_bytes Idle }
     ensures stop_all { Spells stop_all_bytes (StopAll true) }

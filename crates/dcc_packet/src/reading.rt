@@ -127,6 +127,10 @@ fn short_form(address: Address, byte: u8) -> Option<Instr>
             address,
             bits: byte % 16,
         }),
+        160..=175 => Some(Instr::GroupThree {
+            address,
+            bits: byte % 16,
+        }),
         _ => None,
     }
 }

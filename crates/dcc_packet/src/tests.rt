@@ -1,8 +1,8 @@
 //! Packets worked out by hand from S-9.2 and S-9.2.1.
 
 use crate::{
-    Address, Instr, Module, Motion, Packet, Steps, accessory, group_one, group_two, idle, read,
-    speed, steps_of, stop_all,
+    Address, Instr, Module, Motion, Packet, Steps, accessory, group_one, group_three, group_two,
+    idle, read, speed, steps_of, stop_all,
 };
 use std::test::Fail;
 
@@ -132,15 +132,16 @@ fn speed_packets_have_the_bytes_of_the_standard(rt: HostRuntime) {
     }
 }
 
-/// An address, functions, and the bytes of the packets of group one and group two.
-type FunctionRow = (Address, u16, &'static [u8], &'static [u8]);
+/// An address, functions, and the bytes of the packets of group one, group two and group three.
+type FunctionRow = (Address, u16, &'static [u8], &'static [u8], &'static [u8]);
 
-const FUNCTION_ROWS: [FunctionRow; 4] = [
+const FUNCTION_ROWS: [FunctionRow; 6] = [
     (
         Address::Short(3),
         0,
         &[0x03, 0x80, 0x83],
         &[0x03, 0xB0, 0xB3],
+        &[0x03, 0xA0, 0xA3],
     ),
     // F1, whose bit is the lowest of group one.
     (
@@ -148,6 +149,7 @@ const FUNCTION_ROWS: [FunctionRow; 4] = [
         1 << 1,
         &[0x03, 0x81, 0x82],
         &[0x03, 0xB0, 0xB3],
+        &[0x03, 0xA0, 0xA3],
     ),
     // F0, F5 and F7.
     (
@@ -155,22 +157,41 @@ const FUNCTION_ROWS: [FunctionRow; 4] = [
         1 | 1 << 5 | 1 << 7,
         &[0x04, 0x90, 0x94],
         &[0x04, 0xB5, 0xB1],
+        &[0x04, 0xA0, 0xA4],
     ),
-    // All functions, those past F8 too.
+    // F9, whose bit is the lowest of group three.
+    (
+        Address::Short(3),
+        1 << 9,
+        &[0x03, 0x80, 0x83],
+        &[0x03, 0xB0, 0xB3],
+        &[0x03, 0xA1, 0xA2],
+    ),
+    // F9 of a long address.
+    (
+        Address::Long(1234),
+        1 << 9,
+        &[0xC4, 0xD2, 0x80, 0x96],
+        &[0xC4, 0xD2, 0xB0, 0xA6],
+        &[0xC4, 0xD2, 0xA1, 0xB7],
+    ),
+    // All functions, those past F12 too.
     (
         Address::Short(3),
         0xFFFF,
         &[0x03, 0x9F, 0x9C],
         &[0x03, 0xBF, 0xBC],
+        &[0x03, 0xAF, 0xAC],
     ),
 ];
 
 #[test]
 fn other_packets_have_the_bytes_of_the_standard(rt: HostRuntime) {
-    for (address, set, one, two) in FUNCTION_ROWS {
+    for (address, set, one, two, three) in FUNCTION_ROWS {
         assert!(rt; address.is_legal());
         assert_eq!(rt; group_one(address, set).bytes(), one);
         assert_eq!(rt; group_two(address, set).bytes(), two);
+        assert_eq!(rt; group_three(address, set).bytes(), three);
     }
     let switches: [(u16, bool, bool, &[u8]); 3] = [
         (0, true, true, &[0x81, 0xF9, 0x78]),
@@ -260,14 +281,20 @@ const READ_ROWS: [(&'static [u8], Option<Instr>); 22] = [
             bits: 5,
         }),
     ),
+    (
+        &[0x03, 0xA1, 0xA2],
+        Some(Instr::GroupThree {
+            address: Address::Short(3),
+            bits: 1,
+        }),
+    ),
     // No module: 0, and 511, the broadcast to accessory decoders.
     (&[0x80, 0xF9, 0x79], None),
     (&[0xBF, 0x8E, 0x31], None),
     // A wrong check.
     (&[0x03, 0x3F, 0xC0, 0xFD], None),
-    // A consist, F9 to F12, and a longer form behind the byte of a listed one.
+    // A consist, and a longer form behind the byte of a listed one.
     (&[0x03, 0x20, 0x23], None),
-    (&[0x03, 0xA0, 0xA3], None),
     (&[0x03, 0x80, 0x01, 0x82], None),
     // Addresses that are reserved.
     (&[0xE8, 0x00, 0x80, 0x68], None),

@@ -1,8 +1,8 @@
--- What packets do leaves a decoder with the functions F0 to F8 alone.
+-- What packets do leaves a decoder with the functions F0 to F12 alone.
 use Rattle.std.proofs.Common.{ℕ, ◌+◌, ◌*◌, ◌%◌, ◌/◌, ◌<◌, ◌^◌, Bool, true, false, List, Option, Some, None, if◌then◌else◌, arith}
 use Rattle.std.proofs.lemmas.Bool.{cond_both}
 use Rattle.dcc_packet.specs.declared.instr.Instr.{Instr}
-use Rattle.dcc_packet.specs.declared.instr.Instr.TheVariants.{Idle, Reset, StopAll, Speed, Speed128, GroupOne, GroupTwo, Accessory}
+use Rattle.dcc_packet.specs.declared.instr.Instr.TheVariants.{Idle, Reset, StopAll, Speed, Speed128, GroupOne, GroupTwo, GroupThree, Accessory}
 use Rattle.dcc_packet.specs.Reading.{instruction_of}
 use Rattle.decoder_cv.specs.Settings.{Settings}
 use Rattle.decoder_node.specs.declared.running.Running.{Running}
@@ -14,15 +14,15 @@ own : (b : Bool) (new old : Running) → IsAble new → IsAble old → IsAble (i
 own true new old n o = n
 own false new old n o = o
 
-lit-able : (cv : Settings) (functions bits : ℕ) → functions < 2 ^ 9 → lit cv functions bits < 2 ^ 9
+lit-able : (cv : Settings) (functions bits : ℕ) → functions < 2 ^ 13 → lit cv functions bits < 2 ^ 13
 lit-able cv functions bits h =
-    let others : with_bits functions 1 4 (bits % 16) < 2 ^ 9 = omega arith in
-    let all : with_bits (with_bits functions 1 4 (bits % 16)) 0 1 (bits / 16 % 2) < 2 ^ 9 = omega arith in
-    cond_both cv.fourteen (with_bits functions 1 4 (bits % 16)) (with_bits (with_bits functions 1 4 (bits % 16)) 0 1 (bits / 16 % 2)) (λ n. n < 2 ^ 9) (λ _. others) (λ _. all)
+    let others : with_bits functions 1 4 (bits % 16) < 2 ^ 13 = omega arith in
+    let all : with_bits (with_bits functions 1 4 (bits % 16)) 0 1 (bits / 16 % 2) < 2 ^ 13 = omega arith in
+    cond_both cv.fourteen (with_bits functions 1 4 (bits % 16)) (with_bits (with_bits functions 1 4 (bits % 16)) 0 1 (bits / 16 % 2)) (λ n. n < 2 ^ 13) (λ _. others) (λ _. all)
 
 driven-able : (cv : Settings) (r : Running) (d : Bool) (low : ℕ) → IsAble r → IsAble (driven cv r d low)
 driven-able cv r d low h =
-    let light : with_bits r.functions 0 1 (low / 16 % 2) < 2 ^ 9 = omega arith in
+    let light : with_bits r.functions 0 1 (low / 16 % 2) < 2 ^ 13 = omega arith in
     own cv.fourteen _ _ light h
 
 obeyed-able : (cv : Settings) (r : Running) (instr : Instr) → IsAble r → IsAble (obeyed cv r instr)
@@ -33,7 +33,10 @@ obeyed-able cv r (Speed address d low) h = own (is_own cv.address address) (driv
 obeyed-able cv r (Speed128 address d s) h = own (is_own cv.address address) _ r h h
 obeyed-able cv r (GroupOne address bits) h = own (is_own cv.address address) _ r (lit-able cv r.functions bits h) h
 obeyed-able cv r (GroupTwo address bits) h =
-    let next : 32 * (bits % 16) + r.functions % 32 < 2 ^ 9 = omega arith in
+    let next : with_bits r.functions 5 4 (bits % 16) < 2 ^ 13 = omega arith in
+    own (is_own cv.address address) _ r next h
+obeyed-able cv r (GroupThree address bits) h =
+    let next : 512 * (bits % 16) + r.functions % 512 < 2 ^ 13 = omega arith in
     own (is_own cv.address address) _ r next h
 obeyed-able cv r (Accessory number pair closed on) h = h
 

@@ -4,7 +4,7 @@ use Rattle.std.specs.Prelude.{ℕ, ◌+◌, ◌*◌, ◌/◌, ◌%◌, ◌==◌,
 use Rattle.dcc_packet.specs.declared.address.Address.{Address}
 use Rattle.dcc_packet.specs.declared.address.Address.TheVariants.{Short, Long}
 use Rattle.dcc_packet.specs.declared.instr.Instr.{Instr}
-use Rattle.dcc_packet.specs.declared.instr.Instr.TheVariants.{Idle, Reset, StopAll, Speed, Speed128, GroupOne, GroupTwo, Accessory}
+use Rattle.dcc_packet.specs.declared.instr.Instr.TheVariants.{Idle, Reset, StopAll, Speed, Speed128, GroupOne, GroupTwo, GroupThree, Accessory}
 use Rattle.dcc_packet.specs.declared.steps.Steps.TheVariants.{S14, S28, S128}
 use Rattle.dcc_packet.specs.declared.steps.Motion.TheVariants.{Stop, Emergency}
 use Rattle.dcc_packet.specs.Reading.{instruction_of}
@@ -39,7 +39,7 @@ lit cv functions bits =
     let others = with_bits functions 1 4 (bits % 16) in
     if cv.fourteen then others else with_bits others 0 1 (bits / 16 % 2)
 
--- What one instruction does. Group two has the last functions of a decoder, so that it leaves none behind them. A
+-- What one instruction does. Group three has the last functions of a decoder, so that it leaves none behind them. A
 -- broadcast stop leaves the direction (own). Speeds of 128 steps are obeyed whatever the mode (own). What is for another
 -- address, or for accessory decoders, does nothing.
 abbrev pub obeyed : Settings → Running → Instr → Running
@@ -52,7 +52,9 @@ obeyed cv running (Speed128 address d s) =
 obeyed cv running (GroupOne address bits) =
     if is_own cv.address address then record running { functions = lit cv running.functions bits } else running
 obeyed cv running (GroupTwo address bits) =
-    if is_own cv.address address then record running { functions = 32 * (bits % 16) + running.functions % 32 } else running
+    if is_own cv.address address then record running { functions = with_bits running.functions 5 4 (bits % 16) } else running
+obeyed cv running (GroupThree address bits) =
+    if is_own cv.address address then record running { functions = 512 * (bits % 16) + running.functions % 512 } else running
 obeyed cv running (Accessory number pair closed on) = running
 
 abbrev pub obeyed_if : Settings → Running → Option Instr → Running

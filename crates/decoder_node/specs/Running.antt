@@ -7,6 +7,6 @@ use Rattle.decoder_node.specs.declared.running.Running.{Running}
 abbrev pub first_running : Running
 first_running = record { motion = Stop; forward = true; functions = 0 }
 
--- a decoder has the functions F0 to F8 and no others
+-- a decoder has the functions F0 to F12 and no others
 abbrev pub IsAble : Running → Type 0
-IsAble running = running.functions < 2 ^ 9
+IsAble running = running.functions < 2 ^ 13

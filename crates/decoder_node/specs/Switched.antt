@@ -1,7 +1,7 @@
 -- What packets do to an accessory decoder; (own) marks this project's profile.
 use Rattle.std.specs.Prelude.{ℕ, ◌+◌, ◌*◌, ◌%◌, ◌==◌, Bool, if◌then◌else◌, List, fold, Option, Some, None}
 use Rattle.dcc_packet.specs.declared.instr.Instr.{Instr}
-use Rattle.dcc_packet.specs.declared.instr.Instr.TheVariants.{Idle, Reset, StopAll, Speed, Speed128, GroupOne, GroupTwo, Accessory}
+use Rattle.dcc_packet.specs.declared.instr.Instr.TheVariants.{Idle, Reset, StopAll, Speed, Speed128, GroupOne, GroupTwo, GroupThree, Accessory}
 use Rattle.dcc_packet.specs.Reading.{instruction_of}
 use Rattle.decoder_node.specs.Bits.{with_bits}
 
@@ -21,6 +21,7 @@ switched number outputs (Speed address d low) = outputs
 switched number outputs (Speed128 address d s) = outputs
 switched number outputs (GroupOne address bits) = outputs
 switched number outputs (GroupTwo address bits) = outputs
+switched number outputs (GroupThree address bits) = outputs
 
 abbrev pub switched_if : ℕ → ℕ → Option Instr → ℕ
 switched_if number outputs None = outputs

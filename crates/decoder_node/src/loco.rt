@@ -104,7 +104,7 @@ impl Loco {
         self.hear(second);
     }
 
-    /// How it runs. Of the functions, F0 to F8 alone may be on.
+    /// How it runs. Of the functions, F0 to F12 alone may be on.
     #[inline]
     pub fn running(&self) -> Running
         ensures value { result ≡ self.now.running }

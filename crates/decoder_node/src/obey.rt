@@ -44,7 +44,13 @@ fn after_instr(cv: &CvSet, running: Running, instr: Instr) -> Running
             ..running
         },
         Instr::GroupTwo { address, bits } if is_own(cv, address) => Running {
-            functions: 32 * u16::from(bits % 16) + running.functions % 32,
+            functions: running.functions / 512 * 512
+                + 32 * u16::from(bits % 16)
+                + running.functions % 32,
+            ..running
+        },
+        Instr::GroupThree { address, bits } if is_own(cv, address) => Running {
+            functions: 512 * u16::from(bits % 16) + running.functions % 512,
             ..running
         },
         _ => running,

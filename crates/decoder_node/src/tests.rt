@@ -79,11 +79,13 @@ fn a_locomotive_obeys_packets_in_turn(rt: HostRuntime) -> Result<(), Fail> {
         (&[0x03, 0x90, 0x93], running(step(Steps::S28, 14), true, 1)),
         (&[0x03, 0x81, 0x82], running(step(Steps::S28, 14), true, 2)),
     ];
-    // Each group leaves the functions of the other.
-    let groups: [Row; 3] = [
+    // Each group leaves the functions of the others.
+    let groups: [Row; 5] = [
         (&[0x03, 0x9F, 0x9C], running(Motion::Stop, true, 0x1F)),
         (&[0x03, 0xBA, 0xB9], running(Motion::Stop, true, 0x15F)),
-        (&[0x03, 0x84, 0x87], running(Motion::Stop, true, 0x148)),
+        (&[0x03, 0xA9, 0xAA], running(Motion::Stop, true, 0x135F)),
+        (&[0x03, 0x84, 0x87], running(Motion::Stop, true, 0x1348)),
+        (&[0x03, 0xB0, 0xB3], running(Motion::Stop, true, 0x1208)),
     ];
     hears_in_turn(&rt, 0, &fourteen)?;
     hears_in_turn(&rt, 2, &twenty_eight)?;
