@@ -1,5 +1,5 @@
 -- The message of a reply, from its bytes.
-use Rattle.std.proofs.Common.{◌≡◌, ℕ, List, [], ◌∷◌, ◌++◌, length, get_or, ap, ap₂, ◌∙◌, refl}
+use Rattle.std.proofs.Common.{◌≡◌, ℕ, List, [], ◌∷◌, ◌++◌, length, get_or, ap, ap₂, ◌∙◌}
 use Rattle.ln_frame.specs.Message.{check_of}
 use Rattle.ln_ops.specs.declared.reply.Reply.TheVariants.{SlotData, LongAck}
 use Rattle.ln_ops.specs.Message.{fields_of}

@@ -2,7 +2,7 @@
 use Rattle.std.specs.Prelude.{ℕ, ◌+◌, ◌*◌, ◌/◌, ◌%◌, ◌&&◌, ◌==◌, Bool, true, if◌then◌else◌, nat_lt, nat_le, List, slice_index, IsTrue}
 use Rattle.ln_ops.specs.Fields.{SlotBytes}
 use Rattle.ln_ops.specs.declared.op.Op.{Op}
-use Rattle.ln_ops.specs.declared.op.Op.TheVariants.{PowerOff, PowerOn, ForceIdle, Speed, Dirf, Snd, SwReq, SwAck, LongAck, SlotStat, Move, SlotRead, LocoAddr, SlotData, SlotWrite, Other}
+use Rattle.ln_ops.specs.declared.op.Op.TheVariants.{PowerOff, PowerOn, ForceIdle, Speed, Dirf, Snd, SwReq, SwAck, LongAck, SlotStat, Move, SlotRead, LocoAddr, SlotData, SlotWrite, Imm, Other}
 
 -- SW1 is A6 to A0 of the switch's number, and bits 3 to 0 of SW2 are A10 to A7
 abbrev pub switch_number : ℕ → ℕ → ℕ
@@ -32,6 +32,21 @@ fields_of m = record {
   id2 = slice_index m 12;
 }
 
+-- bit 7 of an IM byte stands in DHI, the other seven bits in the byte
+abbrev pub im_byte : ℕ → ℕ → ℕ
+im_byte top low = top * 128 + low
+
+-- OPC_IMM_PACKET, ED 0B 7F REPS DHI IM1 to IM5: bits 6 to 4 of REPS are the number of IM bytes, bits 0 to 4 of DHI are
+-- bit 7 of IM1 to IM5. The other bits of REPS and DHI are ignored, and all five bytes are given (own).
+abbrev pub imm_of : List ℕ → Op
+imm_of m =
+    Imm (slice_index m 3 / 16 % 8)
+    (im_byte (slice_index m 4 % 2) (slice_index m 5))
+    (im_byte (slice_index m 4 / 2 % 2) (slice_index m 6))
+    (im_byte (slice_index m 4 / 4 % 2) (slice_index m 7))
+    (im_byte (slice_index m 4 / 8 % 2) (slice_index m 8))
+    (im_byte (slice_index m 4 / 16 % 2) (slice_index m 9))
+
 -- messages of four bytes, the opcode and two bytes of data: OPC_LOCO_SPD, OPC_LOCO_DIRF, OPC_LOCO_SND, OPC_SW_REQ,
 -- OPC_SW_ACK, OPC_LONG_ACK, OPC_SLOT_STAT1, OPC_MOVE_SLOTS, OPC_RQ_SL_DATA and OPC_LOCO_ADR
 abbrev pub four_of : ℕ → ℕ → ℕ → Op
@@ -48,7 +63,7 @@ four_of opcode first second =
     (if opcode == 0xBF then LocoAddr first second else Other)))))))))
 
 -- the operation of a whole message: OPC_GPOFF, OPC_GPON, OPC_IDLE, those of four bytes, OPC_SL_RD_DATA and
--- OPC_WR_SL_DATA with count 0E. No other message is known (own).
+-- OPC_WR_SL_DATA with count 0E, and OPC_IMM_PACKET with count 0B and 7F behind it. No other message is known (own).
 abbrev pub op_of : List ℕ → Op
 op_of m =
     if slice_index m 0 == 0x82 then PowerOff else
@@ -56,12 +71,18 @@ op_of m =
     (if slice_index m 0 == 0x85 then ForceIdle else
     (if nat_le 160 (slice_index m 0) && nat_le (slice_index m 0) 191 then four_of (slice_index m 0) (slice_index m 1) (slice_index m 2) else
     (if (slice_index m 0 == 0xE7) && (slice_index m 1 == 14) then SlotData (fields_of m) else
-    (if (slice_index m 0 == 0xEF) && (slice_index m 1 == 14) then SlotWrite (fields_of m) else Other)))))
+    (if (slice_index m 0 == 0xEF) && (slice_index m 1 == 14) then SlotWrite (fields_of m) else
+    (if (slice_index m 0 == 0xED) && ((slice_index m 1 == 11) && (slice_index m 2 == 127)) then imm_of m else Other))))))
 
 abbrev pub are_data : ℕ → ℕ → Bool
 are_data first second = nat_lt first 128 && nat_lt second 128
 
--- what holds of every operation that a whole message is: its bytes are data, and a switch has eleven bits
+abbrev pub are_bytes : ℕ → ℕ → ℕ → ℕ → ℕ → Bool
+are_bytes im1 im2 im3 im4 im5 =
+    nat_lt im1 256 && (nat_lt im2 256 && (nat_lt im3 256 && (nat_lt im4 256 && nat_lt im5 256)))
+
+-- what holds of every operation that a whole message is: its bytes are data, a switch has eleven bits, a number of IM
+-- bytes three, and an IM byte eight
 abbrev pub is_of_data : Op → Bool
 is_of_data PowerOff = true
 is_of_data PowerOn = true
@@ -78,6 +99,7 @@ is_of_data (SlotRead slot) = nat_lt slot 128
 is_of_data (LocoAddr high low) = are_data high low
 is_of_data (SlotData fields) = true
 is_of_data (SlotWrite fields) = true
+is_of_data (Imm count im1 im2 im3 im4 im5) = nat_lt count 8 && are_bytes im1 im2 im3 im4 im5
 is_of_data Other = true
 
 abbrev pub IsOfData : Op → Type 0

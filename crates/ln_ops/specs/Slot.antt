@@ -52,7 +52,7 @@ is_slot n = nat_le 1 n && nat_le n 119
 
 -- the row of a free slot
 abbrev pub free_row : Row
-free_row = record { state = Free; kind = 0; address = 0; spd = 0; dirf = 0; snd = 0; ss2 = 0; id1 = 0; id2 = 0 }
+free_row = record { state = Free; kind = 0; address = 0; spd = 0; dirf = 0; snd = 0; more = 0; ss2 = 0; id1 = 0; id2 = 0 }
 
 -- the address of slot data
 abbrev pub address_of : SlotBytes → ℕ

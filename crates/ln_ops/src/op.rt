@@ -1,6 +1,6 @@
 //! What a message asks or tells.
 ghost use Rattle.std.specs.Prelude.{◌≡◌, ℕ, ◌<◌, ◌≤◌, length, slice_index};
-ghost use Rattle.ln_ops.specs.Message.{fields_of, four_of, is_closed, is_on, IsOfData, op_of, switch_number};
+ghost use Rattle.ln_ops.specs.Message.{fields_of, four_of, im_byte, imm_of, is_closed, is_on, IsOfData, op_of, switch_number};
 
 use crate::fields::SlotFields;
 use ln_frame::Msg;
@@ -47,13 +47,22 @@ pub(crate) const OPC_LOCO_ADR: u8 = 0xBF;
 /// OPC_SL_RD_DATA: slot data, as a master tells it.
 pub(crate) const OPC_SL_RD_DATA: u8 = 0xE7;
 
+/// OPC_IMM_PACKET: a packet for the track.
+pub(crate) const OPC_IMM_PACKET: u8 = 0xED;
+
 /// OPC_WR_SL_DATA: slot data to be written.
 pub(crate) const OPC_WR_SL_DATA: u8 = 0xEF;
 
 /// The count of the messages that carry slot data.
 pub(crate) const SLOT_DATA_COUNT: u8 = 14;
 
-/// What a message asks or tells, by its opcode. Every byte but an opcode is below 128.
+/// The count of OPC_IMM_PACKET.
+const IMM_COUNT: u8 = 11;
+
+/// What stands behind the count of OPC_IMM_PACKET.
+const IMM_MARK: u8 = 0x7F;
+
+/// What a message asks or tells, by its opcode. Every byte but an opcode and the IM bytes of a packet is below 128.
 #[derive(Clone, Copy, Debug, PartialEq, Eq)]
 pub enum Op {
     /// OPC_GPOFF, 82.
@@ -63,29 +72,70 @@ pub enum Op {
     /// OPC_IDLE, 85.
     ForceIdle,
     /// OPC_LOCO_SPD, A0: SPD of a slot.
-    Speed { slot: u8, spd: u8 },
+    Speed {
+        slot: u8,
+        spd: u8,
+    },
     /// OPC_LOCO_DIRF, A1: DIRF of a slot.
-    Dirf { slot: u8, dirf: u8 },
+    Dirf {
+        slot: u8,
+        dirf: u8,
+    },
     /// OPC_LOCO_SND, A2: SND of a slot.
-    Snd { slot: u8, snd: u8 },
+    Snd {
+        slot: u8,
+        snd: u8,
+    },
     /// OPC_SW_REQ, B0: switch `number`, 0 to 2047.
-    SwReq { number: u16, closed: bool, on: bool },
+    SwReq {
+        number: u16,
+        closed: bool,
+        on: bool,
+    },
     /// OPC_SW_ACK, BD: the same, with a long acknowledge.
-    SwAck { number: u16, closed: bool, on: bool },
+    SwAck {
+        number: u16,
+        closed: bool,
+        on: bool,
+    },
     /// OPC_LONG_ACK, B4: the opcode with bit 7 clear, and a code.
-    LongAck { opc: u8, ack: u8 },
+    LongAck {
+        opc: u8,
+        ack: u8,
+    },
     /// OPC_SLOT_STAT1, B5: STAT1 of a slot.
-    SlotStat { slot: u8, stat: u8 },
+    SlotStat {
+        slot: u8,
+        stat: u8,
+    },
     /// OPC_MOVE_SLOTS, BA.
-    Move { src: u8, dest: u8 },
+    Move {
+        src: u8,
+        dest: u8,
+    },
     /// OPC_RQ_SL_DATA, BB.
-    SlotRead { slot: u8 },
+    SlotRead {
+        slot: u8,
+    },
     /// OPC_LOCO_ADR, BF: the two halves of an address, seven bits each.
-    LocoAddr { high: u8, low: u8 },
+    LocoAddr {
+        high: u8,
+        low: u8,
+    },
     /// OPC_SL_RD_DATA, E7 with count 0E.
     SlotData(SlotFields),
     /// OPC_WR_SL_DATA, EF with count 0E.
     SlotWrite(SlotFields),
+    /// OPC_IMM_PACKET, ED with count 0B and 7F behind it: the packet is the first `count` of the IM bytes, 0 to 7. The
+    /// bytes past the count are given too, and no byte is the packet's check.
+    Imm {
+        count: u8,
+        im1: u8,
+        im2: u8,
+        im3: u8,
+        im4: u8,
+        im5: u8,
+    },
     /// Any other message.
     Other,
 }
@@ -103,6 +153,7 @@ pub fn read(message: &Msg) -> Op
         0xA0..=0xBF => read_four(bytes[0], bytes[1], bytes[2]),
         OPC_SL_RD_DATA if bytes[1] == SLOT_DATA_COUNT => Op::SlotData(read_fields(bytes)),
         OPC_WR_SL_DATA if bytes[1] == SLOT_DATA_COUNT => Op::SlotWrite(read_fields(bytes)),
+        OPC_IMM_PACKET if bytes[1] == IMM_COUNT && bytes[2] == IMM_MARK => read_imm(bytes),
         _ => Op::Other,
     }
 }
@@ -179,6 +230,33 @@ fn is_on(sw2: u8) -> bool
     ensures { result ≡ is_on sw2 }
 {
     sw2 / 16 % 2 == 1
+}
+
+// The packet of OPC_IMM_PACKET: REPS, DHI and IM1 to IM5 stand behind the first three bytes.
+fn read_imm(bytes: &[u8]) -> Op
+    requires size { 11 ≤ length bytes.now }
+    requires data { (i : ℕ) → 1 ≤ i → slice_index bytes.now i < 128 }
+    ensures op { result ≡ imm_of bytes.now }
+    ensures data { IsOfData result }
+{
+    let dhi = bytes[4];
+    Op::Imm {
+        count: bytes[3] / 16 % 8,
+        im1: im_byte(dhi % 2, bytes[5]),
+        im2: im_byte(dhi / 2 % 2, bytes[6]),
+        im3: im_byte(dhi / 4 % 2, bytes[7]),
+        im4: im_byte(dhi / 8 % 2, bytes[8]),
+        im5: im_byte(dhi / 16 % 2, bytes[9]),
+    }
+}
+
+/// The IM byte of bit 7 and the other seven bits.
+fn im_byte(top: u8, low: u8) -> u8
+    requires top { top < 2 }
+    requires low { low < 128 }
+    ensures { result ≡ im_byte top low }
+{
+    top * 128 + low
 }
 
 /// The slot data of a message that carries it.

@@ -27,6 +27,8 @@ pub struct Row {
     pub dirf: u8,
     /// SND: bits 3 to 0 are F8 to F5.
     pub snd: u8,
+    /// F12 to F9 in bits 3 to 0, which no byte of slot data shows.
+    pub more: u8,
     /// SS2, the second status byte, kept as it was written.
     pub ss2: u8,
     /// ID1 and ID2, the throttle's own number, kept as they were written.
