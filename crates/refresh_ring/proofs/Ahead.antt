@@ -2,29 +2,18 @@
 use Rattle.std.proofs.Common.{◌≡◌, ℕ, ◌+◌, ◌*◌, ◌≤◌, ◌==◌, ◌&&◌, nat_lt, Bool, true, false, not, if◌then◌else◌, List, [], ◌∷◌, ◌++◌, Option, Some, None, option_map, refl, ap, ap₂, arith, inl, inr, ◌⊎◌, eqb-true, eq-eqb}
 use Rattle.std.proofs.lemmas.Bool.{cond_both, and_parts, and_from}
 use Rattle.refresh_ring.specs.Places.{number_of, is_refreshed, slot_of, next_place}
-use Rattle.refresh_ring.specs.Jobs.{is_place, waits, requests_in, sends_of, sends_ahead, live_jobs, first_of, after_send}
+use Rattle.refresh_ring.specs.Jobs.{is_place, waits, most_requests, requests_in, sends_of, sends_ahead, live_jobs, first_of, after_send}
 use Rattle.refresh_ring.specs.Scheduled.{Scheduled, after_changed, after_switch}
 use Rattle.refresh_ring.specs.Picked.{Picked, picked, live, candidate, sent, idle, is_last, destination_of, address_of, pick_of}
 use Rattle.refresh_ring.specs.Left.{jobs_wait, turns_ahead}
 use Rattle.refresh_ring.specs.declared.kind.Kind.{Kind}
-use Rattle.refresh_ring.specs.declared.kind.Kind.TheVariants.{Speed, GroupOne, GroupTwo}
 use Rattle.refresh_ring.specs.declared.job.Job.{Job}
 use Rattle.refresh_ring.specs.declared.job.Job.TheVariants.{Place, Request}
 use Rattle.refresh_ring.specs.declared.job.Destination.{Destination}
 use Rattle.refresh_ring.specs.declared.job.Destination.TheVariants.{Loco}
 use Rattle.refresh_ring.specs.declared.turn.Candidate.TheVariants.{FromJobs, FromRing}
 use Rattle.refresh_ring.specs.declared.pick.Pick.TheVariants.{Place as PlacePick}
-
-number_of-same : (a b : Kind) → number_of a ≡ number_of b → a ≡ b
-number_of-same Speed Speed e = refl
-number_of-same Speed GroupOne e = absurd (omega arith)
-number_of-same Speed GroupTwo e = absurd (omega arith)
-number_of-same GroupOne Speed e = absurd (omega arith)
-number_of-same GroupOne GroupOne e = refl
-number_of-same GroupOne GroupTwo e = absurd (omega arith)
-number_of-same GroupTwo Speed e = absurd (omega arith)
-number_of-same GroupTwo GroupOne e = absurd (omega arith)
-number_of-same GroupTwo GroupTwo e = refl
+use Rattle.refresh_ring.proofs.Numbers.{number_of-same}
 
 is_place-same : (slot : ℕ) (kind : Kind) (job : Job) → is_place slot kind job ≡ true → job ≡ Place slot kind
 is_place-same slot kind (Place s k) h =
@@ -219,7 +208,7 @@ turns_ahead-changed slot kind other other_kind s n h =
 
 pub turns_ahead-switch : (slot : ℕ) (kind : Kind) (number : ℕ) (closed on : Bool) (s : Scheduled) (n : ℕ) → turns_ahead slot kind s ≡ Some n → turns_ahead slot kind (after_switch number closed on s) ≡ Some n
 turns_ahead-switch slot kind number closed on s n h =
-    cond_both (nat_lt (requests_in s.jobs) 32) (s.jobs ++ Request number closed on true ∷ []) s.jobs (λ js. turns_ahead slot kind (record s { jobs = js }) ≡ Some n)
+    cond_both (nat_lt (requests_in s.jobs) most_requests) (s.jobs ++ Request number closed on true ∷ []) s.jobs (λ js. turns_ahead slot kind (record s { jobs = js }) ≡ Some n)
     (λ _. turns_ahead-append slot kind s (Request number closed on true ∷ []) n h)
     (λ _. h)
 

@@ -2,7 +2,7 @@
 use Rattle.std.proofs.Common.{◌≡◌, ℕ, Bool, true, false, if◌then◌else◌, List, [], ◌∷◌, Option, Some, None, MatchOption, min, refl, sym, ◌∙◌, ap, arith}
 use Rattle.std.specs.List.{Contains}
 use Rattle.std.proofs.lemmas.Bool.{cond_both}
-use Rattle.refresh_ring.specs.Places.{is_place_on, slot_of, next_place}
+use Rattle.refresh_ring.specs.Places.{last_place, is_place_on, slot_of, next_place}
 use Rattle.refresh_ring.specs.Jobs.{is_live, live_jobs, first_of}
 use Rattle.refresh_ring.specs.Scheduled.{Scheduled}
 use Rattle.refresh_ring.specs.Picked.{Picked, picked, live, candidate, sent, idle, job_sent, place_sent, is_last, destination_of, address_of, pick_of}
@@ -86,7 +86,7 @@ module _ (s : Scheduled) where
   place_sent_due : (addresses : List ℕ) (place : ℕ) → is_place_on s.slots place ≡ true → IsDue s (sent addresses (live s) (Some (FromRing place))).answer
   place_sent_due addresses place on = cond_both (is_last s.last (Loco (address_of addresses (slot_of place)))) (idle (live s)) (place_sent addresses (live s) place) (λ m. IsDue s m.answer) (λ same. tt) (λ other. on)
 
-  candidate_due : (addresses : List ℕ) (jobs : List Job) (o : Option ℕ) (b : Bool) → live_jobs s.slots s.jobs ≡ jobs → MatchOption o (NoneAtAll (is_place_on s.slots)) (IsFollowing (is_place_on s.slots) (min s.cursor 357)) → IsDue s (sent addresses (live s) (candidate b (first_of jobs) o)).answer
+  candidate_due : (addresses : List ℕ) (jobs : List Job) (o : Option ℕ) (b : Bool) → live_jobs s.slots s.jobs ≡ jobs → MatchOption o (NoneAtAll (is_place_on s.slots)) (IsFollowing (is_place_on s.slots) (min s.cursor last_place)) → IsDue s (sent addresses (live s) (candidate b (first_of jobs) o)).answer
   candidate_due addresses [] None true h k = tt
   candidate_due addresses [] None false h k = tt
   candidate_due addresses [] (Some place) true h k = place_sent_due addresses place k.passes

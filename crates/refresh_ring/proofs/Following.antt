@@ -2,7 +2,7 @@
 use Rattle.std.proofs.Common.{List, min, sym, ◌∙◌, ◌≡◌, ℕ, zero, suc, ◌+◌, ◌-◌, ◌<◌, ◌≤◌, Bool, true, false, if◌then◌else◌, Option, Some, None, MatchOption, refl, arith, inl, inr, ◌⊎◌}
 use Rattle.std.specs.Option.{option_or}
 use Rattle.std.proofs.lemmas.Bool.{cases_eq, cases_lt}
-use Rattle.refresh_ring.specs.Places.{first_from, next_place, is_place_on}
+use Rattle.refresh_ring.specs.Places.{last_place, first_from, next_place, is_place_on}
 
 -- q is the first of the n numbers from a on that passes
 pub record IsFirst (test : ℕ → Bool) (a n q : ℕ) : Type 0 where
@@ -47,17 +47,17 @@ first_from-is test a (suc n) = step test a n (test a) (first_from test (suc a) n
 -- the place that is next after the cursor: the first above it, or else the first of all
 pub record IsFollowing (test : ℕ → Bool) (cursor q : ℕ) : Type 0 where
   pub low : 1 ≤ q
-  pub high : q ≤ 357
+  pub high : q ≤ last_place
   pub passes : test q ≡ true
   -- none is passed over
-  pub above : (k : ℕ) → cursor < k → k ≤ 357 → (k < q) ⊎ (q ≤ cursor) → test k ≡ false
+  pub above : (k : ℕ) → cursor < k → k ≤ last_place → (k < q) ⊎ (q ≤ cursor) → test k ≡ false
   pub below : q ≤ cursor → (k : ℕ) → 1 ≤ k → k < q → test k ≡ false
 
 -- nothing passes
 pub record NoneAtAll (test : ℕ → Bool) : Type 0 where
-  pub fails : (k : ℕ) → 1 ≤ k → k ≤ 357 → test k ≡ false
+  pub fails : (k : ℕ) → 1 ≤ k → k ≤ last_place → test k ≡ false
 
-next-by : (test : ℕ → Bool) (cursor : ℕ) → cursor ≤ 357 → (o p : Option ℕ) → GivesFirst test (cursor + 1) (357 - cursor) o → GivesFirst test 1 357 p → MatchOption (option_or o p) (NoneAtAll test) (IsFollowing test cursor)
+next-by : (test : ℕ → Bool) (cursor : ℕ) → cursor ≤ last_place → (o p : Option ℕ) → GivesFirst test (cursor + 1) (last_place - cursor) o → GivesFirst test 1 last_place p → MatchOption (option_or o p) (NoneAtAll test) (IsFollowing test cursor)
 unfolding GivesFirst
 next-by test cursor in_range None None h k = record { fails = λ j low high. k.fails j low (omega arith) }
 next-by test cursor in_range None (Some q) h k = record {
@@ -75,23 +75,23 @@ next-by test cursor in_range (Some q) p h k = record {
   below = λ le. absurd (omega arith);
 }
 
-next_place-is : (slots : List Bool) (cursor : ℕ) → cursor ≤ 357 → MatchOption (next_place slots cursor) (NoneAtAll (is_place_on slots)) (IsFollowing (is_place_on slots) cursor)
+next_place-is : (slots : List Bool) (cursor : ℕ) → cursor ≤ last_place → MatchOption (next_place slots cursor) (NoneAtAll (is_place_on slots)) (IsFollowing (is_place_on slots) cursor)
 unfolding next_place GivesFirst
 next_place-is slots cursor in_range =
-    next-by (is_place_on slots) cursor in_range _ _ (first_from-is (is_place_on slots) (cursor + 1) (357 - cursor)) (first_from-is (is_place_on slots) 1 357)
+    next-by (is_place_on slots) cursor in_range _ _ (first_from-is (is_place_on slots) (cursor + 1) (last_place - cursor)) (first_from-is (is_place_on slots) 1 last_place)
 
 -- a cursor past all places is as good as one at the last
-next_place-past : (slots : List Bool) (cursor : ℕ) → 357 ≤ cursor → next_place slots cursor ≡ option_or None (first_from (is_place_on slots) 1 357)
+next_place-past : (slots : List Bool) (cursor : ℕ) → last_place ≤ cursor → next_place slots cursor ≡ option_or None (first_from (is_place_on slots) 1 last_place)
 unfolding next_place first_from
 next_place-past slots cursor h =
-    let none : 357 - cursor ≡ 0 = omega arith in
+    let none : last_place - cursor ≡ 0 = omega arith in
     rw none
 
-next_place-clipped : (slots : List Bool) (cursor : ℕ) → next_place slots cursor ≡ next_place slots (min cursor 357)
-next_place-clipped slots cursor = elim (cases_lt cursor 357) [
-  | inl lt ↦ let e : min cursor 357 ≡ cursor = omega arith in rw e
-  | inr le ↦ next_place-past slots cursor le ∙ sym (next_place-past slots (min cursor 357) (omega arith))
+next_place-clipped : (slots : List Bool) (cursor : ℕ) → next_place slots cursor ≡ next_place slots (min cursor last_place)
+next_place-clipped slots cursor = elim (cases_lt cursor last_place) [
+  | inl lt ↦ let e : min cursor last_place ≡ cursor = omega arith in rw e
+  | inr le ↦ next_place-past slots cursor le ∙ sym (next_place-past slots (min cursor last_place) (omega arith))
 ]
 
-pub next_place-from : (slots : List Bool) (cursor : ℕ) → MatchOption (next_place slots cursor) (NoneAtAll (is_place_on slots)) (IsFollowing (is_place_on slots) (min cursor 357))
-next_place-from slots cursor = rw (next_place-clipped slots cursor) (next_place-is slots (min cursor 357) (omega arith))
+pub next_place-from : (slots : List Bool) (cursor : ℕ) → MatchOption (next_place slots cursor) (NoneAtAll (is_place_on slots)) (IsFollowing (is_place_on slots) (min cursor last_place))
+next_place-from slots cursor = rw (next_place-clipped slots cursor) (next_place-is slots (min cursor last_place) (omega arith))

@@ -1,4 +1,5 @@
 pub mod Masks
+pub mod Numbers
 pub mod Spread
 pub mod Told
 pub mod Waiting

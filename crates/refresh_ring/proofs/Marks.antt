@@ -10,7 +10,7 @@ use Rattle.refresh_ring.specs.Marked.{IsMarked}
 use Rattle.refresh_ring.specs.declared.kind.Kind.{Kind}
 use Rattle.refresh_ring.specs.declared.job.Job.{Job}
 use Rattle.refresh_ring.specs.declared.job.Job.TheVariants.{Place, Request}
-use Rattle.refresh_ring.specs.Words.{is_in}
+use Rattle.refresh_ring.specs.Words.{word_count, is_in}
 use Rattle.refresh_ring.proofs.Spread.{empty-out}
 use Rattle.refresh_ring.proofs.Waiting.{place_of-other, requests_in-append}
 
@@ -34,7 +34,7 @@ one_place place slot kind other other_kind at in_range other_in = rw at (by_test
     by_test true e = eq-eqb (place_of other other_kind) (place_of slot kind) (sym (same_place other other_kind slot kind e))
     by_test false e = place_of-other other other_kind slot kind other_in in_range e
 
-pub marked-empty : IsMarked (replicate 6 0) []
+pub marked-empty : IsMarked (replicate word_count 0) []
 marked-empty slot kind in_range = empty-out (place_of slot kind)
 
 or_last : (here marked before : Bool) → marked ≡ before → (if here then true else marked) ≡ (before || (here || false))

@@ -2,10 +2,10 @@
 use Rattle.std.proofs.Common.{◌≡◌, ℕ, ◌+◌, ◌*◌, ◌<◌, ◌≤◌, Bool, true, false, not, if◌then◌else◌, nat_lt, lt-ltb, le-ltb, ◌&&◌, List, [], ◌∷◌, ◌++◌, Option, Some, None, refl, sym, ap, arith, inl, inr, ◌⊎◌, ◌∙◌, append_assoc, append-nil}
 use Rattle.std.proofs.lemmas.Bool.{cond_both}
 use Rattle.refresh_ring.specs.Places.{is_refreshed, slot_of, next_place}
-use Rattle.refresh_ring.specs.Jobs.{IsQueue, sends_of, sends_in, live_jobs, first_of, after_send, waits, requests_in}
+use Rattle.refresh_ring.specs.Jobs.{IsQueue, sends_of, sends_in, live_jobs, first_of, after_send, waits, most_requests, requests_in}
 use Rattle.refresh_ring.specs.Scheduled.{Scheduled, after_changed, after_switch}
 use Rattle.refresh_ring.specs.Picked.{Picked, picked, live, candidate, sent, idle, job_sent, place_sent, is_last, destination_of, address_of, pick_of}
-use Rattle.refresh_ring.specs.Left.{jobs_wait, turns_for}
+use Rattle.refresh_ring.specs.Left.{jobs_wait, turns_for, turns_to_empty}
 use Rattle.refresh_ring.specs.Sent.{sends_left, to_send, switch_in, LessLeft}
 use Rattle.refresh_ring.specs.declared.kind.Kind.{Kind}
 use Rattle.refresh_ring.specs.declared.job.Job.{Job}
@@ -63,14 +63,14 @@ picked-kept addresses s = candidate_kept addresses (live s) (live s).jobs (next_
 pub changed-kept : (slot : ℕ) (kind : Kind) (s : Scheduled) → to_send (after_changed slot kind s).jobs ≡ to_send s.jobs
 changed-kept slot kind s = cond_both (is_refreshed s.slots slot && not (waits slot kind s.jobs)) (s.jobs ++ Place slot kind ∷ []) s.jobs (λ js. to_send js ≡ to_send s.jobs) (λ h. to_send-append s.jobs (Place slot kind ∷ []) ∙ append-nil (to_send s.jobs)) (λ h. refl)
 
-pub switch-asked : (number : ℕ) (closed on : Bool) (s : Scheduled) → requests_in s.jobs < 32 → to_send (after_switch number closed on s).jobs ≡ to_send s.jobs ++ Switch number closed on ∷ Switch number closed on ∷ []
+pub switch-asked : (number : ℕ) (closed on : Bool) (s : Scheduled) → requests_in s.jobs < most_requests → to_send (after_switch number closed on s).jobs ≡ to_send s.jobs ++ Switch number closed on ∷ Switch number closed on ∷ []
 switch-asked number closed on s few =
-    let room : nat_lt (requests_in s.jobs) 32 ≡ true = lt-ltb (requests_in s.jobs) 32 few in
+    let room : nat_lt (requests_in s.jobs) most_requests ≡ true = lt-ltb (requests_in s.jobs) most_requests few in
     rw room (to_send-append s.jobs (Request number closed on true ∷ []))
 
-pub switch-refused : (number : ℕ) (closed on : Bool) (s : Scheduled) → 32 ≤ requests_in s.jobs → after_switch number closed on s ≡ s
+pub switch-refused : (number : ℕ) (closed on : Bool) (s : Scheduled) → most_requests ≤ requests_in s.jobs → after_switch number closed on s ≡ s
 switch-refused number closed on s full =
-    let none : nat_lt (requests_in s.jobs) 32 ≡ false = le-ltb (requests_in s.jobs) 32 full in
+    let none : nat_lt (requests_in s.jobs) most_requests ≡ false = le-ltb (requests_in s.jobs) most_requests full in
     rw none refl
 
 -- ---- both calls put jobs at the end
@@ -79,7 +79,7 @@ pub changed-appends : (slot : ℕ) (kind : Kind) (s : Scheduled) → (more : Lis
 changed-appends slot kind s = cond_both (is_refreshed s.slots slot && not (waits slot kind s.jobs)) (s.jobs ++ Place slot kind ∷ []) s.jobs (λ js. (more : List Job) × (js ≡ s.jobs ++ more)) (λ h. (Place slot kind ∷ [], refl)) (λ h. ([], sym (append-nil s.jobs)))
 
 pub switch-appends : (number : ℕ) (closed on : Bool) (s : Scheduled) → (more : List Job) × ((after_switch number closed on s).jobs ≡ s.jobs ++ more)
-switch-appends number closed on s = cond_both (nat_lt (requests_in s.jobs) 32) (s.jobs ++ Request number closed on true ∷ []) s.jobs (λ js. (more : List Job) × (js ≡ s.jobs ++ more)) (λ h. (Request number closed on true ∷ [], refl)) (λ h. ([], sym (append-nil s.jobs)))
+switch-appends number closed on s = cond_both (nat_lt (requests_in s.jobs) most_requests) (s.jobs ++ Request number closed on true ∷ []) s.jobs (λ js. (more : List Job) × (js ≡ s.jobs ++ more)) (λ h. (Request number closed on true ∷ [], refl)) (λ h. ([], sym (append-nil s.jobs)))
 
 -- ---- all that was to send is sent
 
@@ -169,5 +169,5 @@ pub done : (s : Scheduled) (front : List Job) → turns_for front s ≤ 4 → to
 done s [] few = refl
 done s (job ∷ front) few = absurd (omega (arith, sends_of-pos job, wait_jobs s.prefers_jobs s.last))
 
-pub turns_for-most : (s : Scheduled) → IsQueue s.jobs → turns_for s.jobs s ≤ 1684 + 4
+pub turns_for-most : (s : Scheduled) → IsQueue s.jobs → turns_for s.jobs s ≤ turns_to_empty + 4
 turns_for-most s queue = omega (arith, few_sends s.jobs queue, wait_most s.prefers_jobs s.last)

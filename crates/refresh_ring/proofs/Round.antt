@@ -1,19 +1,19 @@
 -- The ring comes closer to a place with each turn.
-use Rattle.std.proofs.Common.{min, ◌≡◌, ℕ, ◌+◌, ◌-◌, ◌*◌, ◌/◌, ◌<◌, ◌≤◌, ◌≢◌, Bool, true, false, nat_lt, lt-ltb, le-ltb, List, Option, Some, None, MatchOption, refl, ap, ap₂, ◌∙◌, arith, inl, inr, ◌⊎◌}
+use Rattle.std.proofs.Common.{min, ◌≡◌, ℕ, zero, suc, ◌+◌, ◌-◌, ◌*◌, ◌/◌, ◌<◌, ◌≤◌, ◌≢◌, Bool, true, false, nat_lt, lt-ltb, le-ltb, List, Option, Some, None, MatchOption, refl, ap, ap₂, ◌∙◌, arith, inl, inr, ◌⊎◌}
 use Rattle.std.proofs.lemmas.Bool.{cases_lt, cases_eq, cond-true, cond-false, cond_both, both_ways}
-use Rattle.refresh_ring.specs.Places.{IsSlot, IsPlace, place_of, slot_of, kind_of, is_refreshed, is_place_on, next_place}
+use Rattle.refresh_ring.specs.Places.{IsSlot, IsPlace, kinds, slot_count, last_place, number_of, place_of, slot_of, kind_at, kind_of, is_refreshed, is_place_on, next_place}
 use Rattle.refresh_ring.specs.Scheduled.{Scheduled}
 use Rattle.refresh_ring.specs.Jobs.{first_of}
 use Rattle.refresh_ring.specs.Picked.{Picked, picked, live, candidate, sent, idle, job_sent, place_sent, is_last, destination_of, address_of}
 use Rattle.refresh_ring.specs.Left.{count_to, places_to, places_left, ring_wait, turns_from, turns_left}
 use Rattle.refresh_ring.specs.declared.kind.Kind.{Kind}
-use Rattle.refresh_ring.specs.declared.kind.Kind.TheVariants.{Speed, GroupOne, GroupTwo}
 use Rattle.refresh_ring.specs.declared.job.Job.{Job}
 use Rattle.refresh_ring.specs.declared.job.Destination.{Destination}
 use Rattle.refresh_ring.specs.declared.job.Destination.TheVariants.{Loco}
 use Rattle.refresh_ring.specs.declared.turn.Candidate.TheVariants.{FromJobs, FromRing}
 use Rattle.refresh_ring.specs.declared.pick.Pick.TheVariants.{Place as PlacePick}
-use Rattle.refresh_ring.proofs.Counts.{count_to-mono, count_to-above, count_to-parts, count_to-agree}
+use Rattle.refresh_ring.proofs.Numbers.{number_of-low, kind_at-number}
+use Rattle.refresh_ring.proofs.Counts.{count_to-none, count_to-mono, count_to-above, count_to-parts, count_to-agree}
 use Rattle.refresh_ring.proofs.Following.{IsFollowing, NoneAtAll, next_place-from}
 
 abbrev at_place : (ℕ → Bool) → ℕ → Bool
@@ -23,26 +23,26 @@ left-below : (ever : ℕ → Bool) (place cursor : ℕ) → cursor < place → p
 unfolding places_left
 left-below ever place cursor h = cond-true (nat_lt cursor place) _ _ (lt-ltb cursor place h)
 
-left-past : (ever : ℕ → Bool) (place cursor : ℕ) → place ≤ cursor → places_left ever place cursor ≡ places_to ever 357 + places_to ever place - places_to ever cursor
+left-past : (ever : ℕ → Bool) (place cursor : ℕ) → place ≤ cursor → places_left ever place cursor ≡ places_to ever last_place + places_to ever place - places_to ever cursor
 unfolding places_left
 left-past ever place cursor h = cond-false (nat_lt cursor place) _ _ (le-ltb cursor place h)
 
 -- at least one, since the place itself counts
-left_low : (ever : ℕ → Bool) (place cursor : ℕ) → cursor ≤ 357 → IsPlace place → ever (slot_of place) ≡ true → 1 ≤ places_left ever place cursor
+left_low : (ever : ℕ → Bool) (place cursor : ℕ) → cursor ≤ last_place → IsPlace place → ever (slot_of place) ≡ true → 1 ≤ places_left ever place cursor
 left_low ever place cursor in_range is h = elim (cases_lt cursor place) [
   | inl lt ↦ omega (arith, left-below ever place cursor lt, count_to-above (at_place ever) cursor place lt h)
-  | inr le ↦ omega (arith, left-past ever place cursor le, count_to-mono (at_place ever) cursor 357 in_range, count_to-above (at_place ever) 0 place is.0 h)
+  | inr le ↦ omega (arith, left-past ever place cursor le, count_to-mono (at_place ever) cursor last_place in_range, count_to-above (at_place ever) 0 place is.0 h)
 ]
 
 -- at most all
-left_high : (ever : ℕ → Bool) (place cursor : ℕ) → IsPlace place → places_left ever place cursor ≤ places_to ever 357
+left_high : (ever : ℕ → Bool) (place cursor : ℕ) → IsPlace place → places_left ever place cursor ≤ places_to ever last_place
 left_high ever place cursor is = elim (cases_lt cursor place) [
-  | inl lt ↦ omega (arith, left-below ever place cursor lt, count_to-mono (at_place ever) place 357 is.1)
+  | inl lt ↦ omega (arith, left-below ever place cursor lt, count_to-mono (at_place ever) place last_place is.1)
   | inr le ↦ omega (arith, left-past ever place cursor le, count_to-mono (at_place ever) place cursor le)
 ]
 
 -- the ring goes on towards a place that it does not send
-left_step : (ever test : ℕ → Bool) (place cursor q : ℕ) → cursor ≤ 357 → IsPlace place → test place ≡ true → ever (slot_of place) ≡ true → ever (slot_of q) ≡ true → IsFollowing test cursor q → q ≢ place → places_left ever place q + 1 ≤ places_left ever place cursor
+left_step : (ever test : ℕ → Bool) (place cursor q : ℕ) → cursor ≤ last_place → IsPlace place → test place ≡ true → ever (slot_of place) ≡ true → ever (slot_of q) ≡ true → IsFollowing test cursor q → q ≢ place → places_left ever place q + 1 ≤ places_left ever place cursor
 left_step ever test place cursor q cursor_in is on counts known next other = elim (cases_lt cursor place) [
   | inl lt ↦ elim (cases_lt q place) [
     | inl before ↦ elim (cases_lt cursor q) [
@@ -52,9 +52,9 @@ left_step ever test place cursor q cursor_in is on counts known next other = eli
     | inr past ↦ let passed : place < q = omega arith in absurd (both_ways (test place) (next.above place lt is.1 (inl passed)) on)
   ]
   | inr le ↦ elim (cases_lt cursor q) [
-    | inl more ↦ let past : place ≤ q = omega arith in omega (arith, left-past ever place cursor le, left-past ever place q past, count_to-above (at_place ever) cursor q more known, count_to-mono (at_place ever) q 357 next.high)
+    | inl more ↦ let past : place ≤ q = omega arith in omega (arith, left-past ever place cursor le, left-past ever place q past, count_to-above (at_place ever) cursor q more known, count_to-mono (at_place ever) q last_place next.high)
     | inr back ↦ elim (cases_lt q place) [
-      | inl before ↦ omega (arith, left-past ever place cursor le, left-below ever place q before, count_to-mono (at_place ever) cursor 357 cursor_in, count_to-above (at_place ever) 0 q next.low known, count_to-above (at_place ever) q place before counts)
+      | inl before ↦ omega (arith, left-past ever place cursor le, left-below ever place q before, count_to-mono (at_place ever) cursor last_place cursor_in, count_to-above (at_place ever) 0 q next.low known, count_to-above (at_place ever) q place before counts)
       | inr past ↦ let passed : place < q = omega arith in absurd (both_ways (test place) (next.below back place is.0 passed) on)
     ]
   ]
@@ -101,24 +101,24 @@ module _ (ever : ℕ → Bool) (place : ℕ) (is : IsPlace place) (addresses : L
       (idle_goes (destination_of addresses job))
       (λ h. inr (rw prefers (omega (arith, wait_jobs s.last))))
 
-  ring_goes : (q : ℕ) → IsFollowing (is_place_on s.slots) (min s.cursor 357) q → GoesOn ever place s (sent addresses s (Some (FromRing q)))
+  ring_goes : (q : ℕ) → IsFollowing (is_place_on s.slots) (min s.cursor last_place) q → GoesOn ever place s (sent addresses s (Some (FromRing q)))
   unfolding GoesOn turns_from
   ring_goes q next = cond_both (is_last s.last (Loco (address_of addresses (slot_of q)))) (idle s) (place_sent addresses s q) (GoesOn ever place s)
       (idle_goes (Loco (address_of addresses (slot_of q))))
       (λ h. elim (cases_eq q place) [
         | inl e ↦ inl (rw e)
         | inr ne ↦
-            let further = left_step ever (is_place_on s.slots) place (min s.cursor 357) q (omega arith) is on (known (slot_of place) on) (known (slot_of q) next.passes) next ne in
-            let clipped : min q 357 ≡ q = omega (arith, next.high) in
+            let further = left_step ever (is_place_on s.slots) place (min s.cursor last_place) q (omega arith) is on (known (slot_of place) on) (known (slot_of q) next.passes) next ne in
+            let clipped : min q last_place ≡ q = omega (arith, next.high) in
             inr (rw clipped (omega (arith, further, wait_low s.prefers_jobs s.last, left_low ever place q next.high is (known (slot_of place) on))))
       ])
 
-  chosen_goes : (first : Option Job) (q : ℕ) (b : Bool) → s.prefers_jobs ≡ b → IsFollowing (is_place_on s.slots) (min s.cursor 357) q → GoesOn ever place s (sent addresses s (candidate b first (Some q)))
+  chosen_goes : (first : Option Job) (q : ℕ) (b : Bool) → s.prefers_jobs ≡ b → IsFollowing (is_place_on s.slots) (min s.cursor last_place) q → GoesOn ever place s (sent addresses s (candidate b first (Some q)))
   chosen_goes (Some job) q true prefers next = job_goes job prefers
   chosen_goes None q true prefers next = ring_goes q next
   chosen_goes first q false prefers next = ring_goes q next
 
-  sent_goes : (first : Option Job) (o : Option ℕ) → MatchOption o (NoneAtAll (is_place_on s.slots)) (IsFollowing (is_place_on s.slots) (min s.cursor 357)) → GoesOn ever place s (sent addresses s (candidate s.prefers_jobs first o))
+  sent_goes : (first : Option Job) (o : Option ℕ) → MatchOption o (NoneAtAll (is_place_on s.slots)) (IsFollowing (is_place_on s.slots) (min s.cursor last_place)) → GoesOn ever place s (sent addresses s (candidate s.prefers_jobs first o))
   sent_goes first None none = absurd (both_ways (is_place_on s.slots place) (none.fails place is.0 is.1) on)
   sent_goes first (Some q) next = chosen_goes first q s.prefers_jobs refl next
 
@@ -128,21 +128,21 @@ place_goes ever place addresses s is on known =
     sent_goes ever place is addresses (live s) on known (first_of (live s).jobs) (next_place s.slots s.cursor) (next_place-from s.slots s.cursor)
 
 -- each slot counts once for each kind
-blocks : (ever : ℕ → Bool) → places_to ever 357 ≡ 3 * count_to ever 119
-blocks ever =
-    let first : count_to (at_place ever) 119 ≡ count_to ever 119 = count_to-agree (at_place ever) ever 119 (λ k low high. let e : slot_of k ≡ k = omega arith in ap ever e) in
-    let second : count_to (λ k. at_place ever (119 + k)) 119 ≡ count_to ever 119 = count_to-agree (λ k. at_place ever (119 + k)) ever 119 (λ k low high. let e : slot_of (119 + k) ≡ k = omega arith in ap ever e) in
-    let third : count_to (λ k. at_place ever (238 + k)) 119 ≡ count_to ever 119 = count_to-agree (λ k. at_place ever (238 + k)) ever 119 (λ k low high. let e : slot_of (238 + k) ≡ k = omega arith in ap ever e) in
-    omega (arith, count_to-parts (at_place ever) 119 119, count_to-parts (at_place ever) 238 119)
+count_to-kinds : (ever : ℕ → Bool) (k : ℕ) → places_to ever (slot_count * k) ≡ count_to ever slot_count * k
+count_to-kinds ever zero = omega (arith, count_to-none (at_place ever))
+count_to-kinds ever (suc k) =
+    let block : count_to (λ n. at_place ever (slot_count * k + n)) slot_count ≡ count_to ever slot_count = count_to-agree (λ n. at_place ever (slot_count * k + n)) ever slot_count (λ n low high. let e : slot_of (slot_count * k + n) ≡ n = omega arith in ap ever e) in
+    let next : slot_count * suc k ≡ slot_count * k + slot_count = omega arith in
+    rw next (omega (arith, block, count_to-kinds ever k, count_to-parts (at_place ever) (slot_count * k) slot_count))
 
 turns_at-least : (ever : ℕ → Bool) (place : ℕ) (s : Scheduled) → IsPlace place → ever (slot_of place) ≡ true → 1 ≤ turns_at ever place s
 unfolding turns_from
 turns_at-least ever place s is h = omega (arith, wait_low s.prefers_jobs s.last)
 
-turns_at-most : (ever : ℕ → Bool) (place : ℕ) (s : Scheduled) → IsPlace place → ever (slot_of place) ≡ true → turns_at ever place s ≤ 12 * count_to ever 119
+turns_at-most : (ever : ℕ → Bool) (place : ℕ) (s : Scheduled) → IsPlace place → ever (slot_of place) ≡ true → turns_at ever place s ≤ 4 * kinds * count_to ever slot_count
 unfolding turns_from
 turns_at-most ever place s is h =
-    omega (arith, blocks ever, wait_high s.prefers_jobs s.last, left_low ever place (min s.cursor 357) (omega arith) is h, left_high ever place (min s.cursor 357) is)
+    omega (arith, count_to-kinds ever kinds, wait_high s.prefers_jobs s.last, left_low ever place (min s.cursor last_place) (omega arith) is h, left_high ever place (min s.cursor last_place) is)
 
 -- ---- by slot and kind
 
@@ -152,20 +152,12 @@ record IsPlaceOf (slot : ℕ) (kind : Kind) : Type 0 where
   kind_is : kind_of (place_of slot kind) ≡ kind
 
 place_of-is : (slot : ℕ) (kind : Kind) → IsSlot slot → IsPlaceOf slot kind
-place_of-is slot Speed h = record {
-  in_range = (omega arith, omega arith);
+place_of-is slot kind h = record {
+  in_range = (omega arith, omega (arith, number_of-low kind));
   slot_is = omega arith;
-  kind_is = let e : (119 * 0 + slot - 1) / 119 ≡ 0 = omega arith in rw e refl;
-}
-place_of-is slot GroupOne h = record {
-  in_range = (omega arith, omega arith);
-  slot_is = omega arith;
-  kind_is = let e : (119 * 1 + slot - 1) / 119 ≡ 1 = omega arith in rw e refl;
-}
-place_of-is slot GroupTwo h = record {
-  in_range = (omega arith, omega arith);
-  slot_is = omega arith;
-  kind_is = let e : (119 * 2 + slot - 1) / 119 ≡ 2 = omega arith in rw e refl;
+  kind_is =
+      let e : (place_of slot kind - 1) / slot_count ≡ number_of kind = omega arith in
+      ap kind_at e ∙ kind_at-number kind;
 }
 
 pub turns_left-falls : (ever : ℕ → Bool) (slot : ℕ) (kind : Kind) (addresses : List ℕ) (s : Scheduled) → IsSlot slot → is_refreshed s.slots slot ≡ true → ((n : ℕ) → is_refreshed s.slots n ≡ true → ever n ≡ true) → ((picked addresses s).answer ≡ PlacePick slot kind) ⊎ (turns_left ever slot kind (picked addresses s).state + 1 ≤ turns_left ever slot kind s)
@@ -181,7 +173,7 @@ turns_left-least ever slot kind s is_slot h =
     let is = place_of-is slot kind is_slot in
     turns_at-least ever (place_of slot kind) s is.in_range (rw is.slot_is h)
 
-pub turns_left-most : (ever : ℕ → Bool) (slot : ℕ) (kind : Kind) (s : Scheduled) → IsSlot slot → ever slot ≡ true → turns_left ever slot kind s ≤ 12 * count_to ever 119
+pub turns_left-most : (ever : ℕ → Bool) (slot : ℕ) (kind : Kind) (s : Scheduled) → IsSlot slot → ever slot ≡ true → turns_left ever slot kind s ≤ 4 * kinds * count_to ever slot_count
 turns_left-most ever slot kind s is_slot h =
     let is = place_of-is slot kind is_slot in
     turns_at-most ever (place_of slot kind) s is.in_range (rw is.slot_is h)

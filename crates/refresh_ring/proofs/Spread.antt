@@ -1,16 +1,16 @@
 -- The ring of words of bits.
-use Rattle.std.proofs.Common.{◌≡◌, ◌≢◌, ℕ, zero, suc, ◌+◌, ◌-◌, ◌<◌, ◌≤◌, ◌==◌, nat_le, ◌%◌, ◌/◌, ◌⊎◌, Bool, true, false, if◌then◌else◌, List, replicate, set, Option, Some, None, MatchOption, slice_index_or, refl, sym, ap, ◌∙◌, inl, inr, arith, eq-eqb, ne_eqb, eqb-true}
+use Rattle.std.proofs.Common.{◌≡◌, ℕ, zero, suc, ◌+◌, ◌-◌, ◌*◌, ◌<◌, ◌≤◌, nat_le, ◌%◌, ◌/◌, Bool, true, false, List, replicate, set, Option, Some, None, MatchOption, slice_index_or, refl, sym, ap, ◌∙◌, inl, inr, arith, eq-eqb, eqb-true}
 use Rattle.std.proofs.lemmas.Bool.{cases_eq, cases_lt, both_ways}
 use Rattle.std.proofs.lemmas.Bool.Decides.{nat_tests}
 use Rattle.std.proofs.lemmas.List.{same_lists, set-get_or, length-set, get_or-set_same, get_or-set_other}
 use Rattle.std.proofs.lemmas.List.FromFn.{length-map-range_with_len, get_or-map-range_with_len}
 use Rattle.std.proofs.lemmas.Nat.Bits.{bit_at-zero}
-use Rattle.refresh_ring.specs.Places.{IsSlot, IsPlace, IsRefreshed, IsNext, slot_of, is_refreshed, is_place_on}
-use Rattle.refresh_ring.specs.Words.{bit_of, is_in, slots_in, IsSpread}
+use Rattle.refresh_ring.specs.Places.{IsSlot, IsPlace, slot_count, last_place, IsRefreshed, IsNext, slot_of, is_refreshed, is_place_on}
+use Rattle.refresh_ring.specs.Words.{word_count, bit_of, is_in, slots_in, IsSpread}
 
-slot_bit : (words : List ℕ) (k n : ℕ) (d : Bool) → k < 119 → 1 + k ≡ n → slice_index_or (slots_in words) k d ≡ is_in words n
+slot_bit : (words : List ℕ) (k n : ℕ) (d : Bool) → k < slot_count → 1 + k ≡ n → slice_index_or (slots_in words) k d ≡ is_in words n
 unfolding slots_in
-slot_bit words k n d low e = get_or-map-range_with_len (is_in words) 1 119 k n d low e
+slot_bit words k n d low e = get_or-map-range_with_len (is_in words) 1 slot_count k n d low e
 
 -- a slot is refreshed where its first place is in
 pub refreshed-is : (words : List ℕ) (slot : ℕ) → IsSlot slot → is_in words slot ≡ is_refreshed (slots_in words) slot
@@ -26,82 +26,49 @@ no_bit zero (suc i) = refl
 no_bit (suc n) zero = refl
 no_bit (suc n) (suc i) = no_bit n i
 
-pub empty-out : (n : ℕ) → is_in (replicate 6 0) n ≡ false
+pub empty-out : (n : ℕ) → is_in (replicate word_count 0) n ≡ false
 empty-out n =
-    let none : bit_of (replicate 6 0) n ≡ 0 = rw (no_bit 6 (n / 64)) (bit_at-zero (n % 64)) in
+    let none : bit_of (replicate word_count 0) n ≡ 0 = rw (no_bit word_count (n / 64)) (bit_at-zero (n % 64)) in
     rw none refl
 
-pub empty-spread : IsSpread (replicate 6 0)
+pub empty-spread : IsSpread (replicate word_count 0)
 empty-spread = record { together = λ place is. empty-out place ∙ sym (empty-out (slot_of place)); places = λ n not. empty-out n }
 
-pub empty-slots : slots_in (replicate 6 0) ≡ replicate 119 false
+pub empty-slots : slots_in (replicate word_count 0) ≡ replicate slot_count false
 unfolding slots_in
 empty-slots = refl
 
 -- ---- a slot is said to be refreshed or not
 
-hit : (on other : Bool) (q p : ℕ) → q ≡ p → (if q == p then on else other) ≡ on
-hit on other q p e = rw (eq-eqb q p e) refl
-
-miss : (on other : Bool) (q p : ℕ) → q ≢ p → (if q == p then on else other) ≡ other
-miss on other q p ne = rw (ne_eqb q p ne) refl
-
--- a place was put in or taken out
-abbrev IsWith : List ℕ → List ℕ → ℕ → Bool → Type 0
-IsWith old new place on = (other : ℕ) → is_in new other ≡ (if other == place then on else is_in old other)
-
-module _ (first second third fourth : List ℕ) (slot : ℕ) (on : Bool) (is : IsSlot slot)
-    (one : IsWith first second slot on) (two : IsWith second third (119 + slot) on) (three : IsWith third fourth (238 + slot) on) where
-  others : (q : ℕ) → q ≢ slot → q ≢ 119 + slot → q ≢ 238 + slot → is_in fourth q ≡ is_in first q
-  others q a b c =
-      three q ∙ miss on (is_in third q) q (238 + slot) c
-      ∙ two q ∙ miss on (is_in second q) q (119 + slot) b
-      ∙ one q ∙ miss on (is_in first q) q slot a
-
-  own : (q : ℕ) → (q ≡ slot) ⊎ ((q ≡ 119 + slot) ⊎ (q ≡ 238 + slot)) → is_in fourth q ≡ on
-  own q (inr (inr e)) = three q ∙ hit on (is_in third q) q (238 + slot) e
-  own q (inr (inl e)) =
-      three q ∙ miss on (is_in third q) q (238 + slot) (λ f. omega arith)
-      ∙ two q ∙ hit on (is_in second q) q (119 + slot) e
-  own q (inl e) =
-      three q ∙ miss on (is_in third q) q (238 + slot) (λ f. omega arith)
-      ∙ two q ∙ miss on (is_in second q) q (119 + slot) (λ f. omega arith)
-      ∙ one q ∙ hit on (is_in first q) q slot e
-
-  three_places : (q : ℕ) → IsPlace q → slot_of q ≡ slot → (q ≡ slot) ⊎ ((q ≡ 119 + slot) ⊎ (q ≡ 238 + slot))
-  three_places q place e = elim (cases_eq q slot) [
-    | inl a ↦ inl a
-    | inr not_a ↦ elim (cases_eq q (119 + slot)) [
-      | inl b ↦ inr (inl b)
-      | inr not_b ↦ inr (inr (omega (arith, place, is)))
-    ]
-  ]
-
-  pub set-spread : IsSpread first → IsSpread fourth
+-- the places of the slot were put in or taken out, and no others
+module _ (old new : List ℕ) (slot : ℕ) (on : Bool) (is : IsSlot slot)
+    (own : (place : ℕ) → IsPlace place → slot_of place ≡ slot → is_in new place ≡ on)
+    (others : (n : ℕ) → ¬ (IsPlace n × (slot_of n ≡ slot)) → is_in new n ≡ is_in old n) where
+  pub set-spread : IsSpread old → IsSpread new
   set-spread was = record {
-    together = λ q place. elim (cases_eq (slot_of q) slot) [
-      | inl e ↦ own q (three_places q place e) ∙ sym (own (slot_of q) (inl e))
-      | inr ne ↦
-          others q (λ e. ne (omega (arith, is))) (λ e. ne (omega (arith, is))) (λ e. ne (omega (arith, is)))
-          ∙ was.together q place
-          ∙ sym (others (slot_of q) ne (λ e. omega (arith, is)) (λ e. omega (arith, is)))
-    ];
-    places = λ n not. others n (λ e. not (omega (arith, is), omega (arith, is))) (λ e. not (omega (arith, is), omega (arith, is))) (λ e. not (omega (arith, is), omega (arith, is))) ∙ was.places n not;
+    together = λ q place.
+        let first : IsPlace (slot_of q) = (omega arith, omega arith) in
+        let same : slot_of (slot_of q) ≡ slot_of q = omega arith in
+        elim (cases_eq (slot_of q) slot) [
+          | inl e ↦ own q place e ∙ sym (own (slot_of q) first (same ∙ e))
+          | inr ne ↦ others q (λ both. ne both.1) ∙ was.together q place ∙ sym (others (slot_of q) (λ both. ne (sym same ∙ both.1)))
+        ];
+    places = λ n not. others n (λ both. not both.0) ∙ was.places n not;
   }
 
-  pub set-slots : slots_in fourth ≡ set (slots_in first) (slot - 1) on
+  pub set-slots : slots_in new ≡ set (slots_in old) (slot - 1) on
   unfolding slots_in
-  set-slots = same_lists (slots_in fourth) (set (slots_in first) (slot - 1) on)
-      (length-map-range_with_len (is_in fourth) 1 119 ∙ sym (length-set (slots_in first) (slot - 1) on ∙ length-map-range_with_len (is_in first) 1 119))
+  set-slots = same_lists (slots_in new) (set (slots_in old) (slot - 1) on)
+      (length-map-range_with_len (is_in new) 1 slot_count ∙ sym (length-set (slots_in old) (slot - 1) on ∙ length-map-range_with_len (is_in old) 1 slot_count))
       (λ k d low.
-      let below : k < 119 = omega (arith, length-map-range_with_len (is_in fourth) 1 119) in
-      slot_bit fourth k (1 + k) d below refl ∙ elim (cases_eq k (slot - 1)) [
+      let below : k < slot_count = omega (arith, length-map-range_with_len (is_in new) 1 slot_count) in
+      slot_bit new k (1 + k) d below refl ∙ elim (cases_eq k (slot - 1)) [
         | inl e ↦
-            own (1 + k) (inl (omega (arith, is)))
-            ∙ sym (rw e (get_or-set_same (slots_in first) (slot - 1) on d (omega (arith, is, length-map-range_with_len (is_in first) 1 119))))
+            own (1 + k) (omega arith, omega arith) (omega (arith, is))
+            ∙ sym (rw e (get_or-set_same (slots_in old) (slot - 1) on d (omega (arith, is, length-map-range_with_len (is_in old) 1 slot_count))))
         | inr ne ↦
-            others (1 + k) (λ e. ne (omega (arith, is))) (λ e. omega (arith, is)) (λ e. omega (arith, is))
-            ∙ sym (get_or-set_other (slots_in first) (slot - 1) k on d ne ∙ slot_bit first k (1 + k) d below refl)
+            others (1 + k) (λ both. ne (omega (arith, is, both.1)))
+            ∙ sym (get_or-set_other (slots_in old) (slot - 1) k on d ne ∙ slot_bit old k (1 + k) d below refl)
       ])
 
 -- or it is said to be what it is
@@ -125,7 +92,7 @@ module _ (words : List ℕ) (is : IsSpread words) where
       place_if : (q : ℕ) → is_in words q ≡ true → IsPlace q
       place_if q h = elim (cases_lt q 1) [
         | inl low ↦ absurd (both_ways (is_in words q) (is.places q (λ p. omega (arith, p.0))) h)
-        | inr some ↦ elim (cases_lt 357 q) [
+        | inr some ↦ elim (cases_lt last_place q) [
           | inl high ↦ absurd (both_ways (is_in words q) (is.places q (λ p. omega (arith, p.1))) h)
           | inr le ↦ (some, le)
         ]
@@ -139,7 +106,7 @@ module _ (words : List ℕ) (is : IsSpread words) where
 
   -- the least place from a number on
   abbrev IsLeastFrom : ℕ → Option ℕ → Type 0
-  IsLeastFrom from least = MatchOption least ((q : ℕ) → from ≤ q → q < 384 → bit_of words q ≡ 0) (λ p. (from ≤ p) × (p < 384) × (bit_of words p ≡ 1) × ((q : ℕ) → from ≤ q → q < p → bit_of words q ≡ 0))
+  IsLeastFrom from least = MatchOption least ((q : ℕ) → from ≤ q → q < 64 * word_count → bit_of words q ≡ 0) (λ p. (from ≤ p) × (p < 64 * word_count) × (bit_of words p ≡ 1) × ((q : ℕ) → from ≤ q → q < p → bit_of words q ≡ 0))
 
   pub next-above : (cursor p : ℕ) → IsLeastFrom (cursor + 1) (Some p) → IsNext (slots_in words) cursor (Some p)
   next-above cursor p (from, low, one, between) = (on p one, inl (omega arith, λ q more less. off q (between q (omega arith) less)))

@@ -5,7 +5,7 @@ use Rattle.std.proofs.lemmas.Bool.{cases_eq}
 use Rattle.std.proofs.lemmas.Bool.Decides.{nat_tests}
 use Rattle.std.proofs.lemmas.List.{length-set, get_or-set_same, get_or-set_other}
 use Rattle.std.proofs.lemmas.List.Elements.{All-head, All-tail, All-contains, Contains-append_right, Contains-append_cases}
-use Rattle.refresh_ring.specs.Places.{IsSlot, is_refreshed}
+use Rattle.refresh_ring.specs.Places.{IsSlot, slot_count, is_refreshed}
 use Rattle.refresh_ring.specs.Calls.{IsLastOn}
 
 abbrev pub Call : Type 0
@@ -37,7 +37,7 @@ silent-less : (slot : ℕ) (call : Call) (calls : List Call) → IsSilent slot (
 silent-less slot call calls silent =
     ((λ e. silent call.1 (0, omega arith, ap (λ n. (n, call.1)) e)), λ on there. silent on (Contains-append_right (call ∷ []) calls (slot, on) there))
 
-module _ (slots : List Bool) (n : ℕ) (on : Bool) (whole : length slots ≡ 119) (is : IsSlot n) where
+module _ (slots : List Bool) (n : ℕ) (on : Bool) (whole : length slots ≡ slot_count) (is : IsSlot n) where
   set-own : is_refreshed (set slots (n - 1) on) n ≡ on
   set-own =
       let low : nat_le 1 n ≡ true = grind (arith, nat_tests) in
@@ -48,7 +48,7 @@ module _ (slots : List Bool) (n : ℕ) (on : Bool) (whole : length slots ≡ 119
   set-other (suc k) ne = ap (λ b. nat_le 1 (suc k) && b) (get_or-set_other slots (n - 1) (suc k - 1) on false (λ e. ne (omega (arith, is))))
 
 -- what is not told stays
-told-silent : (calls : List Call) (slots : List Bool) (slot : ℕ) → length slots ≡ 119 → AreSlots calls → IsSilent slot calls → is_refreshed (told slots calls) slot ≡ is_refreshed slots slot
+told-silent : (calls : List Call) (slots : List Bool) (slot : ℕ) → length slots ≡ slot_count → AreSlots calls → IsSilent slot calls → is_refreshed (told slots calls) slot ≡ is_refreshed slots slot
 told-silent [] slots slot whole legal silent = refl
 told-silent (call ∷ calls) slots slot whole legal silent =
     let less = silent-less slot call calls silent in
@@ -59,7 +59,7 @@ later : (slot : ℕ) (call : Call) (calls : List Call) → IsLastOn slot calls �
 later slot call calls last = record { before = call ∷ last.before; after = last.after; are = ap (λ l. call ∷ l) last.are; last = last.last }
 
 -- a refreshed slot was last told so, or was refreshed before and is not told
-on_told : (calls : List Call) (slots : List Bool) (slot : ℕ) → length slots ≡ 119 → AreSlots calls → is_refreshed (told slots calls) slot ≡ true → IsLastOn slot calls ⊎ (IsSilent slot calls × (is_refreshed slots slot ≡ true))
+on_told : (calls : List Call) (slots : List Bool) (slot : ℕ) → length slots ≡ slot_count → AreSlots calls → is_refreshed (told slots calls) slot ≡ true → IsLastOn slot calls ⊎ (IsSilent slot calls × (is_refreshed slots slot ≡ true))
 on_told [] slots slot whole legal h = inr ((λ on there. omega (arith, there.1)), h)
 on_told (call ∷ calls) slots slot whole legal h =
     let is = All-head (λ c. IsSlot c.0) call calls legal in
@@ -85,11 +85,11 @@ length-told [] slots = refl
 length-told (call ∷ calls) slots = length-told calls (set slots (call.0 - 1) call.1) ∙ length-set slots (call.0 - 1) call.1
 
 -- a slot that was last told so is refreshed
-told_on : (calls : List Call) (slots : List Bool) (slot : ℕ) → length slots ≡ 119 → AreSlots calls → IsLastOn slot calls → is_refreshed (told slots calls) slot ≡ true
+told_on : (calls : List Call) (slots : List Bool) (slot : ℕ) → length slots ≡ slot_count → AreSlots calls → IsLastOn slot calls → is_refreshed (told slots calls) slot ≡ true
 told_on calls slots slot whole legal last =
     let is : IsSlot slot = All-contains (λ c. IsSlot c.0) calls (slot, true) legal (subst (λ l. Contains l (slot, true)) (sym last.are) (Contains-append_right last.before ((slot, true) ∷ last.after) (slot, true) (0, omega arith, refl))) in
     let were = told slots last.before in
-    let full : length were ≡ 119 = length-told last.before slots ∙ whole in
+    let full : length were ≡ slot_count = length-told last.before slots ∙ whole in
     ap (λ l. is_refreshed (told slots l) slot) last.are
     ∙ ap (λ s. is_refreshed s slot) (told-append last.before ((slot, true) ∷ last.after) slots)
     ∙ told-silent last.after (set were (slot - 1) true) slot (length-set were (slot - 1) true ∙ full) (rest_legal last.before last.after (subst AreSlots last.are legal)) last.last
@@ -100,8 +100,8 @@ told_on calls slots slot whole legal last =
     rest_legal (call ∷ before) after h = rest_legal before after (All-tail (λ c. IsSlot c.0) call (before ++ (slot, true) ∷ after) h)
 
 -- after calls on an empty ring exactly the slots are refreshed that were last told so
-pub told-last : (calls : List Call) → AreSlots calls → (slot : ℕ) → (is_refreshed (told (replicate 119 false) calls) slot ≡ true) ↔ IsLastOn slot calls
-told-last calls legal slot = (to, told_on calls (replicate 119 false) slot refl legal)
+pub told-last : (calls : List Call) → AreSlots calls → (slot : ℕ) → (is_refreshed (told (replicate slot_count false) calls) slot ≡ true) ↔ IsLastOn slot calls
+told-last calls legal slot = (to, told_on calls (replicate slot_count false) slot refl legal)
   where
     none : (n i : ℕ) → ◌≡◌ {A = Bool} (slice_index_or (replicate n false) i false) false
     none zero zero = refl
@@ -109,12 +109,12 @@ told-last calls legal slot = (to, told_on calls (replicate 119 false) slot refl 
     none (suc n) zero = refl
     none (suc n) (suc i) = none n i
 
-    off : (slot : ℕ) → is_refreshed (replicate 119 false) slot ≡ true → ⊥
+    off : (slot : ℕ) → is_refreshed (replicate slot_count false) slot ≡ true → ⊥
     off zero h = cc
-    off (suc k) h = let no : slice_index_or (replicate 119 false) (suc k - 1) false ≡ false = none 119 (suc k - 1) in let low : nat_le 1 (suc k) ≡ true = grind (arith, nat_tests) in cc
+    off (suc k) h = let no : slice_index_or (replicate slot_count false) (suc k - 1) false ≡ false = none slot_count (suc k - 1) in let low : nat_le 1 (suc k) ≡ true = grind (arith, nat_tests) in cc
 
-    to : is_refreshed (told (replicate 119 false) calls) slot ≡ true → IsLastOn slot calls
-    to h = elim (on_told calls (replicate 119 false) slot refl legal h) [
+    to : is_refreshed (told (replicate slot_count false) calls) slot ≡ true → IsLastOn slot calls
+    to h = elim (on_told calls (replicate slot_count false) slot refl legal h) [
       | inl last ↦ last
       | inr still ↦ absurd (off slot still.1)
     ]

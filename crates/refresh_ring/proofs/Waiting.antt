@@ -6,17 +6,12 @@ use Rattle.std.proofs.lemmas.Bool.{or_cases, and_from, both_ways}
 use Rattle.std.proofs.lemmas.Map.Keys.{IsDistinct-cons, IsDistinct-push, IsDistinct-tail}
 use Rattle.std.proofs.lemmas.List.{append-nil}
 use Rattle.std.proofs.lemmas.Map.Steps.{length-le_from_distinct_below}
-use Rattle.refresh_ring.specs.Places.{IsSlot, place_of, number_of}
-use Rattle.refresh_ring.specs.Jobs.{IsJob, is_place, waits, places_in, requests_in, sends_in, IsQueue, is_live, live_jobs, first_of, after_send}
+use Rattle.refresh_ring.specs.Places.{IsSlot, last_place, place_of, number_of}
+use Rattle.refresh_ring.specs.Jobs.{IsJob, most_requests, most_jobs, is_place, waits, places_in, requests_in, sends_in, IsQueue, is_live, live_jobs, first_of, after_send}
 use Rattle.refresh_ring.specs.declared.kind.Kind.{Kind}
-use Rattle.refresh_ring.specs.declared.kind.Kind.TheVariants.{Speed, GroupOne, GroupTwo}
 use Rattle.refresh_ring.specs.declared.job.Job.{Job}
 use Rattle.refresh_ring.specs.declared.job.Job.TheVariants.{Place, Request}
-
-pub number_of-le : (kind : Kind) → number_of kind ≤ 2
-number_of-le Speed = omega arith
-number_of-le GroupOne = omega arith
-number_of-le GroupTwo = omega arith
+use Rattle.refresh_ring.proofs.Numbers.{number_of-low}
 
 -- ---- how many may wait
 
@@ -25,19 +20,19 @@ above_zero [] h = tt
 above_zero (Place slot kind ∷ jobs) h = (ne_eqb 0 (place_of slot kind) (λ e. omega (arith, h.0)), above_zero jobs h.1)
 above_zero (Request number closed on again ∷ jobs) h = above_zero jobs h.1
 
-below : (jobs : List Job) → AllByRecursion IsJob jobs → (q : ℕ) → list_any (eqb q) (places_in jobs) ≡ true → q < 358
+below : (jobs : List Job) → AllByRecursion IsJob jobs → (q : ℕ) → list_any (eqb q) (places_in jobs) ≡ true → q < last_place + 1
 below [] h q any = cc
 below (Place slot kind ∷ jobs) h q any = elim (or_cases (eqb q (place_of slot kind)) (list_any (eqb q) (places_in jobs)) any) [
-  | inl e ↦ let same : q ≡ place_of slot kind = eqb-true q (place_of slot kind) e in omega (arith, h.0, number_of-le kind)
+  | inl e ↦ let same : q ≡ place_of slot kind = eqb-true q (place_of slot kind) e in omega (arith, h.0, number_of-low kind)
   | inr later ↦ below jobs h.1 q later
 ]
 below (Request number closed on again ∷ jobs) h q any = below jobs h.1 q any
 
-few_places : (jobs : List Job) → IsQueue jobs → length (places_in jobs) ≤ 357
+few_places : (jobs : List Job) → IsQueue jobs → length (places_in jobs) ≤ last_place
 few_places jobs queue =
     omega (
       arith,
-      length-le_from_distinct_below (0 ∷ places_in jobs) 358 (IsDistinct-cons eqb 0 (places_in jobs) (above_zero jobs queue.legal) queue.once)
+      length-le_from_distinct_below (0 ∷ places_in jobs) (last_place + 1) (IsDistinct-cons eqb 0 (places_in jobs) (above_zero jobs queue.legal) queue.once)
           (λ q any. elim (or_cases (eqb q 0) (list_any (eqb q) (places_in jobs)) any) [
             | inl e ↦ let same : q ≡ 0 = eqb-true q 0 e in omega arith
             | inr later ↦ below jobs queue.legal q later
@@ -55,12 +50,12 @@ sends_parts (Place slot kind ∷ jobs) = omega (arith, sends_parts jobs)
 sends_parts (Request number closed on true ∷ jobs) = omega (arith, sends_parts jobs)
 sends_parts (Request number closed on false ∷ jobs) = omega (arith, sends_parts jobs)
 
--- 357 places and 32 requests
-pub room : (jobs : List Job) → IsQueue jobs → length jobs ≤ 389
+-- as many jobs as have room
+pub room : (jobs : List Job) → IsQueue jobs → length jobs ≤ most_jobs
 room jobs queue = omega (arith, length_parts jobs, few_places jobs queue, queue.few)
 
 -- and each request is sent twice
-pub few_sends : (jobs : List Job) → IsQueue jobs → sends_in jobs ≤ 421
+pub few_sends : (jobs : List Job) → IsQueue jobs → sends_in jobs ≤ last_place + 2 * most_requests
 few_sends jobs queue = omega (arith, sends_parts jobs, few_places jobs queue, queue.few)
 
 -- ---- an empty queue, and one more job
@@ -87,7 +82,7 @@ requests_in-append (Request number closed on again ∷ jobs) more = omega (arith
 pub place_of-other : (slot : ℕ) (kind : Kind) (other : ℕ) (other_kind : Kind) → IsSlot slot → IsSlot other → is_place slot kind (Place other other_kind) ≡ false → eqb (place_of slot kind) (place_of other other_kind) ≡ false
 place_of-other slot kind other other_kind in_range other_in h =
     ne_eqb (place_of slot kind) (place_of other other_kind) (λ e.
-    let same_kind : number_of other_kind ≡ number_of kind = omega (arith, number_of-le kind, number_of-le other_kind) in
+    let same_kind : number_of other_kind ≡ number_of kind = omega (arith, number_of-low kind, number_of-low other_kind) in
     let same : other ≡ slot = omega arith in
     both_ways (is_place slot kind (Place other other_kind)) h (and_from (other == slot) (number_of other_kind == number_of kind) (eq-eqb other slot same) (eq-eqb (number_of other_kind) (number_of kind) same_kind)))
 
@@ -110,7 +105,7 @@ queue-place jobs slot kind queue in_range absent = record {
   few = omega (arith, requests_in-append jobs (Place slot kind ∷ []), queue.few);
 }
 
-pub queue-request : (jobs : List Job) (number : ℕ) (closed on : Bool) → IsQueue jobs → number ≤ 2039 → requests_in jobs < 32 → IsQueue (jobs ++ Request number closed on true ∷ [])
+pub queue-request : (jobs : List Job) (number : ℕ) (closed on : Bool) → IsQueue jobs → number ≤ 2039 → requests_in jobs < most_requests → IsQueue (jobs ++ Request number closed on true ∷ [])
 queue-request jobs number closed on queue legal few = record {
   legal = legal-push jobs (Request number closed on true) queue.legal legal;
   once = rw (places_in-append jobs (Request number closed on true ∷ []), append-nil) queue.once;
@@ -149,7 +144,7 @@ sent_once (job ∷ jobs) n closed on h =
     rw e refl
 
 -- and has room there
-pub fits_again : (jobs : List Job) (n : ℕ) (closed on : Bool) → first_of jobs ≡ Some (Request n closed on true) → IsQueue jobs → length (drop 1 jobs) + 1 ≤ 389
+pub fits_again : (jobs : List Job) (n : ℕ) (closed on : Bool) → first_of jobs ≡ Some (Request n closed on true) → IsQueue jobs → length (drop 1 jobs) + 1 ≤ most_jobs
 fits_again [] n closed on h queue = cc
 fits_again (job ∷ jobs) n closed on h queue = omega (arith, room (job ∷ jobs) queue)
 
@@ -163,5 +158,5 @@ live_jobs-drop slots (first ∷ jobs) job h stale =
 
 -- ---- the buffer after a push
 
-pub pushed : (jobs : List Job) (capacity : ℕ) → capacity ≡ 389 → IsQueue jobs → drop (length jobs - capacity) jobs ≡ jobs
+pub pushed : (jobs : List Job) (capacity : ℕ) → capacity ≡ most_jobs → IsQueue jobs → drop (length jobs - capacity) jobs ≡ jobs
 pushed jobs capacity full queue = keeps_all capacity jobs (omega (arith, room jobs queue))

@@ -2,7 +2,7 @@
 use Rattle.std.specs.Prelude.{ℕ, ◌+◌, ◌≤◌, ◌==◌, ◌&&◌, Bool, true, false, if◌then◌else◌, List, [], ◌∷◌, Option, Some, None, nat_eq}
 use Rattle.std.specs.List.{AllByRecursion, IsDistinct, list_any}
 use Rattle.std.specs.Option.{option_map}
-use Rattle.refresh_ring.specs.Places.{IsSlot, place_of, number_of, is_refreshed}
+use Rattle.refresh_ring.specs.Places.{IsSlot, last_place, place_of, number_of, is_refreshed}
 use Rattle.refresh_ring.specs.declared.kind.Kind.{Kind}
 use Rattle.refresh_ring.specs.declared.job.Job.{Job}
 use Rattle.refresh_ring.specs.declared.job.Job.TheVariants.{Place, Request}
@@ -48,11 +48,19 @@ sends_ahead slot kind [] = None
 sends_ahead slot kind (job ∷ jobs) =
     if is_place slot kind job then Some 0 else option_map (λ n. sends_of job + n) (sends_ahead slot kind jobs)
 
--- what a queue holds: legal jobs, each place at most once, and at most 32 switch requests
+-- at most 32 switch requests wait
+abbrev pub most_requests : ℕ
+most_requests = 32
+
+-- each place and each of these requests
+abbrev pub most_jobs : ℕ
+most_jobs = last_place + most_requests
+
+-- what a queue holds: legal jobs, each place at most once, and no more switch requests than may wait
 pub record IsQueue (jobs : List Job) : Type 0 where
   pub legal : AllByRecursion IsJob jobs
   pub once : IsDistinct nat_eq (places_in jobs)
-  pub few : requests_in jobs ≤ 32
+  pub few : requests_in jobs ≤ most_requests
 
 -- a switch request waits always, a place while its slot is refreshed
 abbrev pub is_live : List Bool → Job → Bool

@@ -2,8 +2,8 @@
 use Rattle.std.specs.Prelude.{ℕ, ◌+◌, ◌-◌, ◌*◌, Bool, true, false, not, nat_lt, min, if◌then◌else◌, List, Option, Some, None}
 use Rattle.std.proofs.Common.{zero, suc}
 use Rattle.std.specs.Option.{option_map}
-use Rattle.refresh_ring.specs.Places.{slot_of, place_of}
-use Rattle.refresh_ring.specs.Jobs.{sends_ahead, sends_in}
+use Rattle.refresh_ring.specs.Places.{last_place, slot_of, place_of}
+use Rattle.refresh_ring.specs.Jobs.{most_requests, sends_ahead, sends_in}
 use Rattle.refresh_ring.specs.Scheduled.{Scheduled}
 use Rattle.refresh_ring.specs.declared.kind.Kind.{Kind}
 use Rattle.refresh_ring.specs.declared.job.Job.{Job}
@@ -22,7 +22,7 @@ places_to ever place = count_to (λ p. ever (slot_of p)) place
 unfoldable pub places_left : (ℕ → Bool) → ℕ → ℕ → ℕ
 places_left ever place cursor =
     if nat_lt cursor place then places_to ever place - places_to ever cursor
-    else places_to ever 357 + places_to ever place - places_to ever cursor
+    else places_to ever last_place + places_to ever place - places_to ever cursor
 
 -- turns until the ring sends, at most, where it has a place to send
 abbrev pub ring_wait : Bool → Option Destination → ℕ
@@ -36,7 +36,7 @@ abbrev pub jobs_wait : Bool → Option Destination → ℕ
 jobs_wait prefers_jobs last = ring_wait (not prefers_jobs) last
 
 unfoldable pub turns_from : (ℕ → Bool) → ℕ → ℕ → Option Destination → Bool → ℕ
-turns_from ever place cursor last prefers_jobs = 4 * (places_left ever place (min cursor 357) - 1) + ring_wait prefers_jobs last
+turns_from ever place cursor last prefers_jobs = 4 * (places_left ever place (min cursor last_place) - 1) + ring_wait prefers_jobs last
 
 -- turns until the ring sends this packet, where no slots but these are ever refreshed
 abbrev pub turns_left : (ℕ → Bool) → ℕ → Kind → Scheduled → ℕ
@@ -49,3 +49,7 @@ turns_ahead slot kind s = option_map (λ n. 4 * n + jobs_wait s.prefers_jobs s.l
 -- turns until all of these jobs, which stand in front, were sent, and 4 more at most
 abbrev pub turns_for : List Job → Scheduled → ℕ
 turns_for jobs s = 4 * sends_in jobs + jobs_wait s.prefers_jobs s.last
+
+-- turns that empty any queue: each place is sent once, and each switch request twice
+abbrev pub turns_to_empty : ℕ
+turns_to_empty = 4 * (last_place + 2 * most_requests)

@@ -1,11 +1,12 @@
 //! A ring of words of bits.
 ghost use Rattle.std.specs.Prelude.{◌≡◌, false, replicate};
+ghost use Rattle.refresh_ring.specs.Places.{slot_count};
 
 use crate::place_set::PlaceSet;
 use crate::ring::Ring;
 use std::marker::Model;
 
-/// A bit for each place: the three of a slot say the same.
+/// A bit for each place: those of a slot say the same.
 #[derive(Debug, Drop)]
 pub struct BitRing {
     places: PlaceSet,
@@ -24,7 +25,7 @@ impl Model for BitRing {
 
 impl Default for BitRing {
     fn default() -> Self
-        ensures { result ≡ replicate 119 false }
+        ensures { result ≡ replicate slot_count false }
     {
         BitRing::empty()
     }
@@ -40,14 +41,11 @@ impl Ring for BitRing {
     }
 
     fn set(&mut self, slot: u8, on: bool) {
-        let place = u16::from(slot);
         // Most calls say what holds already.
-        if self.places.has(place) == on {
+        if self.has(slot) == on {
             return;
         }
-        self.places.set(place, on);
-        self.places.set(119 + place, on);
-        self.places.set(238 + place, on);
+        self.places.set_slot(slot, on);
     }
 
     fn has(&self, slot: u8) -> bool {

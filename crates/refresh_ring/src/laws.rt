@@ -1,10 +1,10 @@
 //! What holds of every running turn, whatever messages come in between, for the crates above.
 ghost use Rattle.std.specs.Prelude.{◌≡◌, ◌+◌, ◌*◌, ◌<◌, ◌≤◌, ◌⊎◌, ◌++◌, [], ◌∷◌, ℕ, Bool, true, List, Some};
-ghost use Rattle.refresh_ring.specs.Places.{IsSlot, is_refreshed};
-ghost use Rattle.refresh_ring.specs.Jobs.{IsQueue, requests_in, sends_ahead};
+ghost use Rattle.refresh_ring.specs.Places.{IsSlot, kinds, slot_count, is_refreshed};
+ghost use Rattle.refresh_ring.specs.Jobs.{IsQueue, most_requests, requests_in, sends_ahead};
 ghost use Rattle.refresh_ring.specs.Scheduled.{Scheduled, after_changed, after_switch};
 ghost use Rattle.refresh_ring.specs.Picked.{picked};
-ghost use Rattle.refresh_ring.specs.Left.{count_to, turns_left, turns_ahead, turns_for};
+ghost use Rattle.refresh_ring.specs.Left.{count_to, turns_left, turns_ahead, turns_for, turns_to_empty};
 ghost use Rattle.refresh_ring.specs.Sent.{to_send, switch_in, goes_to, IsApart, IsDue, LessLeft};
 ghost use Rattle.refresh_ring.specs.declared.kind.Kind.{Kind as KindOf};
 ghost use Rattle.refresh_ring.specs.declared.job.Job.{Job as JobOf};
@@ -16,7 +16,7 @@ ghost use Rattle.refresh_ring.specs.declared.pick.Pick.TheVariants.{Place, Switc
 pub fn four_turns()
     ensures falls { (ever : ℕ → Bool) (slot : ℕ) (kind : KindOf) (addresses : List ℕ) (s : Scheduled) → IsSlot slot → is_refreshed s.slots slot ≡ true → ((n : ℕ) → is_refreshed s.slots n ≡ true → ever n ≡ true) → ((picked addresses s).answer ≡ Place slot kind) ⊎ (turns_left ever slot kind (picked addresses s).state + 1 ≤ turns_left ever slot kind s) }
     ensures least { (ever : ℕ → Bool) (slot : ℕ) (kind : KindOf) (s : Scheduled) → IsSlot slot → ever slot ≡ true → 1 ≤ turns_left ever slot kind s }
-    ensures most { (ever : ℕ → Bool) (slot : ℕ) (kind : KindOf) (s : Scheduled) → IsSlot slot → ever slot ≡ true → turns_left ever slot kind s ≤ 12 * count_to ever 119 }
+    ensures most { (ever : ℕ → Bool) (slot : ℕ) (kind : KindOf) (s : Scheduled) → IsSlot slot → ever slot ≡ true → turns_left ever slot kind s ≤ 4 * kinds * count_to ever slot_count }
 {}
 
 /// The same for jobs: where a place waits and its slot is refreshed, a turn sends its packet, or leaves the place
@@ -41,8 +41,8 @@ pub fn switches_in_order()
     // What a turn sends, and then is to send, is what was to send.
     ensures turn { (addresses : List ℕ) (s : Scheduled) → switch_in (picked addresses s).answer ++ to_send (picked addresses s).state.jobs ≡ to_send s.jobs }
     ensures changed { (slot : ℕ) (kind : KindOf) (s : Scheduled) → to_send (after_changed slot kind s).jobs ≡ to_send s.jobs }
-    ensures asked { (number : ℕ) (closed on : Bool) (s : Scheduled) → requests_in s.jobs < 32 → to_send (after_switch number closed on s).jobs ≡ to_send s.jobs ++ Switch number closed on ∷ Switch number closed on ∷ [] }
-    ensures refused { (number : ℕ) (closed on : Bool) (s : Scheduled) → 32 ≤ requests_in s.jobs → after_switch number closed on s ≡ s }
+    ensures asked { (number : ℕ) (closed on : Bool) (s : Scheduled) → requests_in s.jobs < most_requests → to_send (after_switch number closed on s).jobs ≡ to_send s.jobs ++ Switch number closed on ∷ Switch number closed on ∷ [] }
+    ensures refused { (number : ℕ) (closed on : Bool) (s : Scheduled) → most_requests ≤ requests_in s.jobs → after_switch number closed on s ≡ s }
 
     // Of the jobs in front nothing is left to send, or a turn leaves fewer turns for them. The others stand behind, and
     // so do those that messages add.
@@ -51,8 +51,8 @@ pub fn switches_in_order()
     ensures changed_behind { (slot : ℕ) (kind : KindOf) (s : Scheduled) → (more : List JobOf) × ((after_changed slot kind s).jobs ≡ s.jobs ++ more) }
     ensures asked_behind { (number : ℕ) (closed on : Bool) (s : Scheduled) → (more : List JobOf) × ((after_switch number closed on s).jobs ≡ s.jobs ++ more) }
 
-    // A queue holds the sends of 357 places and 32 requests at most: 4 * (357 + 2 * 32) turns, and 4 more.
-    ensures most { (s : Scheduled) → IsQueue s.jobs → turns_for s.jobs s ≤ 1684 + 4 }
+    // A queue holds the sends of 476 places and 32 requests at most: 4 * (476 + 2 * 32) turns, and 4 more, are 2,164.
+    ensures most { (s : Scheduled) → IsQueue s.jobs → turns_for s.jobs s ≤ turns_to_empty + 4 }
 {}
 
 /// A packet does not go to the decoders that the last one went to, and the last destination is kept.

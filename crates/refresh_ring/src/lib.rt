@@ -1,6 +1,6 @@
 //! What a command station sends next.
 //!
-//! A place is a slot with one of three kinds of packet. The ring goes round the places of the refreshed slots, jobs
+//! A place is a slot with one kind of packet. The ring goes round the places of the refreshed slots, jobs
 //! are what was changed or asked for and waits to be sent at once, and ring and jobs take turns.
 #![tactic(auto)]
 
@@ -11,6 +11,7 @@ mod job;
 mod kind;
 mod laws;
 mod pick;
+mod place;
 mod place_set;
 mod plain;
 mod queue;

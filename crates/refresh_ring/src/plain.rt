@@ -1,16 +1,18 @@
 //! A ring of truth values.
 ghost use Rattle.std.specs.Prelude.{◌≡◌, false, replicate};
+ghost use Rattle.refresh_ring.specs.Places.{slot_count};
 
+use crate::place::{LAST_PLACE, SLOTS};
 use crate::ring::Ring;
 
 /// A truth value for each slot.
 #[derive(Clone, Copy, Debug, PartialEq, Eq)]
 pub struct PlainRing {
-    slots: [bool; 119],
+    slots: [bool; SLOTS as usize],
 }
 
 impl Default for PlainRing {
-    ghost is_default = { λ ring. ring.slots ≡ replicate 119 false };
+    ghost is_default = { λ ring. ring.slots ≡ replicate slot_count false };
 
     fn default() -> Self {
         PlainRing::empty()
@@ -22,7 +24,7 @@ impl Ring for PlainRing {
 
     fn empty() -> Self {
         PlainRing {
-            slots: [false; 119],
+            slots: [false; SLOTS as usize],
         }
     }
 
@@ -35,13 +37,13 @@ impl Ring for PlainRing {
     }
 
     fn next(&self, cursor: u16) -> Option<u16> {
-        for place in cursor + 1..358 {
-            if self.slots[(place as usize - 1) % 119] {
+        for place in cursor + 1..LAST_PLACE + 1 {
+            if self.slots[(place as usize - 1) % SLOTS as usize] {
                 return Some(place);
             }
         }
         for place in 1..cursor + 1 {
-            if self.slots[(place as usize - 1) % 119] {
+            if self.slots[(place as usize - 1) % SLOTS as usize] {
                 return Some(place);
             }
         }

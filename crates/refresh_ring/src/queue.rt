@@ -1,21 +1,24 @@
 //! The jobs that wait, in a buffer that is made once.
 ghost use Rattle.std.specs.Prelude.{◌≡◌, ◌<◌, ◌≤◌, ◌+◌, ◌++◌, [], ◌∷◌, false, true, if◌then◌else◌, IfOk, IfSome, drop};
 ghost use Rattle.refresh_ring.specs.Places.{IsSlot, is_refreshed};
-ghost use Rattle.refresh_ring.specs.Jobs.{IsJob, IsQueue, waits, requests_in, sends_ahead, is_live, live_jobs, first_of, after_send};
+ghost use Rattle.refresh_ring.specs.Jobs.{IsJob, IsQueue, most_requests, waits, requests_in, sends_ahead, is_live, live_jobs, first_of, after_send};
 ghost use Rattle.refresh_ring.specs.declared.job.Job.TheVariants.{Place, Request};
 
 use crate::fault::NoMemory;
 use crate::job::Job;
 use crate::kind::Kind;
+use crate::place::{LAST_PLACE, place_of};
 use crate::place_set::PlaceSet;
 use crate::ring::Ring;
-use crate::turn::place_of;
 use circular_buffer::HeapCircularBuffer;
 use std::alloc::Global;
 use std::marker::Model;
 
-// A place waits at most once, and there are at most 32 switch requests.
-const MOST_JOBS: usize = 357 + 32;
+// The most switch requests that wait at one time.
+pub(crate) const MOST_REQUESTS: u8 = 32;
+
+// A place waits at most once.
+const MOST_JOBS: usize = LAST_PLACE as usize + MOST_REQUESTS as usize;
 
 /// The jobs that wait, in order. Each place waits at most once, and at most 32 switch requests wait.
 #[derive(Drop)]
@@ -102,7 +105,7 @@ impl JobQueue {
     // A switch request waits behind all others, and is sent twice.
     pub(crate) fn push_request(&mut self, number: u16, closed: bool, on: bool)
         requires number { number ≤ 2039 }
-        requires room { requests_in self.old < 32 }
+        requires room { requests_in self.old < most_requests }
         ensures jobs { self.new ≡ self.old ++ Request number closed on true ∷ [] }
         ensures queue { IsQueue self.new }
     {

@@ -1,17 +1,17 @@
 //! The law of the refresh ring.
 ghost use Rattle.std.specs.Prelude.{◌≡◌, ◌≤◌, ◌-◌, List, Bool, false, replicate, slice_set};
-ghost use Rattle.refresh_ring.specs.Places.{IsSlot, IsNext, is_refreshed};
+ghost use Rattle.refresh_ring.specs.Places.{IsSlot, IsNext, slot_count, last_place, is_refreshed};
 
 /// The refreshed slots, of which the next place after a cursor can be asked.
 ///
-/// Slot n with kind k, counted from 0, is place 119 * k + n, from 1 to 357. A place is refreshed where its slot is.
+/// Slot n with kind k, counted from 0, is place 119 * k + n, from 1 to 476. A place is refreshed where its slot is.
 pub trait Ring: Drop {
     /// For each of the slots 1 to 119, whether it is refreshed.
     ghost slots: { Self → List Bool };
 
     /// No slot is refreshed.
     fn empty() -> Self
-        ensures { slots result ≡ replicate 119 false };
+        ensures { slots result ≡ replicate slot_count false };
 
     /// Says whether a slot, 1 to 119, is refreshed from now on.
     fn set(&mut self, slot: u8, on: bool)
@@ -26,6 +26,6 @@ pub trait Ring: Drop {
     /// The least refreshed place above the cursor, which is 0 or a place; if there is none, the least refreshed
     /// place; None where nothing is refreshed.
     fn next(&self, cursor: u16) -> Option<u16>
-        requires { cursor ≤ 357 }
+        requires { cursor ≤ last_place }
         ensures { IsNext (slots self.now) cursor result };
 }

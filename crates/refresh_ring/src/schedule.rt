@@ -11,15 +11,13 @@ use crate::fault::{Full, NoMemory};
 use crate::job::{Destination, Job};
 use crate::kind::Kind;
 use crate::pick::{Pick, Power};
-use crate::queue::JobQueue;
+use crate::place::{kind_of, slot_of};
+use crate::queue::{JobQueue, MOST_REQUESTS};
 use crate::ring::Ring;
-use crate::turn::{Candidate, choose, destination_of, is_last, kind_of, pick_of, slot_of};
+use crate::turn::{Candidate, choose, destination_of, is_last, pick_of};
 use crate::view::View;
 use std::alloc::Global;
 use std::marker::Model;
-
-/// The most switch requests that wait at one time.
-const MOST_REQUESTS: u8 = 32;
 
 /// The refreshed slots, the jobs that wait, and where ring and turns stand.
 ///
@@ -44,7 +42,7 @@ impl<R: Ring> Model for Schedule<R> {
 }
 
 impl<R: Ring> Schedule<R> {
-    /// No slot is refreshed and nothing waits. It is refused where there is no memory for 389 jobs.
+    /// No slot is refreshed and nothing waits. It is refused where there is no memory for 508 jobs.
     pub fn new(alloc: Global) -> Result<Schedule<R>, NoMemory>
         ensures first { IfOk result (λ s. s ≡ first_schedule) }
         ensures legal { IfOk result IsScheduled }

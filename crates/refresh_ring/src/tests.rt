@@ -29,7 +29,12 @@ fn two_addresses() -> Addresses {
     Addresses { rows }
 }
 
-const KINDS: [Kind; 3] = [Kind::Speed, Kind::GroupOne, Kind::GroupTwo];
+const KINDS: [Kind; 4] = [
+    Kind::Speed,
+    Kind::GroupOne,
+    Kind::GroupTwo,
+    Kind::GroupThree,
+];
 
 #[test]
 fn an_empty_ring_has_no_next_place(rt: HostRuntime) {
@@ -40,7 +45,7 @@ fn an_empty_ring_has_no_next_place(rt: HostRuntime) {
 #[test]
 fn both_rings_wrap_after_the_last_place(rt: HostRuntime) {
     let (plain, bits) = both(&[(1, true), (119, true)]);
-    for (cursor, place) in [(1, 119), (119, 120), (357, 1)] {
+    for (cursor, place) in [(1, 119), (119, 120), (357, 358), (358, 476), (476, 1)] {
         assert_eq!(rt; plain.next(cursor), Some(place));
         assert_eq!(rt; bits.next(cursor), Some(place));
     }
@@ -49,7 +54,7 @@ fn both_rings_wrap_after_the_last_place(rt: HostRuntime) {
 #[test]
 fn both_rings_go_over_the_borders_of_words(rt: HostRuntime) {
     let (plain, bits) = both(&[(64, true), (9, true), (82, true), (118, true), (118, false)]);
-    for (cursor, place) in [(9, 64), (82, 128), (302, 320), (320, 9)] {
+    for (cursor, place) in [(9, 64), (82, 128), (302, 320), (320, 366), (439, 9)] {
         assert_eq!(rt; plain.next(cursor), Some(place));
         assert_eq!(rt; bits.next(cursor), Some(place));
     }
@@ -95,8 +100,8 @@ fn two_locomotives_take_turns<R: Ring>(rt: &impl Abort, mut schedule: Schedule<R
         Some((1, Kind::GroupTwo)),
         None,
         Some((1, Kind::GroupOne)),
-        Some((2, Kind::Speed)),
         None,
+        Some((1, Kind::GroupThree)),
         Some((2, Kind::GroupOne)),
     ];
     for turn in turns {

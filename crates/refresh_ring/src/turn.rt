@@ -1,12 +1,11 @@
 //! What a turn chooses from, and where it goes.
-ghost use Rattle.std.specs.Prelude.{◌≡◌, ◌≤◌, IfSome};
-ghost use Rattle.refresh_ring.specs.Places.{IsSlot, IsPlace, place_of, slot_of, kind_of};
+ghost use Rattle.std.specs.Prelude.{◌≡◌, IfSome};
+ghost use Rattle.refresh_ring.specs.Places.{IsPlace};
 ghost use Rattle.refresh_ring.specs.Jobs.{IsJob};
 ghost use Rattle.refresh_ring.specs.Sent.{IsLegalPick};
 ghost use Rattle.refresh_ring.specs.Picked.{IsCandidate, candidate, destination_of, pick_of, is_last};
 
 use crate::job::{Destination, Job};
-use crate::kind::Kind;
 use crate::pick::Pick;
 use crate::view::View;
 
@@ -82,35 +81,5 @@ pub(crate) fn pick_of(job: Job) -> Pick
             on,
             ..
         } => Pick::Switch { number, closed, on },
-    }
-}
-
-#[inline]
-pub(crate) fn place_of(slot: u8, kind: Kind) -> u16
-    requires { IsSlot slot }
-    ensures place { result ≡ place_of slot kind }
-    ensures range { IsPlace result }
-{
-    119 * kind.number() + u16::from(slot)
-}
-
-#[inline]
-pub(crate) fn slot_of(place: u16) -> u8
-    requires { 1 ≤ place }
-    ensures slot { result ≡ slot_of place }
-    ensures range { IsSlot result }
-{
-    ((place - 1) % 119 + 1) as u8
-}
-
-#[inline]
-pub(crate) fn kind_of(place: u16) -> Kind
-    requires { 1 ≤ place }
-    ensures { result ≡ kind_of place }
-{
-    match (place - 1) / 119 {
-        0 => Kind::Speed,
-        1 => Kind::GroupOne,
-        _ => Kind::GroupTwo,
     }
 }

@@ -1,6 +1,6 @@
 //! The addresses in the slots.
 ghost use Rattle.std.specs.Prelude.{◌≡◌, ℕ, List, length};
-ghost use Rattle.refresh_ring.specs.Places.{IsSlot};
+ghost use Rattle.refresh_ring.specs.Places.{IsSlot, slot_count};
 ghost use Rattle.refresh_ring.specs.Picked.{address_of};
 
 /// Which address stands in which slot.
@@ -13,5 +13,5 @@ pub trait View {
         requires { IsSlot slot }
         ensures { result ≡ address_of (addresses self.now) slot };
 
-    ghost many: { (view : Self) → length (addresses view) ≡ 119 };
+    ghost many: { (view : Self) → length (addresses view) ≡ slot_count };
 }

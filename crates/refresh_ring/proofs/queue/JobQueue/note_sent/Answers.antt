@@ -1,6 +1,6 @@
 use Rattle.std.proofs.Common.{◌≡◌, ◌+◌, ◌≤◌, ap, ◌∙◌, drop, ◌∷◌, false, true, Some, length, refl, arith}
 use Rattle.std.proofs.lemmas.List.{take_all}
-use Rattle.refresh_ring.specs.Jobs.{first_of, after_send}
+use Rattle.refresh_ring.specs.Jobs.{most_jobs, first_of, after_send}
 use Rattle.refresh_ring.specs.declared.job.Job.TheVariants.{Request}
 use Rattle.refresh_ring.proofs.Waiting.{queue-sent, sent_once, fits_again}
 use Rattle.refresh_ring.proofs.queue.JobQueue.note_sent.Goals as goal
@@ -13,7 +13,7 @@ left c = c.self.view_is ∙ c.drop_first.ensures.jobs
 
 kept : (c : goal.After-self-1) → c.push_front.new.self.items ≡ Request c.in-Some-Request.number c.in-Some-Request.closed c.in-Some-Request.on false ∷ c.self.inside.jobs.items
 kept c =
-    let few : length (drop 1 c.args.self.now) + 1 ≤ 389 = fits_again c.args.self.now c.in-Some-Request.number c.in-Some-Request.closed c.in-Some-Request.on (first c) c.drop_first.ensures.before in
+    let few : length (drop 1 c.args.self.now) + 1 ≤ most_jobs = fits_again c.args.self.now c.in-Some-Request.number c.in-Some-Request.closed c.in-Some-Request.on (first c) c.drop_first.ensures.before in
     let same : length c.self.inside.jobs.items ≡ length (drop 1 c.args.self.now) = ap length (left c) in
     let fits : length (Request c.in-Some-Request.number c.in-Some-Request.closed c.in-Some-Request.on false ∷ c.self.inside.jobs.items) ≤ c.self.inside.jobs.capacity = omega (arith, c.self.invariant.room) in
     ap (λ b. b.items) c.push_front.ensures.items
