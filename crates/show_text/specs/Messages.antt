@@ -1,11 +1,11 @@
 -- The texts of lines of messages.
-use Rattle.std.specs.Prelude.{ℕ, Bool, if◌then◌else◌, List, ◌++◌, codes}
+use Rattle.std.specs.Prelude.{ℕ, Bool, if◌then◌else◌, List, [], ◌∷◌, ◌++◌, codes}
 use Rattle.std.specs.Fmt.{decimal}
 use Rattle.ln_ops.specs.Fields.{SlotBytes}
 use Rattle.ln_ops.specs.Message.{op_of}
 use Rattle.ln_ops.specs.Slot.{address_with, address_of}
 use Rattle.ln_ops.specs.declared.op.Op.{Op}
-use Rattle.ln_ops.specs.declared.op.Op.TheVariants.{PowerOff, PowerOn, ForceIdle, Speed, Dirf, Snd, SwReq, SwAck, LongAck, SlotStat, Move, SlotRead, LocoAddr, SlotData, SlotWrite, Other}
+use Rattle.ln_ops.specs.declared.op.Op.TheVariants.{PowerOff, PowerOn, ForceIdle, Speed, Dirf, Snd, SwReq, SwAck, LongAck, SlotStat, Move, SlotRead, LocoAddr, SlotData, SlotWrite, Imm, Other}
 use Rattle.show_text.specs.Lines.{hex_words}
 
 -- two labels, each with a number behind it
@@ -41,6 +41,7 @@ op_text (SlotRead slot) = codes "read slot " ++ decimal slot
 op_text (LocoAddr high low) = codes "address " ++ decimal (address_with high low)
 op_text (SlotData fields) = codes "slot-data " ++ fields_text fields
 op_text (SlotWrite fields) = codes "slot-write " ++ fields_text fields
+op_text (Imm count im1 im2 im3 im4 im5) = codes "imm " ++ decimal count ++ hex_words (im1 ∷ im2 ∷ im3 ∷ im4 ∷ im5 ∷ [])
 op_text Other = codes "other"
 
 -- `msg`, the bytes of a message, and its operation

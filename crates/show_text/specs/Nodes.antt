@@ -31,11 +31,11 @@ motion_text (Step of n) = codes "step " ++ decimal n ++ codes " of " ++ decimal 
 abbrev pub direction_text : Bool → List ℕ
 direction_text forward = if forward then codes "forward" else codes "reverse"
 
--- its address, how it runs, and its functions F0 to F8
+-- its address, how it runs, and its functions F0 to F12
 abbrev pub loco_text : Settings → Running → List ℕ
 loco_text cv running =
     codes " " ++ address_text cv.address ++ codes " " ++ motion_text running.motion ++ codes " " ++ direction_text running.forward
-    ++ codes " F " ++ bits_text 9 running.functions
+    ++ codes " F " ++ bits_text 13 running.functions
 
 -- its module and its outputs 0 to 7
 abbrev pub accessory_text : ℕ → ℕ → List ℕ

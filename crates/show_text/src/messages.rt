@@ -74,6 +74,17 @@ fn push_op(line: &mut Line, op: &Op)
             line.push_str("slot-write ");
             push_fields(line, fields);
         }
+        Op::Imm {
+            count,
+            im1,
+            im2,
+            im3,
+            im4,
+            im5,
+        } => {
+            push_field(line, "imm ", u16::from(*count));
+            push_bytes(line, &[*im1, *im2, *im3, *im4, *im5]);
+        }
         Op::Other => line.push_str("other"),
     }
 }

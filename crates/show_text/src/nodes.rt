@@ -8,8 +8,8 @@ use dcc_packet::{Address, Module, Motion, Steps};
 use decoder_cv::CvSet;
 use decoder_node::{NodeSpec, Running};
 
-/// The functions of a locomotive, F0 to F8.
-const FUNCTIONS: u8 = 9;
+/// The functions of a locomotive, F0 to F12.
+const FUNCTIONS: u8 = 13;
 
 /// The outputs of an accessory decoder, 0 to 7.
 const OUTPUTS: u8 = 8;
@@ -53,7 +53,7 @@ fn push_motion(line: &mut Line, motion: Motion)
     }
 }
 
-/// ` short A MOTION DIR F fffffffff`.
+/// ` short A MOTION DIR F fffffffffffff`.
 fn push_loco(line: &mut Line, cv: &CvSet, running: &Running)
     requires { array_string_len line.old ≤ 100 }
     ensures { line.new.bytes ≡ line.old.bytes ++ loco_text cv.now running.now }
@@ -80,12 +80,12 @@ fn push_accessory(line: &mut Line, own: Module, outputs: u8)
     push_bits(line, u16::from(outputs), OUTPUTS);
 }
 
-/// `node NAME` and how the decoder of that name stands: `short A MOTION DIR F fffffffff` for a locomotive, or `long A`
+/// `node NAME` and how the decoder of that name stands: `short A MOTION DIR F fffffffffffff` for a locomotive, or `long A`
 /// with a long address, and `module M outputs oooooooo` for an accessory decoder.
 ///
 /// The name has at most 16 bytes. Of a locomotive `running` is given, of an accessory decoder `outputs`, and not the
 /// other. MOTION is `stop`, `emergency` or `step N of M`, DIR is `forward` or `reverse`; the digits are the functions F0
-/// to F8 and the outputs 0 to 7, 1 for one that is on.
+/// to F12 and the outputs 0 to 7, 1 for one that is on.
 pub fn node_line(name: &str, spec: &NodeSpec, running: Option<Running>, outputs: Option<u8>) -> Line
     requires name { length name.now ≤ 16 }
     requires told { IsToldOf spec.now running outputs }

@@ -206,7 +206,7 @@ const LOCOMOTIVES: [(u8, u8, u8, Motion, bool, u16, &'static str); 5] = [
         },
         true,
         0,
-        "short 3 step 63 of 128 forward F 000000000",
+        "short 3 step 63 of 128 forward F 0000000000000",
     ),
     (
         192,
@@ -218,7 +218,7 @@ const LOCOMOTIVES: [(u8, u8, u8, Motion, bool, u16, &'static str); 5] = [
         },
         false,
         1,
-        "short 3 step 28 of 28 reverse F 100000000",
+        "short 3 step 28 of 28 reverse F 1000000000000",
     ),
     (
         192,
@@ -230,7 +230,7 @@ const LOCOMOTIVES: [(u8, u8, u8, Motion, bool, u16, &'static str); 5] = [
         },
         true,
         0x106,
-        "short 3 step 1 of 14 forward F 011000001",
+        "short 3 step 1 of 14 forward F 0110000010000",
     ),
     (
         196,
@@ -238,8 +238,8 @@ const LOCOMOTIVES: [(u8, u8, u8, Motion, bool, u16, &'static str); 5] = [
         34,
         Motion::Stop,
         false,
-        0x1FF,
-        "long 1234 stop reverse F 111111111",
+        0x1FFF,
+        "long 1234 stop reverse F 1111111111111",
     ),
     (
         196,
@@ -247,8 +247,8 @@ const LOCOMOTIVES: [(u8, u8, u8, Motion, bool, u16, &'static str); 5] = [
         34,
         Motion::Emergency,
         true,
-        0x020,
-        "long 1234 emergency forward F 000001000",
+        0x220,
+        "long 1234 emergency forward F 0000010001000",
     ),
 ];
 
@@ -290,7 +290,7 @@ fn prints_accessory_decoders(rt: HostRuntime) -> Result<(), Fail> {
     Ok(())
 }
 
-const MESSAGES: [(&'static [u8], &'static str); 17] = [
+const MESSAGES: [(&'static [u8], &'static str); 18] = [
     (&[0x82], "msg 82 7D power off"),
     (&[0x83], "msg 83 7C power on"),
     (&[0x85], "msg 85 7A force idle"),
@@ -318,6 +318,10 @@ const MESSAGES: [(&'static [u8], &'static str); 17] = [
             0xEF, 0x0E, 0x02, 0x33, 0x04, 0x20, 0x10, 0x07, 0x03, 0x01, 0x05, 0x11, 0x12,
         ],
         "msg EF 0E 02 33 04 20 10 07 03 01 05 11 12 18 slot-write slot 2 stat 51 address 132 spd 32 dirf 16 trk 7 ss2 3 snd 5 ids 17 18",
+    ),
+    (
+        &[0xED, 0x0B, 0x7F, 0x23, 0x22, 0x03, 0x21, 0x00, 0x00, 0x00],
+        "msg ED 0B 7F 23 22 03 21 00 00 00 45 imm 2 03 A1 00 00 00",
     ),
     (&[0xE7, 0x04, 0x00], "msg E7 04 00 1C other"),
     (&[0x81], "msg 81 7E other"),

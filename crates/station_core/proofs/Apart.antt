@@ -7,7 +7,7 @@ use Rattle.dcc_packet.specs.Sent.{accessory_bytes, idle_bytes}
 use Rattle.dcc_packet.specs.Form.{bit, to_decoder}
 use Rattle.ln_ops.specs.Message.{op_of}
 use Rattle.ln_ops.specs.declared.op.Op.{Op}
-use Rattle.ln_ops.specs.declared.op.Op.TheVariants.{PowerOff, PowerOn, ForceIdle, Speed, Dirf, Snd, SwReq, SwAck, LongAck, SlotStat, Move, SlotRead, LocoAddr, SlotData, SlotWrite, Other}
+use Rattle.ln_ops.specs.declared.op.Op.TheVariants.{PowerOff, PowerOn, ForceIdle, Speed, Dirf, Snd, SwReq, SwAck, LongAck, SlotStat, Move, SlotRead, LocoAddr, SlotData, SlotWrite, Imm, Other}
 use Rattle.ln_ops.specs.declared.reply.Reply.{Reply as ReplyOf}
 use Rattle.slot_table.specs.Desk.{Desk}
 use Rattle.slot_table.specs.Entry.{entry_of}
@@ -137,6 +137,7 @@ op_legal seen (SlotRead slot) = tt
 op_legal seen (LocoAddr high low) = tt
 op_legal seen (SlotData fields) = tt
 op_legal seen (SlotWrite fields) = tt
+op_legal seen (Imm count im1 im2 im3 im4 im5) = tt
 op_legal seen Other = tt
 
 message_legal : (seen : Seen) (message : Option (List ℕ)) → AreLegal (asked_by_message seen message)

@@ -1,13 +1,13 @@
 -- From a desk every message leaves a desk.
-use Rattle.std.proofs.Common.{◌≡◌, ℕ, ◌<◌, ◌==◌, ◌&&◌, nat_lt, nat_le, zero, suc, Bool, true, false, List, [], ◌∷◌, ◌++◌, Option, Some, None, if◌then◌else◌, refl, ap, sym, ◌∙◌, arith}
+use Rattle.std.proofs.Common.{◌≡◌, ℕ, ◌<◌, ◌==◌, ◌&&◌, nat_lt, nat_le, zero, suc, Bool, true, false, List, [], ◌∷◌, ◌++◌, Option, Some, None, IfSome, if◌then◌else◌, refl, ap, sym, ◌∙◌, arith}
 use Rattle.std.proofs.lemmas.Bool.{and_parts, both_ways, ltb-true}
 use Rattle.std.specs.Prelude.{slice_index}
 use Rattle.ln_frame.specs.Message.{are_data, has_form, is_whole}
 use Rattle.ln_frame.specs.Stream.{message_at_end}
 use Rattle.ln_ops.specs.Fields.{SlotBytes, AreData}
-use Rattle.ln_ops.specs.Message.{op_of, four_of, fields_of, switch_number, is_closed, is_on}
+use Rattle.ln_ops.specs.Message.{op_of, four_of, fields_of, imm_of, switch_number, is_closed, is_on}
 use Rattle.ln_ops.specs.declared.op.Op.{Op}
-use Rattle.ln_ops.specs.declared.op.Op.TheVariants.{PowerOff, PowerOn, ForceIdle, Speed, Dirf, Snd, SwReq, SwAck, LongAck, SlotStat, Move, SlotRead, LocoAddr, SlotData, SlotWrite, Other}
+use Rattle.ln_ops.specs.declared.op.Op.TheVariants.{PowerOff, PowerOn, ForceIdle, Speed, Dirf, Snd, SwReq, SwAck, LongAck, SlotStat, Move, SlotRead, LocoAddr, SlotData, SlotWrite, Imm, Other}
 use Rattle.ln_ops.specs.Slot.{address_with}
 use Rattle.slot_table.specs.Desk.{Desk, IsDesk}
 use Rattle.slot_table.specs.Laws.{LeavesDesk}
@@ -15,6 +15,9 @@ use Rattle.slot_table.specs.Moves.{after_null_move, after_dispatch_put, after_di
 use Rattle.station_core.specs.declared.call.Call.{Call}
 use Rattle.station_core.specs.declared.call.Call.TheVariants.{Byte, Turn}
 use Rattle.station_core.specs.After.{desk_after}
+use Rattle.station_core.specs.Immediate.{more_of, with_more}
+use Rattle.station_core.specs.declared.immediate.More.{More}
+use Rattle.station_core.proofs.Functions.{more_of-below}
 use Rattle.station_core.specs.Known.{Known, bytes_of, carried_out, told}
 use Rattle.station_core.specs.Moments.{AtEveryMoment}
 use Rattle.station_core.specs.Powered.{PoweredDesk, HasDesk}
@@ -110,8 +113,11 @@ fields_fit m h = record {
 
 op_fits : (m : List ℕ) → is_whole m ≡ true → Fits (op_of m)
 op_fits m h =
-    let rest0 : Op = if (slice_index m 0 == 0xEF) && (slice_index m 1 == 14) then SlotWrite (fields_of m) else Other in
-    let fit0 : Fits rest0 = either ((slice_index m 0 == 0xEF) && (slice_index m 1 == 14)) (SlotWrite (fields_of m)) Other (fits_write (fields_of m) (fields_fit m h)) (plain Other refl) in
+    let is_imm : Bool = (slice_index m 0 == 0xED) && ((slice_index m 1 == 11) && (slice_index m 2 == 127)) in
+    let rest : Op = if is_imm then imm_of m else Other in
+    let fit : Fits rest = either is_imm (imm_of m) Other (plain (imm_of m) refl) (plain Other refl) in
+    let rest0 : Op = if (slice_index m 0 == 0xEF) && (slice_index m 1 == 14) then SlotWrite (fields_of m) else rest in
+    let fit0 : Fits rest0 = either ((slice_index m 0 == 0xEF) && (slice_index m 1 == 14)) (SlotWrite (fields_of m)) rest (fits_write (fields_of m) (fields_fit m h)) (fit) in
     let rest1 : Op = if (slice_index m 0 == 0xE7) && (slice_index m 1 == 14) then SlotData (fields_of m) else rest0 in
     let fit1 : Fits rest1 = either ((slice_index m 0 == 0xE7) && (slice_index m 1 == 14)) (SlotData (fields_of m)) rest0 (plain (SlotData (fields_of m)) refl) (fit0) in
     let rest2 : Op = if nat_le 160 (slice_index m 0) && nat_le (slice_index m 0) 191 then four_of (slice_index m 0) (slice_index m 1) (slice_index m 2) else rest1 in
@@ -129,6 +135,10 @@ one_desk true x y h k = h
 one_desk false x y h k = k
 
 module _ (leaves : (desk : Desk) → IsDesk desk → LeavesDesk desk) where
+  more_leaves : (desk : Desk) → IsDesk desk → (more : Option More) → IfSome more (λ m. m.bits < 16) → IsDesk (with_more desk more)
+  more_leaves desk is None below = is
+  more_leaves desk is (Some more) below = (leaves desk is).more more.slot more.bits below
+
   op_leaves : (desk : Desk) (op : Op) → IsDesk desk → Fits op → IsDesk (desk_after desk op)
   op_leaves desk PowerOff is fits = is
   op_leaves desk PowerOn is fits = is
@@ -149,6 +159,7 @@ module _ (leaves : (desk : Desk) → IsDesk desk → LeavesDesk desk) where
   op_leaves desk (LocoAddr high low) is fits = (leaves desk is).take (address_with high low)
   op_leaves desk (SlotData fields) is fits = is
   op_leaves desk (SlotWrite fields) is fits = (leaves desk is).write fields (fits.write fields refl)
+  op_leaves desk (Imm count im1 im2 im3 im4 im5) is fits = more_leaves desk is (more_of desk count im1 im2 im3 im4 im5) (more_of-below desk count im1 im2 im3 im4 im5)
   op_leaves desk Other is fits = is
 
   message_leaves : (powered : PoweredDesk) (bytes : List ℕ) (message : Option (List ℕ)) → message_at_end bytes ≡ message → HasDesk powered → HasDesk (carried_out powered message)

@@ -3,6 +3,7 @@ pub mod Apart
 pub mod Counted
 pub mod Desks
 pub mod Follows
+pub mod Functions
 pub mod Framed
 pub mod Picks
 pub mod Rounds

@@ -3,7 +3,7 @@ use Rattle.std.proofs.Common.{◌≡◌, ℕ, ◌+◌, ◌-◌, ◌*◌, ◌≤�
 use Rattle.std.proofs.lemmas.Bool.{and_parts, or_left, or_right, cases_lt, both_ways}
 use Rattle.std.proofs.Math.ListN.{get_or-eq_default}
 use Rattle.ln_ops.specs.declared.op.Op.{Op}
-use Rattle.ln_ops.specs.declared.op.Op.TheVariants.{PowerOff, PowerOn, ForceIdle, Speed, Dirf, Snd, SwReq, SwAck, LongAck, SlotStat, Move, SlotRead, LocoAddr, SlotData, SlotWrite, Other}
+use Rattle.ln_ops.specs.declared.op.Op.TheVariants.{PowerOff, PowerOn, ForceIdle, Speed, Dirf, Snd, SwReq, SwAck, LongAck, SlotStat, Move, SlotRead, LocoAddr, SlotData, SlotWrite, Imm, Other}
 use Rattle.ln_ops.specs.Message.{op_of}
 use Rattle.slot_table.specs.Desk.{Desk}
 use Rattle.slot_table.specs.Entry.{IsSlot}
@@ -38,7 +38,7 @@ abbrev pub Least : Type 0
 Least = (ever : ℕ → Bool) (slot : ℕ) (kind : Kind) (s : Scheduled) → IsSlot slot → ever slot ≡ true → 1 ≤ turns_left ever slot kind s
 
 abbrev pub Most : Type 0
-Most = (ever : ℕ → Bool) (slot : ℕ) (kind : Kind) (s : Scheduled) → IsSlot slot → ever slot ≡ true → turns_left ever slot kind s ≤ 12 * count_to ever 119
+Most = (ever : ℕ → Bool) (slot : ℕ) (kind : Kind) (s : Scheduled) → IsSlot slot → ever slot ≡ true → turns_left ever slot kind s ≤ 4 * kinds * count_to ever 119
 
 -- a slot that the schedule refreshes is one of the desk
 pub on_desk : (desk : Desk) (n : ℕ) → is_slot_on (refreshed_slots desk) n ≡ true → is_refreshed desk n ≡ true
@@ -84,6 +84,7 @@ asked_same desk (SlotRead slot) s = same s
 asked_same desk (LocoAddr high low) s = same s
 asked_same desk (SlotData fields) s = same s
 asked_same desk (SlotWrite fields) s = places_same (changed_places desk (SlotWrite fields)) s
+asked_same desk (Imm count im1 im2 im3 im4 im5) s = places_same (changed_places desk (Imm count im1 im2 im3 im4 im5)) s
 asked_same desk Other s = same s
 
 pub message_same : (seen : Seen) (message : Option (List ℕ)) → SameRing (scheduled seen) (scheduled (after_message seen message))

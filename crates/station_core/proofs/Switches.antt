@@ -13,7 +13,7 @@ use Rattle.slot_table.specs.Entry.{Entry, entry_of}
 use Rattle.slot_table.specs.Reading.{row_of}
 use Rattle.refresh_ring.specs.Sent.{switch_in, to_send}
 use Rattle.refresh_ring.specs.declared.kind.Kind.{Kind}
-use Rattle.refresh_ring.specs.declared.kind.Kind.TheVariants.{Speed, GroupOne, GroupTwo}
+use Rattle.refresh_ring.specs.declared.kind.Kind.TheVariants.{Speed, GroupOne, GroupTwo, GroupThree}
 use Rattle.refresh_ring.specs.declared.pick.Pick.{Pick}
 use Rattle.refresh_ring.specs.declared.pick.Pick.TheVariants.{Off, StopAll, Idle, Place, Switch}
 use Rattle.station_core.specs.declared.call.Call.{Call}
@@ -39,6 +39,7 @@ module _ (P : List ℕ → Type 0) (a : ℕ) (told : (first : ℕ) (rest : List 
   of_entry Speed e = of_speed (steps_asked e) (motion_asked e) (is_forward e) (is_lit e)
   of_entry GroupOne e = told _ []
   of_entry GroupTwo e = told _ []
+  of_entry GroupThree e = told _ []
 
 no_switch : (a first : ℕ) (rest : List ℕ) → is_accessory (to_decoder (address_sent a) (first ∷ rest)) ≡ false
 no_switch a first rest = by_size (cases_lt a 128)

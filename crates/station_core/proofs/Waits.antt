@@ -3,7 +3,7 @@ use Rattle.std.proofs.Common.{◌≡◌, ℕ, ◌<◌, true, List, [], ◌∷◌
 use Rattle.std.specs.List.{slice_index_or}
 use Rattle.std.specs.Prelude.{Contains}
 use Rattle.ln_ops.specs.declared.op.Op.{Op}
-use Rattle.ln_ops.specs.declared.op.Op.TheVariants.{PowerOff, PowerOn, ForceIdle, Speed, Dirf, Snd, SwReq, SwAck, LongAck, SlotStat, Move, SlotRead, LocoAddr, SlotData, SlotWrite, Other}
+use Rattle.ln_ops.specs.declared.op.Op.TheVariants.{PowerOff, PowerOn, ForceIdle, Speed, Dirf, Snd, SwReq, SwAck, LongAck, SlotStat, Move, SlotRead, LocoAddr, SlotData, SlotWrite, Imm, Other}
 use Rattle.slot_table.specs.Desk.{Desk}
 use Rattle.refresh_ring.specs.Places.{is_refreshed as is_slot_on}
 use Rattle.refresh_ring.specs.Jobs.{sends_ahead}
@@ -61,6 +61,7 @@ module _ (waits : (slot : ℕ) (kind : Kind) (s : Scheduled) → is_slot_on s.sl
   op_waits desk (LocoAddr high low) s on at = none_waits s at
   op_waits desk (SlotData fields) s on at = none_waits s at
   op_waits desk (SlotWrite fields) s on at = places_wait (changed_places desk (SlotWrite fields)) s on at
+  op_waits desk (Imm count im1 im2 im3 im4 im5) s on at = places_wait (changed_places desk (Imm count im1 im2 im3 im4 im5)) s on at
   op_waits desk Other s on at = none_waits s at
 
 pub changes_wait : ((slot : ℕ) (kind : Kind) (s : Scheduled) → is_slot_on s.slots slot ≡ true → (ahead : ℕ) × (sends_ahead slot kind (after_changed slot kind s).jobs ≡ Some ahead))

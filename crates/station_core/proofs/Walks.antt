@@ -2,7 +2,7 @@
 use Rattle.std.proofs.Common.{◌≡◌, ℕ, ◌+◌, ◌*◌, ◌<◌, ◌≤◌, ◌&&◌, nat_le, nat_lt, if◌then◌else◌, Bool, true, false, List, [], ◌∷◌, ◌++◌, Option, Some, None, refl, sym, ap, subst, ◌∙◌, arith, inl, inr, ◌⊎◌, append_assoc, append-nil}
 use Rattle.std.proofs.lemmas.Bool.{cases_lt, le-ltb, lt-ltb}
 use Rattle.ln_ops.specs.declared.op.Op.{Op}
-use Rattle.ln_ops.specs.declared.op.Op.TheVariants.{PowerOff, PowerOn, ForceIdle, Speed, Dirf, Snd, SwReq, SwAck, LongAck, SlotStat, Move, SlotRead, LocoAddr, SlotData, SlotWrite, Other}
+use Rattle.ln_ops.specs.declared.op.Op.TheVariants.{PowerOff, PowerOn, ForceIdle, Speed, Dirf, Snd, SwReq, SwAck, LongAck, SlotStat, Move, SlotRead, LocoAddr, SlotData, SlotWrite, Imm, Other}
 use Rattle.ln_ops.specs.Message.{op_of}
 use Rattle.slot_table.specs.Desk.{Desk}
 use Rattle.slot_table.specs.Entry.{IsSlot}
@@ -56,6 +56,7 @@ module _ (R : Scheduled → Scheduled → Type 0) (same : (s : Scheduled) → R 
   of_op asked desk (LocoAddr high low) s = same s
   of_op asked desk (SlotData fields) s = same s
   of_op asked desk (SlotWrite fields) s = of_places (changed_places desk (SlotWrite fields)) s
+  of_op asked desk (Imm count im1 im2 im3 im4 im5) s = of_places (changed_places desk (Imm count im1 im2 im3 im4 im5)) s
   of_op asked desk Other s = same s
 
 -- a request that is taken or not
@@ -169,6 +170,7 @@ module _ (turn : (addresses : List ℕ) (s : Scheduled) → switch_in (picked ad
   kept_op seen (LocoAddr high low) s e = kept_same s
   kept_op seen (SlotData fields) s e = kept_same s
   kept_op seen (SlotWrite fields) s e = kept_places (changed_places seen.powered.desk (SlotWrite fields)) s
+  kept_op seen (Imm count im1 im2 im3 im4 im5) s e = kept_places (changed_places seen.powered.desk (Imm count im1 im2 im3 im4 im5)) s
   kept_op seen Other s e = kept_same s
 
   kept_message : (seen : Seen) (message : Option (List ℕ)) → to_send (after_message seen message).jobs ≡ to_send seen.jobs ++ asked_by_message seen message
@@ -244,5 +246,5 @@ module _ (falls : (addresses : List ℕ) (s : Scheduled) (front back : List Job)
         subst (λ (xs : List Pick). IsFront xs (picks_sent seen (Turn ∷ calls))) sends (front_more (switch_in (turn_of seen).answer) (to_send less.left) (picks_sent (state_of seen Turn) calls) rest)
   ]
 
-  pub all_sent : (start : Seen) (calls : List Call) → turns_for start.jobs (scheduled start) ≤ 1684 + 4 → AtEach Runs start calls → 1684 ≤ turns_in calls → IsFront (to_send start.jobs) (picks_sent start calls)
+  pub all_sent : (start : Seen) (calls : List Call) → turns_for start.jobs (scheduled start) ≤ 2160 + 4 → AtEach Runs start calls → 2160 ≤ turns_in calls → IsFront (to_send start.jobs) (picks_sent start calls)
   all_sent start calls few runs enough = drains start.jobs [] start calls (sym (append-nil start.jobs)) runs (omega arith)

@@ -2,12 +2,13 @@
 use Rattle.std.specs.Prelude.{ℕ, ◌==◌, if◌then◌else◌}
 use Rattle.ln_ops.specs.Slot.{address_with}
 use Rattle.ln_ops.specs.declared.op.Op.{Op}
-use Rattle.ln_ops.specs.declared.op.Op.TheVariants.{PowerOff, PowerOn, ForceIdle, Speed, Dirf, Snd, SwReq, SwAck, LongAck, SlotStat, Move, SlotRead, LocoAddr, SlotData, SlotWrite, Other}
+use Rattle.ln_ops.specs.declared.op.Op.TheVariants.{PowerOff, PowerOn, ForceIdle, Speed, Dirf, Snd, SwReq, SwAck, LongAck, SlotStat, Move, SlotRead, LocoAddr, SlotData, SlotWrite, Imm, Other}
 use Rattle.slot_table.specs.Desk.{Desk}
 use Rattle.slot_table.specs.Moves.{after_null_move, after_dispatch_put, after_dispatch_get, after_shift}
 use Rattle.slot_table.specs.Writes.{after_take, after_speed, after_dirf, after_snd, after_stat, after_write}
 use Rattle.refresh_ring.specs.declared.pick.Power.{Power}
 use Rattle.refresh_ring.specs.declared.pick.Power.TheVariants.{Off, Running, Paused}
+use Rattle.station_core.specs.Immediate.{more_of, with_more}
 use Rattle.station_core.specs.Powered.{PoweredDesk}
 
 -- OPC_IDLE pauses a running track, and has no effect on another (own)
@@ -40,6 +41,7 @@ desk_after desk (SlotRead slot) = desk
 desk_after desk (LocoAddr high low) = after_take desk (address_with high low)
 desk_after desk (SlotData fields) = desk
 desk_after desk (SlotWrite fields) = after_write desk fields
+desk_after desk (Imm count im1 im2 im3 im4 im5) = with_more desk (more_of desk count im1 im2 im3 im4 im5)
 desk_after desk Other = desk
 
 -- the power after an operation
@@ -59,6 +61,7 @@ power_after power (SlotRead slot) = power
 power_after power (LocoAddr high low) = power
 power_after power (SlotData fields) = power
 power_after power (SlotWrite fields) = power
+power_after power (Imm count im1 im2 im3 im4 im5) = power
 power_after power Other = power
 
 -- the desk with its power after an operation

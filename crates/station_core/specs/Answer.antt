@@ -3,7 +3,7 @@ use Rattle.std.specs.Prelude.{ℕ, ◌==◌, ◌/◌, ◌%◌, ◌&&◌, Bool, n
 use Rattle.ln_ops.specs.Fields.{SlotBytes}
 use Rattle.ln_ops.specs.Slot.{address_with, is_slot, stat_with}
 use Rattle.ln_ops.specs.declared.op.Op.{Op}
-use Rattle.ln_ops.specs.declared.op.Op.TheVariants.{PowerOff, PowerOn, ForceIdle, Speed, Dirf, Snd, SwReq, SwAck, LongAck, SlotStat, Move, SlotRead, LocoAddr, SlotData, SlotWrite, Other}
+use Rattle.ln_ops.specs.declared.op.Op.TheVariants.{PowerOff, PowerOn, ForceIdle, Speed, Dirf, Snd, SwReq, SwAck, LongAck, SlotStat, Move, SlotRead, LocoAddr, SlotData, SlotWrite, Imm, Other}
 use Rattle.ln_ops.specs.declared.reply.Reply.{Reply}
 use Rattle.ln_ops.specs.declared.reply.Reply.TheVariants as reply
 use Rattle.ln_ops.specs.declared.row.Row.{Row}
@@ -15,6 +15,8 @@ use Rattle.slot_table.specs.Writes.{take_answer, write_answer}
 use Rattle.slot_table.specs.declared.fault.SlotFault.{SlotFault}
 use Rattle.refresh_ring.specs.declared.pick.Power.{Power}
 use Rattle.refresh_ring.specs.declared.pick.Power.TheVariants.{Off, Running, Paused}
+use Rattle.station_core.specs.Immediate.{more_of}
+use Rattle.station_core.specs.declared.immediate.More.{More}
 use Rattle.station_core.specs.Powered.{PoweredDesk}
 use Rattle.station_core.specs.After.{after}
 
@@ -54,6 +56,11 @@ abbrev pub write_reply : Result (Unit {0}) SlotFault → Reply
 write_reply (Ok done) = reply.LongAck 0x6F 0x7F
 write_reply (Err fault) = reply.LongAck 0x6F 0
 
+-- whether F9 to F12 were set
+abbrev pub more_reply : Option More → Reply
+more_reply (Some more) = reply.LongAck 0x7D 0x7F
+more_reply None = reply.LongAck 0x7D 0
+
 -- the slot that OPC_MOVE_SLOTS gives
 abbrev pub move_answer : Desk → ℕ → ℕ → Result ℕ SlotFault
 move_answer desk src dest =
@@ -82,4 +89,5 @@ answer powered (SlotRead slot) waiting = Some (if is_slot slot then slot_data po
 answer powered (LocoAddr high low) waiting = Some (slot_or_refusal 0x3F (after powered (LocoAddr high low)) (take_answer powered.desk (address_with high low)))
 answer powered (SlotData fields) waiting = None
 answer powered (SlotWrite fields) waiting = Some (write_reply (write_answer powered.desk fields))
+answer powered (Imm count im1 im2 im3 im4 im5) waiting = Some (more_reply (more_of powered.desk count im1 im2 im3 im4 im5))
 answer powered Other waiting = None

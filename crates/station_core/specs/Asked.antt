@@ -1,7 +1,7 @@
 -- What a message makes of the schedule: the changed places that are to wait, and switch requests.
-use Rattle.std.specs.Prelude.{ℕ, Bool, nat_le, if◌then◌else◌, List, [], ◌∷◌, Result, Ok, Err}
+use Rattle.std.specs.Prelude.{ℕ, Bool, nat_le, if◌then◌else◌, List, [], ◌∷◌, Option, Some, None, Result, Ok, Err}
 use Rattle.ln_ops.specs.declared.op.Op.{Op}
-use Rattle.ln_ops.specs.declared.op.Op.TheVariants.{PowerOff, PowerOn, ForceIdle, Speed, Dirf, Snd, SwReq, SwAck, LongAck, SlotStat, Move, SlotRead, LocoAddr, SlotData, SlotWrite, Other}
+use Rattle.ln_ops.specs.declared.op.Op.TheVariants.{PowerOff, PowerOn, ForceIdle, Speed, Dirf, Snd, SwReq, SwAck, LongAck, SlotStat, Move, SlotRead, LocoAddr, SlotData, SlotWrite, Imm, Other}
 use Rattle.slot_table.specs.Desk.{Desk}
 use Rattle.slot_table.specs.Reading.{is_placed}
 use Rattle.slot_table.specs.Writes.{can_stat, write_answer}
@@ -10,8 +10,10 @@ use Rattle.refresh_ring.specs.Scheduled.{Scheduled, after_changed, with_request}
 use Rattle.refresh_ring.specs.declared.kind.Kind.{Kind}
 use Rattle.refresh_ring.specs.declared.kind.Kind.TheVariants as kind
 use Rattle.station_core.specs.declared.schedule.Change.{Change}
-use Rattle.station_core.specs.declared.schedule.Change.TheVariants.{Nothing, Speed as SpeedAlone, SpeedAndGroupOne, GroupTwo, All}
+use Rattle.station_core.specs.declared.schedule.Change.TheVariants.{Nothing, Speed as SpeedAlone, SpeedAndGroupOne, GroupTwo, GroupThree, All}
 use Rattle.station_core.specs.Answer.{move_answer}
+use Rattle.station_core.specs.Immediate.{more_of}
+use Rattle.station_core.specs.declared.immediate.More.{More}
 
 -- the places of a slot that a change names, in order of kind
 abbrev pub places_with : ℕ → Change → List (ℕ × Kind)
@@ -19,7 +21,8 @@ places_with n Nothing = []
 places_with n SpeedAlone = (n, kind.Speed) ∷ []
 places_with n SpeedAndGroupOne = (n, kind.Speed) ∷ (n, kind.GroupOne) ∷ []
 places_with n GroupTwo = (n, kind.GroupTwo) ∷ []
-places_with n All = (n, kind.Speed) ∷ (n, kind.GroupOne) ∷ (n, kind.GroupTwo) ∷ []
+places_with n GroupThree = (n, kind.GroupThree) ∷ []
+places_with n All = (n, kind.Speed) ∷ (n, kind.GroupOne) ∷ (n, kind.GroupTwo) ∷ (n, kind.GroupThree) ∷ []
 
 abbrev pub of_slot : Result ℕ SlotFault → List (ℕ × Kind)
 of_slot (Ok n) = places_with n All
@@ -28,6 +31,10 @@ of_slot (Err fault) = []
 abbrev pub of_write : ℕ → Result (Unit {0}) SlotFault → List (ℕ × Kind)
 of_write n (Ok done) = places_with n All
 of_write n (Err fault) = []
+
+abbrev pub of_more : Option More → List (ℕ × Kind)
+of_more (Some more) = places_with more.slot GroupThree
+of_more None = []
 
 -- the places that a message changes, where it is accepted, in the order in which they are to wait (own)
 abbrev pub changed_places : Desk → Op → List (ℕ × Kind)
@@ -46,6 +53,7 @@ changed_places desk (SlotRead slot) = []
 changed_places desk (LocoAddr high low) = []
 changed_places desk (SlotData fields) = []
 changed_places desk (SlotWrite fields) = of_write fields.slot (write_answer desk fields)
+changed_places desk (Imm count im1 im2 im3 im4 im5) = of_more (more_of desk count im1 im2 im3 im4 im5)
 changed_places desk Other = []
 
 -- the schedule after these places were changed: each waits, where its slot is refreshed
@@ -74,4 +82,5 @@ schedule_asked desk (SlotRead slot) s = s
 schedule_asked desk (LocoAddr high low) s = s
 schedule_asked desk (SlotData fields) s = s
 schedule_asked desk (SlotWrite fields) s = after_places (changed_places desk (SlotWrite fields)) s
+schedule_asked desk (Imm count im1 im2 im3 im4 im5) s = after_places (changed_places desk (Imm count im1 im2 im3 im4 im5)) s
 schedule_asked desk Other s = s

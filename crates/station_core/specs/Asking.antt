@@ -17,6 +17,7 @@ motion_asked e = motion_of (steps_asked e) e.spd
 abbrev pub is_forward : Entry → Bool
 is_forward e = e.dirf / 32 % 2 == 0
 
--- bit k is Fk: F0 is bit 4 of DIRF, F1 to F4 are its bits 0 to 3, F5 to F8 are bits 0 to 3 of SND
+-- bit k is Fk: F0 is bit 4 of DIRF, F1 to F4 are its bits 0 to 3, F5 to F8 are bits 0 to 3 of SND,
+-- F9 to F12 are bits 0 to 3 of what OPC_IMM_PACKET set
 abbrev pub functions_asked : Entry → ℕ
-functions_asked e = e.dirf / 16 % 2 + 2 * (e.dirf % 16) + 32 * (e.snd % 16)
+functions_asked e = e.dirf / 16 % 2 + 2 * (e.dirf % 16) + 32 * (e.snd % 16) + 512 * (e.more % 16)

@@ -3,6 +3,7 @@ pub mod Answer
 pub mod Asked
 pub mod Asking
 pub mod Kept
+pub mod Immediate
 pub mod Known
 pub mod Messages
 pub mod Moments

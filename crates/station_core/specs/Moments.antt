@@ -3,6 +3,7 @@
 use Rattle.std.specs.Prelude.{ℕ, ◌≡◌, ◌+◌, ◌*◌, ◌≤◌, ◌||◌, Bool, true, List, [], ◌∷◌, length}
 use Rattle.std.specs.List.{filter}
 use Rattle.slot_table.specs.Reading.{all_slots}
+use Rattle.refresh_ring.specs.Places.{kinds}
 use Rattle.refresh_ring.specs.declared.pick.Power.TheVariants.{Running}
 use Rattle.station_core.specs.Known.{Known, told}
 use Rattle.station_core.specs.Powered.{PoweredDesk}
@@ -37,7 +38,8 @@ pub record IsLive (slot : ℕ) (powered : PoweredDesk) : Type 0 where
   pub running : powered.power ≡ Running
   pub refreshed : is_refreshed powered.desk slot ≡ true
 
--- a full refresh cycle of a slot
+-- A full refresh cycle of a slot: power runs, the slot is refreshed, and of turns there are four for each kind of packet of
+-- each slot that is refreshed at some moment.
 pub record IsFullCycle (slot : ℕ) (known : Known) (calls : List Call) : Type 0 where
   pub live : AtEveryMoment (IsLive slot) known calls
-  pub enough : 12 * slots_refreshed known calls ≤ turns_in calls
+  pub enough : 4 * kinds * slots_refreshed known calls ≤ turns_in calls

@@ -2,9 +2,9 @@
 use Rattle.std.specs.Prelude.{ℕ, ◌≡◌, ◌≤◌, true, ◌/◌, ◌%◌, ◌==◌, Bool, if◌then◌else◌, nat_lt, List}
 use Rattle.dcc_packet.specs.declared.address.Address.{Address}
 use Rattle.dcc_packet.specs.declared.address.Address.TheVariants.{Short, Long}
-use Rattle.dcc_packet.specs.Sent.{speed_bytes, group_one_bytes, group_two_bytes}
+use Rattle.dcc_packet.specs.Sent.{speed_bytes, group_one_bytes, group_two_bytes, group_three_bytes}
 use Rattle.refresh_ring.specs.declared.kind.Kind.{Kind}
-use Rattle.refresh_ring.specs.declared.kind.Kind.TheVariants.{Speed, GroupOne, GroupTwo}
+use Rattle.refresh_ring.specs.declared.kind.Kind.TheVariants.{Speed, GroupOne, GroupTwo, GroupThree}
 use Rattle.refresh_ring.specs.declared.pick.Pick.{Pick}
 use Rattle.refresh_ring.specs.declared.pick.Pick.TheVariants.{Off, StopAll, Idle, Place, Switch}
 use Rattle.slot_table.specs.Desk.{Desk}
@@ -21,7 +21,7 @@ address_sent a = if nat_lt a 128 then Short a else Long a
 abbrev pub is_lit : Entry → Bool
 is_lit e = e.dirf / 16 % 2 == 1
 
--- the three packets of an entry, for its address
+-- the packets of an entry, for its address
 abbrev pub speed_packet : ℕ → Entry → List ℕ
 speed_packet a e = speed_bytes (address_sent a) (steps_asked e) (motion_asked e) (is_forward e) (is_lit e)
 
@@ -31,11 +31,15 @@ group_one_packet a e = group_one_bytes (address_sent a) (functions_asked e)
 abbrev pub group_two_packet : ℕ → Entry → List ℕ
 group_two_packet a e = group_two_bytes (address_sent a) (functions_asked e)
 
+abbrev pub group_three_packet : ℕ → Entry → List ℕ
+group_three_packet a e = group_three_bytes (address_sent a) (functions_asked e)
+
 -- the packet of each kind
 abbrev pub entry_packet : Kind → ℕ → Entry → List ℕ
 entry_packet Speed a e = speed_packet a e
 entry_packet GroupOne a e = group_one_packet a e
 entry_packet GroupTwo a e = group_two_packet a e
+entry_packet GroupThree a e = group_three_packet a e
 
 -- the packet of a place, for what stands in the slot
 abbrev pub place_packet : Desk → ℕ → Kind → List ℕ

@@ -4,7 +4,7 @@ use Rattle.std.specs.List.{filter}
 use Rattle.dcc_packet.specs.Sent.{accessory_bytes}
 use Rattle.ln_ops.specs.Message.{op_of}
 use Rattle.ln_ops.specs.declared.op.Op.{Op}
-use Rattle.ln_ops.specs.declared.op.Op.TheVariants.{PowerOff, PowerOn, ForceIdle, Speed, Dirf, Snd, SwReq, SwAck, LongAck, SlotStat, Move, SlotRead, LocoAddr, SlotData, SlotWrite, Other}
+use Rattle.ln_ops.specs.declared.op.Op.TheVariants.{PowerOff, PowerOn, ForceIdle, Speed, Dirf, Snd, SwReq, SwAck, LongAck, SlotStat, Move, SlotRead, LocoAddr, SlotData, SlotWrite, Imm, Other}
 use Rattle.slot_table.specs.Entry.{IsSlot}
 use Rattle.refresh_ring.specs.Jobs.{requests_in, sends_ahead}
 use Rattle.refresh_ring.specs.Sent.{to_send}
@@ -77,6 +77,7 @@ asked_by_op seen (SlotRead slot) = []
 asked_by_op seen (LocoAddr high low) = []
 asked_by_op seen (SlotData fields) = []
 asked_by_op seen (SlotWrite fields) = []
+asked_by_op seen (Imm count im1 im2 im3 im4 im5) = []
 asked_by_op seen Other = []
 
 abbrev pub asked_by_message : Seen → Option (List ℕ) → List Pick
@@ -106,7 +107,7 @@ IsRunning powered = powered.power ≡ Running
 abbrev pub IsFrontOf : List (List ℕ) → List (List ℕ) → Type 0
 IsFrontOf front all = (rest : List (List ℕ)) × (front ++ rest ≡ all)
 
--- and in 1,684 turns while power runs all that was to send was sent
+-- and in 2,160 turns while power runs all that was to send was sent
 abbrev pub SwitchesAreSent : Seen → List Call → Type 0
 SwitchesAreSent start calls =
-    AtEveryMoment IsRunning (known_of start) calls → 1684 ≤ turns_in calls → IsFrontOf (packets_for (to_send start.jobs)) (switches_sent start calls)
+    AtEveryMoment IsRunning (known_of start) calls → 2160 ≤ turns_in calls → IsFrontOf (packets_for (to_send start.jobs)) (switches_sent start calls)

@@ -49,6 +49,6 @@ Sends slot kind seen (Byte line byte ∷ calls) = Sends slot kind (state_of seen
 Sends slot kind seen (Turn ∷ calls) =
     (answer_of seen Turn ≡ Packet (place_packet seen.powered.desk slot kind)) ⊎ Sends slot kind (state_of seen Turn) calls
 
--- in a full refresh cycle of a slot each of its three packets is sent
+-- in a full refresh cycle of a slot each of its packets is sent
 abbrev pub Covers : Seen → List Call → Type 0
 Covers start calls = (slot : ℕ) (kind : Kind) → IsSlot slot → IsFullCycle slot (known_of start) calls → Sends slot kind start calls

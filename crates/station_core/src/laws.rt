@@ -31,7 +31,7 @@ pub fn calls_are_moves()
     ensures to_turn { (seen : Seen) → answer_of seen TurnCall ≡ sent (packet_of_turn seen) }
 {}
 
-/// From any start, in a full refresh cycle of a slot each of its three packets is sent, for what stands in the slot at
+/// From any start, in a full refresh cycle of a slot each of its packets is sent, for what stands in the slot at
 /// that turn.
 pub fn coverage()
     ensures { (start : Seen) (calls : List CallOf) → Covers start calls }
@@ -71,7 +71,7 @@ pub fn switches_in_order()
     refresh_ring::switches_in_order();
 }
 
-/// From a start that a station can have, all that was to send of switch requests is sent in 1,684 turns with power.
+/// From a start that a station can have, all that was to send of switch requests is sent in 2,160 turns with power.
 pub fn switches_are_sent()
     ensures { (start : Seen) (calls : List CallOf) → IsScheduled (scheduled start) → SwitchesAreSent start calls }
 {

@@ -2,6 +2,7 @@
 #![tactic(auto)]
 
 mod call;
+mod immediate;
 mod laws;
 mod messages;
 mod packets;

@@ -1,5 +1,5 @@
 //! What the messages of a line make of the station, and what it answers.
-ghost use Rattle.std.specs.Prelude.{◌≡◌, ◌<◌, [], IfSome, IfOk};
+ghost use Rattle.std.specs.Prelude.{◌≡◌, ◌<◌, [], Some, IfSome, IfOk};
 ghost use Rattle.std.specs.Result.{ForOk};
 ghost use Rattle.ln_ops.specs.Message.{IsOfData};
 ghost use Rattle.ln_ops.specs.Reply.{IsSendable};
@@ -10,13 +10,16 @@ ghost use Rattle.slot_table.specs.Moves.{after_null_move, after_dispatch_put, af
 ghost use Rattle.slot_table.specs.Reading.{is_placed};
 ghost use Rattle.slot_table.specs.Writes.{after_take, take_answer};
 ghost use Rattle.station_core.specs.After.{paused};
-ghost use Rattle.station_core.specs.Answer.{answer, is_taken, slot_data, slot_or_refusal};
-ghost use Rattle.station_core.specs.Asked.{of_slot};
+ghost use Rattle.station_core.specs.Answer.{answer, is_taken, more_reply, slot_data, slot_or_refusal};
+ghost use Rattle.station_core.specs.Asked.{of_more, of_slot};
+ghost use Rattle.station_core.specs.Immediate.{more_asked, with_more};
 ghost use Rattle.station_core.specs.Moved.{after_change, after_op};
 
+use crate::immediate::{instruction_told, more_asked};
 use crate::schedule::{Change, follow, note};
 use crate::slot_data::slot_fields;
 use crate::station::Station;
+use dcc_packet::Instr;
 use ln_ops::{Op, Reply, SlotFields};
 use refresh_ring::Power;
 use slot_table::{SlotFault, others_stay};
@@ -33,6 +36,8 @@ const SW_ACK: u8 = 0x3D;
 const LOCO_ADR: u8 = 0x3F;
 
 const WR_SL_DATA: u8 = 0x6F;
+
+const IMM_PACKET: u8 = 0x7D;
 
 // The codes of OPC_LONG_ACK.
 const ACCEPTED: u8 = 0x7F;
@@ -67,6 +72,14 @@ impl Station {
             Op::SwAck { number, closed, on } => self.acknowledge_switch(number, closed, on),
             // A master tells these, and a throttle does not.
             Op::LongAck { .. } | Op::SlotData(_) => None,
+            Op::Imm {
+                count,
+                im1,
+                im2,
+                im3,
+                im4,
+                im5,
+            } => self.set_more(instruction_told(count, [im1, im2, im3, im4, im5])),
             Op::Other => None,
         }
     }
@@ -135,6 +148,31 @@ impl Station {
         }
         note(&self.table, &mut self.schedule, slot, Change::GroupTwo);
         None
+    }
+
+    // OPC_IMM_PACKET, where its packet has this instruction: F9 to F12 of the slot that it is for.
+    fn set_more(&mut self, instr: Option<Instr>) -> Option<Reply>
+        ensures reply { result ≡ Some (more_reply (more_asked self.old.powered.desk instr)) }
+        ensures state { self.new ≡ after_change self.old (with_more self.old.powered.desk (more_asked self.old.powered.desk instr)) (of_more (more_asked self.old.powered.desk instr)) }
+        ensures sendable { IfSome result IsSendable }
+    {
+        others_stay();
+        let Some(more) = more_asked(&self.table, instr) else {
+            return Some(refusal(IMM_PACKET));
+        };
+        if self.table.set_more(more.slot, more.bits).is_err() {
+            return Some(refusal(IMM_PACKET));
+        }
+        note(
+            &self.table,
+            &mut self.schedule,
+            more.slot,
+            Change::GroupThree,
+        );
+        Some(Reply::LongAck {
+            opc: IMM_PACKET,
+            ack: ACCEPTED,
+        })
     }
 
     // OPC_SLOT_STAT1.

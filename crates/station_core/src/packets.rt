@@ -8,7 +8,7 @@ ghost use Rattle.slot_table.specs.Entry.{IsRow, entry_of};
 ghost use Rattle.station_core.specs.Packets.{address_sent, entry_packet, is_lit};
 ghost use Rattle.station_core.specs.Asking.{functions_asked, is_forward, motion_asked, steps_asked};
 
-use dcc_packet::{Address, Packet, Steps, group_one, group_two, speed, steps_of};
+use dcc_packet::{Address, Packet, Steps, group_one, group_three, group_two, speed, steps_of};
 use ln_ops::Row;
 use refresh_ring::Kind;
 
@@ -23,6 +23,7 @@ pub(crate) fn entry_packet(kind: Kind, row: &Row) -> Packet
         Kind::Speed => speed_packet(address, row),
         Kind::GroupOne => group_one(address, functions_asked(row)),
         Kind::GroupTwo => group_two(address, functions_asked(row)),
+        Kind::GroupThree => group_three(address, functions_asked(row)),
     }
 }
 
@@ -64,10 +65,13 @@ fn steps_asked(kind: u8) -> Steps
     Steps::of_kind(kind).unwrap_or(Steps::S128)
 }
 
-// F0 to F8, bit k being Fk.
+// F0 to F12, bit k being Fk.
 fn functions_asked(row: &Row) -> u16
     requires { IsRow row.now }
     ensures { result ≡ functions_asked (entry_of row.now) }
 {
-    u16::from(row.dirf / 16 % 2) + 2 * u16::from(row.dirf % 16) + 32 * u16::from(row.snd % 16)
+    u16::from(row.dirf / 16 % 2)
+        + 2 * u16::from(row.dirf % 16)
+        + 32 * u16::from(row.snd % 16)
+        + 512 * u16::from(row.more % 16)
 }

@@ -17,6 +17,7 @@ pub(crate) enum Change {
     Speed,
     SpeedAndGroupOne,
     GroupTwo,
+    GroupThree,
     All,
 }
 
@@ -70,10 +71,12 @@ pub(crate) fn note(table: &SlotTable, schedule: &mut Schedule<BitRing>, slot: u8
             schedule.changed(slot, Kind::GroupOne);
         }
         Change::GroupTwo => schedule.changed(slot, Kind::GroupTwo),
+        Change::GroupThree => schedule.changed(slot, Kind::GroupThree),
         Change::All => {
             schedule.changed(slot, Kind::Speed);
             schedule.changed(slot, Kind::GroupOne);
             schedule.changed(slot, Kind::GroupTwo);
+            schedule.changed(slot, Kind::GroupThree);
         }
     }
 }
