@@ -1,8 +1,8 @@
 -- The ring of words of bits.
-use Rattle.std.proofs.Common.{◌≡◌, ℕ, zero, suc, ◌+◌, ◌-◌, ◌*◌, ◌<◌, ◌≤◌, nat_le, ◌%◌, ◌/◌, Bool, true, false, List, replicate, set, Option, Some, None, MatchOption, slice_index_or, refl, sym, ap, ◌∙◌, inl, inr, arith, eq-eqb, eqb-true}
+use Rattle.std.proofs.Common.{◌≡◌, ℕ, zero, suc, ◌+◌, ◌-◌, ◌*◌, ◌<◌, ◌≤◌, nat_le, ◌%◌, ◌/◌, Bool, true, false, List, replicate, set, Option, Some, None, MatchOption, slice_index_or, refl, sym, ◌∙◌, inl, inr, arith, eq-eqb, eqb-true}
 use Rattle.std.proofs.lemmas.Bool.{cases_eq, cases_lt, both_ways}
 use Rattle.std.proofs.lemmas.Bool.Decides.{nat_tests}
-use Rattle.std.proofs.lemmas.List.{same_lists, set-get_or, length-set, get_or-set_same, get_or-set_other}
+use Rattle.std.proofs.lemmas.List.{same_lists, length-set, get_or-set_same, get_or-set_other}
 use Rattle.std.proofs.lemmas.List.FromFn.{length-map-range_with_len, get_or-map-range_with_len}
 use Rattle.std.proofs.lemmas.Nat.Bits.{bit_at-zero}
 use Rattle.refresh_ring.specs.Places.{IsSlot, IsPlace, slot_count, last_place, IsRefreshed, IsNext, slot_of, is_refreshed, is_place_on}
@@ -70,12 +70,6 @@ module _ (old new : List ℕ) (slot : ℕ) (on : Bool) (is : IsSlot slot)
             others (1 + k) (λ both. ne (omega (arith, is, both.1)))
             ∙ sym (get_or-set_other (slots_in old) (slot - 1) k on d ne ∙ slot_bit old k (1 + k) d below refl)
       ])
-
--- or it is said to be what it is
-pub set-same : (words : List ℕ) (slot : ℕ) (on : Bool) → IsSlot slot → is_in words slot ≡ on → slots_in words ≡ set (slots_in words) (slot - 1) on
-set-same words slot on is e =
-    let held : slice_index_or (slots_in words) (slot - 1) false ≡ on = slot_bit words (slot - 1) slot false (omega (arith, is)) (omega (arith, is)) ∙ e in
-    sym (ap (set (slots_in words) (slot - 1)) (sym held) ∙ set-get_or (slots_in words) (slot - 1) false)
 
 -- ---- the next place
 
