@@ -21,6 +21,7 @@ legal_row row held address is = record {
   spd = is.spd;
   dirf = omega (arith, is.dirf);
   snd = omega (arith, is.snd);
+  more = omega (arith, is.more);
   ss2 = is.ss2;
   id1 = is.id1;
   id2 = is.id2;
@@ -36,6 +37,7 @@ free_row-IsRow = record {
   spd = omega arith;
   dirf = omega arith;
   snd = omega arith;
+  more = omega arith;
   ss2 = omega arith;
   id1 = omega arith;
   id2 = omega arith;
@@ -45,4 +47,4 @@ free_row-IsRow = record {
 
 -- what a legal row that is not free holds
 pub legal_entry : (row : Row) → IsRow row → is_held row.state ≡ true → IsEntry (entry_of row)
-legal_entry row is held = record { held = held; kind = is.kind; spd = is.spd; dirf = is.dirf; snd = is.snd; ss2 = is.ss2; id1 = is.id1; id2 = is.id2 }
+legal_entry row is held = record { held = held; kind = is.kind; spd = is.spd; dirf = is.dirf; snd = is.snd; more = is.more; ss2 = is.ss2; id1 = is.id1; id2 = is.id2 }

@@ -8,7 +8,7 @@ use Rattle.slot_table.specs.Entry.{Entry}
 use Rattle.slot_table.specs.Desk.{Desk}
 use Rattle.slot_table.specs.Reading.{row_of, row_at, entry_at, slot_of, free_slot, is_placed}
 use Rattle.slot_table.specs.Changes.{entered, changed, change_at, change_entry, cleared, unmarked}
-use Rattle.slot_table.specs.Writes.{take_at, after_take, can_stat, after_stat, write_answer, entry_from, after_write}
+use Rattle.slot_table.specs.Writes.{take_at, after_take, can_stat, after_stat, write_answer, written_entry, after_write}
 use Rattle.slot_table.specs.Moves.{dispatch_get_at, after_dispatch_get, may_move, can_shift, move_place, moved_mark, after_shift}
 use Rattle.slot_table.specs.Laws.{LosesMark, MarkFollows}
 
@@ -70,7 +70,7 @@ module _ (desk : Desk) where
   mark-write : (f : SlotBytes) → is_ok (write_answer desk f) ≡ true → LosesMark desk (after_write desk f) f.slot
   mark-write f ok = rw ok (by_state (is_held (state_of f.stat)))
     where
-      by_state : (b : Bool) → LosesMark desk (let bare = cleared desk f.slot in if b then entered bare f.slot (address_of f) (entry_from f) else bare) f.slot
+      by_state : (b : Bool) → LosesMark desk (let bare = cleared desk f.slot in if b then entered bare f.slot (address_of f) (written_entry desk f) else bare) f.slot
       by_state true = loses desk f.slot
       by_state false = loses desk f.slot
 
@@ -95,6 +95,7 @@ module _ (desk : Desk) where
     speed = λ n spd. mark-changed desk n _;
     dirf = λ n dirf. mark-changed desk n _;
     snd = λ n snd. mark-changed desk n _;
+    more = λ n more. mark-changed desk n _;
     stat = mark-stat;
     stat_free = mark-stat_free;
     write = mark-write;

@@ -11,7 +11,7 @@ use Rattle.slot_table.specs.Entry.{Entry, row_with}
 use Rattle.slot_table.specs.Desk.{Desk, IsDesk}
 use Rattle.slot_table.specs.Reading.{row_of, row_at, entry_at, slot_of, free_slot, is_placed}
 use Rattle.slot_table.specs.Changes.{entered, cleared, changed}
-use Rattle.slot_table.specs.Writes.{after_take, new_entry, after_speed, after_dirf, after_snd, can_stat, after_stat, write_answer, entry_from, after_write}
+use Rattle.slot_table.specs.Writes.{after_take, new_entry, after_speed, after_dirf, after_snd, after_more, can_stat, after_stat, write_answer, written_entry, after_write}
 use Rattle.slot_table.specs.Moves.{after_null_move, after_dispatch_put, dispatch_get_at, after_dispatch_get, may_move, can_shift, after_shift}
 use Rattle.slot_table.specs.Laws.{Becomes, Holds, OwnSlots}
 use Rattle.slot_table.proofs.Maps.{insert_at, insert_off, remove_at}
@@ -66,6 +66,9 @@ module _ (desk : Desk) (is : IsDesk desk) where
   own-snd : (n snd : ℕ) → is_placed desk n ≡ true → Becomes desk (after_snd desk n snd) n (λ row. record row { snd = snd % 16 })
   own-snd n snd some = let k = row-changed n (λ e. record e { snd = snd % 16 }) some in k.1.1.1 ∙ ap (λ (row : Row). record row { snd = snd % 16 }) (sym k.1.1.0)
 
+  own-more : (n more : ℕ) → is_placed desk n ≡ true → Becomes desk (after_more desk n more) n (λ row. record row { more = more })
+  own-more n more some = let k = row-changed n (λ e. record e { more = more }) some in k.1.1.1 ∙ ap (λ (row : Row). record row { more = more }) (sym k.1.1.0)
+
   own-null_move : (n : ℕ) → is_placed desk n ≡ true → Becomes desk (after_null_move desk n) n (λ row. record row { state = InUse })
   own-null_move n some = let k = row-changed n (λ e. record e { state = InUse }) some in k.1.1.1 ∙ ap (λ (row : Row). record row { state = InUse }) (sym k.1.1.0)
 
@@ -97,8 +100,8 @@ module _ (desk : Desk) (is : IsDesk desk) where
   own-take_held : (a n : ℕ) → is_address a ≡ true → Holds desk n a → after_take desk a ≡ desk
   own-take_held a n legal holds = let found : slot_of desk a ≡ Some n = ((rows_are_legal desk is).found n a).1 holds in rw (legal, found) refl
 
-  own-write : (f : SlotBytes) → is_ok (write_answer desk f) ≡ true → is_held (state_of f.stat) ≡ true → row_of (after_write desk f) f.slot ≡ row_with (address_of f) (entry_from f)
-  own-write f ok held = rw (ok, held) (row-entered (cleared desk f.slot) f.slot (address_of f) (entry_from f))
+  own-write : (f : SlotBytes) → is_ok (write_answer desk f) ≡ true → is_held (state_of f.stat) ≡ true → row_of (after_write desk f) f.slot ≡ row_with (address_of f) (written_entry desk f)
+  own-write f ok held = rw (ok, held) (row-entered (cleared desk f.slot) f.slot (address_of f) (written_entry desk f))
 
   own-write_free : (f : SlotBytes) → is_ok (write_answer desk f) ≡ true → is_held (state_of f.stat) ≡ false → row_of (after_write desk f) f.slot ≡ free_row
   own-write_free f ok free = rw (ok, free) (row_free (cleared desk f.slot) f.slot (cleared-none desk f.slot))
@@ -152,6 +155,7 @@ module _ (desk : Desk) (is : IsDesk desk) where
     speed = own-speed;
     dirf = own-dirf;
     snd = own-snd;
+    more = own-more;
     stat = own-stat;
     stat_free = own-stat_free;
     write = own-write;

@@ -1,11 +1,13 @@
 -- What the slots of a desk read as.
-use Rattle.std.proofs.Common.{◌≡◌, ℕ, true, Option, Some, None, IsSome, IsSomeAnd, refl, ap}
+use Rattle.std.proofs.Common.{◌≡◌, ◌<◌, ◌==◌, ℕ, true, Option, Some, None, IsSome, IsSomeAnd, refl, ap, arith}
+use Rattle.std.proofs.lemmas.Bool.{cond_both}
 use Rattle.std.specs.Ordering.{nat_cmp}
 use Rattle.std.specs.FinMap.{FinMap, get}
 use Rattle.ln_ops.specs.Slot.{is_held}
 use Rattle.slot_table.specs.Entry.{Entry, IsAddress, IsEntry, IsRow, row_with}
 use Rattle.slot_table.specs.Desk.{Desk, IsDesk}
 use Rattle.slot_table.specs.Reading.{row_of, row_at, entry_at, slot_of}
+use Rattle.slot_table.specs.Writes.{kept_more}
 use Rattle.slot_table.specs.Laws.{Holds, RowsAreLegal}
 use Rattle.slot_table.proofs.Legal.{legal_row, free_row-IsRow}
 use Rattle.slot_table.proofs.Desks.{slot_of-at, slot_of-none}
@@ -55,3 +57,7 @@ module _ (desk : Desk) (is : IsDesk desk) where
     found = λ n a. (λ e. holds n a (slot_of-at desk a n e).1, λ h. found_there n a (slot_of desk a) refl (placed n a h));
     marked = λ n e. some_place n (get desk.place n) refl (is.marked n e);
   }
+
+  -- F9 to F12 that a slot keeps are four bits
+  pub kept-bits : (n a : ℕ) → kept_more desk n a < 16
+  kept-bits n a = cond_both ((row_of desk n).address == a) (row_of desk n).more 0 (λ k. k < 16) (λ same. (rows_are_legal.legal n).more) (λ other. omega arith)

@@ -1,4 +1,5 @@
--- What a throttle asks of a slot by OPC_LOCO_ADR, OPC_LOCO_SPD, OPC_LOCO_DIRF, OPC_LOCO_SND, OPC_SLOT_STAT1 and OPC_WR_SL_DATA.
+-- What a throttle asks of a slot by OPC_LOCO_ADR, OPC_LOCO_SPD, OPC_LOCO_DIRF, OPC_LOCO_SND, OPC_IMM_PACKET, OPC_SLOT_STAT1
+-- and OPC_WR_SL_DATA.
 -- Each refusal is this project's own profile.
 use Rattle.std.specs.Prelude.{ℕ, ◌==◌, ◌&&◌, ◌||◌, ◌%◌, Bool, false, not, if◌then◌else◌, Option, Some, None, Result, Ok, Err, is_ok}
 use Rattle.ln_ops.specs.declared.row.State.TheVariants.{Idle}
@@ -8,14 +9,14 @@ use Rattle.slot_table.specs.declared.fault.SlotFault.{SlotFault}
 use Rattle.slot_table.specs.declared.fault.SlotFault.TheVariants.{NoFree, Illegal, Held}
 use Rattle.slot_table.specs.Entry.{Entry}
 use Rattle.slot_table.specs.Desk.{Desk}
-use Rattle.slot_table.specs.Reading.{slot_of, free_slot, is_placed}
+use Rattle.slot_table.specs.Reading.{row_of, slot_of, free_slot, is_placed}
 use Rattle.slot_table.specs.Changes.{entered, cleared, changed}
 
 -- ---- OPC_LOCO_ADR: an address is loaded
 
 -- an address that nobody has asked anything for (own): idle, 128 steps, stopped, forward, functions off
 abbrev pub new_entry : Entry
-new_entry = record { state = Idle; kind = 3; spd = 0; dirf = 0; snd = 0; ss2 = 0; id1 = 0; id2 = 0 }
+new_entry = record { state = Idle; kind = 3; spd = 0; dirf = 0; snd = 0; more = 0; ss2 = 0; id1 = 0; id2 = 0 }
 
 abbrev pub take_answer_at : Option ℕ → Option ℕ → Result ℕ SlotFault
 take_answer_at (Some n) free = Ok n
@@ -34,7 +35,7 @@ take_at desk a None None = desk
 abbrev pub after_take : Desk → ℕ → Desk
 after_take desk a = if is_address a then take_at desk a (slot_of desk a) (free_slot desk) else desk
 
--- ---- OPC_LOCO_SPD, OPC_LOCO_DIRF, OPC_LOCO_SND: one field of a slot that is not free
+-- ---- OPC_LOCO_SPD, OPC_LOCO_DIRF, OPC_LOCO_SND, F9 to F12 of OPC_IMM_PACKET: one field of a slot that is not free
 
 abbrev pub after_speed : Desk → ℕ → ℕ → Desk
 after_speed desk n spd = changed desk n (λ e. record e { spd = spd })
@@ -46,6 +47,10 @@ after_dirf desk n dirf = changed desk n (λ e. record e { dirf = dirf % 64 })
 -- SND keeps its low four bits (own)
 abbrev pub after_snd : Desk → ℕ → ℕ → Desk
 after_snd desk n snd = changed desk n (λ e. record e { snd = snd % 16 })
+
+-- F9 to F12
+abbrev pub after_more : Desk → ℕ → ℕ → Desk
+after_more desk n more = changed desk n (λ e. record e { more = more })
 
 -- ---- OPC_SLOT_STAT1: state and decoder type of a slot that is not free
 
@@ -61,9 +66,13 @@ after_stat desk n stat =
 
 -- ---- OPC_WR_SL_DATA: a whole slot
 
--- the entry that the bytes ask for; TRK is ignored
-abbrev pub entry_from : SlotBytes → Entry
-entry_from f = record { state = state_of f.stat; kind = kind_of f.stat; spd = f.spd; dirf = f.dirf % 64; snd = f.snd % 16; ss2 = f.ss2; id1 = f.id1; id2 = f.id2 }
+-- no byte says F9 to F12: the slot keeps them where it has this address already, and else they are off (own)
+abbrev pub kept_more : Desk → ℕ → ℕ → ℕ
+kept_more desk n a = if (row_of desk n).address == a then (row_of desk n).more else 0
+
+-- the entry that the bytes ask for, with these F9 to F12; TRK is ignored
+abbrev pub entry_from : SlotBytes → ℕ → Entry
+entry_from f more = record { state = state_of f.stat; kind = kind_of f.stat; spd = f.spd; dirf = f.dirf % 64; snd = f.snd % 16; more = more; ss2 = f.ss2; id1 = f.id1; id2 = f.id2 }
 
 -- whether the address stands in another slot
 abbrev pub is_elsewhere : Option ℕ → ℕ → Bool
@@ -77,9 +86,13 @@ write_answer desk f =
     (if is_held (state_of f.stat) && is_elsewhere (slot_of desk (address_of f)) f.slot then Err Held else Ok tt)
     else Err Illegal
 
+-- the entry that the slot gets
+abbrev pub written_entry : Desk → SlotBytes → Entry
+written_entry desk f = entry_from f (kept_more desk f.slot (address_of f))
+
 -- the slot is cleared with a mark on it, and gets what the bytes ask for
 abbrev pub after_write : Desk → SlotBytes → Desk
 after_write desk f =
     if is_ok (write_answer desk f) then
-    (let bare = cleared desk f.slot in if is_held (state_of f.stat) then entered bare f.slot (address_of f) (entry_from f) else bare)
+    (let bare = cleared desk f.slot in if is_held (state_of f.stat) then entered bare f.slot (address_of f) (written_entry desk f) else bare)
     else desk

@@ -17,6 +17,7 @@ pub(crate) const FREE: Row = Row {
     spd: 0,
     dirf: 0,
     snd: 0,
+    more: 0,
     ss2: 0,
     id1: 0,
     id2: 0,

@@ -5,7 +5,7 @@ ghost use Rattle.slot_table.specs.Entry.{IsSlot, row_with};
 ghost use Rattle.slot_table.specs.Desk.{IsDesk};
 ghost use Rattle.slot_table.specs.Reading.{is_placed};
 ghost use Rattle.slot_table.specs.Changes.{done_if};
-ghost use Rattle.slot_table.specs.Writes.{take_answer, after_take, after_speed, after_dirf, after_snd, can_stat, after_stat, entry_from, is_elsewhere, write_answer, after_write};
+ghost use Rattle.slot_table.specs.Writes.{take_answer, after_take, after_speed, after_dirf, after_snd, after_more, can_stat, after_stat, kept_more, entry_from, is_elsewhere, write_answer, after_write};
 
 use crate::bytes::{is_address, is_held, is_slot, is_stat, state_of};
 use crate::fault::SlotFault;
@@ -91,6 +91,21 @@ impl SlotTable {
         Ok(())
     }
 
+    /// Sets F9 to F12, below 16: bits 3 to 0 are F12 to F9. Refused as `Illegal` where the slot is free.
+    pub fn set_more(&mut self, n: u8, more: u8) -> Result<(), SlotFault>
+        requires slot { IsSlot n }
+        requires more { more < 16 }
+        ensures answer { result ≡ done_if (is_placed self.old n) }
+        ensures slot { OnOk result (IsSlot n) }
+        ensures after { self.new ≡ after_more self.old n more }
+        ensures refused { OnErr result (self.new ≡ self.old) }
+        ensures desk { IsDesk self.new }
+    {
+        let row = self.held(n)?;
+        self.change(n, Row { more, ..row });
+        Ok(())
+    }
+
     /// Sets state and decoder type (OPC_SLOT_STAT1), below 128. The state free clears the slot, and a mark on it.
     ///
     /// Refused as `Illegal` unless the slot is in 1 to 119 and not free, and STAT1 is one that a slot may have.
@@ -117,7 +132,8 @@ impl SlotTable {
     }
 
     /// Writes a whole slot (OPC_WR_SL_DATA), TRK ignored. The slot no longer waits to be dispatched, and the state
-    /// free clears it, whatever the address.
+    /// free clears it, whatever the address. F9 to F12 stay as they are where the slot has this address already, and
+    /// are off where it has not.
     ///
     /// Refused as `Illegal` where the slot is not in 1 to 119, STAT1 is not one that a slot may have, or the address
     /// of a state other than free is not in 1 to 10239; else as `Held` where that address stands in another slot.
@@ -128,39 +144,59 @@ impl SlotTable {
         ensures refused { OnErr result (self.new ≡ self.old) }
         ensures desk { IsDesk self.new }
     {
-        let row = row_from(fields);
         let n = fields.slot;
-        let found = self.find(row.address);
+        let state = state_of(fields.stat);
+        let address = address_of(fields);
+        let found = self.find(address);
         if !is_slot(n) || !is_stat(fields.stat) {
             return Err(SlotFault::Illegal);
         }
-        if !is_held(row.state) {
+        if !is_held(state) {
             self.clear(n);
             return Ok(());
         }
-        if !is_address(row.address) {
+        if !is_address(address) {
             return Err(SlotFault::Illegal);
         }
         if is_elsewhere(found, n) {
             return Err(SlotFault::Held);
         }
+        let more = self.kept_more(n, address);
         self.clear(n);
-        self.put(n, row);
+        self.put(n, row_from(fields, more));
         Ok(())
+    }
+
+    // F9 to F12 of the slot, where it has this address, and else all off.
+    fn kept_more(&self, n: u8, address: u16) -> u8
+        requires { IsSlot n }
+        ensures more { result ≡ kept_more self.now n address }
+        ensures bits { result < 16 }
+    {
+        let row = self.row(n);
+        if row.address == address { row.more } else { 0 }
     }
 }
 
-// The row that the bytes ask for.
-fn row_from(fields: &SlotFields) -> Row
-    ensures { result ≡ row_with (address_of fields.now) (entry_from fields.now) }
+// The address that ADR2 and ADR spell.
+fn address_of(fields: &SlotFields) -> u16
+    ensures { result ≡ address_of fields.now }
+{
+    u16::from(fields.adr2) * 128 + u16::from(fields.adr)
+}
+
+// The row that the bytes ask for, with these F9 to F12.
+fn row_from(fields: &SlotFields, more: u8) -> Row
+    ensures { result ≡ row_with (address_of fields.now) (entry_from fields.now more) }
 {
     Row {
         state: state_of(fields.stat),
         kind: fields.stat % 8,
-        address: u16::from(fields.adr2) * 128 + u16::from(fields.adr),
+        address: address_of(fields),
         spd: fields.spd,
         dirf: fields.dirf % 64,
         snd: fields.snd % 16,
+        more,
         ss2: fields.ss2,
         id1: fields.id1,
         id2: fields.id2,
