@@ -24,6 +24,10 @@ fields_text f =
     ++ pair_text (codes " spd ") f.spd (codes " dirf ") f.dirf ++ pair_text (codes " trk ") f.trk (codes " ss2 ") f.ss2
     ++ codes " snd " ++ decimal f.snd ++ pair_text (codes " ids ") f.id1 (codes " ") f.id2
 
+-- how many bytes of a packet are meant, and all five that the message has
+abbrev pub packet_text : ℕ → List ℕ → List ℕ
+packet_text count bytes = codes "imm " ++ decimal count ++ hex_words bytes
+
 -- what an operation asks or tells
 abbrev pub op_text : Op → List ℕ
 op_text PowerOff = codes "power off"
@@ -41,7 +45,7 @@ op_text (SlotRead slot) = codes "read slot " ++ decimal slot
 op_text (LocoAddr high low) = codes "address " ++ decimal (address_with high low)
 op_text (SlotData fields) = codes "slot-data " ++ fields_text fields
 op_text (SlotWrite fields) = codes "slot-write " ++ fields_text fields
-op_text (Imm count im1 im2 im3 im4 im5) = codes "imm " ++ decimal count ++ hex_words (im1 ∷ im2 ∷ im3 ∷ im4 ∷ im5 ∷ [])
+op_text (Imm count im1 im2 im3 im4 im5) = packet_text count (im1 ∷ im2 ∷ im3 ∷ im4 ∷ im5 ∷ [])
 op_text Other = codes "other"
 
 -- `msg`, the bytes of a message, and its operation

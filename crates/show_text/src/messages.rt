@@ -2,7 +2,7 @@
 ghost use Rattle.std.specs.Prelude.{◌≡◌, ◌≤◌, ◌+◌, ◌++◌, length};
 ghost use Rattle.std.specs.Fmt.{decimal};
 ghost use Rattle.arrayvec.specs.ArrayString.{array_string_len};
-ghost use Rattle.show_text.specs.Messages.{switch_text, fields_text, pair_text, op_text, message_text};
+ghost use Rattle.show_text.specs.Messages.{switch_text, fields_text, packet_text, pair_text, op_text, message_text};
 
 use crate::line::{Line, push_bytes, push_field};
 use ln_frame::Msg;
@@ -45,6 +45,15 @@ fn push_fields(line: &mut Line, fields: &SlotFields)
     push_pair(line, (" ids ", fields.id1), (" ", fields.id2));
 }
 
+/// `imm C` and the bytes that the message has for a packet, of which C are meant.
+fn push_packet(line: &mut Line, count: u8, bytes: [u8; 5])
+    requires { array_string_len line.old ≤ 590 }
+    ensures { line.new.bytes ≡ line.old.bytes ++ packet_text count bytes }
+{
+    push_field(line, "imm ", u16::from(count));
+    push_bytes(line, &bytes);
+}
+
 /// What the message asks or tells.
 fn push_op(line: &mut Line, op: &Op)
     requires { array_string_len line.old ≤ 385 }
@@ -81,10 +90,7 @@ fn push_op(line: &mut Line, op: &Op)
             im3,
             im4,
             im5,
-        } => {
-            push_field(line, "imm ", u16::from(*count));
-            push_bytes(line, &[*im1, *im2, *im3, *im4, *im5]);
-        }
+        } => push_packet(line, *count, [*im1, *im2, *im3, *im4, *im5]),
         Op::Other => line.push_str("other"),
     }
 }
