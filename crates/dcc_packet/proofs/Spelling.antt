@@ -1,5 +1,5 @@
 -- The relation `Spells` and the function `instruction_of` say the same.
-use Rattle.std.proofs.Common.{◌≡◌, IsTrue, ◌⊎◌, ◌↔◌, ℕ, ◌+◌, ◌-◌, ◌*◌, ◌/◌, ◌%◌, ◌<◌, ◌≤◌, ◌==◌, ◌&&◌, nat_le, nat_lt, Bool, true, false, if◌then◌else◌, List, [], ◌∷◌, Option, Some, None, length, length-append, bit_xor, refl, sym, ap, ap₂, subst, ◌∙◌, arith, inl, inr, eq-eqb, ne_eqb, eqb-true}
+use Rattle.std.proofs.Common.{◌≡◌, IsTrue, ◌⊎◌, ◌↔◌, ℕ, ◌+◌, ◌-◌, ◌*◌, ◌/◌, ◌%◌, ◌<◌, ◌≤◌, ◌==◌, ◌&&◌, nat_le, nat_lt, Bool, true, false, if◌then◌else◌, List, [], ◌∷◌, Option, Some, None, bit_xor, refl, sym, ap, ap₂, subst, ◌∙◌, arith, inl, inr, eq-eqb, ne_eqb, eqb-true}
 use Rattle.std.proofs.lemmas.Bool.{and_parts, and_from, cases_eq, lt-leb, le-leb, lt-ltb, ltb-true, leb-true}
 use Rattle.std.specs.List.{list_all}
 use Rattle.dcc_packet.proofs.Bytes.{packet-with_check}
@@ -340,13 +340,3 @@ spelled_checked bytes i s = by_test (is_packet bytes && is_checked bytes) refl (
   by_test : (t : Bool) → (is_packet bytes && is_checked bytes) ≡ t → (if t then form_of bytes else None) ≡ Some i → IsTrue (is_packet bytes) × IsTrue (is_checked bytes)
   by_test false t e = absurd (not_none i e)
   by_test true t e = let parts = and_parts (is_packet bytes) (is_checked bytes) t in (parts.0, parts.1)
-
--- too few or too many bytes are no packet with their check behind them
-pub no_body : (body : List ℕ) → (length body < 2) ⊎ (5 < length body) → None ≡ instruction_of (with_check body)
-unfolding instruction_of
-no_body body wrong =
-    let size : length (with_check body) ≡ length body + 1 = length-append body (xor_of body ∷ []) in
-    rw (by_length wrong size) refl where
-      by_length : (length body < 2) ⊎ (5 < length body) → length (with_check body) ≡ length body + 1 → has_packet_length (with_check body) ≡ false
-      by_length (inl few) size = rw (lt-leb 3 (length (with_check body)) (omega arith)) refl
-      by_length (inr many) size = rw (le-leb 3 (length (with_check body)) (omega arith), lt-leb (length (with_check body)) 6 (omega arith)) refl

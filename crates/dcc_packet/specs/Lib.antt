@@ -1,5 +1,6 @@
 pub mod Address
 pub mod Form
+pub mod Kinds
 pub mod Meant
 pub mod Module
 pub mod Motions

@@ -16,7 +16,7 @@ pub use instr::Instr;
 pub use laws::{one_spelling, sent_packets_spell, speeds_are_told, spellings_are_read};
 pub use module::Module;
 pub use packet::Packet;
-pub use reading::{read, read_body};
+pub use reading::read;
 pub use steps::{Motion, Steps, steps_of};
 
 #[cfg(test)]

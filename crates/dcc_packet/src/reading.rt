@@ -1,7 +1,6 @@
 //! What a packet says.
 ghost use Rattle.std.specs.Prelude.{◌≡◌, ◌↔◌, ◌<◌, ◌≤◌, Some, IsTrue};
 ghost use Rattle.dcc_packet.specs.declared.instr.Instr.{Instr};
-ghost use Rattle.dcc_packet.specs.Form.{with_check};
 ghost use Rattle.dcc_packet.specs.Reading.{broadcast_of, accessory_of, short_form_of, told_of, long_told_of, other_of, form_of, instruction_of};
 ghost use Rattle.dcc_packet.specs.Spells.{Spells};
 
@@ -22,19 +21,6 @@ pub fn read(packet: &Packet) -> Option<Instr>
     } else {
         None
     }
-}
-
-/// What bytes say with their check behind them (S-9.2, general packet format), or `None` where that is no packet or its
-/// form is none of those of [`Instr`].
-pub fn read_body(body: &[u8]) -> Option<Instr>
-    ensures value { result ≡ instruction_of (with_check body.now) }
-    ensures exact { (i : Instr) → (result ≡ Some i) ↔ Spells (with_check body.now) i }
-{
-    let length = body.len();
-    if length < 2 || length > 5 {
-        return None;
-    }
-    read(&Packet::sealed(body))
 }
 
 /// What bytes with a right check say, by the address partitions of their first byte (S-9.2.1, 2.1).

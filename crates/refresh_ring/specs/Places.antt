@@ -2,12 +2,9 @@
 use Rattle.std.specs.Prelude.{ℕ, ◌≡◌, ◌+◌, ◌-◌, ◌*◌, ◌/◌, ◌%◌, ◌<◌, ◌≤◌, ◌⊎◌, ◌&&◌, nat_le, Bool, true, false, if◌then◌else◌, List, Option, Some, None, MatchOption, slice_index_or}
 use Rattle.std.proofs.Common.{zero, suc}
 use Rattle.std.specs.Option.{option_or}
+pub use Rattle.dcc_packet.specs.Kinds.{kinds}
 use Rattle.refresh_ring.specs.declared.kind.Kind.{Kind}
 use Rattle.refresh_ring.specs.declared.kind.Kind.TheVariants.{Speed, GroupOne, GroupTwo, GroupThree}
-
--- how many packets a slot has, one of each kind
-abbrev pub kinds : ℕ
-kinds = 4
 
 abbrev pub slot_count : ℕ
 slot_count = 119

@@ -7,7 +7,8 @@ use Rattle.ln_ops.specs.declared.op.Op.TheVariants.{PowerOff, PowerOn, ForceIdle
 use Rattle.ln_ops.specs.Message.{op_of}
 use Rattle.slot_table.specs.Desk.{Desk}
 use Rattle.slot_table.specs.Entry.{IsSlot}
-use Rattle.refresh_ring.specs.Places.{is_refreshed as is_slot_on, kinds}
+use Rattle.dcc_packet.specs.Kinds.{kinds}
+use Rattle.refresh_ring.specs.Places.{is_refreshed as is_slot_on}
 use Rattle.refresh_ring.specs.Scheduled.{Scheduled, after_changed}
 use Rattle.refresh_ring.specs.Picked.{picked}
 use Rattle.refresh_ring.specs.Left.{count_to, turns_left}

@@ -3,7 +3,7 @@
 use Rattle.std.specs.Prelude.{ℕ, ◌≡◌, ◌+◌, ◌*◌, ◌≤◌, ◌||◌, Bool, true, List, [], ◌∷◌, length}
 use Rattle.std.specs.List.{filter}
 use Rattle.slot_table.specs.Reading.{all_slots}
-use Rattle.refresh_ring.specs.Places.{kinds}
+use Rattle.dcc_packet.specs.Kinds.{kinds}
 use Rattle.refresh_ring.specs.declared.pick.Power.TheVariants.{Running}
 use Rattle.station_core.specs.Known.{Known, told}
 use Rattle.station_core.specs.Powered.{PoweredDesk}

@@ -15,11 +15,10 @@ ghost use Rattle.station_core.specs.Asked.{of_more, of_slot};
 ghost use Rattle.station_core.specs.Immediate.{more_asked, with_more};
 ghost use Rattle.station_core.specs.Moved.{after_change, after_op};
 
-use crate::immediate::{instruction_told, more_asked};
+use crate::immediate::{counted, more_asked};
 use crate::schedule::{Change, follow, note};
 use crate::slot_data::slot_fields;
 use crate::station::Station;
-use dcc_packet::Instr;
 use ln_ops::{Op, Reply, SlotFields};
 use refresh_ring::Power;
 use slot_table::{SlotFault, others_stay};
@@ -79,7 +78,7 @@ impl Station {
                 im3,
                 im4,
                 im5,
-            } => self.set_more(instruction_told(count, [im1, im2, im3, im4, im5])),
+            } => self.set_more(counted(count, &[im1, im2, im3, im4, im5])),
             Op::Other => None,
         }
     }
@@ -150,14 +149,14 @@ impl Station {
         None
     }
 
-    // OPC_IMM_PACKET, where its packet has this instruction: F9 to F12 of the slot that it is for.
-    fn set_more(&mut self, instr: Option<Instr>) -> Option<Reply>
-        ensures reply { result ≡ Some (more_reply (more_asked self.old.powered.desk instr)) }
-        ensures state { self.new ≡ after_change self.old (with_more self.old.powered.desk (more_asked self.old.powered.desk instr)) (of_more (more_asked self.old.powered.desk instr)) }
+    // OPC_IMM_PACKET with these bytes of a packet: F9 to F12 of the slot that it is for.
+    fn set_more(&mut self, bytes: &[u8]) -> Option<Reply>
+        ensures reply { result ≡ Some (more_reply (more_asked self.old.powered.desk bytes.now)) }
+        ensures state { self.new ≡ after_change self.old (with_more self.old.powered.desk (more_asked self.old.powered.desk bytes.now)) (of_more (more_asked self.old.powered.desk bytes.now)) }
         ensures sendable { IfSome result IsSendable }
     {
         others_stay();
-        let Some(more) = more_asked(&self.table, instr) else {
+        let Some(more) = more_asked(&self.table, bytes) else {
             return Some(refusal(IMM_PACKET));
         };
         if self.table.set_more(more.slot, more.bits).is_err() {

@@ -7,7 +7,7 @@ use Rattle.station_core.specs.declared.schedule.Change.TheVariants.{GroupThree}
 use Rattle.station_core.proofs.Follows.{Others, noted_as, in_step}
 use Rattle.station_core.proofs.station.Station.set_more.Goals as goal
 
-asked : (c : goal.After-note) → more_asked c.self.inside.table c.args.instr ≡ Some c.in-Some.more
+asked : (c : goal.After-note) → more_asked c.self.inside.table c.args.bytes.now ≡ Some c.in-Some.more
 asked c = sym c.more_asked.ensures.more ∙ c.in-Some.is
 
 others : (c : goal.After-note) → Others c.self.inside.table c.set_more.new.self c.in-Some.more.slot
@@ -24,6 +24,6 @@ invariant_of-self-2 c = record {
 
 pub returns-clause-state : goal.returns-clause-state
 returns-clause-state c =
-    rw (← c.self.view_is) (noted_as c.self.inside.framers.items c.self.inside.power c.self.inside.table c.set_more.new.self (with_more c.self.inside.table (more_asked c.self.inside.table c.args.instr)) c.in-Some.more.slot c.self.inside.schedule c.note.new.schedule (places_with c.in-Some.more.slot GroupThree) _
+    rw (← c.self.view_is) (noted_as c.self.inside.framers.items c.self.inside.power c.self.inside.table c.set_more.new.self (with_more c.self.inside.table (more_asked c.self.inside.table c.args.bytes.now)) c.in-Some.more.slot c.self.inside.schedule c.note.new.schedule (places_with c.in-Some.more.slot GroupThree) _
     c.in-Some.ensures.slot c.self.invariant.in_step.slots (others c) c.note.ensures.state (c.set_more.ensures.after ∙ ap (with_more c.self.inside.table) (sym (asked c)))
     (ap of_more (asked c)))
