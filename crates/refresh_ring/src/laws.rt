@@ -51,7 +51,7 @@ pub fn switches_in_order()
     ensures changed_behind { (slot : ℕ) (kind : KindOf) (s : Scheduled) → (more : List JobOf) × ((after_changed slot kind s).jobs ≡ s.jobs ++ more) }
     ensures asked_behind { (number : ℕ) (closed on : Bool) (s : Scheduled) → (more : List JobOf) × ((after_switch number closed on s).jobs ≡ s.jobs ++ more) }
 
-    // A queue holds the sends of 476 places and 32 requests at most: 4 * (476 + 2 * 32) turns, and 4 more, are 2,164.
+    // A queue holds the sends of 476 places and 32 requests at most: 4 * (476 + 2 * 32) turns and 4 more, 2,164.
     ensures most { (s : Scheduled) → IsQueue s.jobs → turns_for s.jobs s ≤ turns_to_empty + 4 }
 {}
 
