@@ -4,6 +4,7 @@ use Rattle.std.proofs.lemmas.Bool.{both_ways, cases_eq, or_right}
 use Rattle.std.proofs.lemmas.List.Elements.{All-from_recursion}
 use Rattle.std.specs.List.{AllByRecursion, filter, slice_index_or}
 use Rattle.std.specs.Prelude.{Contains, IsTrue, ◌≢◌}
+use Rattle.dcc_packet.specs.Kinds.{kinds}
 use Rattle.dcc_packet.specs.Sent.{accessory_bytes, idle_bytes}
 use Rattle.ln_ops.specs.declared.row.Row.{Row}
 use Rattle.ln_ops.specs.declared.row.State.{State}
@@ -44,7 +45,7 @@ use Rattle.layout_core.specs.Heard.{Sound, Whole, Single, HearsAll, heard, packe
 use Rattle.layout_core.specs.Hearing.{Obeyed}
 use Rattle.layout_core.specs.Nodes.{IsBetween, is_missed, running_of, spec_of}
 use Rattle.layout_core.specs.Played.{after_event, after_events}
-use Rattle.layout_core.specs.Settling.{IsPacketOf, speed, group_one, group_two, LeavesAsItIs, IsAskedBy, TellsAll}
+use Rattle.layout_core.specs.Settling.{IsPacketOf, speed, group_one, group_two, group_three, LeavesAsItIs, IsAskedBy, TellsAll}
 use Rattle.layout_core.specs.Wanted.{wanted}
 use Rattle.layout_core.specs.World.{HaveHeard}
 use Rattle.layout_core.proofs.Heard.{all_keep, all_split, same_cv, sounds-append, sounds_are_whole, whole_obeyed}
@@ -67,6 +68,7 @@ of_kind : (k : Kind) (a : ℕ) (e : Entry) → IsPacketOf a e (entry_packet k a 
 of_kind kind.Speed a e = speed refl
 of_kind kind.GroupOne a e = group_one refl
 of_kind kind.GroupTwo a e = group_two refl
+of_kind kind.GroupThree a e = group_three refl
 
 driven-held : (s : State) → is_driven s ≡ true → is_held s ≡ true
 driven-held state.Free h = h
@@ -75,7 +77,7 @@ driven-held state.Idle h = refl
 driven-held state.InUse h = refl
 
 entry_in : (row : Row) → IsRow row → is_held row.state ≡ true → IsEntry (entry_of row)
-entry_in row is held = record { held = held; kind = is.kind; spd = is.spd; dirf = is.dirf; snd = is.snd; ss2 = is.ss2; id1 = is.id1; id2 = is.id2 }
+entry_in row is held = record { held = held; kind = is.kind; spd = is.spd; dirf = is.dirf; snd = is.snd; more = is.more; ss2 = is.ss2; id1 = is.id1; id2 = is.id2 }
 
 -- the first of the moments
 first_moment : (P : PoweredDesk → Type 0) (seen : Seen) (calls : List Call) → AtEach P seen calls → P seen.powered
@@ -123,27 +125,30 @@ record AskAlike (one other : Entry) : Type 0 where
   spd : one.spd ≡ other.spd
   dirf : one.dirf ≡ other.dirf
   snd : one.snd ≡ other.snd
+  more : one.more ≡ other.more
 
-alike : {X : Type 0} (f : Entry → X) (g : (kind spd dirf snd : ℕ) → X) → ((e : Entry) → f e ≡ g e.kind e.spd e.dirf e.snd) → (one other : Entry) → AskAlike one other → f one ≡ f other
+alike : {X : Type 0} (f : Entry → X) (g : (kind spd dirf snd more : ℕ) → X) → ((e : Entry) → f e ≡ g e.kind e.spd e.dirf e.snd e.more) → (one other : Entry) → AskAlike one other → f one ≡ f other
 alike f g reads one other same =
     reads one
-    ∙ ap (λ (n : ℕ). g n one.spd one.dirf one.snd) same.kind
-    ∙ ap (λ (n : ℕ). g other.kind n one.dirf one.snd) same.spd
-    ∙ ap (λ (n : ℕ). g other.kind other.spd n one.snd) same.dirf
-    ∙ ap (λ (n : ℕ). g other.kind other.spd other.dirf n) same.snd
+    ∙ ap (λ (n : ℕ). g n one.spd one.dirf one.snd one.more) same.kind
+    ∙ ap (λ (n : ℕ). g other.kind n one.dirf one.snd one.more) same.spd
+    ∙ ap (λ (n : ℕ). g other.kind other.spd n one.snd one.more) same.dirf
+    ∙ ap (λ (n : ℕ). g other.kind other.spd other.dirf n one.more) same.snd
+    ∙ ap (λ (n : ℕ). g other.kind other.spd other.dirf other.snd n) same.more
     ∙ sym (reads other)
 
 -- an entry of these bytes
-abbrev of_bytes : (kind spd dirf snd : ℕ) → Entry
-of_bytes kind spd dirf snd = record { state = state.InUse; kind = kind; spd = spd; dirf = dirf; snd = snd; ss2 = 0; id1 = 0; id2 = 0 }
+abbrev of_bytes : (kind spd dirf snd more : ℕ) → Entry
+of_bytes kind spd dirf snd more = record { state = state.InUse; kind = kind; spd = spd; dirf = dirf; snd = snd; more = more; ss2 = 0; id1 = 0; id2 = 0 }
 
 same_packet : (k : Kind) (a : ℕ) (one other : Entry) → AskAlike one other → entry_packet k a one ≡ entry_packet k a other
-same_packet kind.Speed a = alike (entry_packet kind.Speed a) (λ n spd dirf snd. entry_packet kind.Speed a (of_bytes n spd dirf snd)) (λ e. refl)
-same_packet kind.GroupOne a = alike (entry_packet kind.GroupOne a) (λ n spd dirf snd. entry_packet kind.GroupOne a (of_bytes n spd dirf snd)) (λ e. refl)
-same_packet kind.GroupTwo a = alike (entry_packet kind.GroupTwo a) (λ n spd dirf snd. entry_packet kind.GroupTwo a (of_bytes n spd dirf snd)) (λ e. refl)
+same_packet kind.Speed a = alike (entry_packet kind.Speed a) (λ n spd dirf snd more. entry_packet kind.Speed a (of_bytes n spd dirf snd more)) (λ e. refl)
+same_packet kind.GroupOne a = alike (entry_packet kind.GroupOne a) (λ n spd dirf snd more. entry_packet kind.GroupOne a (of_bytes n spd dirf snd more)) (λ e. refl)
+same_packet kind.GroupTwo a = alike (entry_packet kind.GroupTwo a) (λ n spd dirf snd more. entry_packet kind.GroupTwo a (of_bytes n spd dirf snd more)) (λ e. refl)
+same_packet kind.GroupThree a = alike (entry_packet kind.GroupThree a) (λ n spd dirf snd more. entry_packet kind.GroupThree a (of_bytes n spd dirf snd more)) (λ e. refl)
 
 same_wanted : (reversed : Bool) (one other : Entry) → AskAlike one other → wanted one reversed ≡ wanted other reversed
-same_wanted reversed = alike (λ e. wanted e reversed) (λ kind spd dirf snd. wanted (of_bytes kind spd dirf snd) reversed) (λ e. refl)
+same_wanted reversed = alike (λ e. wanted e reversed) (λ kind spd dirf snd more. wanted (of_bytes kind spd dirf snd more) reversed) (λ e. refl)
 
 module _ (laws : Laws) (cv : Settings) (i slot a : ℕ) (e : Entry) (mine : IsTrue (answers_to cv a)) where
   abbrev IsHarmless : List ℕ → Type 0
@@ -152,7 +157,7 @@ module _ (laws : Laws) (cv : Settings) (i slot a : ℕ) (e : Entry) (mine : IsTr
   own_packet : (seen : Seen) → StandsIn slot a e seen.powered → (k : Kind) → place_packet seen.powered.desk slot k ≡ entry_packet k a e
   own_packet seen stands k =
       ap (λ (b : ℕ). entry_packet k b (entry_of (row_of seen.powered.desk slot))) stands.address
-      ∙ same_packet k a (entry_of (row_of seen.powered.desk slot)) e (record { kind = stands.kind; spd = stands.spd; dirf = stands.dirf; snd = stands.snd })
+      ∙ same_packet k a (entry_of (row_of seen.powered.desk slot)) e (record { kind = stands.kind; spd = stands.spd; dirf = stands.dirf; snd = stands.snd; more = stands.more })
 
   -- the packet of a refreshed slot
   of_slot : (seen : Seen) → IsDesk seen.powered.desk → StandsIn slot a e seen.powered → IsLive slot seen.powered → (n : ℕ) (k : Kind) → is_refreshed seen.powered.desk n ≡ true → IsHarmless (place_packet seen.powered.desk n k)
@@ -225,6 +230,7 @@ module _ (laws : Laws) (cv : Settings) (i slot a : ℕ) (e : Entry) (mine : IsTr
       has_speed = has_packet kind.Speed seen cycle desks stands live misses (sends kind.Speed);
       has_group_one = has_packet kind.GroupOne seen cycle desks stands live misses (sends kind.GroupOne);
       has_group_two = has_packet kind.GroupTwo seen cycle desks stands live misses (sends kind.GroupTwo);
+      has_group_three = has_packet kind.GroupThree seen cycle desks stands live misses (sends kind.GroupThree);
     }
 
     settled_as : (r : Running) → runs cv r (heard i seen cycle) ≡ wanted e cv.reversed
@@ -246,7 +252,7 @@ settled laws cv i slot a e mine steps seen known follows desk cycle full misses 
     let legal : IsRow row = (laws.rows seen.powered.desk desk).legal slot in
     let first : Entry = entry_of row in
     let as_first : (p : PoweredDesk) → StandsIn slot a e p → StandsIn slot a first p =
-    λ p there. record { address = there.address; kind = there.kind ∙ sym here.kind; spd = there.spd ∙ sym here.spd; dirf = there.dirf ∙ sym here.dirf; snd = there.snd ∙ sym here.snd } in
+    λ p there. record { address = there.address; kind = there.kind ∙ sym here.kind; spd = there.spd ∙ sym here.spd; dirf = there.dirf ∙ sym here.dirf; snd = there.snd ∙ sym here.snd; more = there.more ∙ sym here.more } in
     settled_as laws cv i slot a first mine
     (subst (AgreesInSteps cv) (sym here.kind) steps)
     (entry_in row legal held)
@@ -256,7 +262,7 @@ settled laws cv i slot a e mine steps seen known follows desk cycle full misses 
     live
     (λ k. laws.coverage seen calls slot k full.is_slot (cycle_here slot seen known calls follows own full.full))
     misses r
-    ∙ same_wanted cv.reversed first e (record { kind = here.kind; spd = here.spd; dirf = here.dirf; snd = here.snd })
+    ∙ same_wanted cv.reversed first e (record { kind = here.kind; spd = here.spd; dirf = here.dirf; snd = here.snd; more = here.more })
 
 -- ---- what is known, part by part
 
@@ -291,7 +297,7 @@ turns-append [] later = omega arith
 turns-append (call ∷ calls) later = let rest : turns_in (calls ++ later) ≡ turns_in calls + turns_in later = turns-append calls later in omega (arith, rest)
 
 -- what is behind one turn of a cycle is a cycle, where the cycle has a turn more than it needs
-cycle_behind : (slot a : ℕ) (e : Entry) (known : Known) (calls later : List Call) → turns_in calls ≡ 1 → IsCycleOf slot a e known (calls ++ later) → 12 * slots_refreshed known (calls ++ later) + 1 ≤ turns_in (calls ++ later) → IsCycleOf slot a e (told_all known calls) later
+cycle_behind : (slot a : ℕ) (e : Entry) (known : Known) (calls later : List Call) → turns_in calls ≡ 1 → IsCycleOf slot a e known (calls ++ later) → 4 * kinds * slots_refreshed known (calls ++ later) + 1 ≤ turns_in (calls ++ later) → IsCycleOf slot a e (told_all known calls) later
 cycle_behind slot a e known calls later one full more =
     let count : slots_refreshed (told_all known calls) later ≤ slots_refreshed known (calls ++ later) =
     fewer_pass (ever_refreshed (told_all known calls) later) (ever_refreshed known (calls ++ later)) all_slots (ever_behind known calls later) in
@@ -396,7 +402,7 @@ module _ (laws : Laws) (i slot a : ℕ) (e : Entry) (cv : Settings) (mine : IsTr
       let whole : HearsAll (Whole told.0 ∷ []) old new = subst (λ (ss : List Sound). HearsAll ss old new) sounds hears in
       subst IsBetween (sym whole.2) whole.1.settles
 
-  over_longer_cycle : (seen : Seen) (known : Known) → Follows seen known → HasDesk seen.powered → (cycle : List Event) → IsCycleOf slot a e known (calls_in cycle) → 12 * slots_refreshed known (calls_in cycle) + 1 ≤ turns_in (calls_in cycle)
+  over_longer_cycle : (seen : Seen) (known : Known) → Follows seen known → HasDesk seen.powered → (cycle : List Event) → IsCycleOf slot a e known (calls_in cycle) → 4 * kinds * slots_refreshed known (calls_in cycle) + 1 ≤ turns_in (calls_in cycle)
       → MissesNone i cycle → NoNoise i cycle → (old new : Node) → spec_of old ≡ LocoSpec cv → HearsAll (sounds_in i seen cycle) old new → (running_of new ≡ Some (wanted e cv.reversed)) × IsBetween new
   over_longer_cycle seen known follows desk cycle full more misses quiet old new made hears =
       let cut : FirstTurn cycle = first_turn cycle (omega (arith, more)) in
@@ -409,13 +415,13 @@ module _ (laws : Laws) (i slot a : ℕ) (e : Entry) (cv : Settings) (mine : IsTr
       let known_after : Known = told_all known_at (TurnCall ∷ []) in
       let calls : calls_in cycle ≡ calls_in cut.front ++ (TurnCall ∷ calls_in cut.rest) = ap calls_in cut.parts ∙ calls-append cut.front behind in
       let full_parts : IsCycleOf slot a e known (calls_in cut.front ++ (TurnCall ∷ calls_in cut.rest)) = subst (IsCycleOf slot a e known) calls full in
-      let more_parts : 12 * slots_refreshed known (calls_in cut.front ++ (TurnCall ∷ calls_in cut.rest)) + 1 ≤ turns_in (calls_in cut.front ++ (TurnCall ∷ calls_in cut.rest)) =
-      subst (λ (cs : List Call). 12 * slots_refreshed known cs + 1 ≤ turns_in cs) calls more in
+      let more_parts : 4 * kinds * slots_refreshed known (calls_in cut.front ++ (TurnCall ∷ calls_in cut.rest)) + 1 ≤ turns_in (calls_in cut.front ++ (TurnCall ∷ calls_in cut.rest)) =
+      subst (λ (cs : List Call). 4 * kinds * slots_refreshed known cs + 1 ≤ turns_in cs) calls more in
       let regroup : calls_in cut.front ++ (TurnCall ∷ calls_in cut.rest) ≡ (calls_in cut.front ++ TurnCall ∷ []) ++ calls_in cut.rest = sym (append_assoc (calls_in cut.front) (TurnCall ∷ []) (calls_in cut.rest)) in
       let one : turns_in (calls_in cut.front ++ TurnCall ∷ []) ≡ 1 = let count : turns_in (calls_in cut.front ++ TurnCall ∷ []) ≡ turns_in (calls_in cut.front) + 1 = turns-append (calls_in cut.front) (TurnCall ∷ []) in omega (arith, count, cut.before) in
       let rest_cycle : IsCycleOf slot a e (told_all known (calls_in cut.front ++ TurnCall ∷ [])) (calls_in cut.rest) =
       cycle_behind slot a e known (calls_in cut.front ++ TurnCall ∷ []) (calls_in cut.rest) one (subst (IsCycleOf slot a e known) regroup full_parts)
-      (subst (λ (cs : List Call). 12 * slots_refreshed known cs + 1 ≤ turns_in cs) regroup more_parts) in
+      (subst (λ (cs : List Call). 4 * kinds * slots_refreshed known cs + 1 ≤ turns_in cs) regroup more_parts) in
       let follows_at : Follows at_turn known_at = subst (λ (s : Seen). Follows s known_at) (sym (after_is seen cut.front)) (follows_behind seen known (calls_in cut.front) follows) in
       let follows_after : Follows after known_after = λ later. follows_at (TurnCall ∷ later) in
       let desk_at : HasDesk at_turn.powered = desk_after_events laws seen cut.front desk in

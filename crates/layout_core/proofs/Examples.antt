@@ -12,7 +12,7 @@ use Rattle.layout_core.specs.Served.{ended_line, served_events, traced_from, wri
 use Rattle.layout_core.specs.Wanted.{wanted}
 
 entry : (kind spd dirf snd : ℕ) → Entry
-entry kind spd dirf snd = record { state = state_of_number 3; kind = kind; spd = spd; dirf = dirf; snd = snd; ss2 = 0; id1 = 0; id2 = 0 }
+entry kind spd dirf snd = record { state = state_of_number 3; kind = kind; spd = spd; dirf = dirf; snd = snd; more = 0; ss2 = 0; id1 = 0; id2 = 0 }
 
 -- SPD 40 is step 63 of 128, 14 of 28 and 7 of 14
 in_128_steps : wanted (entry 3 0x40 0 0) false ≡ record { motion = Step S128 63; forward = true; functions = 0 }
@@ -48,6 +48,11 @@ at_once = refl
 functions_of_both : wanted (entry 3 0x20 0x10 5) false ≡ record { motion = Step S128 31; forward = true; functions = 0b10100001 }
 unfolding entry
 functions_of_both = refl
+
+-- and F9
+functions_of_all : wanted (record (entry 3 0x20 0x10 5) { more = 1 }) false ≡ record { motion = Step S128 31; forward = true; functions = 0b1010100001 }
+unfolding entry
+functions_of_all = refl
 
 -- two bytes with a turn after each: power comes on with the second
 two_bytes : served_events 0 1 (0x83 ∷ 0x7C ∷ []) ≡ Byte 0 0x83 ∷ Turn 0 ∷ Byte 0 0x7C ∷ Turn 0 ∷ []

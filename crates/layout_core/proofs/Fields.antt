@@ -1,5 +1,5 @@
--- Each packet of an entry sets its fields and keeps the others, so that all three together settle a decoder.
-use Rattle.std.proofs.Common.{◌≡◌, IsTrue, ◌⊎◌, ℕ, ◌+◌, ◌*◌, ◌/◌, ◌%◌, ◌<◌, ◌==◌, ◌||◌, Bool, true, false, if◌then◌else◌, List, [], ◌∷◌, Some, None, zero, suc, refl, sym, ap, subst, ◌∙◌, arith, inl, inr}
+-- Each packet of an entry sets its fields and keeps the others, so that all together settle a decoder.
+use Rattle.std.proofs.Common.{◌≡◌, IsTrue, ◌⊎◌, ℕ, ◌+◌, ◌*◌, ◌/◌, ◌%◌, ◌^◌, ◌<◌, ◌==◌, ◌||◌, Bool, true, false, if◌then◌else◌, List, [], ◌∷◌, Some, None, zero, suc, refl, sym, ap, subst, ◌∙◌, arith, inl, inr}
 use Rattle.std.proofs.lemmas.Bool.{cases_Bool, both_ways, cond-true, cond-false}
 use Rattle.std.proofs.lemmas.List.Elements.{recursion_from_All}
 use Rattle.std.specs.Prelude.{Contains, unwrap_or}
@@ -10,18 +10,18 @@ use Rattle.dcc_packet.specs.declared.steps.Steps.TheVariants.{S14, S28, S128}
 use Rattle.dcc_packet.specs.declared.steps.Motion.{Motion}
 use Rattle.dcc_packet.specs.Address.{is_legal}
 use Rattle.dcc_packet.specs.Form.{bit}
-use Rattle.dcc_packet.specs.Sent.{speed_bytes, group_one_bytes, group_two_bytes}
+use Rattle.dcc_packet.specs.Sent.{speed_bytes, group_one_bytes, group_two_bytes, group_three_bytes}
 use Rattle.dcc_packet.specs.Steps.{motion_of}
 use Rattle.slot_table.specs.Entry.{Entry}
-use Rattle.station_core.specs.Packets.{address_sent, is_lit, speed_packet, group_one_packet, group_two_packet}
+use Rattle.station_core.specs.Packets.{address_sent, is_lit, speed_packet, group_one_packet, group_two_packet, group_three_packet}
 use Rattle.station_core.specs.Asking.{steps_asked, is_forward, functions_asked}
 use Rattle.decoder_cv.specs.Settings.{Settings}
 use Rattle.decoder_node.specs.declared.running.Running.{Running}
 use Rattle.decoder_node.specs.Bits.{with_bits}
 use Rattle.decoder_node.specs.Obey.{is_own, lit, obey, runs}
 use Rattle.layout_core.specs.Wanted.{wanted}
-use Rattle.layout_core.specs.Settling.{IsPacketOf, speed, group_one, group_two, LeavesAsItIs, IsAskedBy, TellsAll}
-use Rattle.layout_core.proofs.Told.{Spelling, Speeds, run_by, motion-fits, own-sent, legal-sent, bit-lowest, own-speed_14, own-speed_28, own-speed_128, own-group_one, own-group_two}
+use Rattle.layout_core.specs.Settling.{IsPacketOf, speed, group_one, group_two, group_three, LeavesAsItIs, IsAskedBy, TellsAll}
+use Rattle.layout_core.proofs.Told.{Spelling, Speeds, run_by, motion-fits, own-sent, legal-sent, bit-lowest, own-speed_14, own-speed_28, own-speed_128, own-group_one, own-group_two, own-group_three}
 
 -- what each packet sets, as a fact that no other packet undoes
 record SpeedSet (cv : Settings) (want r : Running) : Type 0 where
@@ -34,7 +34,10 @@ record OneSet (cv : Settings) (want r : Running) : Type 0 where
   f0 : cv.fourteen ≡ false → r.functions % 2 ≡ want.functions % 2
 
 record TwoSet (want r : Running) : Type 0 where
-  high : r.functions / 32 ≡ want.functions / 32 % 16
+  high : r.functions / 32 % 16 ≡ want.functions / 32 % 16
+
+record ThreeSet (want r : Running) : Type 0 where
+  top : r.functions / 512 ≡ want.functions / 512 % 16
 
 -- what each packet makes of a state
 record AfterSpeed (cv : Settings) (want r t : Running) : Type 0 where
@@ -54,6 +57,13 @@ record AfterTwo (want r t : Running) : Type 0 where
   motion : t.motion ≡ r.motion
   forward : t.forward ≡ r.forward
   low : t.functions % 32 ≡ r.functions % 32
+  rest : t.functions / 512 ≡ r.functions / 512
+
+record AfterThree (want r t : Running) : Type 0 where
+  sets : ThreeSet want t
+  motion : t.motion ≡ r.motion
+  forward : t.forward ≡ r.forward
+  low : t.functions % 512 ≡ r.functions % 512
 
 -- the decoder reads 14 steps where these steps are 14
 abbrev Agrees : Bool → Steps → Type 0
@@ -121,6 +131,15 @@ module _ (laws : Spelling) (cv : Settings) (address : Address) (legal : IsTrue (
     motion = refl;
     forward = refl;
     low = omega arith;
+    rest = omega arith;
+  })
+
+  three_after : AfterThree want r (obey cv r (group_three_bytes address want.functions))
+  three_after = subst (λ (t : Running). AfterThree want r t) (sym (own-group_three laws cv address legal r mine want.functions)) (record {
+    sets = record { top = omega arith };
+    motion = refl;
+    forward = refl;
+    low = omega arith;
   })
 
 -- a packet of the list
@@ -132,13 +151,14 @@ module _ (cv : Settings) (a : ℕ) (e : Entry) where
   IsKept : (Running → Type 0) → Type 0
   IsKept P = (r : Running) (packet : List ℕ) → IsHarmless cv a e packet → P r → P (obey cv r packet)
 
-  -- it is enough to see the three packets
-  kept_by : (P : Running → Type 0) → ((r : Running) → P r → P (obey cv r (speed_packet a e))) → ((r : Running) → P r → P (obey cv r (group_one_packet a e))) → ((r : Running) → P r → P (obey cv r (group_two_packet a e))) → IsKept P
+  -- it is enough to see the packets of the entry
+  kept_by : (P : Running → Type 0) → ((r : Running) → P r → P (obey cv r (speed_packet a e))) → ((r : Running) → P r → P (obey cv r (group_one_packet a e))) → ((r : Running) → P r → P (obey cv r (group_two_packet a e))) → ((r : Running) → P r → P (obey cv r (group_three_packet a e))) → IsKept P
   unfolding IsKept
-  kept_by P by_speed by_one by_two r packet (inl (speed h)) p = subst (λ (bytes : List ℕ). P (obey cv r bytes)) (sym h) (by_speed r p)
-  kept_by P by_speed by_one by_two r packet (inl (group_one h)) p = subst (λ (bytes : List ℕ). P (obey cv r bytes)) (sym h) (by_one r p)
-  kept_by P by_speed by_one by_two r packet (inl (group_two h)) p = subst (λ (bytes : List ℕ). P (obey cv r bytes)) (sym h) (by_two r p)
-  kept_by P by_speed by_one by_two r packet (inr leaves) p = subst P (sym (leaves r)) p
+  kept_by P by_speed by_one by_two by_three r packet (inl (speed h)) p = subst (λ (bytes : List ℕ). P (obey cv r bytes)) (sym h) (by_speed r p)
+  kept_by P by_speed by_one by_two by_three r packet (inl (group_one h)) p = subst (λ (bytes : List ℕ). P (obey cv r bytes)) (sym h) (by_one r p)
+  kept_by P by_speed by_one by_two by_three r packet (inl (group_two h)) p = subst (λ (bytes : List ℕ). P (obey cv r bytes)) (sym h) (by_two r p)
+  kept_by P by_speed by_one by_two by_three r packet (inl (group_three h)) p = subst (λ (bytes : List ℕ). P (obey cv r bytes)) (sym h) (by_three r p)
+  kept_by P by_speed by_one by_two by_three r packet (inr leaves) p = subst P (sym (leaves r)) p
 
   module _ (P : Running → Type 0) (kept : IsKept P) where
     stays : (packets : List (List ℕ)) (r : Running) → AllByRecursion (IsHarmless cv a e) packets → P r → P (runs cv r packets)
@@ -189,30 +209,44 @@ module _ (laws : Spelling) (speeds : Speeds) (cv : Settings) (a : ℕ) (e : Entr
   unfolding want
   after_two r = two_after laws cv (address_sent a) legal mine (wanted e cv.reversed) r
 
+  after_three : (r : Running) → AfterThree want r (obey cv r (group_three_packet a e))
+  unfolding want
+  after_three r = three_after laws cv (address_sent a) legal mine (wanted e cv.reversed) r
+
   speed_kept : IsKept cv a e (SpeedSet cv want)
   speed_kept = kept_by cv a e (SpeedSet cv want)
       (λ r h. (after_speed r).sets)
       (λ r h. let s = after_one r in record { motion = s.motion ∙ h.motion; forward = s.forward ∙ h.forward; f0 = λ b. s.low b ∙ h.f0 b })
       (λ r h. let s = after_two r in record { motion = s.motion ∙ h.motion; forward = s.forward ∙ h.forward; f0 = λ b. omega (arith, s.low, h.f0 b) })
+      (λ r h. let s = after_three r in record { motion = s.motion ∙ h.motion; forward = s.forward ∙ h.forward; f0 = λ b. omega (arith, s.low, h.f0 b) })
 
   one_kept : IsKept cv a e (OneSet cv want)
   one_kept = kept_by cv a e (OneSet cv want)
       (λ r h. let s = after_speed r in record { middle = omega (arith, s.rest, h.middle); f0 = λ b. s.low b ∙ h.f0 b })
       (λ r h. (after_one r).sets)
       (λ r h. let s = after_two r in record { middle = omega (arith, s.low, h.middle); f0 = λ b. omega (arith, s.low, h.f0 b) })
+      (λ r h. let s = after_three r in record { middle = omega (arith, s.low, h.middle); f0 = λ b. omega (arith, s.low, h.f0 b) })
 
   two_kept : IsKept cv a e (TwoSet want)
   two_kept = kept_by cv a e (TwoSet want)
       (λ r h. let s = after_speed r in record { high = omega (arith, s.rest, h.high) })
       (λ r h. let s = after_one r in record { high = omega (arith, s.rest, h.high) })
       (λ r h. (after_two r).sets)
+      (λ r h. let s = after_three r in record { high = omega (arith, s.low, h.high) })
 
-  all_set : (r : Running) → SpeedSet cv want r → OneSet cv want r → TwoSet want r → r ≡ wanted e cv.reversed
+  three_kept : IsKept cv a e (ThreeSet want)
+  three_kept = kept_by cv a e (ThreeSet want)
+      (λ r h. let s = after_speed r in record { top = omega (arith, s.rest, h.top) })
+      (λ r h. let s = after_one r in record { top = omega (arith, s.rest, h.top) })
+      (λ r h. let s = after_two r in record { top = s.rest ∙ h.top })
+      (λ r h. (after_three r).sets)
+
+  all_set : (r : Running) → SpeedSet cv want r → OneSet cv want r → TwoSet want r → ThreeSet want r → r ≡ wanted e cv.reversed
   unfolding want
-  all_set r s o t = same_running r (wanted e cv.reversed) s.motion s.forward
+  all_set r s o t u = same_running r (wanted e cv.reversed) s.motion s.forward
       (let low : r.functions % 2 ≡ functions_asked e % 2 = elim (cases_Bool cv.fourteen) [ inl b ↦ s.f0 b | inr b ↦ o.f0 b ] in
-      let top : functions_asked e < 512 = omega arith in
-      omega (arith, low, o.middle, t.high, top))
+      let top : functions_asked e < 2 ^ 13 = omega arith in
+      omega (arith, low, o.middle, t.high, u.top, top))
 
   pub settles : (start : Running) (packets : List (List ℕ)) → TellsAll cv a e packets → runs cv start packets ≡ wanted e cv.reversed
   settles start packets tells =
@@ -221,3 +255,4 @@ module _ (laws : Spelling) (speeds : Speeds) (cv : Settings) (a : ℕ) (e : Entr
       (comes cv a e (SpeedSet cv want) speed_kept (speed_packet a e) (λ r. (after_speed r).sets) packets start all tells.has_speed)
       (comes cv a e (OneSet cv want) one_kept (group_one_packet a e) (λ r. (after_one r).sets) packets start all tells.has_group_one)
       (comes cv a e (TwoSet want) two_kept (group_two_packet a e) (λ r. (after_two r).sets) packets start all tells.has_group_two)
+      (comes cv a e (ThreeSet want) three_kept (group_three_packet a e) (λ r. (after_three r).sets) packets start all tells.has_group_three)

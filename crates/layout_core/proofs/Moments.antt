@@ -1,6 +1,7 @@
 -- The moments of a station are those that throttles know.
 use Rattle.std.proofs.Common.{◌≡◌, ℕ, ◌*◌, ◌≤◌, ◌||◌, Bool, List, [], ◌∷◌, length, if◌then◌else◌, refl, ap, ap₂, sym, subst, ◌∙◌}
 use Rattle.std.specs.List.{filter}
+use Rattle.dcc_packet.specs.Kinds.{kinds}
 use Rattle.slot_table.specs.Reading.{all_slots}
 use Rattle.station_core.specs.declared.call.Call.{Call}
 use Rattle.station_core.specs.Known.{Known, told, told_all}
@@ -58,5 +59,5 @@ cycle_here slot seen known calls follows own full =
     ap (λ (slots : List ℕ). length slots) (filter_alike (ever_refreshed known calls) (ever_refreshed (known_of seen) calls) all_slots (ever_alike known (known_of seen) calls alike)) in
     record {
       live = moments_alike _ known (known_of seen) calls alike full.live;
-      enough = subst (λ (slots : ℕ). 12 * slots ≤ turns_in calls) count full.enough;
+      enough = subst (λ (slots : ℕ). 4 * kinds * slots ≤ turns_in calls) count full.enough;
     }

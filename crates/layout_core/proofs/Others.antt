@@ -5,7 +5,7 @@ use Rattle.std.proofs.lemmas.Bool.{and_parts, eqb-true, leb-true, false_from_ne_
 use Rattle.dcc_packet.specs.declared.address.Address.{Address}
 use Rattle.dcc_packet.specs.declared.address.Address.TheVariants.{Short, Long}
 use Rattle.dcc_packet.specs.declared.instr.Instr.{Instr}
-use Rattle.dcc_packet.specs.declared.instr.Instr.TheVariants.{Idle, Reset, StopAll, Speed, Speed128, GroupOne, GroupTwo, Accessory}
+use Rattle.dcc_packet.specs.declared.instr.Instr.TheVariants.{Idle, Reset, StopAll, Speed, Speed128, GroupOne, GroupTwo, GroupThree, Accessory}
 use Rattle.dcc_packet.specs.Reading.{instruction_of}
 use Rattle.dcc_packet.specs.Sent.{idle_bytes, accessory_bytes}
 use Rattle.dcc_packet.specs.Spells.{Spells, Tells}
@@ -16,8 +16,8 @@ use Rattle.decoder_cv.specs.Answering.{is_at, answers_to}
 use Rattle.decoder_cv.specs.Settings.{Settings}
 use Rattle.decoder_node.specs.declared.running.Running.{Running}
 use Rattle.decoder_node.specs.Obey.{is_own, obey, obeyed, obeyed_if}
-use Rattle.layout_core.specs.Settling.{IsPacketOf, speed, group_one, group_two, LeavesAsItIs}
-use Rattle.layout_core.proofs.Told.{Spelling, obey-told, motion-fits, own-sent, legal-sent, other-speed, other-group_one, other-group_two}
+use Rattle.layout_core.specs.Settling.{IsPacketOf, speed, group_one, group_two, group_three, LeavesAsItIs}
+use Rattle.layout_core.proofs.Told.{Spelling, obey-told, motion-fits, own-sent, legal-sent, other-speed, other-group_one, other-group_two, other-group_three}
 
 one_number : (own : Address) (a b : ℕ) → is_at own a ≡ true → is_at own b ≡ true → a ≡ b
 one_number (Short n) a b h k = sym (eqb-true n a (and_parts _ _ h).0) ∙ eqb-true n b (and_parts _ _ k).0
@@ -36,6 +36,7 @@ not_for_it laws cv b e packet is entry silent of r = by_packet of where
   by_packet (speed h) = subst (λ (bytes : List ℕ). obey cv r bytes ≡ r) (sym h) (other-speed laws cv (address_sent b) (legal-sent b is) r other (steps_asked e) (motion_asked e) (is_forward e) (is_lit e) (motion-fits (steps_asked e) e.spd entry.spd))
   by_packet (group_one h) = subst (λ (bytes : List ℕ). obey cv r bytes ≡ r) (sym h) (other-group_one laws cv (address_sent b) (legal-sent b is) r other (functions_asked e))
   by_packet (group_two h) = subst (λ (bytes : List ℕ). obey cv r bytes ≡ r) (sym h) (other-group_two laws cv (address_sent b) (legal-sent b is) r other (functions_asked e))
+  by_packet (group_three h) = subst (λ (bytes : List ℕ). obey cv r bytes ≡ r) (sym h) (other-group_three laws cv (address_sent b) (legal-sent b is) r other (functions_asked e))
 
 pub idle_leaves : Spelling → Spells idle_bytes Idle → (cv : Settings) → LeavesAsItIs cv idle_bytes
 idle_leaves laws idle cv r = obey-told laws cv r idle_bytes Idle idle
@@ -63,6 +64,7 @@ by_instr cv r packet low high (Speed address d bits) spells = absurd (loco_front
 by_instr cv r packet low high (Speed128 address d bits) spells = absurd (loco_front packet _ address spells.1 low high)
 by_instr cv r packet low high (GroupOne address bits) spells = absurd (loco_front packet _ address spells.1 low high)
 by_instr cv r packet low high (GroupTwo address bits) spells = absurd (loco_front packet _ address spells.1 low high)
+by_instr cv r packet low high (GroupThree address bits) spells = absurd (loco_front packet _ address spells.1 low high)
 by_instr cv r packet low high (Accessory number pair closed on) spells = refl
 
 by_reading : Spelling → (cv : Settings) (r : Running) (packet : List ℕ) → 128 ≤ front packet → front packet < 192 → (read : Option Instr) → instruction_of packet ≡ read → obeyed_if cv r read ≡ r

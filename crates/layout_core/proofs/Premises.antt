@@ -7,6 +7,7 @@ use Rattle.std.specs.Cmp.{nat_cmp_total}
 use Rattle.std.specs.Ordering.{eq_by_cmp, nat_cmp}
 use Rattle.std.specs.Prelude.{find}
 use Rattle.std.specs.List.{slice_index_or}
+use Rattle.dcc_packet.specs.Kinds.{kinds}
 use Rattle.dcc_packet.specs.declared.steps.Steps.TheVariants.{S128}
 use Rattle.dcc_packet.specs.declared.steps.Motion.TheVariants.{Step}
 use Rattle.ln_ops.specs.declared.row.Row.{Row}
@@ -37,7 +38,7 @@ use Rattle.layout_core.specs.Served.{served_events}
 
 -- SPD 40 in 128 steps, in use
 abbrev asked : Entry
-asked = record { state = state_of_number 3; kind = 3; spd = 0x40; dirf = 0; snd = 0; ss2 = 0; id1 = 0; id2 = 0 }
+asked = record { state = state_of_number 3; kind = 3; spd = 0x40; dirf = 0; snd = 0; more = 0; ss2 = 0; id1 = 0; id2 = 0 }
 
 -- it is asked of address 3, which stands in slot 1
 abbrev first : Desk
@@ -80,12 +81,12 @@ one_slot : (known : Known) (calls : List Call) → AtEveryMoment IsAsked known c
 unfolding all_slots
 one_slot known calls now = ap (λ (slots : List ℕ). length slots) (filter_agree _ (λ n. n == 1) (ever_alone known calls now) all_slots)
 
-is_cycle : (known : Known) (calls : List Call) → AtEveryMoment IsAsked known calls → 12 ≤ turns_in calls → IsCycleOf 1 3 asked known calls
+is_cycle : (known : Known) (calls : List Call) → AtEveryMoment IsAsked known calls → 16 ≤ turns_in calls → IsCycleOf 1 3 asked known calls
 is_cycle known calls now enough = record {
   is_slot = (omega arith, omega arith);
   full = record {
     live = at_all (IsLive 1) (λ powered is. record { running = is.runs; refreshed = is.alone 1 }) known calls now;
-    enough = subst (λ (slots : ℕ). 12 * slots ≤ turns_in calls) (sym (one_slot known calls now)) enough;
+    enough = subst (λ (slots : ℕ). 4 * kinds * slots ≤ turns_in calls) (sym (one_slot known calls now)) enough;
   };
   stands = at_all (StandsIn 1 3 asked) (λ powered is. record {
     address = ap (λ (row : Row). row.address) is.row;
@@ -93,6 +94,7 @@ is_cycle known calls now enough = record {
     spd = ap (λ (row : Row). row.spd) is.row;
     dirf = ap (λ (row : Row). row.dirf) is.row;
     snd = ap (λ (row : Row). row.snd) is.row;
+    more = ap (λ (row : Row). row.more) is.row;
   }) known calls now;
 }
 
@@ -181,13 +183,13 @@ unfolding turns
 no_noise zero = tt
 no_noise (suc n) = no_noise n
 
--- After twelve turns the locomotive runs at step 63 of 128.
-after_twelve_turns : (new : List Node) → RunsAsWanted start (turns 12) (Loco new_at_3 ∷ []) new
+-- After sixteen turns the locomotive runs at step 63 of 128.
+after_sixteen_turns : (new : List Node) → RunsAsWanted start (turns 16) (Loco new_at_3 ∷ []) new
     → running_of (slice_index_or new 0 (Loco new_at_3)) ≡ Some (record { motion = Step S128 63; forward = true; functions = 0 })
 unfolding turns
-after_twelve_turns new law =
-    law [] (turns 12) 0 1 3 asked new_at_3 (Loco new_at_3) refl (omega arith) refl refl tt (hears new_at_3 (turns 12) (none_missed 12) (no_noise 12))
-    (is_cycle start (calls_in (turns 12)) (at_turns 12) (omega arith))
+after_sixteen_turns new law =
+    law [] (turns 16) 0 1 3 asked new_at_3 (Loco new_at_3) refl (omega arith) refl refl tt (hears new_at_3 (turns 16) (none_missed 16) (no_noise 16))
+    (is_cycle start (calls_in (turns 16)) (at_turns 16) (omega arith))
 
 -- ---- another slot, and a switch
 
@@ -316,13 +318,13 @@ dirt = replicate 20 58 ++ 100 ∷ 100 ∷ []
 in_mid_packet : ¬ (IsBetween (Loco (heard_all new_at_3 dirt)))
 in_mid_packet between = cc
 
--- However the locomotive ran, and wherever its receiver was and noise left it: after thirteen turns it runs at step 63
+-- However the locomotive ran, and wherever its receiver was and noise left it: after seventeen turns it runs at step 63
 -- of 128, and no packet is under way.
-after_noise_and_turns : (loco : LocoDecoder) (new : List Node) → RunsAfterNoise start (map (Noise 0) dirt ++ turns 13) (Loco (at_3 loco) ∷ []) new
+after_noise_and_turns : (loco : LocoDecoder) (new : List Node) → RunsAfterNoise start (map (Noise 0) dirt ++ turns 17) (Loco (at_3 loco) ∷ []) new
     → (running_of (slice_index_or new 0 (Loco loco)) ≡ Some (record { motion = Step S128 63; forward = true; functions = 0 }))
     × IsBetween (slice_index_or new 0 (Loco loco))
 unfolding turns
 after_noise_and_turns loco new law =
-    law (map (Noise 0) dirt) (turns 13) 0 1 3 asked (at_3 loco) (Loco loco) refl (omega arith) refl (hears loco (turns 13) (none_missed 13) (no_noise 13))
-    (is_cycle start (calls_in (turns 13)) (at_turns 13) (omega arith))
-    (subst (λ (slots : ℕ). 12 * slots + 1 ≤ 13) (sym (one_slot start (calls_in (turns 13)) (at_turns 13))) (omega arith))
+    law (map (Noise 0) dirt) (turns 17) 0 1 3 asked (at_3 loco) (Loco loco) refl (omega arith) refl (hears loco (turns 17) (none_missed 17) (no_noise 17))
+    (is_cycle start (calls_in (turns 17)) (at_turns 17) (omega arith))
+    (subst (λ (slots : ℕ). 4 * kinds * slots + 1 ≤ 17) (sym (one_slot start (calls_in (turns 17)) (at_turns 17))) (omega arith))

@@ -10,10 +10,10 @@ use Rattle.dcc_packet.specs.declared.steps.Motion.{Motion}
 use Rattle.dcc_packet.specs.declared.steps.Motion.TheVariants.{Stop, Emergency, Step}
 use Rattle.dcc_packet.specs.Address.{is_legal}
 use Rattle.dcc_packet.specs.Form.{bit}
-use Rattle.dcc_packet.specs.Meant.{speed_instr, group_one_instr, group_two_instr}
+use Rattle.dcc_packet.specs.Meant.{speed_instr, group_one_instr, group_two_instr, group_three_instr}
 use Rattle.dcc_packet.specs.Motions.{is_motion}
 use Rattle.dcc_packet.specs.Reading.{instruction_of}
-use Rattle.dcc_packet.specs.Sent.{code_of, low_14, low_28, speed_bytes, group_one_bytes, group_two_bytes}
+use Rattle.dcc_packet.specs.Sent.{code_of, low_14, low_28, speed_bytes, group_one_bytes, group_two_bytes, group_three_bytes}
 use Rattle.dcc_packet.specs.Spells.{Spells}
 use Rattle.dcc_packet.specs.Steps.{motion_of, step_of}
 use Rattle.dcc_packet.specs.Told.{motion_told, number_28}
@@ -31,6 +31,7 @@ pub record Spelling : Type 0 where
   pub speed : (address : Address) (steps : Steps) (motion : Motion) (forward f0 : Bool) → IsTrue (is_legal address) → IsTrue (is_motion steps motion) → Spells (speed_bytes address steps motion forward f0) (speed_instr address steps motion forward f0)
   pub group_one : (address : Address) (functions : ℕ) → IsTrue (is_legal address) → Spells (group_one_bytes address functions) (group_one_instr address functions)
   pub group_two : (address : Address) (functions : ℕ) → IsTrue (is_legal address) → Spells (group_two_bytes address functions) (group_two_instr address functions)
+  pub group_three : (address : Address) (functions : ℕ) → IsTrue (is_legal address) → Spells (group_three_bytes address functions) (group_three_instr address functions)
 
 -- and which motion a decoder makes of its number
 pub record Speeds : Type 0 where
@@ -113,10 +114,15 @@ module _ (laws : Spelling) (cv : Settings) (address : Address) (legal : IsTrue (
         to-own (group_one_bytes address functions) (group_one_instr address functions)
         (record r { functions = lit cv r.functions (16 * (functions % 2) + functions / 2 % 16) }) (laws.group_one address functions legal) refl
 
-    pub own-group_two : (functions : ℕ) → obey cv r (group_two_bytes address functions) ≡ record r { functions = 32 * (functions / 32 % 16 % 16) + r.functions % 32 }
+    pub own-group_two : (functions : ℕ) → obey cv r (group_two_bytes address functions) ≡ record r { functions = with_bits r.functions 5 4 (functions / 32 % 16 % 16) }
     own-group_two functions =
         to-own (group_two_bytes address functions) (group_two_instr address functions)
-        (record r { functions = 32 * (functions / 32 % 16 % 16) + r.functions % 32 }) (laws.group_two address functions legal) refl
+        (record r { functions = with_bits r.functions 5 4 (functions / 32 % 16 % 16) }) (laws.group_two address functions legal) refl
+
+    pub own-group_three : (functions : ℕ) → obey cv r (group_three_bytes address functions) ≡ record r { functions = 512 * (functions / 512 % 16 % 16) + r.functions % 512 }
+    own-group_three functions =
+        to-own (group_three_bytes address functions) (group_three_instr address functions)
+        (record r { functions = 512 * (functions / 512 % 16 % 16) + r.functions % 512 }) (laws.group_three address functions legal) refl
 
     module _ (speeds : Speeds) (forward f0 : Bool) where
       pub own-speed_14 : (motion : Motion) → IsTrue (is_motion S14 motion) → cv.fourteen ≡ true → obey cv r (speed_bytes address S14 motion forward f0) ≡ run_by cv motion forward (with_bits r.functions 0 1 (bit f0))
@@ -165,4 +171,9 @@ module _ (laws : Spelling) (cv : Settings) (address : Address) (legal : IsTrue (
     pub other-group_two : (functions : ℕ) → obey cv r (group_two_bytes address functions) ≡ r
     other-group_two functions =
         to-other (group_two_bytes address functions) (group_two_instr address functions)
-        (record r { functions = 32 * (functions / 32 % 16 % 16) + r.functions % 32 }) (laws.group_two address functions legal) refl
+        (record r { functions = with_bits r.functions 5 4 (functions / 32 % 16 % 16) }) (laws.group_two address functions legal) refl
+
+    pub other-group_three : (functions : ℕ) → obey cv r (group_three_bytes address functions) ≡ r
+    other-group_three functions =
+        to-other (group_three_bytes address functions) (group_three_instr address functions)
+        (record r { functions = 512 * (functions / 512 % 16 % 16) + r.functions % 512 }) (laws.group_three address functions legal) refl

@@ -2,6 +2,7 @@
 -- what throttles can know.
 use Rattle.std.specs.Prelude.{ℕ, ◌≡◌, ◌+◌, ◌*◌, ◌<◌, ◌≤◌, false, List, [], ◌∷◌, ◌++◌, Some, length, IsTrue}
 use Rattle.std.specs.List.{slice_index_or}
+use Rattle.dcc_packet.specs.Kinds.{kinds}
 use Rattle.slot_table.specs.Entry.{Entry, IsSlot}
 use Rattle.slot_table.specs.Reading.{row_of}
 use Rattle.station_core.specs.declared.call.Call.{Call}
@@ -33,6 +34,7 @@ pub record StandsIn (slot a : ℕ) (e : Entry) (powered : PoweredDesk) : Type 0 
   pub spd : (row_of powered.desk slot).spd ≡ e.spd
   pub dirf : (row_of powered.desk slot).dirf ≡ e.dirf
   pub snd : (row_of powered.desk slot).snd ≡ e.snd
+  pub more : (row_of powered.desk slot).more ≡ e.more
 
 -- a full refresh cycle of an address: at every moment it stands in the same slot and the same is asked of it
 pub record IsCycleOf (slot a : ℕ) (e : Entry) (known : Known) (calls : List Call) : Type 0 where
@@ -72,5 +74,5 @@ RunsAfterNoise start events old new =
     → slice_index_or old i none ≡ Loco loco
     → HearsCycle i a e loco cycle
     → IsCycleOf slot a e (told_all start (calls_in before)) (calls_in cycle)
-    → 12 * slots_refreshed (told_all start (calls_in before)) (calls_in cycle) + 1 ≤ turns_in (calls_in cycle)
+    → 4 * kinds * slots_refreshed (told_all start (calls_in before)) (calls_in cycle) + 1 ≤ turns_in (calls_in cycle)
     → (running_of (slice_index_or new i none) ≡ Some (wanted e loco.cv.reversed)) × IsBetween (slice_index_or new i none)

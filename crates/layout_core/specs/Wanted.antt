@@ -5,7 +5,8 @@ use Rattle.station_core.specs.Asking.{motion_asked, is_forward, functions_asked}
 use Rattle.decoder_node.specs.declared.running.Running.{Running}
 
 -- How a decoder is to run that its entry asks: its motion is that of the type and SPD; it runs forward where bit 5 of
--- DIRF is 0, turned round where CV29 bit 0 is set; F0 to F8 are as in DIRF and SND, and it has no other function.
+-- DIRF is 0, turned round where CV29 bit 0 is set; F0 to F12 are as in DIRF, SND and what OPC_IMM_PACKET
+-- set, and it has no other function.
 abbrev pub wanted : Entry → Bool → Running
 wanted e reversed = record {
   motion = motion_asked e;

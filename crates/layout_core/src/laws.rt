@@ -22,7 +22,7 @@ use station_core::{
     calls_are_moves, coverage, desk_of_messages, packets_of_the_desk, stays_a_desk,
 };
 
-/// A decoder that an address and its entry concern, and that hears each of the entry's three packets, and besides
+/// A decoder that an address and its entry concern, and that hears each of the entry's packets, and besides
 /// only these and what leaves it as it is, ends as the entry wants it, however it ran before.
 pub fn settling()
     ensures { (cv : Settings) (a : ℕ) (e : Entry) (start : Running) (packets : List (List ℕ)) → IsAskedBy cv a e → TellsAll cv a e packets → runs cv start packets ≡ wanted e cv.reversed }
