@@ -107,7 +107,7 @@ fn decoders_of_one_address_run_by_their_own_settings(rt: HostRuntime) -> Result<
 #[test]
 fn one_of_two_nodes_misses_the_speed_packets(rt: HostRuntime) -> Result<(), Fail> {
     let mut nodes = nodes_of(&[at_3(2)?, at_3(2)?]);
-    let turns: [Turn; 12] = [
+    let turns: [Turn; 16] = [
         (&[0x03, 0x3F, 0xC0, 0xFC], 0b10),
         (IDLE, 0),
         (&[0x03, 0x3F, 0xC0, 0xFC], 0b10),
@@ -119,6 +119,10 @@ fn one_of_two_nodes_misses_the_speed_packets(rt: HostRuntime) -> Result<(), Fail
         (&[0x03, 0xB0, 0xB3], 0),
         (IDLE, 0),
         (&[0x03, 0xB0, 0xB3], 0),
+        (IDLE, 0),
+        (&[0x03, 0xA0, 0xA3], 0),
+        (IDLE, 0),
+        (&[0x03, 0xA0, 0xA3], 0),
         (IDLE, 0),
     ];
     hear_turns(&mut nodes, &turns)?;
@@ -183,14 +187,14 @@ const DRIVE: &[u8] = &[0xA0, 0x01, 0x40, 0x1E];
 /// DIRF 20 in slot 1: the other direction.
 const TURN_ROUND: &[u8] = &[0xA1, 0x01, 0x20, 0x7F];
 
-/// Two decoders of address 3 with their CV29, the messages on line 0, the nodes that miss each of twelve turns, what
+/// Two decoders of address 3 with their CV29, the messages on line 0, the nodes that miss each of sixteen turns, what
 /// the first turns send, and how the two run then.
 #[derive(Clone, Copy, Drop)]
 struct Story {
     name: &'static str,
     cv29: [u8; 2],
     messages: [&'static [u8]; 3],
-    missed: [u64; 12],
+    missed: [u64; 16],
     sent: &'static [&'static [u8]],
     runs: [(Motion, bool); 2],
 }
@@ -205,7 +209,7 @@ const STORIES: [Story; 4] = [
         name: "one misses the two speed packets",
         cv29: [2, 2],
         messages: [IN_USE, DRIVE, &[]],
-        missed: [0b10, 0, 0b10, 0, 0, 0, 0, 0, 0, 0, 0, 0],
+        missed: [0b10, 0, 0b10, 0, 0, 0, 0, 0, 0, 0, 0, 0, 0, 0, 0, 0],
         sent: &[
             &[0x03, 0x3F, 0xC0, 0xFC],
             IDLE,
@@ -219,6 +223,10 @@ const STORIES: [Story; 4] = [
             IDLE,
             &[0x03, 0xB0, 0xB3],
             IDLE,
+            &[0x03, 0xA0, 0xA3],
+            IDLE,
+            &[0x03, 0xA0, 0xA3],
+            IDLE,
         ],
         runs: [(DRIVEN, true), (Motion::Stop, true)],
     },
@@ -226,7 +234,7 @@ const STORIES: [Story; 4] = [
         name: "one is turned round",
         cv29: [2, 3],
         messages: [IN_USE, DRIVE, TURN_ROUND],
-        missed: [0; 12],
+        missed: [0; 16],
         sent: &[&[0x03, 0x3F, 0x40, 0x7C]],
         runs: [(DRIVEN, false), (DRIVEN, true)],
     },
@@ -234,7 +242,7 @@ const STORIES: [Story; 4] = [
         name: "all miss all turns",
         cv29: [2, 3],
         messages: [IN_USE, DRIVE, TURN_ROUND],
-        missed: [u64::MAX; 12],
+        missed: [u64::MAX; 16],
         sent: &[&[0x03, 0x3F, 0x40, 0x7C]],
         runs: [(Motion::Stop, true), (Motion::Stop, true)],
     },
@@ -242,7 +250,7 @@ const STORIES: [Story; 4] = [
         name: "bits past the last node mean nothing",
         cv29: [2, 2],
         messages: [IN_USE, DRIVE, &[]],
-        missed: [u64::MAX - 3; 12],
+        missed: [u64::MAX - 3; 16],
         sent: &[&[0x03, 0x3F, 0xC0, 0xFC]],
         runs: [(DRIVEN, true), (DRIVEN, true)],
     },
@@ -303,6 +311,24 @@ fn the_slots_reach_the_decoders_over_the_track_alone(rt: HostRuntime) -> Result<
             );
         }
     }
+    Ok(())
+}
+
+// F9 by OPC_IMM_PACKET, which the fourth packet of the slot carries.
+#[test]
+fn f9_reaches_its_locomotive(rt: HostRuntime) -> Result<(), Fail> {
+    let mut world = world_of(&rt, &[at_3(2)?])?;
+    hear_bytes(&mut world, IN_USE);
+    hear_bytes(
+        &mut world,
+        &[
+            0xED, 0x0B, 0x7F, 0x23, 0x22, 0x03, 0x21, 0x00, 0x00, 0x00, 0x45,
+        ],
+    );
+    take_turns(&mut world, 12);
+    assert_eq!(rt; state_in(&world, 0), runs(Motion::Stop, true, 0));
+    take_turns(&mut world, 4);
+    assert_eq!(rt; state_in(&world, 0), runs(Motion::Stop, true, 1 << 9));
     Ok(())
 }
 
@@ -392,10 +418,10 @@ fn a_wrong_check_drives_nothing(rt: HostRuntime) -> Result<(), Fail> {
         let mut world = world_of(&rt, &[at_3(2)?])?;
         hear_bytes(&mut world, IN_USE);
         hear_with_turns(&mut world, &[0xA0, 0x01, 0x40, 0x1F], turns);
-        take_turns(&mut world, 12);
+        take_turns(&mut world, 16);
         assert_eq!(rt; state_in(&world, 0), runs(Motion::Stop, true, 0));
         hear_with_turns(&mut world, DRIVE, turns);
-        take_turns(&mut world, 12);
+        take_turns(&mut world, 16);
         assert_eq!(rt; state_in(&world, 0), runs(DRIVEN, true, 0));
     }
     Ok(())
@@ -431,8 +457,8 @@ fn traffic_on_every_other_slot_stops_no_refresh(rt: HostRuntime) -> Result<(), F
     hear_bytes(&mut world, &[0x83, 0x7C]);
     hear_bytes(&mut world, &[0xBA, 0x77, 0x77, 0x45]);
     hear_bytes(&mut world, &[0xA0, 0x77, 0x40, 0x68]);
-    // Twelve turns for each of 119 slots.
-    for round in 0..12 {
+    // Sixteen turns for each of 119 slots.
+    for round in 0..16 {
         round_of_traffic(&mut world, round);
     }
     assert_eq!(rt; state_in(&world, 0), runs(DRIVEN, true, 0));
@@ -505,7 +531,7 @@ const DIRT: [Dirt; 3] = [
             (0, Motion::Stop),
             (1, Motion::Stop),
             (3, DRIVEN),
-            (13, DRIVEN),
+            (17, DRIVEN),
         ],
     },
     Dirt {
@@ -513,14 +539,14 @@ const DIRT: [Dirt; 3] = [
         messages: [IN_USE, &[]],
         noise: &[],
         spelt: &[&[0x03, 0x3F, 0xC0, 0xFC]],
-        after: &[(0, DRIVEN), (13, Motion::Stop)],
+        after: &[(0, DRIVEN), (17, Motion::Stop)],
     },
     Dirt {
         name: "a packet behind a start of one is lost, and the next one is heard",
         messages: [IN_USE, &[]],
         noise: PREAMBLE,
         spelt: &[&[0x03, 0x78, 0x7B], &[0x03, 0x3F, 0xC0, 0xFC]],
-        after: &[(0, DRIVEN), (13, Motion::Stop)],
+        after: &[(0, DRIVEN), (17, Motion::Stop)],
     },
 ];
 
