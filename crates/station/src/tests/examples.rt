@@ -48,7 +48,7 @@ line 0 83 7C
 line 0 BA 01 01 45
 # Speed 64 for slot 1 (OPC_LOCO_SPD): step 63 of 128.
 line 0 A0 01 40 1E
-turn 12
+turn 16
 show
 ";
 
@@ -66,7 +66,11 @@ track 9 03 B0 B3
 track 10 FF 00 FF
 track 11 03 B0 B3
 track 12 FF 00 FF
-node shunter short 3 step 63 of 128 forward F 000000000
+track 13 03 A0 A3
+track 14 FF 00 FF
+track 15 03 A0 A3
+track 16 FF 00 FF
+node shunter short 3 step 63 of 128 forward F 0000000000000
 node yard module 1 outputs 00000000
 ";
 
@@ -82,7 +86,7 @@ const THROWN: &[u8] = b"track 1 81 F9 78
 track 2 FF 00 FF
 track 3 81 F9 78
 track 4 FF 00 FF
-node shunter short 3 stop forward F 000000000
+node shunter short 3 stop forward F 0000000000000
 node yard module 1 outputs 01000000
 ";
 
@@ -92,11 +96,11 @@ line 0 BF 00 03 43 83 7C BA 01 01 45 A0 01 40 1E
 turn 1 miss 0
 turn 1
 turn 1 miss 0
-turn 9
+turn 13
 # It stands, for it has not heard otherwise.
 show
-# One full refresh cycle, 12 turns for the one slot in use, and it runs as it was last asked.
-turn 12
+# One full refresh cycle, 16 turns for the one slot in use, and it runs as it was last asked.
+turn 16
 show
 ";
 
@@ -114,21 +118,29 @@ track 9 03 B0 B3
 track 10 FF 00 FF
 track 11 03 B0 B3
 track 12 FF 00 FF
-node shunter short 3 stop forward F 000000000
-node yard module 1 outputs 00000000
-track 13 03 3F C0 FC
+track 13 03 A0 A3
 track 14 FF 00 FF
-track 15 03 80 83
+track 15 03 A0 A3
 track 16 FF 00 FF
-track 17 03 B0 B3
+node shunter short 3 stop forward F 0000000000000
+node yard module 1 outputs 00000000
+track 17 03 3F C0 FC
 track 18 FF 00 FF
-track 19 03 3F C0 FC
+track 19 03 80 83
 track 20 FF 00 FF
-track 21 03 80 83
+track 21 03 B0 B3
 track 22 FF 00 FF
-track 23 03 B0 B3
+track 23 03 A0 A3
 track 24 FF 00 FF
-node shunter short 3 step 63 of 128 forward F 000000000
+track 25 03 3F C0 FC
+track 26 FF 00 FF
+track 27 03 80 83
+track 28 FF 00 FF
+track 29 03 B0 B3
+track 30 FF 00 FF
+track 31 03 A0 A3
+track 32 FF 00 FF
+node shunter short 3 step 63 of 128 forward F 0000000000000
 node yard module 1 outputs 00000000
 ";
 
@@ -136,12 +148,14 @@ const CAPTURE: &[u8] = b"BF 00 03 43
 83 7C
 BA 01 01 45
 A0 01 40 1E
+ED 0B 7F 23 22 03 21 00 00 00 45
 ";
 
 const CAPTURED: &[u8] = b"msg BF 00 03 43 address 3
 msg 83 7C power on
 msg BA 01 01 45 move 1 1
 msg A0 01 40 1E speed slot 1 spd 64
+msg ED 0B 7F 23 22 03 21 00 00 00 45 imm 2 03 A1 00 00 00
 ";
 
 const LONG: &[u8] = b"# One locomotive at a long address.
@@ -164,7 +178,7 @@ line 0 BA 01 01 45 83 7C
 line 0 A0 01 28 76
 line 0 A1 01 30 6F
 line 0 A2 01 09 55
-turn 12
+turn 16
 show
 # Line 1 asks for the same locomotive, and sees it in use (stat 33). A null move is not refused: it steals or shares it.
 line 1 BF 09 52 1B
@@ -172,7 +186,7 @@ line 1 BA 01 01 45
 # Now both drive it: the last message counts.
 line 1 A0 01 50 0E
 line 0 A0 01 14 4A
-turn 12
+turn 16
 show
 # Line 0 puts it up for dispatch (move to slot 0): common, still refreshed. Line 1 gets it (move from slot 0).
 line 0 BA 01 00 44
@@ -203,47 +217,58 @@ track 9 C4 D2 B9 AF
 track 10 FF 00 FF
 track 11 C4 D2 B9 AF
 track 12 FF 00 FF
-node express long 1234 step 39 of 128 reverse F 100001001
-reply 1 E7 0E 01 33 52 28 30 07 00 09 09 00 00 69
-reply 1 E7 0E 01 33 52 28 30 07 00 09 09 00 00 69
-track 13 C4 D2 3F 14 3D
+track 13 C4 D2 A0 B6
 track 14 FF 00 FF
-track 15 C4 D2 3F 14 3D
+track 15 C4 D2 A0 B6
 track 16 FF 00 FF
-track 17 C4 D2 90 86
+node express long 1234 step 39 of 128 reverse F 1000010010000
+reply 1 E7 0E 01 33 52 28 30 07 00 09 09 00 00 69
+reply 1 E7 0E 01 33 52 28 30 07 00 09 09 00 00 69
+track 17 C4 D2 3F 14 3D
 track 18 FF 00 FF
-track 19 C4 D2 90 86
+track 19 C4 D2 3F 14 3D
 track 20 FF 00 FF
-track 21 C4 D2 B9 AF
+track 21 C4 D2 90 86
 track 22 FF 00 FF
-track 23 C4 D2 B9 AF
+track 23 C4 D2 90 86
 track 24 FF 00 FF
-node express long 1234 step 19 of 128 reverse F 100001001
+track 25 C4 D2 B9 AF
+track 26 FF 00 FF
+track 27 C4 D2 B9 AF
+track 28 FF 00 FF
+track 29 C4 D2 A0 B6
+track 30 FF 00 FF
+track 31 C4 D2 A0 B6
+track 32 FF 00 FF
+node express long 1234 step 19 of 128 reverse F 1000010010000
 reply 0 E7 0E 01 13 52 14 30 07 00 09 09 00 00 75
 reply 1 E7 0E 01 33 52 14 30 07 00 09 09 00 00 55
 reply 1 B4 3A 00 71
 reply 1 E7 0E 01 00 00 00 00 07 00 00 00 00 00 10
-track 25 FF 00 FF
-track 26 FF 00 FF
-track 27 FF 00 FF
-track 28 FF 00 FF
-node express long 1234 step 19 of 128 reverse F 100001001
+track 33 FF 00 FF
+track 34 FF 00 FF
+track 35 FF 00 FF
+track 36 FF 00 FF
+node express long 1234 step 19 of 128 reverse F 1000010010000
 ";
 
 const FUNCTIONS: &[u8] =
-    b"# Functions: F0 is a bit of DIRF (OPC_LOCO_DIRF), F5 to F8 are SND (OPC_LOCO_SND).
+    b"# Functions: F0 to F4 by OPC_LOCO_DIRF, F5 to F8 by OPC_LOCO_SND, F9 to F12 by OPC_IMM_PACKET.
 line 0 BF 00 03 43 83 7C BA 01 01 45
 # F0, the light: bit 4 of DIRF.
 line 0 A1 01 10 4F
 # F5 and F7: bits 0 and 2 of SND.
 line 0 A2 01 05 59
-# The speed packet, group one (F0 to F4) and group two (F5 to F8), each as a change and as a refresh.
-turn 12
+# F9 and F12: a packet of two bytes (23), 03 and A9, with bit 7 of A9 in DHI (22). A is group three, 9 the two bits.
+line 0 ED 0B 7F 23 22 03 29 00 00 00 4D
+# The speed packet, group one (F0 to F4), two (F5 to F8) and three (F9 to F12), each as a change and as a refresh.
+turn 16
 show
 ";
 
 const LIT: &[u8] = b"reply 0 E7 0E 01 23 03 00 00 06 00 00 00 00 00 31
 reply 0 E7 0E 01 33 03 00 00 07 00 00 00 00 00 20
+reply 0 B4 7D 7F 49
 track 1 03 3F 80 BC
 track 2 FF 00 FF
 track 3 03 3F 80 BC
@@ -256,7 +281,11 @@ track 9 03 B5 B6
 track 10 FF 00 FF
 track 11 03 B5 B6
 track 12 FF 00 FF
-node shunter short 3 stop forward F 100001010
+track 13 03 A9 AA
+track 14 FF 00 FF
+track 15 03 A9 AA
+track 16 FF 00 FF
+node shunter short 3 stop forward F 1000010101001
 node yard module 1 outputs 00000000
 ";
 
@@ -275,6 +304,10 @@ line 0 EF 0E 02 33 03 00 00 07 00 00 00 00 00 2B
 # OPC_SW_REQ and OPC_SW_ACK for switch 2040, above the last.
 line 0 B0 78 1F 28
 line 0 BD 78 1F 25
+# OPC_IMM_PACKET with function group three of address 4, which stands in no slot; with group two of address 3. Here the
+# byte behind B4 is 7D.
+line 0 ED 0B 7F 23 22 04 21 00 00 00 42
+line 0 ED 0B 7F 23 22 03 31 00 00 00 55
 ";
 
 const REFUSED: &[u8] = b"reply 0 B4 3F 00 74
@@ -285,6 +318,8 @@ reply 0 E7 0E 01 23 03 00 00 06 00 00 00 00 00 31
 reply 0 B4 6F 00 24
 reply 0 B4 30 00 7B
 reply 0 B4 3D 00 76
+reply 0 B4 7D 00 36
+reply 0 B4 7D 00 36
 ";
 
 #[test]

@@ -25,7 +25,7 @@ kind = \"accessory\"
 module = 1
 ";
 
-const SHOWN: &[u8] = b"node shunter short 3 stop forward F 000000000
+const SHOWN: &[u8] = b"node shunter short 3 stop forward F 0000000000000
 node yard module 1 outputs 00000000
 ";
 

@@ -1,6 +1,8 @@
-//! Scripts without a roster: replies, turns and script faults.
+//! Scripts: replies, turns and script faults.
 
 use super::run;
+use std::fs;
+use std::test::Fail;
 
 // Words, standard input, and then the status, standard output and standard error.
 type Run = (
@@ -105,4 +107,52 @@ fn scripts_end_with_their_status(rt: HostRuntime) {
         assert_eq!(rt; ran.output.as_slice(), printed, "of {text:?}");
         assert_eq!(rt; ran.faults.as_slice(), fault, "of {text:?}");
     }
+}
+
+const ONE_LOCOMOTIVE: &[u8] = b"version = 1
+[[node]]
+name = \"a\"
+kind = \"loco\"
+cv1 = 3
+cv29 = 2
+";
+
+const F9_ON: &[u8] = b"line 0 BF 00 03 43 83 7C BA 01 01 45
+line 0 ED 0B 7F 23 22 03 21 00 00 00 45
+turn 16
+show
+";
+
+const F9_SENT: &[u8] = b"reply 0 E7 0E 01 23 03 00 00 06 00 00 00 00 00 31
+reply 0 E7 0E 01 33 03 00 00 07 00 00 00 00 00 20
+reply 0 B4 7D 7F 49
+track 1 03 3F 80 BC
+track 2 FF 00 FF
+track 3 03 3F 80 BC
+track 4 FF 00 FF
+track 5 03 80 83
+track 6 FF 00 FF
+track 7 03 80 83
+track 8 FF 00 FF
+track 9 03 B0 B3
+track 10 FF 00 FF
+track 11 03 B0 B3
+track 12 FF 00 FF
+track 13 03 A1 A2
+track 14 FF 00 FF
+track 15 03 A1 A2
+track 16 FF 00 FF
+node a short 3 stop forward F 0000000001000
+";
+
+#[test]
+fn f9_in_sixteen_turns(rt: HostRuntime) -> Result<(), Fail> {
+    let file = "station-test-one.toml";
+    fs::write(&rt, file, ONE_LOCOMOTIVE)?;
+    let ran = run(&rt, &["replay", "--roster", file], F9_ON);
+    fs::remove_file(&rt, file)?;
+    assert_eq!(rt; ran.faults.as_slice(), b"".as_slice());
+    assert_eq!(rt; ran.output.as_slice(), F9_SENT);
+    assert_eq!(rt; ran.status, 0);
+    Ok(())
 }
