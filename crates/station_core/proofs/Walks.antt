@@ -10,7 +10,7 @@ use Rattle.refresh_ring.specs.Places.{is_refreshed as is_slot_on}
 use Rattle.refresh_ring.specs.Jobs.{requests_in, sends_ahead}
 use Rattle.refresh_ring.specs.Scheduled.{Scheduled, after_changed, after_switch, with_request}
 use Rattle.refresh_ring.specs.Picked.{picked, turned}
-use Rattle.refresh_ring.specs.Left.{turns_ahead, turns_for}
+use Rattle.refresh_ring.specs.Left.{turns_ahead, turns_for, turns_to_empty}
 use Rattle.refresh_ring.specs.Sent.{to_send, switch_in, LessLeft}
 use Rattle.refresh_ring.specs.declared.kind.Kind.{Kind}
 use Rattle.refresh_ring.specs.declared.job.Job.{Job}
@@ -246,5 +246,5 @@ module _ (falls : (addresses : List ℕ) (s : Scheduled) (front back : List Job)
         subst (λ (xs : List Pick). IsFront xs (picks_sent seen (Turn ∷ calls))) sends (front_more (switch_in (turn_of seen).answer) (to_send less.left) (picks_sent (state_of seen Turn) calls) rest)
   ]
 
-  pub all_sent : (start : Seen) (calls : List Call) → turns_for start.jobs (scheduled start) ≤ 2160 + 4 → AtEach Runs start calls → 2160 ≤ turns_in calls → IsFront (to_send start.jobs) (picks_sent start calls)
+  pub all_sent : (start : Seen) (calls : List Call) → turns_for start.jobs (scheduled start) ≤ turns_to_empty + 4 → AtEach Runs start calls → turns_to_empty ≤ turns_in calls → IsFront (to_send start.jobs) (picks_sent start calls)
   all_sent start calls few runs enough = drains start.jobs [] start calls (sym (append-nil start.jobs)) runs (omega arith)

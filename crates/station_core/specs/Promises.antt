@@ -7,6 +7,7 @@ use Rattle.ln_ops.specs.declared.op.Op.{Op}
 use Rattle.ln_ops.specs.declared.op.Op.TheVariants.{PowerOff, PowerOn, ForceIdle, Speed, Dirf, Snd, SwReq, SwAck, LongAck, SlotStat, Move, SlotRead, LocoAddr, SlotData, SlotWrite, Imm, Other}
 use Rattle.slot_table.specs.Entry.{IsSlot}
 use Rattle.refresh_ring.specs.Jobs.{requests_in, sends_ahead}
+use Rattle.refresh_ring.specs.Left.{turns_to_empty}
 use Rattle.refresh_ring.specs.Sent.{to_send}
 use Rattle.refresh_ring.specs.declared.kind.Kind.{Kind}
 use Rattle.refresh_ring.specs.declared.pick.Pick.{Pick}
@@ -107,7 +108,7 @@ IsRunning powered = powered.power ≡ Running
 abbrev pub IsFrontOf : List (List ℕ) → List (List ℕ) → Type 0
 IsFrontOf front all = (rest : List (List ℕ)) × (front ++ rest ≡ all)
 
--- and in 2,160 turns while power runs all that was to send was sent
+-- and in as many turns as empty any queue, 2,160, while power runs all that was to send was sent
 abbrev pub SwitchesAreSent : Seen → List Call → Type 0
 SwitchesAreSent start calls =
-    AtEveryMoment IsRunning (known_of start) calls → 2160 ≤ turns_in calls → IsFrontOf (packets_for (to_send start.jobs)) (switches_sent start calls)
+    AtEveryMoment IsRunning (known_of start) calls → turns_to_empty ≤ turns_in calls → IsFrontOf (packets_for (to_send start.jobs)) (switches_sent start calls)

@@ -203,7 +203,7 @@ impl Station {
             → carried_out_on line (known_of self.old) calls.now ≡ messages_of (line_of self.old line ++ bytes_on line calls.now) }
         // At each moment no address has two slots, and each slot that is not free has its entry.
         ensures desks { AtEveryMoment HasDesk (known_of self.old) calls.now }
-        // In a full refresh cycle of a slot each of its three packets is sent.
+        // In a full refresh cycle of a slot each of its packets is sent.
         ensures coverage { Covers self.old calls.now }
         // No two neighbouring packets go to one locomotive address or one module.
         ensures neighbours { NeighboursApart self.old calls.now }

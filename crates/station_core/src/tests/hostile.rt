@@ -1,6 +1,8 @@
 //! Bytes that no honest throttle sends. After any of them the power comes on as on a new station.
 
-use super::{AT_FIRST, Conversation, DRIVES, IN_USE, Part, WITH_A_LOCOMOTIVE};
+use super::conversations::{AT_FIRST, WITH_A_LOCOMOTIVE};
+use super::drives::{DRIVES, Drive, Part};
+use super::{Conversation, IN_USE};
 use crate::{Power, Station};
 use ln_frame::Framer;
 use ln_ops::{Op, read};
@@ -117,31 +119,49 @@ fn power_runs_after_each_front(
     Ok(())
 }
 
+/// Each conversation cut anywhere, behind another.
+fn cuts_conversations(
+    rt: &impl Abort,
+    alloc: Global,
+    before: Conversation,
+    conversations: &[(&str, Conversation)],
+) -> Result<(), Fail> {
+    for (name, conversation) in conversations {
+        let mut bytes = Vec::new(alloc);
+        sent_in(&mut bytes, before)?;
+        sent_in(&mut bytes, conversation)?;
+        power_runs_after_each_front(rt, alloc, name, bytes.as_slice())?;
+    }
+    Ok(())
+}
+
+/// The bytes that a throttle sends in a drive, behind some.
+fn said_in(bytes: &mut Vec<u8>, parts: &[Part]) -> Result<(), Fail> {
+    for part in parts {
+        if let Part::Says(sent) = part {
+            bytes.extend_from_slice(sent)?;
+        }
+    }
+    Ok(())
+}
+
+/// Each drive cut anywhere.
+fn cuts_drives(rt: &impl Abort, alloc: Global, drives: &[Drive]) -> Result<(), Fail> {
+    for (name, in_use, parts) in drives {
+        let mut bytes = Vec::new(alloc);
+        if *in_use {
+            sent_in(&mut bytes, IN_USE)?;
+        }
+        said_in(&mut bytes, parts)?;
+        power_runs_after_each_front(rt, alloc, name, bytes.as_slice())?;
+    }
+    Ok(())
+}
+
 #[test]
 fn examples_cut_anywhere(rt: HostRuntime) -> Result<(), Fail> {
     let alloc = rt.alloc();
-    for (name, conversation) in AT_FIRST {
-        let mut bytes = Vec::new(alloc);
-        sent_in(&mut bytes, conversation)?;
-        power_runs_after_each_front(&rt, alloc, name, bytes.as_slice())?;
-    }
-    for (name, conversation) in WITH_A_LOCOMOTIVE {
-        let mut bytes = Vec::new(alloc);
-        sent_in(&mut bytes, IN_USE)?;
-        sent_in(&mut bytes, conversation)?;
-        power_runs_after_each_front(&rt, alloc, name, bytes.as_slice())?;
-    }
-    for (name, in_use, parts) in DRIVES {
-        let mut bytes = Vec::new(alloc);
-        if in_use {
-            sent_in(&mut bytes, IN_USE)?;
-        }
-        for part in parts {
-            if let Part::Says(sent) = part {
-                bytes.extend_from_slice(sent)?;
-            }
-        }
-        power_runs_after_each_front(&rt, alloc, name, bytes.as_slice())?;
-    }
-    Ok(())
+    cuts_conversations(&rt, alloc, &[], AT_FIRST)?;
+    cuts_conversations(&rt, alloc, IN_USE, WITH_A_LOCOMOTIVE)?;
+    cuts_drives(&rt, alloc, DRIVES)
 }

@@ -1,0 +1,292 @@
+//! What a throttle says, and the packets of the turns.
+
+use super::{put_in_use, say};
+use crate::Station;
+use std::alloc::Global;
+use std::process::Abort;
+use std::test::Fail;
+
+/// What a throttle sends, or the packet of the next turn, nothing where the list is empty.
+#[derive(Clone, Copy)]
+pub(super) enum Part {
+    Says(&'static [u8]),
+    Sends(&'static [u8]),
+}
+
+/// Its name, whether slot 1 is in use before, and what then comes.
+pub(super) type Drive = (&'static str, bool, &'static [Part]);
+
+pub(super) const DRIVES: &[Drive] = &[
+    (
+        "the speed of a new locomotive",
+        true,
+        &[
+            Part::Says(&[0xA0, 0x01, 0x40, 0x1E]),
+            Part::Sends(&[0x03, 0x3F, 0xC0, 0xFC]),
+            Part::Says(&[0xB5, 0x01, 0x30, 0x7B]),
+            Part::Sends(&[0xFF, 0x00, 0xFF]),
+            Part::Sends(&[0x03, 0x78, 0x7B]),
+        ],
+    ),
+    (
+        "the same bytes with 14 steps",
+        true,
+        &[
+            Part::Says(&[0xB5, 0x01, 0x32, 0x79]),
+            Part::Says(&[0xA0, 0x01, 0x40, 0x1E]),
+            Part::Sends(&[0x03, 0x68, 0x6B]),
+            Part::Says(&[0xA1, 0x01, 0x10, 0x4F]),
+            Part::Sends(&[0xFF, 0x00, 0xFF]),
+            Part::Sends(&[0x03, 0x78, 0x7B]),
+        ],
+    ),
+    (
+        "direction and reverse",
+        true,
+        &[
+            Part::Says(&[0xA0, 0x01, 0x40, 0x1E]),
+            Part::Says(&[0xA1, 0x01, 0x20, 0x7F]),
+            Part::Sends(&[0x03, 0x3F, 0x40, 0x7C]),
+        ],
+    ),
+    (
+        "a pause, power on and off",
+        true,
+        &[
+            Part::Says(&[0x85, 0x7A]),
+            Part::Sends(&[0x00, 0x51, 0x51]),
+            Part::Says(&[0x83, 0x7C]),
+            Part::Sends(&[0x03, 0x3F, 0x80, 0xBC]),
+            Part::Says(&[0x82, 0x7D]),
+            Part::Sends(&[]),
+        ],
+    ),
+    (
+        "the twelve turns of two locomotives",
+        false,
+        &[
+            Part::Says(&[0xBF, 0x00, 0x03, 0x43]),
+            Part::Says(&[0xBF, 0x00, 0x04, 0x44]),
+            Part::Says(&[0x83, 0x7C]),
+            Part::Says(&[0xBA, 0x01, 0x01, 0x45]),
+            Part::Says(&[0xBA, 0x02, 0x02, 0x45]),
+            Part::Sends(&[0x03, 0x3F, 0x80, 0xBC]),
+            Part::Sends(&[0xFF, 0x00, 0xFF]),
+            Part::Sends(&[0x03, 0x3F, 0x80, 0xBC]),
+            Part::Sends(&[0xFF, 0x00, 0xFF]),
+            Part::Sends(&[0x03, 0x80, 0x83]),
+            Part::Sends(&[0x04, 0x3F, 0x80, 0xBB]),
+            Part::Sends(&[0x03, 0xB0, 0xB3]),
+            Part::Sends(&[0xFF, 0x00, 0xFF]),
+            Part::Sends(&[0x03, 0x80, 0x83]),
+            Part::Sends(&[0xFF, 0x00, 0xFF]),
+            Part::Sends(&[0x03, 0xA0, 0xA3]),
+            Part::Sends(&[0x04, 0x80, 0x84]),
+        ],
+    ),
+    (
+        "an idle slot is not refreshed",
+        false,
+        &[
+            Part::Says(&[0x83, 0x7C]),
+            Part::Says(&[0xBF, 0x00, 0x03, 0x43]),
+            Part::Sends(&[0xFF, 0x00, 0xFF]),
+            Part::Sends(&[0xFF, 0x00, 0xFF]),
+        ],
+    ),
+    (
+        "one switch request",
+        false,
+        &[
+            Part::Says(&[0x83, 0x7C]),
+            Part::Says(&[0xB0, 0x00, 0x30, 0x7F]),
+            Part::Sends(&[0x81, 0xF9, 0x78]),
+            Part::Sends(&[0xFF, 0x00, 0xFF]),
+            Part::Sends(&[0x81, 0xF9, 0x78]),
+            Part::Sends(&[0xFF, 0x00, 0xFF]),
+        ],
+    ),
+    (
+        "the last switch, thrown",
+        false,
+        &[
+            Part::Says(&[0x83, 0x7C]),
+            Part::Says(&[0xB0, 0x77, 0x1F, 0x27]),
+            Part::Sends(&[0xBE, 0x8E, 0x30]),
+        ],
+    ),
+    (
+        "two switch requests",
+        false,
+        &[
+            Part::Says(&[0x83, 0x7C]),
+            Part::Says(&[0xB0, 0x00, 0x30, 0x7F]),
+            Part::Says(&[0xB0, 0x04, 0x30, 0x7B]),
+            Part::Sends(&[0x81, 0xF9, 0x78]),
+            Part::Sends(&[0xFF, 0x00, 0xFF]),
+            Part::Sends(&[0x81, 0xF9, 0x78]),
+            Part::Sends(&[0x82, 0xF9, 0x7B]),
+            Part::Sends(&[0xFF, 0x00, 0xFF]),
+            Part::Sends(&[0x82, 0xF9, 0x7B]),
+            Part::Sends(&[0xFF, 0x00, 0xFF]),
+        ],
+    ),
+    (
+        "the long address 10239",
+        false,
+        &[
+            Part::Says(&[0x83, 0x7C]),
+            Part::Says(&[0xBF, 0x4F, 0x7F, 0x70]),
+            Part::Says(&[0xBA, 0x01, 0x01, 0x45]),
+            Part::Sends(&[0xE7, 0xFF, 0x3F, 0x80, 0xA7]),
+        ],
+    ),
+    (
+        "the long address 1234",
+        false,
+        &[
+            Part::Says(&[0x83, 0x7C]),
+            Part::Says(&[0xBF, 0x09, 0x52, 0x1B]),
+            Part::Says(&[0xBA, 0x01, 0x01, 0x45]),
+            Part::Says(&[0xA0, 0x01, 0x40, 0x1E]),
+            Part::Sends(&[0xC4, 0xD2, 0x3F, 0xC0, 0xE9]),
+        ],
+    ),
+    (
+        "a slot write of a locomotive in use",
+        true,
+        &[
+            Part::Says(&[
+                0xEF, 0x0E, 0x02, 0x33, 0x04, 0x20, 0x10, 0x07, 0x00, 0x00, 0x05, 0x00, 0x00, 0x19,
+            ]),
+            Part::Sends(&[0x03, 0x3F, 0x80, 0xBC]),
+            Part::Sends(&[0xFF, 0x00, 0xFF]),
+            Part::Sends(&[0x03, 0x3F, 0x80, 0xBC]),
+            Part::Sends(&[0xFF, 0x00, 0xFF]),
+            Part::Sends(&[0x03, 0x80, 0x83]),
+            Part::Sends(&[0x04, 0x3F, 0xA0, 0x9B]),
+            Part::Sends(&[0x03, 0xB0, 0xB3]),
+            Part::Sends(&[0xFF, 0x00, 0xFF]),
+            Part::Sends(&[0x03, 0x80, 0x83]),
+            Part::Sends(&[0xFF, 0x00, 0xFF]),
+            Part::Sends(&[0x03, 0xA0, 0xA3]),
+            Part::Sends(&[0x04, 0x90, 0x94]),
+            Part::Sends(&[0xFF, 0x00, 0xFF]),
+            Part::Sends(&[0x04, 0x3F, 0xA0, 0x9B]),
+            Part::Sends(&[0x03, 0xB0, 0xB3]),
+            Part::Sends(&[0x04, 0x90, 0x94]),
+            Part::Sends(&[0xFF, 0x00, 0xFF]),
+            Part::Sends(&[0x04, 0xB5, 0xB1]),
+            Part::Sends(&[0xFF, 0x00, 0xFF]),
+            Part::Sends(&[0x04, 0xB5, 0xB1]),
+            Part::Sends(&[0x03, 0xA0, 0xA3]),
+            Part::Sends(&[0x04, 0xA0, 0xA4]),
+        ],
+    ),
+    (
+        "F9 of a locomotive in use",
+        true,
+        &[
+            Part::Says(&[
+                0xED, 0x0B, 0x7F, 0x23, 0x22, 0x03, 0x21, 0x00, 0x00, 0x00, 0x45,
+            ]),
+            Part::Sends(&[0x03, 0x3F, 0x80, 0xBC]),
+            Part::Sends(&[0xFF, 0x00, 0xFF]),
+            Part::Sends(&[0x03, 0x3F, 0x80, 0xBC]),
+            Part::Sends(&[0xFF, 0x00, 0xFF]),
+            Part::Sends(&[0x03, 0x80, 0x83]),
+            Part::Sends(&[0xFF, 0x00, 0xFF]),
+            Part::Sends(&[0x03, 0x80, 0x83]),
+            Part::Sends(&[0xFF, 0x00, 0xFF]),
+            Part::Sends(&[0x03, 0xB0, 0xB3]),
+            Part::Sends(&[0xFF, 0x00, 0xFF]),
+            Part::Sends(&[0x03, 0xB0, 0xB3]),
+            Part::Sends(&[0xFF, 0x00, 0xFF]),
+            Part::Sends(&[0x03, 0xA1, 0xA2]),
+            Part::Sends(&[0xFF, 0x00, 0xFF]),
+            Part::Sends(&[0x03, 0xA1, 0xA2]),
+            Part::Sends(&[0xFF, 0x00, 0xFF]),
+        ],
+    ),
+    (
+        "refused packets change nothing",
+        true,
+        &[
+            Part::Says(&[
+                0xED, 0x0B, 0x7F, 0x23, 0x22, 0x04, 0x21, 0x00, 0x00, 0x00, 0x42,
+            ]),
+            Part::Says(&[
+                0xED, 0x0B, 0x7F, 0x23, 0x22, 0x03, 0x31, 0x00, 0x00, 0x00, 0x55,
+            ]),
+            Part::Sends(&[0x03, 0x3F, 0x80, 0xBC]),
+            Part::Sends(&[0xFF, 0x00, 0xFF]),
+            Part::Sends(&[0x03, 0x3F, 0x80, 0xBC]),
+            Part::Sends(&[0xFF, 0x00, 0xFF]),
+            Part::Sends(&[0x03, 0x80, 0x83]),
+            Part::Sends(&[0xFF, 0x00, 0xFF]),
+            Part::Sends(&[0x03, 0x80, 0x83]),
+            Part::Sends(&[0xFF, 0x00, 0xFF]),
+            Part::Sends(&[0x03, 0xB0, 0xB3]),
+            Part::Sends(&[0xFF, 0x00, 0xFF]),
+            Part::Sends(&[0x03, 0xB0, 0xB3]),
+            Part::Sends(&[0xFF, 0x00, 0xFF]),
+            Part::Sends(&[0x03, 0xA0, 0xA3]),
+        ],
+    ),
+    (
+        "F9 of the long address 1234, first while its slot is idle",
+        false,
+        &[
+            Part::Says(&[0xBF, 0x09, 0x52, 0x1B]),
+            Part::Says(&[
+                0xED, 0x0B, 0x7F, 0x33, 0x27, 0x44, 0x52, 0x21, 0x00, 0x00, 0x45,
+            ]),
+            Part::Says(&[0x83, 0x7C]),
+            Part::Sends(&[0xFF, 0x00, 0xFF]),
+            Part::Sends(&[0xFF, 0x00, 0xFF]),
+            Part::Says(&[0xBA, 0x01, 0x01, 0x45]),
+            Part::Sends(&[0xC4, 0xD2, 0x3F, 0x80, 0xA9]),
+            Part::Sends(&[0xFF, 0x00, 0xFF]),
+            Part::Sends(&[0xC4, 0xD2, 0x3F, 0x80, 0xA9]),
+            Part::Sends(&[0xFF, 0x00, 0xFF]),
+            Part::Sends(&[0xC4, 0xD2, 0x80, 0x96]),
+            Part::Sends(&[0xFF, 0x00, 0xFF]),
+            Part::Sends(&[0xC4, 0xD2, 0x80, 0x96]),
+            Part::Sends(&[0xFF, 0x00, 0xFF]),
+            Part::Sends(&[0xC4, 0xD2, 0xB0, 0xA6]),
+            Part::Sends(&[0xFF, 0x00, 0xFF]),
+            Part::Sends(&[0xC4, 0xD2, 0xB0, 0xA6]),
+            Part::Sends(&[0xFF, 0x00, 0xFF]),
+            Part::Sends(&[0xC4, 0xD2, 0xA1, 0xB7]),
+        ],
+    ),
+];
+
+/// Each drive on a station of its own.
+fn sends_each(rt: &impl Abort, alloc: Global, drives: &[Drive]) -> Result<(), Fail> {
+    for (name, in_use, parts) in drives {
+        let mut station = Station::new(alloc, 1)?;
+        if *in_use {
+            put_in_use(rt, &mut station);
+        }
+        sends(rt, &mut station, name, parts);
+    }
+    Ok(())
+}
+
+fn sends(rt: &impl Abort, station: &mut Station, name: &str, parts: &[Part]) {
+    for part in parts {
+        match part {
+            Part::Says(bytes) => say(rt, station, bytes),
+            Part::Sends(bytes) => match station.turn() {
+                Some(packet) => assert_eq!(rt; packet.bytes(), *bytes, "{name}"),
+                None => assert!(rt; bytes.is_empty(), "{name}"),
+            },
+        }
+    }
+}
+
+#[test]
+fn turns_send_what_was_asked(rt: HostRuntime) -> Result<(), Fail> {
+    sends_each(&rt, rt.alloc(), DRIVES)
+}
