@@ -30,6 +30,7 @@ const IN_USE: Conversation = &[
         ],
     ),
 ];
+
 // Sends the bytes on line 0, and says whether they are answered by the reply, at the last byte.
 fn is_answered(rt: &impl Abort, station: &mut Station, bytes: &[u8], reply: &[u8]) -> bool {
     let mut last = None;

@@ -313,9 +313,8 @@ pub(super) const WITH_A_LOCOMOTIVE: &[(&str, Conversation)] = &[
     ),
 ];
 
-/// Each conversation on a station of its own, behind another. None leaves a mark.
-//
-// The tables come as parameters: where a proof sees a table, it goes through its rows.
+// Each conversation on a station of its own, behind another. None leaves a mark. A proof that sees a table goes through
+// its rows, so the table comes as a parameter.
 fn holds_each(
     rt: &impl Abort,
     alloc: Global,

@@ -262,7 +262,7 @@ pub(super) const DRIVES: &[Drive] = &[
     ),
 ];
 
-/// Each drive on a station of its own.
+// Each drive on a station of its own.
 fn sends_each(rt: &impl Abort, alloc: Global, drives: &[Drive]) -> Result<(), Fail> {
     for (name, in_use, parts) in drives {
         let mut station = Station::new(alloc, 1)?;
