@@ -1,0 +1,123 @@
+//! A throttle by the libraries alone: it takes a locomotive, drives it over a track that loses two packets of three, and
+//! looks at its decoder until that runs as it was told.
+#![tactic(auto)]
+
+ghost use Rattle.std.specs.Prelude.{◌≡◌, ◌<◌, length};
+
+use dcc_packet::{Motion, Steps};
+use decoder_cv::CvSet;
+use decoder_node::{NodeList, NodeSpec, Running};
+use layout_core::{Event, World};
+use ln_frame::Msg;
+use ln_ops::Reply;
+use show_text::{node_line, reply_line, track_line};
+use station_core::Step;
+use std::io;
+use std::process::ExitCode;
+
+/// The address of the locomotive.
+const ADDRESS: u8 = 3;
+
+/// What it is told: speed 40, forward, with F0 on.
+const SPD: u8 = 0x40;
+
+const DIRF: u8 = 0x10;
+
+/// How it runs then: step 63 of 128.
+const TOLD: Running = Running {
+    motion: Motion::Step {
+        of: Steps::S128,
+        n: 63,
+    },
+    forward: true,
+    functions: 1,
+};
+
+/// A throttle waits no longer than so many turns.
+const MOST_TURNS: u64 = 100;
+
+fn main(rt: HostRuntime) -> ExitCode {
+    match run(&rt) {
+        Ok(true) => ExitCode::from(0),
+        _ => ExitCode::from(1),
+    }
+}
+
+/// Whether there is a layout, the locomotive was taken, and it settled.
+fn run(rt: &HostRuntime) -> io::Result<bool> {
+    let Ok(settings) = CvSet::new(ADDRESS, 192, 0, 2) else {
+        return Ok(false);
+    };
+    let locomotive = NodeSpec::Loco(settings);
+    let mut nodes = NodeList::new();
+    nodes.push(locomotive);
+    let Ok(mut world) = World::new(rt.alloc(), 1, nodes) else {
+        return Ok(false);
+    };
+    // Power, and the slot of the address.
+    say(rt, &mut world, &[0x83])?;
+    let Some(slot) = slot_in(&say(rt, &mut world, &[0xBF, 0, ADDRESS])?) else {
+        return Ok(false);
+    };
+    // A null move puts it in use.
+    say(rt, &mut world, &[0xBA, slot, slot])?;
+    say(rt, &mut world, &[0xA0, slot, SPD])?;
+    say(rt, &mut world, &[0xA1, slot, DIRF])?;
+    let settled = drive(rt, &mut world)?;
+    if let Some(running) = world.running(0) {
+        let line = node_line("engine", &locomotive, Some(running), None);
+        println!(rt; "{}", line.as_str())?;
+    }
+    Ok(settled)
+}
+
+/// The slot that a reply tells of.
+fn slot_in(reply: &Option<Reply>) -> Option<u8> {
+    match reply {
+        Some(Reply::SlotData(slot)) => Some(slot.slot),
+        _ => None,
+    }
+}
+
+/// Sends a message on line 0, given without its check, and prints the reply to it, if there is one.
+fn say(rt: &HostRuntime, world: &mut World, body: &[u8]) -> io::Result<Option<Reply>>
+    requires { 0 < length world.old.station.lines }
+    ensures lines { length world.new.station.lines ≡ length world.old.station.lines }
+    ensures nodes { length world.new.nodes ≡ length world.old.nodes }
+{
+    let mut answered = None;
+    if Msg::is_body(body) {
+        for byte in Msg::sealed(body).bytes() {
+            if let Step::Reply(reply) = world.step(Event::Byte {
+                line: 0,
+                byte: *byte,
+            }) {
+                println!(rt; "{}", reply_line(0, &reply).as_str())?;
+                answered = Some(reply);
+            }
+        }
+    }
+    Ok(answered)
+}
+
+/// Turns, of which the locomotive hears every third, until it runs as it was told. Whether it does.
+fn drive(rt: &HostRuntime, world: &mut World) -> io::Result<bool>
+    requires { 0 < length world.old.nodes }
+    ensures { length world.new.nodes ≡ length world.old.nodes }
+{
+    for turn in 1..=MOST_TURNS {
+        let is_lost = turn % 3 != 0;
+        let step = world.step(Event::Turn {
+            missed: u64::from(is_lost),
+        });
+        if let Step::Packet(packet) = &step {
+            let end = if is_lost { " lost" } else { "" };
+            println!(rt; "{}{end}", track_line(turn, packet).as_str())?;
+        }
+        if world.running(0) == Some(TOLD) {
+            println!(rt; "settled after {turn} turns")?;
+            return Ok(true);
+        }
+    }
+    Ok(false)
+}
