@@ -4,3 +4,4 @@ pub mod Input
 pub mod Layout
 pub mod Order
 pub mod Printed
+pub mod Replayed

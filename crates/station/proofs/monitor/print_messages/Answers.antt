@@ -1,8 +1,6 @@
-use Rattle.std.proofs.Common.{◌≡◌, ◌∷◌, ◌++◌, ◌+◌, ◌∙◌, [], ℕ, List, Option, drop, ap, sym, subst}
-use Rattle.std.proofs.lemmas.List.{append-nil, drop_more}
-use Rattle.std.specs.Io.KnownBytes.{Appends}
+use Rattle.std.proofs.Common.{◌≡◌, ◌∷◌, ◌+◌, ℕ, List, Option, drop, ap, subst}
+use Rattle.std.proofs.lemmas.List.{drop_more}
 use Rattle.std.specs.List.{slice_index_or}
-use Rattle.station.specs.Printed.{messages_text}
 use Rattle.station.proofs.Printing.{HasPrinted, printed_more, printed_nothing, printed_one}
 use Rattle.station.proofs.monitor.print_messages.Goals as goal
 use Rattle.station.proofs.monitor.print_messages.Goals.{in-Some+in_ok-print, in_default}
