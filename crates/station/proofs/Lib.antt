@@ -5,4 +5,4 @@ pub mod Printing
 pub mod Replaying
 pub mod Standing
 pub mod Few
-pub mod Read
+pub mod Wanted

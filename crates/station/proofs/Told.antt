@@ -1,5 +1,5 @@
 -- A decoder of a layout is told of as its line wants.
-use Rattle.std.proofs.Common.{◌≡◌, ◌<◌, ◌∙◌, ℕ, sym, zero, suc, List, [], ◌∷◌, Option, map, length, get_or, refl, ap, arith}
+use Rattle.std.proofs.Common.{◌≡◌, ◌<◌, ◌∙◌, ℕ, sym, zero, suc, List, [], ◌∷◌, Option, Some, None, map, length, get_or, refl, ap, arith}
 use Rattle.std.proofs.lemmas.List.{get_or-map, length-map}
 use Rattle.std.specs.List.{slice_index_or}
 use Rattle.decoder_node.specs.declared.node.NodeSpec.{NodeSpec}
@@ -10,7 +10,7 @@ use Rattle.layout_core.specs.declared.node.Node.TheVariants.{Loco, Accessory}
 use Rattle.layout_core.specs.Nodes.{node_of, outputs_of, running_of, spec_of}
 use Rattle.roster.specs.Entry.{Entry, name_of, spec_of as spec_of_entry}
 use Rattle.show_text.specs.Nodes.{IsToldOf, node_text}
-use Rattle.station.specs.Layout.{AreBetween}
+use Rattle.station.specs.Layout.{AreBetween, IsWorldOf, entries_in}
 use Rattle.station.specs.Printed.{decoder_line, decoder_lines, Standing, standing_of}
 
 told_of : (node : Node) → IsToldOf (spec_of node) (running_of node) (outputs_of node)
@@ -70,3 +70,8 @@ fresh_between [] i none below = absurd (omega arith)
 fresh_between (spec.Loco cv ∷ specs) zero none below = refl
 fresh_between (spec.Accessory number ∷ specs) zero none below = refl
 fresh_between (spec ∷ specs) (suc i) none below = fresh_between specs i none (omega (arith, below))
+
+-- the entries of a roster are as many as the decoders
+pub as_many : (roster : Option (List Entry)) (nodes : List Node) → IsWorldOf roster nodes → length nodes ≡ length (entries_in roster)
+as_many None nodes is = sym (length-map nodes spec_of) ∙ ap length is
+as_many (Some entries) nodes is = sym (length-map nodes spec_of) ∙ ap length is ∙ length-map entries spec_of_entry

@@ -1,6 +1,5 @@
 -- What the replay of a script does and prints.
-use Rattle.std.specs.Prelude.{ℕ, ◌≡◌, ◌+◌, List, [], ◌∷◌, ◌++◌, Option, Some, None, Ok, Err, length, map, replicate}
-use Rattle.std.specs.Io.KnownBytes.{Appends, Consumes, IsAtEnd}
+use Rattle.std.specs.Prelude.{ℕ, ◌≡◌, ◌+◌, List, [], ◌∷◌, ◌++◌, Some, None, map, replicate}
 use Rattle.decoder_node.specs.Obey.{runs}
 use Rattle.decoder_node.specs.Switched.{switches}
 use Rattle.layout_core.specs.declared.event.Event.{Event}
@@ -16,8 +15,6 @@ use Rattle.layout_core.specs.World.{HaveHeard}
 use Rattle.roster.specs.Entry.{Entry}
 use Rattle.show_text.specs.declared.command.Command.{Command}
 use Rattle.show_text.specs.declared.command.Command.TheVariants.{Byte, Turns, Show}
-use Rattle.show_text.specs.declared.command.ScriptFault.{ScriptFault}
-use Rattle.show_text.specs.Script.{script_of}
 use Rattle.station_core.specs.Moments.{turns_in}
 use Rattle.station_core.specs.Seen.{Seen}
 use Rattle.station.specs.Printed.{Standing, decoder_lines, lines_text, standing_of}
@@ -80,24 +77,3 @@ abbrev pub commands_text : World → List Entry → (done : List Event) → List
 commands_text start entries done [] = []
 commands_text start entries done (command ∷ commands) =
     command_text entries (scene_after start done) command ++ commands_text start entries (done ++ events_of command) commands
-
--- The replay of a script on a layout: the text is a script, its commands are done, and their text is printed.
-pub record Replays (start : World) (entries : List Entry) (commands : List Command) (new : World) (old_output new_output : Option (List ℕ)) : Type 0 where
-  pub done : HasDone (events_in commands) start new
-  pub printed : Appends old_output new_output (commands_text start entries [] commands)
-
-abbrev pub ReplaysText : (text : List ℕ) → (start : World) → List Entry → (new : World) → (old_output new_output : Option (List ℕ)) → Type 0
-ReplaysText text start entries new old_output new_output =
-    (commands : List Command) × (script_of (length start.station.lines) (length start.nodes) text ≡ Ok commands)
-    × Replays start entries commands new old_output new_output
-
--- what was read, to its end, is the text
-abbrev pub ReplaysInput : (old_input new_input : Option (List ℕ)) → (start : World) → List Entry → (new : World) → (old_output new_output : Option (List ℕ)) → Type 0
-ReplaysInput old_input new_input start entries new old_output new_output =
-    (text : List ℕ) × Consumes old_input new_input text × IsAtEnd new_input × ReplaysText text start entries new old_output new_output
-
--- An input that is no script: nothing is done, and nothing printed.
-abbrev pub RefusesInput : (input : Option (List ℕ)) → (start new : World) → (old_output new_output : Option (List ℕ)) → Type 0
-RefusesInput None start new old_output new_output = Unit {0}
-RefusesInput (Some text) start new old_output new_output =
-    (fault : ScriptFault) → script_of (length start.station.lines) (length start.nodes) text ≡ Err fault → (new ≡ start) × (new_output ≡ old_output)

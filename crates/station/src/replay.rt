@@ -9,14 +9,15 @@ ghost use Rattle.show_text.specs.Lines.{off_text, reply_text, track_text};
 ghost use Rattle.show_text.specs.Script.{AreOnLines, is_on_line};
 ghost use Rattle.station.specs.Layout.{AreBetween, IsWorldOf, entries_in, roster_value};
 ghost use Rattle.station.specs.Printed.{ended};
-ghost use Rattle.station.specs.Replayed.{HasDone, RefusesInput, Replays, ReplaysInput, command_text, events_in, events_of, scene_of, turns_among};
+ghost use Rattle.station.specs.Replayed.{HasDone, command_text, events_in, events_of, scene_of, turns_among};
+ghost use Rattle.station.specs.Scripts.{RefusesInput, Replays, ReplaysInput};
 
 use crate::fault::RunFault;
 use crate::input::read_most;
 use crate::layout::print_nodes;
 use crate::output::{print, print_ended};
 use dcc_packet::Packet;
-use layout_core::{Event, World, events_add_up};
+use layout_core::{Event, World, events_add_up, headline};
 use ln_ops::Reply;
 use roster::Roster;
 use show_text::{Command, LONGEST_TEXT, Line, push_off, push_track, read_script, reply_line};
@@ -43,7 +44,8 @@ pub(crate) fn replay<I: Read, O: Write>(
     buffered.flush().map_err(|_| RunFault::Output)
 }
 
-/// The same, on an output that is written as it comes.
+/// The same, on an output that is written as it comes. Every clause is of any output: where its bytes are known, they
+/// are those that are promised.
 fn replay_to<I: Read, O: Write>(
     alloc: Global,
     world: &mut World,
@@ -54,7 +56,7 @@ fn replay_to<I: Read, O: Write>(
     requires nodes { IsWorldOf (roster_value roster) world.old.nodes }
     requires between { AreBetween world.old.nodes }
     ensures printed { OnOk result (ReplaysInput (I.remaining input.old) (I.remaining input.new) world.old (entries_in (roster_value roster.entry)) world.new (O.contents output.old) (O.contents output.new)) }
-    ensures refused { RefusesInput (I.remaining input.old) world.old world.new (O.contents output.old) (O.contents output.new) }
+    ensures refused { RefusesInput (I.remaining input.old) result world.old world.new (O.contents output.old) (O.contents output.new) }
 {
     let text = read_most(alloc, input, LONGEST_TEXT + 1).map_err(|fault| fault.of_input())?;
     let lines = world.station().lines();
@@ -77,6 +79,9 @@ fn play<O: Write>(
     ensures { OnOk result (Replays world.old (entries_in (roster_value roster.entry)) commands.now world.new (O.contents output.old) (O.contents output.new)) }
 {
     events_add_up();
+    headline();
+    // The station promises there that it has a desk.
+    let _ = world.station().lines();
     let mut turn = 1;
     let mut text = Line::new();
     for command in commands {
