@@ -1,3 +1,4 @@
+pub mod Connecting
 pub mod Found
 pub mod Known
 pub mod Told

@@ -1,4 +1,5 @@
 pub mod CommandLine
+pub mod Connections
 pub mod Fault
 pub mod Headline
 pub mod Input

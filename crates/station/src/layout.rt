@@ -1,5 +1,5 @@
 //! The layout that a run works on, and the lines of its decoders.
-ghost use Rattle.std.specs.Prelude.{◌≡◌, IfOk, OnOk, Some, length, map, true};
+ghost use Rattle.std.specs.Prelude.{◌≡◌, IfErr, IfOk, OnOk, Some, length, map, true};
 ghost use Rattle.std.specs.Io.KnownBytes.{Appends};
 ghost use Rattle.station_core.specs.Seen.{is_line_count};
 ghost use Rattle.station.specs.Layout.{AreBetween, IsWorldOf, entries_in, roster_value};
@@ -62,7 +62,8 @@ pub(crate) fn print_nodes<O: Write>(
     output: &mut O,
 ) -> Result<(), RunFault>
     requires { IsWorldOf (roster_value roster) world.now.nodes }
-    ensures { OnOk result (Appends (O.contents output.old) (O.contents output.new) (lines_text (decoder_lines (entries_in (roster_value roster.entry)) (map standing_of world.now.nodes)))) }
+    ensures printed { OnOk result (Appends (O.contents output.old) (O.contents output.new) (lines_text (decoder_lines (entries_in (roster_value roster.entry)) (map standing_of world.now.nodes)))) }
+    ensures fault { IfErr result (λ e. e ≡ RunFault.Output) }
 {
     match roster {
         Some(roster) => print_decoders(world, roster, output),
@@ -73,7 +74,8 @@ pub(crate) fn print_nodes<O: Write>(
 /// Prints a line for each decoder of the roster.
 fn print_decoders<O: Write>(world: &World, roster: &Roster, output: &mut O) -> Result<(), RunFault>
     requires { IsWorldOf (Some roster.now) world.now.nodes }
-    ensures { OnOk result (Appends (O.contents output.old) (O.contents output.new) (lines_text (decoder_lines roster.now (map standing_of world.now.nodes)))) }
+    ensures printed { OnOk result (Appends (O.contents output.old) (O.contents output.new) (lines_text (decoder_lines roster.now (map standing_of world.now.nodes)))) }
+    ensures fault { IfErr result (λ e. e ≡ RunFault.Output) }
 {
     for (i, spec) in roster.nodes().as_slice().iter().enumerate() {
         let line = node_line(roster.name(i), spec, world.running(i), world.outputs(i));

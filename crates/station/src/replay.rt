@@ -1,5 +1,5 @@
 //! `station replay`: a script, and what the layout makes of it.
-ghost use Rattle.std.specs.Prelude.{◌≡◌, ◌<◌, ◌+◌, ◌^◌, ◌++◌, [], ◌∷◌, IfOk, IsTrue, OnOk, Some, length, map, replicate};
+ghost use Rattle.std.specs.Prelude.{◌≡◌, ◌<◌, ◌+◌, ◌^◌, [], ◌∷◌, IfErr, IfOk, IsTrue, OnOk, Some, length, map, replicate};
 ghost use Rattle.std.specs.Io.KnownBytes.{Appends};
 ghost use Rattle.ln_ops.specs.Reply.{IsSendable};
 ghost use Rattle.layout_core.specs.Nodes.{spec_of};
@@ -76,7 +76,8 @@ fn play<O: Write>(
     requires nodes { IsWorldOf (roster_value roster) world.old.nodes }
     requires between { AreBetween world.old.nodes }
     requires numbers { turns_among (events_in commands.now) + 1 < 2 ^ 64 }
-    ensures { OnOk result (Replays world.old (entries_in (roster_value roster.entry)) commands.now world.new (O.contents output.old) (O.contents output.new)) }
+    ensures replayed { OnOk result (Replays world.old (entries_in (roster_value roster.entry)) commands.now world.new (O.contents output.old) (O.contents output.new)) }
+    ensures fault { IfErr result (λ e. e ≡ RunFault.Output) }
 {
     events_add_up();
     headline();
@@ -106,6 +107,7 @@ fn play_command<O: Write>(
     ensures done { OnOk result (HasDone (events_of command) world.old world.new) }
     ensures printed { OnOk result (Appends (O.contents output.old) (O.contents output.new) (command_text (entries_in (roster_value roster.entry)) (scene_of world.old turn) command)) }
     ensures next { IfOk result (λ next. next ≡ turn + turns_among (events_of command)) }
+    ensures fault { IfErr result (λ e. e ≡ RunFault.Output) }
     ensures lines { length world.new.station.lines ≡ length world.old.station.lines }
     ensures specs { map spec_of world.new.nodes ≡ map spec_of world.old.nodes }
 {
@@ -136,6 +138,7 @@ fn play_turns<O: Write>(
     ensures done { OnOk result (HasDone (replicate count (Event.Turn missed)) world.old world.new) }
     ensures printed { OnOk result (Appends (O.contents output.old) (O.contents output.new) (traced_from 0 first (answers_to world.old.station (replicate count (Event.Turn missed))))) }
     ensures next { IfOk result (λ next. next ≡ first + count) }
+    ensures fault { IfErr result (λ e. e ≡ RunFault.Output) }
     ensures lines { length world.new.station.lines ≡ length world.old.station.lines }
     ensures specs { map spec_of world.new.nodes ≡ map spec_of world.old.nodes }
 {
@@ -162,6 +165,7 @@ fn play_event<O: Write>(
     ensures printed { OnOk result (Appends (O.contents output.old) (O.contents output.new) (line_of_answer line turn (answer_to world.old.station event))) }
     ensures lines { length world.new.station.lines ≡ length world.old.station.lines }
     ensures specs { map spec_of world.new.nodes ≡ map spec_of world.old.nodes }
+    ensures fault { IfErr result (λ e. e ≡ RunFault.Output) }
 {
     events_add_up();
     let answer = world.step(event);
@@ -177,7 +181,8 @@ fn print_answer<O: Write>(
     output: &mut O,
 ) -> Result<(), RunFault>
     requires { IsSendableAnswer answer.now }
-    ensures { OnOk result (Appends (O.contents output.old) (O.contents output.new) (line_of_answer line turn answer.now)) }
+    ensures printed { OnOk result (Appends (O.contents output.old) (O.contents output.new) (line_of_answer line turn answer.now)) }
+    ensures fault { IfErr result (λ e. e ≡ RunFault.Output) }
 {
     match answer {
         Step::Quiet => Ok(()),
@@ -191,7 +196,8 @@ fn print_answer<O: Write>(
 #[inline(never)]
 fn print_reply<O: Write>(line: u8, reply: &Reply, output: &mut O) -> Result<(), RunFault>
     requires { IsSendable reply.now }
-    ensures { OnOk result (Appends (O.contents output.old) (O.contents output.new) (ended (reply_text line reply.now))) }
+    ensures printed { OnOk result (Appends (O.contents output.old) (O.contents output.new) (ended (reply_text line reply.now))) }
+    ensures fault { IfErr result (λ e. e ≡ RunFault.Output) }
 {
     print(output, &reply_line(line, reply))
 }
@@ -202,7 +208,8 @@ fn print_packet<O: Write>(
     text: &mut Line,
     output: &mut O,
 ) -> Result<(), RunFault>
-    ensures { OnOk result (Appends (O.contents output.old) (O.contents output.new) (ended (track_text turn packet.now))) }
+    ensures printed { OnOk result (Appends (O.contents output.old) (O.contents output.new) (ended (track_text turn packet.now))) }
+    ensures fault { IfErr result (λ e. e ≡ RunFault.Output) }
 {
     text.clear();
     push_track(text, turn, packet);
@@ -210,7 +217,8 @@ fn print_packet<O: Write>(
 }
 
 fn print_off<O: Write>(turn: u64, text: &mut Line, output: &mut O) -> Result<(), RunFault>
-    ensures { OnOk result (Appends (O.contents output.old) (O.contents output.new) (ended (off_text turn))) }
+    ensures printed { OnOk result (Appends (O.contents output.old) (O.contents output.new) (ended (off_text turn))) }
+    ensures fault { IfErr result (λ e. e ≡ RunFault.Output) }
 {
     text.clear();
     push_off(text, turn);

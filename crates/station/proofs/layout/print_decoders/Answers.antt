@@ -33,10 +33,10 @@ loop-i-preserved g c =
     one_line_more (decoder_lines entries (map standing_of nodes)) c.loop-i.i c.node_line-line.result.bytes (g.O.Write.contents c.args.output.now) (g.O.Write.contents c.loop-i.output) (g.O.Write.contents c.print.new.output)
     (omega (arith, inside, so_many))
     (told_line entries nodes specs c.loop-i.i c.name.result.now c.spec-item.result c.running.result c.outputs.result are below count c.spec-item.is c.name.ensures.value c.running.ensures c.outputs.ensures ∙ sym c.node_line-line.ensures)
-    c.loop-i.invariant c.in_ok-print.ensures
+    c.loop-i.invariant c.in_ok-print.ensures.printed
 
-pub returns : goal.returns
-returns g c =
+pub returns-clause-printed : goal.returns-clause-printed
+returns-clause-printed g c =
     let nodes = c.args.world.now.nodes in
     let entries = c.args.roster.now in
     let specs : List NodeSpec = c.as_slice-spec-items.result.now in

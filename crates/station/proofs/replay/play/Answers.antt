@@ -38,8 +38,8 @@ loop-command-preserved g c =
       nodes = c.play_command.ensures.specs ∙ c.loop-command.invariant.nodes;
     }
 
-pub returns : goal.returns
-returns g c =
+pub returns-clause-replayed : goal.returns-clause-replayed
+returns-clause-replayed g c =
     let commands : List Command = c.args.commands.now in
     let entries = entries_in (roster_value c.args.roster) in
     let all : take c.loop-command.command-index commands ≡ commands = take_all c.loop-command.command-index commands c.loop-command-test.false in
