@@ -13,6 +13,8 @@ use Rattle.layout_core.specs.declared.engine.ServeFault.{ServeFault}
 use Rattle.layout_core.specs.declared.engine.ServeFault.TheVariants as serve
 use Rattle.station_core.specs.declared.station.StationFault.{StationFault}
 use Rattle.station_core.specs.declared.station.StationFault.TheVariants as station
+use Rattle.station.specs.declared.input.ReadFault.{ReadFault}
+use Rattle.station.specs.declared.input.ReadFault.TheVariants as read
 use Rattle.station.specs.declared.orders.OrderFault.{OrderFault}
 use Rattle.station.specs.declared.orders.OrderFault.TheVariants as order
 use Rattle.station.specs.declared.fault.RunFault.{RunFault}
@@ -32,6 +34,11 @@ status_of (Serve number) = 4
 status_of (Script number line) = 5
 status_of (Hex number at) = 5
 status_of NoMemory = 6
+
+-- of standard input
+abbrev pub of_read : ReadFault → RunFault
+of_read read.Failed = UnreadableInput
+of_read read.NoMemory = NoMemory
 
 abbrev pub of_order : OrderFault → RunFault
 of_order (order.Usage error) = Usage error

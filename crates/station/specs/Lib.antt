@@ -1,6 +1,10 @@
 pub mod CommandLine
+pub mod Connections
 pub mod Fault
+pub mod Headline
 pub mod Input
 pub mod Layout
 pub mod Order
 pub mod Printed
+pub mod Replayed
+pub mod Scripts

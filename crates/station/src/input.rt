@@ -1,5 +1,6 @@
 //! Reading no further than a limit.
-ghost use Rattle.std.specs.Prelude.{◌<◌, ◌^◌, IfOk};
+ghost use Rattle.std.specs.Prelude.{◌≡◌, ◌<◌, ◌^◌, IfOk};
+ghost use Rattle.station.specs.Fault.{of_read};
 ghost use Rattle.station.specs.Input.{ReadsMost};
 
 use crate::fault::RunFault;
@@ -31,7 +32,9 @@ impl ReadFault {
     }
 
     /// The fault of a run that wanted standard input.
-    pub(crate) fn of_input(self) -> RunFault {
+    pub(crate) fn of_input(self) -> RunFault
+        ensures { result ≡ of_read self }
+    {
         match self {
             ReadFault::Failed => RunFault::UnreadableInput,
             ReadFault::NoMemory => RunFault::NoMemory,

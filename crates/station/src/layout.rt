@@ -1,7 +1,9 @@
 //! The layout that a run works on, and the lines of its decoders.
-ghost use Rattle.std.specs.Prelude.{◌≡◌, IfOk, length, true};
+ghost use Rattle.std.specs.Prelude.{◌≡◌, IfErr, IfOk, OnOk, Some, length, map, true};
+ghost use Rattle.std.specs.Io.KnownBytes.{Appends};
 ghost use Rattle.station_core.specs.Seen.{is_line_count};
-ghost use Rattle.station.specs.Layout.{IsWorldOf, roster_value};
+ghost use Rattle.station.specs.Layout.{AreBetween, IsWorldOf, entries_in, roster_value};
+ghost use Rattle.station.specs.Printed.{decoder_lines, lines_text, standing_of};
 
 use crate::fault::RunFault;
 use crate::input::read_file;
@@ -44,6 +46,7 @@ pub(crate) fn new_world(
 ) -> Result<World, RunFault>
     ensures lines { IfOk result (λ world. (is_line_count lines ≡ true) × (length world.station.lines ≡ lines)) }
     ensures nodes { IfOk result (λ world. IsWorldOf (roster_value roster.entry) world.nodes) }
+    ensures between { IfOk result (λ world. AreBetween world.nodes) }
 {
     let nodes = match roster {
         Some(roster) => roster.nodes(),
@@ -59,10 +62,21 @@ pub(crate) fn print_nodes<O: Write>(
     output: &mut O,
 ) -> Result<(), RunFault>
     requires { IsWorldOf (roster_value roster) world.now.nodes }
+    ensures printed { OnOk result (Appends (O.contents output.old) (O.contents output.new) (lines_text (decoder_lines (entries_in (roster_value roster.entry)) (map standing_of world.now.nodes)))) }
+    ensures fault { IfErr result (λ e. e ≡ RunFault.Output) }
 {
-    let Some(roster) = roster else {
-        return Ok(());
-    };
+    match roster {
+        Some(roster) => print_decoders(world, roster, output),
+        None => Ok(()),
+    }
+}
+
+/// Prints a line for each decoder of the roster.
+fn print_decoders<O: Write>(world: &World, roster: &Roster, output: &mut O) -> Result<(), RunFault>
+    requires { IsWorldOf (Some roster.now) world.now.nodes }
+    ensures printed { OnOk result (Appends (O.contents output.old) (O.contents output.new) (lines_text (decoder_lines roster.now (map standing_of world.now.nodes)))) }
+    ensures fault { IfErr result (λ e. e ≡ RunFault.Output) }
+{
     for (i, spec) in roster.nodes().as_slice().iter().enumerate() {
         let line = node_line(roster.name(i), spec, world.running(i), world.outputs(i));
         print(output, &line)?;

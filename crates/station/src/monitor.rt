@@ -1,7 +1,10 @@
 //! `station monitor`: the messages in captured bytes.
-ghost use Rattle.std.specs.Prelude.{◌<◌, OnOk};
+ghost use Rattle.std.specs.Prelude.{ℕ, ◌≡◌, ◌<◌, ◌⊎◌, List, Err, IfErr, Ok, OnOk};
 ghost use Rattle.std.specs.Io.KnownBytes.{Appends};
 ghost use Rattle.ln_frame.specs.Stream.{messages_of};
+ghost use Rattle.show_text.specs.Hex.{hex_of};
+ghost use Rattle.show_text.specs.declared.hex.HexFault.{HexFault};
+ghost use Rattle.station.specs.Fault.{of_hex};
 ghost use Rattle.station.specs.Printed.{PrintsMessages, messages_text};
 
 use crate::fault::RunFault;
@@ -33,7 +36,10 @@ pub(crate) fn monitor<R: Files + AllocGlobal, O: Write>(
 
 /// Prints each message in the bytes of a hex text.
 fn monitor_text<O: Write>(alloc: Global, text: &[u8], output: &mut O) -> Result<(), RunFault>
-    ensures { OnOk result (PrintsMessages text.now (O.contents output.old) (O.contents output.new)) }
+    ensures printed { OnOk result (PrintsMessages text.now (O.contents output.old) (O.contents output.new)) }
+    // A text with a fault prints nothing, and the fault is told.
+    ensures refused { (fault : HexFault) → hex_of text.now ≡ Err fault → (O.contents output.new ≡ O.contents output.old) × IfErr result (λ e. (e ≡ of_hex fault) ⊎ (e ≡ RunFault.NoMemory)) }
+    ensures faults { (bytes : List ℕ) → hex_of text.now ≡ Ok bytes → IfErr result (λ e. (e ≡ RunFault.Output) ⊎ (e ≡ RunFault.NoMemory)) }
 {
     let bytes = read_hex(alloc, text)?;
     print_messages(bytes.as_slice(), output)
@@ -41,7 +47,8 @@ fn monitor_text<O: Write>(alloc: Global, text: &[u8], output: &mut O) -> Result<
 
 /// Prints each message that ends in these bytes.
 fn print_messages<O: Write>(bytes: &[u8], output: &mut O) -> Result<(), RunFault>
-    ensures { OnOk result (Appends (O.contents output.old) (O.contents output.new) (messages_text (messages_of bytes.now))) }
+    ensures printed { OnOk result (Appends (O.contents output.old) (O.contents output.new) (messages_text (messages_of bytes.now))) }
+    ensures fault { IfErr result (λ e. e ≡ RunFault.Output) }
 {
     any_cut();
     let mut framer = Framer::new();

@@ -1,11 +1,14 @@
 //! `station serve`: throttles over TCP.
-ghost use Rattle.std.specs.Prelude.{◌≡◌, map};
+ghost use Rattle.std.specs.Prelude.{ℕ, ◌≡◌, List, OnErr, OnOk, map};
 ghost use Rattle.layout_core.specs.Nodes.{spec_of};
+ghost use Rattle.layout_core.specs.Served.{served_events};
+ghost use Rattle.station.specs.Connections.{HasGivenUp, HasServed, ServesPart};
 ghost use Rattle.station.specs.Layout.{IsWorldOf, roster_value};
+ghost use Rattle.station.specs.Replayed.{HasDone};
 
 use crate::fault::RunFault;
 use crate::layout::print_nodes;
-use layout_core::{Limits, Port, World, serve};
+use layout_core::{Limits, Port, World, events_add_up, serve};
 use roster::Roster;
 use std::io::Write;
 use std::net::{Net, TcpListener, TcpStream};
@@ -48,9 +51,13 @@ pub fn serve_on<O: Write>(
 ) -> Result<(), RunFault>
     requires { IsWorldOf (roster_value roster) world.old.nodes }
     // So it may be served on again.
-    ensures { IsWorldOf (roster_value roster.entry) world.new.nodes }
+    ensures nodes { IsWorldOf (roster_value roster.entry) world.new.nodes }
+    // Each connection goes on with the layout that the one before left.
+    ensures served { OnOk result (HasServed limits.turns connections world.old world.new) }
+    ensures given_up { OnErr result (HasGivenUp limits.turns connections world.old world.new) }
 {
-    for _ in 0..connections {
+    events_add_up();
+    for served in 0..connections {
         let Ok((stream, _)) = listener.accept() else {
             return Err(RunFault::Network);
         };
@@ -67,7 +74,9 @@ fn serve_stream<O: Write>(
     limits: Limits,
     output: &mut O,
 ) -> Result<(), RunFault>
-    ensures { map spec_of world.new.nodes ≡ map spec_of world.old.nodes }
+    ensures specs { map spec_of world.new.nodes ≡ map spec_of world.old.nodes }
+    ensures served { OnOk result ((bytes : List ℕ) × HasDone (served_events 0 limits.turns bytes) world.old world.new) }
+    ensures given_up { OnErr result (ServesPart limits.turns world.old world.new) }
 {
     // A station promises there that it has a line.
     let _ = world.station().lines();

@@ -1,8 +1,6 @@
-use Rattle.std.proofs.Common.{◌≡◌, ◌∷◌, ◌++◌, ◌+◌, ◌∙◌, [], ℕ, List, Option, drop, ap, sym, subst}
-use Rattle.std.proofs.lemmas.List.{append-nil, drop_more}
-use Rattle.std.specs.Io.KnownBytes.{Appends}
+use Rattle.std.proofs.Common.{◌≡◌, ◌∷◌, ◌+◌, ℕ, List, Option, drop, ap, subst}
+use Rattle.std.proofs.lemmas.List.{drop_more}
 use Rattle.std.specs.List.{slice_index_or}
-use Rattle.station.specs.Printed.{messages_text}
 use Rattle.station.proofs.Printing.{HasPrinted, printed_more, printed_nothing, printed_one}
 use Rattle.station.proofs.monitor.print_messages.Goals as goal
 use Rattle.station.proofs.monitor.print_messages.Goals.{in-Some+in_ok-print, in_default}
@@ -17,6 +15,6 @@ loop-byte-preserved g c =
     let has : HasPrinted c.args.bytes.now c.loop-byte.framer (byte ∷ rest) old now = subst (λ (bs : List ℕ). HasPrinted c.args.bytes.now c.loop-byte.framer bs old now) more c.loop-byte.invariant in
     printed_more c.args.bytes.now c.loop-byte.framer byte rest old now (g.O.Write.contents c.match-push.output) _ c.push.new.self has c.push.ensures.given c.push.ensures.unfinished
     (elim c.match-push.branch [
-      | in-Some+in_ok-print w ↦ printed_one now (g.O.Write.contents c.match-push.output) (g.O.Write.contents w.print.new.output) _ w.in-Some.message w.message_line.result.bytes w.in-Some.is w.message_line.ensures (ap g.O.Write.contents w.output-is) w.in_ok-print.ensures
+      | in-Some+in_ok-print w ↦ printed_one now (g.O.Write.contents c.match-push.output) (g.O.Write.contents w.print.new.output) _ w.in-Some.message w.message_line.result.bytes w.in-Some.is w.message_line.ensures (ap g.O.Write.contents w.output-is) w.in_ok-print.ensures.printed
       | in_default w ↦ printed_nothing now (g.O.Write.contents c.match-push.output) _ w.in_default.is (ap g.O.Write.contents w.output-is)
     ])

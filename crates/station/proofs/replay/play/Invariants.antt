@@ -1,10 +1,12 @@
-use Rattle.std.proofs.Common.{◌≡◌, length}
-use Rattle.station.specs.Layout.{IsWorldOf, roster_value}
+use Rattle.std.proofs.Common.{◌≡◌, length, take}
+use Rattle.station.specs.Layout.{IsWorldOf, entries_in, roster_value}
+use Rattle.station.proofs.Standing.{HasReplayed}
 use Rattle.station.proofs.replay.play.Given as goal
 
--- nothing takes a line or a decoder away
+-- the commands so far; nothing takes a line or a decoder away
 abbrev pub invariant-loop-command : goal.invariant-loop-command
 invariant-loop-command g l = record {
+  replayed : HasReplayed (entries_in (roster_value l.roster)) (take l.command-index l.commands) l.turn l.initial.world l.world (g.O.Write.contents l.initial.output) (g.O.Write.contents l.output);
   lines : length l.world.station.lines ≡ length l.initial.world.station.lines;
   nodes : IsWorldOf (roster_value l.roster) l.world.nodes;
 }

@@ -1,0 +1,63 @@
+-- Connections that are served one after another add up.
+use Rattle.std.proofs.Common.{◌≡◌, ◌<◌, ℕ, ◌+◌, List, [], ◌∷◌, ◌++◌, Option, length-append, refl, sym, subst, ◌∙◌, append_assoc, arith}
+use Rattle.std.specs.Prelude.{Result, Ok, Err, OnErr}
+use Rattle.std.proofs.lemmas.List.{append-nil}
+use Rattle.layout_core.specs.declared.engine.ServeFault.{ServeFault}
+use Rattle.layout_core.specs.declared.engine.ServeFault.TheVariants.{Read, Write, Trace, TooManyReads}
+use Rattle.layout_core.specs.declared.event.Event.{Event}
+use Rattle.layout_core.specs.declared.world.World.{World}
+use Rattle.layout_core.specs.Faults.{HasFaulted, Leaves, StopsAfter}
+use Rattle.layout_core.specs.Served.{Input, Moment, Serves, moment_of, served_events}
+use Rattle.station.specs.Connections.{HasGivenUp, HasServed, ServesAll, ServesPart}
+use Rattle.station.specs.Replayed.{HasDone}
+
+pub done_whole : (events : List Event) (old new : Moment) → Serves 0 events old new → HasDone events old.world new.world
+done_whole events old new serves = record { station = serves.station; nodes = serves.nodes }
+
+whole_part : (turns : ℕ) (bytes : List ℕ) (done : List Event) (old new : World) → done ≡ served_events 0 turns bytes → HasDone (served_events 0 turns bytes) old new → ServesPart turns old new
+whole_part turns bytes done old new same has = (bytes, served_events 0 turns bytes, [], sym (append-nil (served_events 0 turns bytes)), has)
+
+stopped_part : (fault : ServeFault) (turns : ℕ) (bytes : List ℕ) (done : List Event) (old new : Moment) → StopsAfter fault 0 (served_events 0 turns bytes) done old new → ServesPart turns old.world new.world
+stopped_part fault turns bytes done old new stop =
+    let before = stop.0 in
+    let later = stop.1 in
+    let last = stop.2 in
+    (bytes, before ++ last ∷ [], later, stop.3 ∙ sym (append_assoc before (last ∷ []) later), record { station = stop.5.station; nodes = stop.5.nodes })
+
+leaves_part : (fault : ServeFault) (turns : ℕ) (bytes : List ℕ) (done : List Event) (old new : Moment) → Leaves fault 0 (served_events 0 turns bytes) done old new → ServesPart turns old.world new.world
+leaves_part Read turns bytes done old new leaves = whole_part turns bytes done old.world new.world leaves.0 (done_whole (served_events 0 turns bytes) old new leaves.1)
+leaves_part TooManyReads turns bytes done old new leaves = whole_part turns bytes done old.world new.world leaves.0 (done_whole (served_events 0 turns bytes) old new leaves.1)
+leaves_part Write turns bytes done old new leaves = stopped_part Write turns bytes done old new leaves
+leaves_part Trace turns bytes done old new leaves = stopped_part Trace turns bytes done old new leaves
+
+-- a connection that was given up
+pub faulted_part : (fault : ServeFault) (turns : ℕ) (input input' : Input) (old : Moment) (world : World) (written traced : Option (List ℕ)) → HasFaulted fault 0 turns input input' old world written traced → ServesPart turns old.world world
+faulted_part fault turns input input' old world written traced has =
+    leaves_part fault turns has.3 has.4 old (moment_of world written traced has.1 has.2) has.6
+
+-- one connection more
+serves_more : (turns : ℕ) (connections : List (List ℕ)) (bytes : List ℕ) (old mid new : World) → ServesAll turns connections old mid → HasDone (served_events 0 turns bytes) mid new → ServesAll turns (connections ++ bytes ∷ []) old new
+serves_more turns [] bytes old mid new same has = (new, subst (λ (world : World). HasDone (served_events 0 turns bytes) world new) same has, refl)
+serves_more turns (first ∷ connections) bytes old mid new serves has = (serves.0, serves.1, serves_more turns connections bytes serves.0 mid new serves.2 has)
+
+pub served_none : (turns : ℕ) (world : World) → HasServed turns 0 world world
+served_none turns world = ([], refl, refl)
+
+pub served_more : (turns count : ℕ) (old mid new : World) → HasServed turns count old mid → ((bytes : List ℕ) × HasDone (served_events 0 turns bytes) mid new) → HasServed turns (count + 1) old new
+served_more turns count old mid new has one = (has.0 ++ one.0 ∷ [], omega (arith, has.1, length-append has.0 (one.0 ∷ [])), serves_more turns has.0 one.0 old mid new has.2 one.1)
+
+-- and one that was given up
+pub given_up : (turns count all : ℕ) (old mid new : World) → HasServed turns count old mid → count < all → ServesPart turns mid new → HasGivenUp turns all old new
+given_up turns count all old mid new has few part = (has.0, mid, omega (arith, has.1, few), has.2, part)
+
+-- none of it came
+pub part_none : (turns : ℕ) (world : World) → HasDone [] world world → ServesPart turns world world
+part_none turns world none = ([], [], [], refl, none)
+
+pub part_whole : (turns : ℕ) (old new : World) → ((bytes : List ℕ) × HasDone (served_events 0 turns bytes) old new) → ServesPart turns old new
+part_whole turns old new one = whole_part turns one.0 (served_events 0 turns one.0) old new refl one.1
+
+-- what holds at an error
+pub on_err : {A E : Type 0} (r : Result A E) (P : Type 0) → P → OnErr r P
+on_err (Ok a) P p = tt
+on_err (Err e) P p = p
