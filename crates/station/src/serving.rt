@@ -60,7 +60,7 @@ pub fn serve_on<O: Write>(
     headline();
     // A station promises there that it has a desk.
     let _ = world.station().lines();
-    for served in 0..connections {
+    for _served in 0..connections {
         let Ok((stream, _)) = listener.accept() else {
             return Err(RunFault::Network);
         };
