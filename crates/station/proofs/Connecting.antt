@@ -1,5 +1,5 @@
 -- Connections that are served one after another add up.
-use Rattle.std.proofs.Common.{◌≡◌, ◌<◌, ℕ, ◌+◌, List, [], ◌∷◌, ◌++◌, Option, length-append, refl, sym, subst, ◌∙◌, append_assoc, arith}
+use Rattle.std.proofs.Common.{◌≡◌, ◌<◌, ℕ, ◌+◌, List, [], ◌∷◌, ◌++◌, Option, length, length-append, refl, ap, sym, subst, ◌∙◌, append_assoc, arith}
 use Rattle.std.specs.Prelude.{Result, Ok, Err, OnErr}
 use Rattle.std.proofs.lemmas.List.{append-nil}
 use Rattle.layout_core.specs.declared.engine.ServeFault.{ServeFault}
@@ -8,8 +8,14 @@ use Rattle.layout_core.specs.declared.event.Event.{Event}
 use Rattle.layout_core.specs.declared.world.World.{World}
 use Rattle.layout_core.specs.Faults.{HasFaulted, Leaves, StopsAfter}
 use Rattle.layout_core.specs.Served.{Input, Moment, Serves, moment_of, served_events}
-use Rattle.station.specs.Connections.{HasGivenUp, HasServed, ServesAll, ServesPart}
+use Rattle.station.specs.Connections.{HasGivenUp, HasServed, ServesPart, events_of_all}
+use Rattle.layout_core.specs.declared.node.Node.{Node}
+use Rattle.layout_core.specs.Cycle.{RunsAsWanted}
+use Rattle.layout_core.specs.World.{HaveHeard}
+use Rattle.station_core.specs.Powered.{HasDesk}
+use Rattle.station_core.specs.Seen.{Seen, known_of}
 use Rattle.station.specs.Replayed.{HasDone}
+use Rattle.station.proofs.Replaying.{HeardMore, HeardNone, done_more, done_none}
 
 pub done_whole : (events : List Event) (old new : Moment) → Serves 0 events old new → HasDone events old.world new.world
 done_whole events old new serves = record { station = serves.station; nodes = serves.nodes }
@@ -35,19 +41,38 @@ pub faulted_part : (fault : ServeFault) (turns : ℕ) (input input' : Input) (ol
 faulted_part fault turns input input' old world written traced has =
     leaves_part fault turns has.3 has.4 old (moment_of world written traced has.1 has.2) has.6
 
+all-append : (turns : ℕ) (connections more : List (List ℕ)) → events_of_all turns (connections ++ more) ≡ events_of_all turns connections ++ events_of_all turns more
+all-append turns [] more = refl
+all-append turns (bytes ∷ connections) more =
+    ap (λ (events : List Event). served_events 0 turns bytes ++ events) (all-append turns connections more)
+    ∙ sym (append_assoc (served_events 0 turns bytes) (events_of_all turns connections) (events_of_all turns more))
+
+-- so many connections so far
+abbrev pub HasServedSoFar : (turns count : ℕ) → (old new : World) → Type 0
+HasServedSoFar turns count old new = (connections : List (List ℕ)) × (length connections ≡ count) × HasDone (events_of_all turns connections) old new
+
+pub served_none : HeardNone → (turns : ℕ) (world : World) → HasServedSoFar turns 0 world world
+served_none law turns world = ([], refl, done_none law world)
+
 -- one connection more
-serves_more : (turns : ℕ) (connections : List (List ℕ)) (bytes : List ℕ) (old mid new : World) → ServesAll turns connections old mid → HasDone (served_events 0 turns bytes) mid new → ServesAll turns (connections ++ bytes ∷ []) old new
-serves_more turns [] bytes old mid new same has = (new, subst (λ (world : World). HasDone (served_events 0 turns bytes) world new) same has, refl)
-serves_more turns (first ∷ connections) bytes old mid new serves has = (serves.0, serves.1, serves_more turns connections bytes serves.0 mid new serves.2 has)
+pub served_more : HeardMore → (turns count : ℕ) (old mid new : World) → HasServedSoFar turns count old mid → ((bytes : List ℕ) × HasDone (served_events 0 turns bytes) mid new) → HasServedSoFar turns (count + 1) old new
+served_more law turns count old mid new has one =
+    let front : List Event = events_of_all turns has.0 in
+    let all : events_of_all turns (has.0 ++ one.0 ∷ []) ≡ front ++ served_events 0 turns one.0 =
+    all-append turns has.0 (one.0 ∷ []) ∙ ap (λ (events : List Event). front ++ events) (append-nil (served_events 0 turns one.0)) in (
+      has.0 ++ one.0 ∷ [],
+      omega (arith, has.1, length-append has.0 (one.0 ∷ [])),
+      subst (λ (events : List Event). HasDone events old new) (sym all) (done_more law front (served_events 0 turns one.0) old mid new has.2 one.1),
+    )
 
-pub served_none : (turns : ℕ) (world : World) → HasServed turns 0 world world
-served_none turns world = ([], refl, refl)
-
-pub served_more : (turns count : ℕ) (old mid new : World) → HasServed turns count old mid → ((bytes : List ℕ) × HasDone (served_events 0 turns bytes) mid new) → HasServed turns (count + 1) old new
-served_more turns count old mid new has one = (has.0 ++ one.0 ∷ [], omega (arith, has.1, length-append has.0 (one.0 ∷ [])), serves_more turns has.0 one.0 old mid new has.2 one.1)
+-- all of them
+pub served_all : ((start : Seen) (events : List Event) (old new : List Node) → HasDesk start.powered → HaveHeard start events old new → RunsAsWanted (known_of start) events old new)
+    → (turns count all : ℕ) (old new : World) → HasDesk old.station.powered → count ≡ all → HasServedSoFar turns count old new → HasServed turns all old new
+served_all law turns count all old new desk same has =
+    (has.0, has.1 ∙ same, has.2, law old.station (events_of_all turns has.0) old.nodes new.nodes desk has.2.nodes)
 
 -- and one that was given up
-pub given_up : (turns count all : ℕ) (old mid new : World) → HasServed turns count old mid → count < all → ServesPart turns mid new → HasGivenUp turns all old new
+pub given_up : (turns count all : ℕ) (old mid new : World) → HasServedSoFar turns count old mid → count < all → ServesPart turns mid new → HasGivenUp turns all old new
 given_up turns count all old mid new has few part = (has.0, mid, omega (arith, has.1, few), has.2, part)
 
 -- none of it came

@@ -1,5 +1,5 @@
 -- Commands that are done one after another add up, in what they do and in what they print.
-use Rattle.std.proofs.Common.{◌≡◌, ◌<◌, ◌≤◌, ℕ, zero, suc, ◌+◌, List, [], ◌∷◌, ◌++◌, length, take, replicate, Option, Some, None, refl, ap, ap₂, sym, subst, ◌∙◌, append_assoc, arith}
+use Rattle.std.proofs.Common.{◌≡◌, ◌⊎◌, inl, inr, ◌<◌, ◌≤◌, ℕ, zero, suc, ◌+◌, List, [], ◌∷◌, ◌++◌, length, take, replicate, Option, Some, None, refl, ap, ap₂, sym, subst, ◌∙◌, append_assoc, arith}
 use Rattle.std.proofs.lemmas.List.{append-nil, replicate_more}
 use Rattle.std.specs.Io.KnownBytes.{Appends}
 use Rattle.std.specs.List.{slice_index_or}
@@ -153,15 +153,55 @@ turned_all missed first next count start now old new has is =
 
 -- Commands, one after another.
 
-pub commands-append : (start : World) (entries : List Entry) (done : List Event) (commands : List Command) (command : Command)
-    → commands_text start entries done (commands ++ command ∷ []) ≡ commands_text start entries done commands ++ command_text entries (scene_after start (done ++ events_in commands)) command
-commands-append start entries done [] command =
-    append-nil (command_text entries (scene_after start done) command)
-    ∙ ap (λ (events : List Event). command_text entries (scene_after start events) command) (sym (append-nil done))
-commands-append start entries done (first ∷ commands) command =
-    ap (λ (bs : List ℕ). command_text entries (scene_after start done) first ++ bs) (commands-append start entries (done ++ events_of first) commands command)
-    ∙ sym (append_assoc (command_text entries (scene_after start done) first) (commands_text start entries (done ++ events_of first) commands) (command_text entries (scene_after start ((done ++ events_of first) ++ events_in commands)) command))
-    ∙ ap (λ (events : List Event). commands_text start entries done (first ∷ commands) ++ command_text entries (scene_after start events) command) (append_assoc done (events_of first) (events_in commands))
+pub commands-append : (start : World) (entries : List Entry) (done : List Event) (commands later : List Command)
+    → commands_text start entries done (commands ++ later) ≡ commands_text start entries done commands ++ commands_text start entries (done ++ events_in commands) later
+commands-append start entries done [] later = ap (λ (events : List Event). commands_text start entries events later) (sym (append-nil done))
+commands-append start entries done (first ∷ commands) later =
+    ap (λ (bs : List ℕ). command_text entries (scene_after start done) first ++ bs) (commands-append start entries (done ++ events_of first) commands later)
+    ∙ sym (append_assoc (command_text entries (scene_after start done) first) (commands_text start entries (done ++ events_of first) commands) (commands_text start entries ((done ++ events_of first) ++ events_in commands) later))
+    ∙ ap (λ (events : List Event). commands_text start entries done (first ∷ commands) ++ commands_text start entries events later) (append_assoc done (events_of first) (events_in commands))
+
+-- a command more
+pub text_more : (start : World) (entries : List Entry) (commands : List Command) (command : Command)
+    → commands_text start entries [] (commands ++ command ∷ []) ≡ commands_text start entries [] commands ++ command_text entries (scene_after start (events_in commands)) command
+text_more start entries commands command =
+    commands-append start entries [] commands (command ∷ [])
+    ∙ ap (λ (bs : List ℕ). commands_text start entries [] commands ++ bs) (append-nil (command_text entries (scene_after start (events_in commands)) command))
+
+-- The layout was at each point of the commands where the events before it were done.
+abbrev pub HasPassed : List Command → World → Type 0
+HasPassed commands start = (earlier later : List Command) → commands ≡ earlier ++ later → (mid : World) × HasDone (events_in earlier) start mid
+
+nothing_behind : {X : Type 0} (xs ys : List X) → [] ≡ xs ++ ys → ys ≡ []
+nothing_behind [] ys same = sym same
+nothing_behind (x ∷ xs) ys same = cc
+
+nothing_before : {X : Type 0} (xs ys : List X) → [] ≡ xs ++ ys → xs ≡ []
+nothing_before [] ys same = refl
+nothing_before (x ∷ xs) ys same = cc
+
+-- a list with one more is cut behind all of it, or within what it was
+cut_within : {X : Type 0} (xs : List X) (x : X) (ys zs : List X) → xs ++ x ∷ [] ≡ ys ++ zs → (zs ≡ []) ⊎ ((front : List X) × (xs ≡ ys ++ front))
+cut_within xs x [] zs same = inr (xs, refl)
+cut_within [] x (y ∷ ys) zs same =
+    let none : [] ≡ ys ++ zs = cc in
+    inl (nothing_behind ys zs none)
+cut_within (a ∷ xs) x (y ∷ ys) zs same =
+    let first : a ≡ y = cc in
+    let rest : xs ++ x ∷ [] ≡ ys ++ zs = cc in
+    elim (cut_within xs x ys zs rest) [
+      | inl none ↦ inl none
+      | inr front ↦ inr (front.0, ap₂ (λ b bs. b ∷ bs) first front.1)
+    ]
+
+pub passed_none : HeardNone → (start : World) → HasPassed [] start
+passed_none law start earlier later parts = (start, subst (λ (commands : List Command). HasDone (events_in commands) start start) (sym (nothing_before earlier later parts)) (done_none law start))
+
+pub passed_more : (commands : List Command) (command : Command) (start now : World) → HasPassed commands start → HasDone (events_in (commands ++ command ∷ [])) start now → HasPassed (commands ++ command ∷ []) start
+passed_more commands command start now passed done earlier later parts = elim (cut_within commands command earlier later parts) [
+  | inl none ↦ (now, subst (λ (all : List Command). HasDone (events_in all) start now) (parts ∙ ap (λ (rest : List Command). earlier ++ rest) none ∙ append-nil earlier) done)
+  | inr front ↦ passed earlier front.0 front.1
+]
 
 -- a command and those before it have no more turns than all
 pub turns_so_far : (commands : List Command) (i : ℕ) (none : Command) → i < length commands → turns_among (events_in (take i commands)) + turns_among (events_of (slice_index_or commands i none)) ≤ turns_among (events_in commands)

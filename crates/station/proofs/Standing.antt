@@ -20,7 +20,7 @@ use Rattle.station.specs.Layout.{AreBetween}
 use Rattle.station.specs.Printed.{Standing, standing_of}
 use Rattle.station.specs.Replayed.{HasDone, Scene, command_text, commands_text, events_in, events_of, scene_after, scene_of, standing_after, standings_after, standings_from, turns_among}
 use Rattle.station.proofs.Printing.{appends_more, appends_none}
-use Rattle.station.proofs.Replaying.{HeardMore, HeardNone, commands-append, done_more, done_none, events-append, turns-append}
+use Rattle.station.proofs.Replaying.{HasPassed, HeardMore, HeardNone, passed_more, passed_none, text_more, done_more, done_none, events-append, turns-append}
 
 -- no command brings noise
 quiet_turns : (i count missed : ℕ) (later : List Event) → NoNoise i later → NoNoise i (replicate count (Turn missed) ++ later)
@@ -76,9 +76,10 @@ pub record HasReplayed (entries : List Entry) (commands : List Command) (turn : 
   pub numbered : turn ≡ turns_among (events_in commands) + 1
   pub done : HasDone (events_in commands) start now
   pub printed : Appends old new (commands_text start entries [] commands)
+  pub passed : HasPassed commands start
 
 pub replayed_none : HeardNone → (entries : List Entry) (start : World) (old : Option (List ℕ)) → HasReplayed entries [] 1 start start old old
-replayed_none law entries start old = record { numbered = refl; done = done_none law start; printed = appends_none old }
+replayed_none law entries start old = record { numbered = refl; done = done_none law start; printed = appends_none old; passed = passed_none law start }
 
 pub replayed_more : HeardMore → ((seen : Seen) (events : List Event) (old new : List Node) → HaveHeard seen events old new → HaveObeyed seen events old new)
     → (entries : List Entry) (commands : List Command) (command : Command) (turn next : ℕ) (start mid now : World) (old so_far new : Option (List ℕ)) → AreBetween start.nodes
@@ -89,13 +90,15 @@ replayed_more more obeyed entries commands command turn next start mid now old s
     events-append commands (command ∷ []) ∙ ap (λ (events : List Event). events_in commands ++ events) (append-nil (events_of command)) in
     let count : turns_among (events_in (commands ++ command ∷ [])) ≡ turns_among (events_in commands) + turns_among (events_of command) = ap turns_among all ∙ turns-append (events_in commands) (events_of command) in
     let scene : scene_of mid turn ≡ scene_after start (events_in commands) = scene_is obeyed commands start mid turn between has.done has.numbered in
+    let after : HasDone (events_in (commands ++ command ∷ [])) start now =
+    subst (λ (events : List Event). HasDone events start now) (sym all)
+    (done_more more (events_in commands) (events_of command) start mid now has.done done) in
     record {
       numbered = omega (arith, count, numbered, has.numbered);
-      done =
-          subst (λ (events : List Event). HasDone events start now) (sym all)
-          (done_more more (events_in commands) (events_of command) start mid now has.done done);
+      done = after;
       printed =
-          subst (λ (bs : List ℕ). Appends old new bs) (sym (commands-append start entries [] commands command))
+          subst (λ (bs : List ℕ). Appends old new bs) (sym (text_more start entries commands command))
           (appends_more old so_far new (commands_text start entries [] commands) (command_text entries (scene_after start (events_in commands)) command) has.printed
           (subst (λ (scene : Scene). Appends so_far new (command_text entries scene command)) scene line));
+      passed = passed_more commands command start now has.passed after;
     }

@@ -22,7 +22,7 @@ use Rattle.station.specs.Headline.{ShowsAsWanted}
 use Rattle.station.specs.Layout.{AreBetween}
 use Rattle.station.specs.Printed.{Standing, decoder_line, decoder_lines, lines_text, standing_of}
 use Rattle.station.specs.Replayed.{HasDone, commands_text, events_in, standings_after}
-use Rattle.station.proofs.Replaying.{commands-append, events-append}
+use Rattle.station.proofs.Replaying.{HasPassed, commands-append}
 use Rattle.station.proofs.Standing.{quiet_in, stands_as_told}
 use Rattle.station.proofs.Told.{length-decoder_lines, line_at}
 
@@ -43,12 +43,13 @@ Obeyed = (seen : Seen) (events : List Event) (old new : List Node) → HaveHeard
 abbrev Headline : Type 0
 Headline = (start : Seen) (events : List Event) (old new : List Node) → HasDesk start.powered → HaveHeard start events old new → RunsAsWanted (known_of start) events old new
 
-pub shows_as_wanted : Obeyed → Headline → (start new : World) (entries : List Entry) (commands : List Command) → HasDesk start.station.powered → length start.nodes ≡ length entries → AreBetween start.nodes
-    → HasDone (events_in commands) start new → ShowsAsWanted start entries commands
-shows_as_wanted obeyed headline start new entries commands desk many between done earlier before cycle i slot a e loco none entry ends parts below is hears full =
+pub shows_as_wanted : Obeyed → Headline → (start : World) (entries : List Entry) (commands : List Command) → HasDesk start.station.powered → length start.nodes ≡ length entries → AreBetween start.nodes
+    → HasPassed commands start → ShowsAsWanted start entries commands
+shows_as_wanted obeyed headline start entries commands desk many between passed earlier later before cycle i slot a e loco none entry ends parts below is hears full =
     let events : List Event = events_in earlier in
-    let same : events_in commands ≡ events = ap events_in ends ∙ events-append earlier (Show ∷ []) ∙ append-nil events in
-    let all : HasDone events start new = subst (λ (es : List Event). HasDone es start new) same done in
+    let there = passed earlier (Show ∷ later) ends in
+    let new : World = there.0 in
+    let all : HasDone events start new = there.1 in
     let quiet : NoNoise i before = quiet_front i before cycle (subst (NoNoise i) parts (quiet_in i earlier)) in
     let runs : running_of (slice_index_or new.nodes i none) ≡ Some (wanted e loco.cv.reversed) =
     headline start.station events start.nodes new.nodes desk all.nodes before cycle i slot a e loco none parts below is (subst IsBetween is (between i none below)) quiet hears full in
@@ -56,12 +57,16 @@ shows_as_wanted obeyed headline start new entries commands desk many between don
     let stand : map standing_of new.nodes ≡ standings_after start events = stands_as_told obeyed earlier start new between all in
     let shown : List (List ℕ) = decoder_lines entries (standings_after start events) in
     let so_many : length (standings_after start events) ≡ length entries = ap length (sym stand) ∙ length-map new.nodes standing_of ∙ all.nodes.count ∙ many in
+    let whole : commands_text start entries [] (earlier ++ Show ∷ later) ≡ commands_text start entries [] earlier ++ (lines_text shown ++ commands_text start entries (events ++ []) later) =
+    commands-append start entries [] earlier (Show ∷ later) in
+    let printed : commands_text start entries [] commands ≡ commands_text start entries [] earlier ++ (lines_text shown ++ commands_text start entries events later) =
+    ap (commands_text start entries []) ends ∙ whole ∙ ap (λ (es : List Event). commands_text start entries [] earlier ++ (lines_text shown ++ commands_text start entries es later)) (append-nil events) in
     let here : slice_index_or (standings_after start events) i told ≡ told =
     ap (λ (standings : List Standing). slice_index_or standings i told) (sym stand)
     ∙ get_or-map standing_of new.nodes i none told (omega (arith, below, all.nodes.count))
     ∙ stands_so (slice_index_or new.nodes i none) (wanted e loco.cv.reversed) runs in (
       shown,
-      subst (λ (cs : List Command). commands_text start entries [] cs ≡ commands_text start entries [] earlier ++ lines_text shown) (sym ends) (commands-append start entries [] earlier Show),
+      printed,
       length-decoder_lines entries (standings_after start events) so_many,
       line_at entries (standings_after start events) i entry told [] (omega (arith, below, many)) so_many ∙ ap (decoder_line (slice_index_or entries i entry)) here,
     )

@@ -23,17 +23,17 @@ use Rattle.station.specs.Replayed.{commands_text, events_in}
 abbrev pub wanted_line : Entry → SlotEntry → Settings → List ℕ
 wanted_line entry e cv = decoder_line entry (record { running = Some (wanted e cv.reversed); outputs = None })
 
--- A script ends with `show`, and the events before it end with a full refresh cycle of the address of locomotive i, which
--- heard all of it. Then what is printed ends with a line for each decoder, and line i is that of what its slot wants,
--- whatever came before the cycle.
+-- Wherever the commands have `show`, and the events before it end with a full refresh cycle of the address of locomotive
+-- i, which heard all of it: there, behind what the commands before it print, stands a line for each decoder, and line i is
+-- that of what its slot wants, whatever came before the cycle.
 abbrev pub ShowsAsWanted : (start : World) → List Entry → List Command → Type 0
 ShowsAsWanted start entries commands =
-    (earlier : List Command) (before cycle : List Event) (i slot a : ℕ) (e : SlotEntry) (loco : LocoDecoder) (none : Node) (entry : Entry)
-    → commands ≡ earlier ++ Show ∷ []
+    (earlier later : List Command) (before cycle : List Event) (i slot a : ℕ) (e : SlotEntry) (loco : LocoDecoder) (none : Node) (entry : Entry)
+    → commands ≡ earlier ++ Show ∷ later
     → events_in earlier ≡ before ++ cycle
     → i < length start.nodes
     → slice_index_or start.nodes i none ≡ Loco loco
     → HearsCycle i a e loco cycle
     → IsCycleOf slot a e (told_all (known_of start.station) (calls_in before)) (calls_in cycle)
-    → (shown : List (List ℕ)) × (commands_text start entries [] commands ≡ commands_text start entries [] earlier ++ lines_text shown)
+    → (shown : List (List ℕ)) × (commands_text start entries [] commands ≡ commands_text start entries [] earlier ++ (lines_text shown ++ commands_text start entries (events_in earlier) later))
     × (length shown ≡ length entries) × (slice_index_or shown i [] ≡ wanted_line (slice_index_or entries i entry) e loco.cv)

@@ -7,13 +7,13 @@ use Rattle.show_text.specs.declared.command.Command.{Command}
 use Rattle.show_text.specs.declared.command.ScriptFault.{ScriptFault}
 use Rattle.show_text.specs.Script.{script_of}
 use Rattle.station.specs.declared.fault.RunFault.{RunFault}
-use Rattle.station.specs.declared.fault.RunFault.TheVariants.{NoMemory, UnreadableInput}
+use Rattle.station.specs.declared.fault.RunFault.TheVariants.{NoMemory, Output, UnreadableInput}
 use Rattle.station.specs.Fault.{of_script}
 use Rattle.station.specs.Headline.{ShowsAsWanted}
 use Rattle.station.specs.Replayed.{HasDone, commands_text, events_in}
 
--- Commands are done on a layout, and their text is printed; a locomotive that heard a full refresh cycle before `show` is
--- shown as its slot wants it.
+-- Commands are done on a layout, and their text is printed; a locomotive that heard a full refresh cycle is shown as its
+-- slot wants it.
 pub record Replays (start : World) (entries : List Entry) (commands : List Command) (new : World) (old_output new_output : Option (List ℕ)) : Type 0 where
   pub done : HasDone (events_in commands) start new
   pub printed : Appends old_output new_output (commands_text start entries [] commands)
@@ -40,3 +40,12 @@ RefusesInput None result start new old_output new_output = Unit {0}
 RefusesInput (Some text) result start new old_output new_output =
     (fault : ScriptFault) → script_of (length start.station.lines) (length start.nodes) text ≡ Err fault
     → (new ≡ start) × (new_output ≡ old_output) × IfErr result (IsRefusal fault)
+
+-- And where it is one, a run that fails had a read or a write that failed, or no memory.
+abbrev pub IsBroken : RunFault → Type 0
+IsBroken e = (e ≡ UnreadableInput) ⊎ (e ≡ Output) ⊎ (e ≡ NoMemory)
+
+abbrev pub FailsInput : {A : Type 0} → (input : Option (List ℕ)) → Result A RunFault → (start : World) → Type 0
+FailsInput None result start = Unit {0}
+FailsInput (Some text) result start =
+    (commands : List Command) → script_of (length start.station.lines) (length start.nodes) text ≡ Ok commands → IfErr result IsBroken

@@ -10,7 +10,7 @@ ghost use Rattle.show_text.specs.Script.{AreOnLines, is_on_line};
 ghost use Rattle.station.specs.Layout.{AreBetween, IsWorldOf, entries_in, roster_value};
 ghost use Rattle.station.specs.Printed.{ended};
 ghost use Rattle.station.specs.Replayed.{HasDone, command_text, events_in, events_of, scene_of, turns_among};
-ghost use Rattle.station.specs.Scripts.{RefusesInput, Replays, ReplaysInput};
+ghost use Rattle.station.specs.Scripts.{FailsInput, RefusesInput, Replays, ReplaysInput};
 
 use crate::fault::RunFault;
 use crate::input::read_most;
@@ -57,6 +57,7 @@ fn replay_to<I: Read, O: Write>(
     requires between { AreBetween world.old.nodes }
     ensures printed { OnOk result (ReplaysInput (I.remaining input.old) (I.remaining input.new) world.old (entries_in (roster_value roster.entry)) world.new (O.contents output.old) (O.contents output.new)) }
     ensures refused { RefusesInput (I.remaining input.old) result world.old world.new (O.contents output.old) (O.contents output.new) }
+    ensures failed { FailsInput (I.remaining input.old) result world.old }
 {
     let text = read_most(alloc, input, LONGEST_TEXT + 1).map_err(|fault| fault.of_input())?;
     let lines = world.station().lines();

@@ -8,7 +8,7 @@ ghost use Rattle.station.specs.Replayed.{HasDone};
 
 use crate::fault::RunFault;
 use crate::layout::print_nodes;
-use layout_core::{Limits, Port, World, events_add_up, serve};
+use layout_core::{Limits, Port, World, events_add_up, headline, serve};
 use roster::Roster;
 use std::io::Write;
 use std::net::{Net, TcpListener, TcpStream};
@@ -57,7 +57,10 @@ pub fn serve_on<O: Write>(
     ensures given_up { OnErr result (HasGivenUp limits.turns connections world.old world.new) }
 {
     events_add_up();
-    for served in 0..connections {
+    headline();
+    // A station promises there that it has a desk.
+    let _ = world.station().lines();
+    for _served in 0..connections {
         let Ok((stream, _)) = listener.accept() else {
             return Err(RunFault::Network);
         };

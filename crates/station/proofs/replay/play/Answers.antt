@@ -1,4 +1,4 @@
-use Rattle.std.proofs.Common.{◌≡◌, ◌≤◌, ◌∙◌, ◌∷◌, ◌++◌, ◌+◌, [], List, take, sym, subst, arith}
+use Rattle.std.proofs.Common.{◌≡◌, ◌≤◌, ◌∙◌, ◌∷◌, ◌++◌, ◌+◌, [], List, take, refl, sym, subst, arith}
 use Rattle.std.proofs.lemmas.List.{take_all, take_more}
 use Rattle.std.specs.Io.KnownBytes.{Appends}
 use Rattle.std.specs.List.{slice_index_or}
@@ -6,8 +6,8 @@ use Rattle.show_text.specs.declared.command.Command.{Command}
 use Rattle.show_text.specs.declared.command.Command.TheVariants.{Byte}
 use Rattle.station.specs.Layout.{entries_in, roster_value}
 use Rattle.station.specs.Replayed.{HasDone, commands_text, events_in, events_of, turns_among}
-use Rattle.station.proofs.Replaying.{turns_so_far}
-use Rattle.station.proofs.Standing.{HasReplayed, replayed_more}
+use Rattle.station.proofs.Replaying.{HasPassed, turns_so_far}
+use Rattle.station.proofs.Standing.{HasReplayed, replayed_more, replayed_none}
 use Rattle.station_core.specs.Powered.{HasDesk}
 use Rattle.station_core.specs.Seen.{Seen}
 use Rattle.station.proofs.Told.{as_many}
@@ -51,7 +51,15 @@ returns-clause-replayed g c =
           subst (λ (done : List Command). Appends (g.O.Write.contents c.args.output.now) (g.O.Write.contents c.loop-command.output) (commands_text c.args.world.now entries [] done)) all
           c.loop-command.invariant.replayed.printed;
       wanted =
-          shows_as_wanted c.events_add_up.ensures.obeyed c.headline.ensures.headline c.args.world.now c.loop-command.world entries commands
+          shows_as_wanted c.events_add_up.ensures.obeyed c.headline.ensures.headline c.args.world.now entries commands
           (subst (λ (seen : Seen). HasDesk seen.powered) c.station.ensures c.lines.ensures.desk)
-          (as_many (roster_value c.args.roster) c.args.world.now.nodes c.requires.nodes) c.requires.between done;
+          (as_many (roster_value c.args.roster) c.args.world.now.nodes c.requires.nodes) c.requires.between
+          (subst (λ (done : List Command). HasPassed done c.args.world.now) all c.loop-command.invariant.replayed.passed);
     }
+
+pub loop-command-init : goal.loop-command-init
+loop-command-init g c = record {
+  replayed = replayed_none c.events_add_up.ensures.none (entries_in (roster_value c.args.roster)) c.args.world.now (g.O.Write.contents c.args.output.now);
+  lines = refl;
+  nodes = c.requires.nodes;
+}
