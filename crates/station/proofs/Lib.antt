@@ -6,4 +6,5 @@ pub mod Printing
 pub mod Replaying
 pub mod Standing
 pub mod Few
+pub mod Unseen
 pub mod Wanted

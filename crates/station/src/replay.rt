@@ -1,5 +1,5 @@
 //! `station replay`: a script, and what the layout makes of it.
-ghost use Rattle.std.specs.Prelude.{◌≡◌, ◌<◌, ◌+◌, ◌^◌, [], ◌∷◌, IfErr, IfOk, IsTrue, OnOk, Some, length, map, replicate};
+ghost use Rattle.std.specs.Prelude.{◌≡◌, ◌<◌, ◌+◌, ◌^◌, [], ◌∷◌, IfErr, IfOk, IsTrue, None, OnOk, Some, length, map, replicate};
 ghost use Rattle.std.specs.Io.KnownBytes.{Appends};
 ghost use Rattle.ln_ops.specs.Reply.{IsSendable};
 ghost use Rattle.layout_core.specs.Nodes.{spec_of};
@@ -36,6 +36,10 @@ pub(crate) fn replay<I: Read, O: Write>(
 ) -> Result<(), RunFault>
     requires nodes { IsWorldOf (roster_value roster) world.old.nodes }
     requires between { AreBetween world.old.nodes }
+    // What a buffer that is let go has written is not known: of the output `replay_to` says more.
+    ensures done { OnOk result (ReplaysInput (I.remaining input.old) (I.remaining input.new) world.old (entries_in (roster_value roster.entry)) world.new None None) }
+    ensures refused { RefusesInput (I.remaining input.old) result world.old world.new None None }
+    ensures failed { FailsInput (I.remaining input.old) result world.old }
 {
     let Ok(mut buffered) = BufWriter::new(alloc, output) else {
         return Err(RunFault::NoMemory);

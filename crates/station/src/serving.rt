@@ -27,6 +27,7 @@ where
     R: Net<Listener = TcpListener, Stream = TcpStream>,
     O: Write,
     requires { IsWorldOf (roster_value roster) world.old.nodes }
+    ensures { OnOk result (HasServed limits.turns connections world.old world.new) }
 {
     let Ok(listener) = TcpListener::bind(rt, ("127.0.0.1", port)) else {
         return Err(RunFault::Network);
