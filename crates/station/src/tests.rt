@@ -5,6 +5,7 @@ mod examples;
 mod files;
 mod memory;
 mod scripts;
+mod served;
 mod sockets;
 mod words;
 

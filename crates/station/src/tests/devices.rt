@@ -24,6 +24,23 @@ impl Write for Broken {
     }
 }
 
+// A text whose first read is interrupted, so that it is tried again.
+#[derive(Drop)]
+struct Interrupted {
+    is_first: bool,
+    text: &'static [u8],
+}
+
+impl Read for Interrupted {
+    fn read(&mut self, buf: &mut [u8]) -> io::Result<usize> {
+        if self.is_first {
+            self.is_first = false;
+            return Err(io::Error::from(ErrorKind::Interrupted));
+        }
+        self.text.read(buf)
+    }
+}
+
 // Spaces without end, and how many were read.
 #[derive(Drop)]
 struct Spaces {
@@ -47,6 +64,19 @@ fn standard_input_cannot_be_read(rt: HostRuntime) {
     assert_eq!(rt; execute(&rt, &[], &mut Broken, &mut output, &mut faults), 2);
     assert_eq!(rt; faults.as_slice(), b"station: cannot read -\n".as_slice());
     assert_eq!(rt; output.as_slice(), b"".as_slice());
+}
+
+#[test]
+fn standard_input_is_interrupted_once(rt: HostRuntime) {
+    let mut input = Interrupted {
+        is_first: true,
+        text: b"turn 1",
+    };
+    let mut output = Vec::new(rt.alloc());
+    let mut faults = Vec::new(rt.alloc());
+    assert_eq!(rt; execute(&rt, &[], &mut input, &mut output, &mut faults), 0);
+    assert_eq!(rt; faults.as_slice(), b"".as_slice());
+    assert_eq!(rt; output.as_slice(), b"track 1 off\n".as_slice());
 }
 
 #[test]

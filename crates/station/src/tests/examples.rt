@@ -356,3 +356,16 @@ fn capture_of_the_examples(rt: HostRuntime) -> Result<(), Fail> {
     fs::remove_file(&rt, file)?;
     Ok(())
 }
+
+// What is behind the last whole message is no message, and is not printed.
+#[test]
+fn a_capture_that_ends_in_mid_message(rt: HostRuntime) -> Result<(), Fail> {
+    let file = "station-test-cut.hex";
+    fs::write(&rt, file, b"83 7C A0 01 40".as_slice())?;
+    let ran = run(&rt, &["monitor", file], b"");
+    fs::remove_file(&rt, file)?;
+    assert_eq!(rt; ran.faults.as_slice(), b"".as_slice());
+    assert_eq!(rt; ran.output.as_slice(), b"msg 83 7C power on\n".as_slice());
+    assert_eq!(rt; ran.status, 0);
+    Ok(())
+}

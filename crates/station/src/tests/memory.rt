@@ -188,7 +188,7 @@ fn grows_or_says_so(rt: &HostRuntime, work: Work<'_>, step: usize) -> Result<boo
 #[test]
 fn what_is_made_once(rt: HostRuntime) -> Result<(), Fail> {
     for work in [Work::Schedule, Work::Station, Work::World] {
-        assert!(rt; grows_or_says_so(&rt, work, 64)?);
+        assert!(rt; grows_or_says_so(&rt, work, 256)?);
     }
     Ok(())
 }
