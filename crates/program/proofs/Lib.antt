@@ -1,0 +1,9 @@
+pub mod Connecting
+pub mod Known
+pub mod Told
+pub mod Printing
+pub mod Replaying
+pub mod Standing
+pub mod Few
+pub mod Unseen
+pub mod Wanted
