@@ -6,5 +6,6 @@ pub mod Printing
 pub mod Replaying
 pub mod Standing
 pub mod Few
+pub mod Lending
 pub mod Unseen
 pub mod Wanted

@@ -4,6 +4,7 @@ pub mod Fault
 pub mod Headline
 pub mod Input
 pub mod Layout
+pub mod Lent
 pub mod Order
 pub mod Printed
 pub mod Replayed
