@@ -1,5 +1,5 @@
 -- Connections that are served one after another add up.
-use Rattle.std.proofs.Common.{◌≡◌, ◌<◌, ℕ, ◌+◌, List, [], ◌∷◌, ◌++◌, Option, length, length-append, take, refl, ap, sym, subst, ◌∙◌, append_assoc, arith}
+use Rattle.std.proofs.Common.{◌≡◌, inl, inr, ◌<◌, ℕ, ◌+◌, List, [], ◌∷◌, ◌++◌, Option, length, length-append, take, refl, ap, sym, subst, ◌∙◌, append_assoc, arith}
 use Rattle.std.specs.Prelude.{Result, Ok, Err, IfErr, OnErr, OnOk}
 use Rattle.std.proofs.lemmas.List.{append-nil}
 use Rattle.std.specs.Io.KnownBytes.{Appends}
@@ -17,7 +17,7 @@ use Rattle.layout_core.specs.Cycle.{RunsAsWanted}
 use Rattle.layout_core.specs.World.{HaveHeard}
 use Rattle.station_core.specs.Powered.{HasDesk}
 use Rattle.station_core.specs.Seen.{Seen, known_of}
-use Rattle.station.specs.Fault.{of_serve}
+use Rattle.station.specs.Fault.{of_serve, status_of}
 use Rattle.station.specs.Replayed.{HasDone}
 use Rattle.roster.specs.Entry.{Entry}
 use Rattle.station.proofs.Printing.{appends_more, appends_none}
@@ -115,6 +115,23 @@ pub given_up : (e : RunFault) (limits : Limits) (count all : ℕ) (entries : Lis
     → ServesPart limits.turns mid new → StopsPrinting e limits mid new so_far shown → HasGivenUp e limits all entries old new output shown
 given_up e limits count all entries old mid new output so_far shown has few part stops =
     (has.0, mid, omega (arith, has.1, few), has.2, part, has.3, so_far, has.4, has.5, stops)
+
+-- each fault of serving has one status
+served_status : (fault : ServeFault) → status_of (of_serve fault) ≡ 4
+served_status Read = refl
+served_status Write = refl
+served_status Trace = refl
+served_status TooManyReads = refl
+
+stops_status : (e : RunFault) (limits : Limits) (old new : World) (output shown : Option (List ℕ)) → StopsPrinting e limits old new output shown → status_of e ≡ 4
+stops_status e limits old new output shown (inl refused) = ap status_of refused.0
+stops_status e limits old new output shown (inr (inl given_up)) = ap status_of given_up.1 ∙ served_status given_up.0
+stops_status e limits old new output shown (inr (inr not_shown)) = ap status_of not_shown.0
+
+pub given_up_status : {A : Type 0} (r : Result A RunFault) (limits : Limits) (count : ℕ) (entries : List Entry) (old new : World) (output shown : Option (List ℕ)) → IfErr r (λ e. HasGivenUp e limits count entries old new output shown)
+    → IfErr r (λ e. status_of e ≡ 4)
+given_up_status (Ok a) limits count entries old new output shown has = tt
+given_up_status (Err e) limits count entries old new output shown has = stops_status e limits has.1 new has.6 shown has.9
 
 -- none of it came
 pub part_none : (turns : ℕ) (world : World) → HasDone [] world world → ServesPart turns world world

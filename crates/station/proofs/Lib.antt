@@ -4,6 +4,7 @@ pub mod Known
 pub mod Told
 pub mod Printing
 pub mod Replaying
+pub mod Running
 pub mod Standing
 pub mod Few
 pub mod Lending

@@ -8,4 +8,5 @@ pub mod Lent
 pub mod Order
 pub mod Printed
 pub mod Replayed
+pub mod Runs
 pub mod Scripts

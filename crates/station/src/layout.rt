@@ -3,6 +3,7 @@ ghost use Rattle.std.specs.Prelude.{◌≡◌, IfErr, IfOk, OnOk, Some, length, 
 ghost use Rattle.std.specs.Io.KnownBytes.{Appends};
 ghost use Rattle.station_core.specs.Seen.{is_line_count};
 ghost use Rattle.station.specs.Layout.{AreBetween, IsWorldOf, entries_in, roster_value};
+ghost use Rattle.station.specs.Runs.{IsNew, IsRosterOf};
 ghost use Rattle.station.specs.Printed.{decoder_lines, lines_text, standing_of};
 
 use crate::fault::RunFault;
@@ -24,7 +25,9 @@ const LONGEST_ROSTER: usize = 65_536;
 pub(crate) fn read_roster<R: Files + AllocGlobal>(
     rt: &R,
     file: Option<FileName>,
-) -> Result<Option<Roster>, RunFault> {
+) -> Result<Option<Roster>, RunFault>
+    ensures { IfOk result (λ roster. IsRosterOf file roster) }
+{
     let Some(file) = file else {
         return Ok(None);
     };
@@ -45,6 +48,7 @@ pub(crate) fn new_world(
     roster: Option<&Roster>,
 ) -> Result<World, RunFault>
     ensures lines { IfOk result (λ world. (is_line_count lines ≡ true) × (length world.station.lines ≡ lines)) }
+    ensures new { IfOk result (λ world. IsNew lines (roster_value roster.entry) world) }
     ensures nodes { IfOk result (λ world. IsWorldOf (roster_value roster.entry) world.nodes) }
     ensures between { IfOk result (λ world. AreBetween world.nodes) }
 {

@@ -3,6 +3,7 @@ ghost use Rattle.std.specs.Prelude.{◌≡◌, [], IfErr, OnErr, OnOk, false, ma
 ghost use Rattle.std.specs.Io.KnownBytes.{Appends};
 ghost use Rattle.layout_core.specs.Nodes.{spec_of};
 ghost use Rattle.station.specs.Connections.{GivesUp, HasGivenUp, HasServed, Serves, ServesPart, listening_text};
+ghost use Rattle.station.specs.Fault.{status_of};
 ghost use Rattle.station.specs.Layout.{IsWorldOf, entries_in, roster_value};
 
 use crate::fault::RunFault;
@@ -29,6 +30,7 @@ where
     requires { IsWorldOf (roster_value roster) world.old.nodes }
     // What is printed begins with the line that tells the port.
     ensures served { OnOk result (HasServed limits connections (entries_in (roster_value roster.entry)) world.old world.new (listening_text port) (O.contents output.old) (O.contents output.new)) }
+    ensures status { IfErr result (λ e. status_of e ≡ 4) }
 {
     let Ok(listener) = TcpListener::bind(rt, ("127.0.0.1", port)) else {
         return Err(RunFault::Network);
@@ -39,7 +41,8 @@ where
 
 /// Tells the port that is bound, at once.
 fn print_port<O: Write>(port: u16, output: &mut O) -> Result<(), RunFault>
-    ensures { OnOk result (Appends (O.contents output.old) (O.contents output.new) (listening_text port)) }
+    ensures printed { OnOk result (Appends (O.contents output.old) (O.contents output.new) (listening_text port)) }
+    ensures fault { IfErr result (λ e. e ≡ RunFault.Output) }
 {
     writeln!(output, "listening 127.0.0.1:{port}").map_err(|_| RunFault::Output)?;
     output.flush().map_err(|_| RunFault::Output)
