@@ -3,6 +3,8 @@ pub mod Fault
 pub mod Headline
 pub mod Input
 pub mod Layout
+pub mod Lent
 pub mod Printed
 pub mod Replayed
+pub mod Runs
 pub mod Scripts

@@ -3,6 +3,7 @@ ghost use Rattle.std.specs.Prelude.{◌≡◌, IfErr, IfOk, OnOk, Some, length, 
 ghost use Rattle.std.specs.Io.KnownBytes.{Appends};
 ghost use Rattle.station_core.specs.Seen.{is_line_count};
 ghost use Rattle.program.specs.Layout.{AreBetween, IsWorldOf, entries_in, roster_value};
+ghost use Rattle.program.specs.Runs.{IsNew, IsRosterOf};
 ghost use Rattle.program.specs.Printed.{decoder_lines, lines_text, standing_of};
 
 use crate::fault::RunFault;
@@ -24,7 +25,9 @@ const LONGEST_ROSTER: usize = 65_536;
 pub(crate) fn read_roster<R: Files + AllocGlobal>(
     rt: &R,
     file: Option<FileName>,
-) -> Result<Option<Roster>, RunFault> {
+) -> Result<Option<Roster>, RunFault>
+    ensures { IfOk result (λ roster. IsRosterOf file roster) }
+{
     let Some(file) = file else {
         return Ok(None);
     };
@@ -41,6 +44,7 @@ pub(crate) fn read_roster<R: Files + AllocGlobal>(
 /// A new station with so many lines, and the decoders of the roster; without one there are none.
 pub fn new_world(alloc: Global, lines: u8, roster: Option<&Roster>) -> Result<World, RunFault>
     ensures lines { IfOk result (λ world. (is_line_count lines ≡ true) × (length world.station.lines ≡ lines)) }
+    ensures new { IfOk result (λ world. IsNew lines (roster_value roster.entry) world) }
     ensures nodes { IfOk result (λ world. IsWorldOf (roster_value roster.entry) world.nodes) }
     ensures between { IfOk result (λ world. AreBetween world.nodes) }
 {

@@ -1,5 +1,5 @@
 //! `station replay`: a script, and what the layout makes of it.
-ghost use Rattle.std.specs.Prelude.{◌≡◌, ◌<◌, ◌+◌, ◌^◌, [], ◌∷◌, IfErr, IfOk, IsTrue, None, OnOk, Some, length, map, replicate};
+ghost use Rattle.std.specs.Prelude.{◌≡◌, ◌≢◌, ◌<◌, ◌+◌, ◌^◌, [], ◌∷◌, IfErr, IfOk, IsTrue, None, OnOk, Some, length, map, replicate};
 ghost use Rattle.std.specs.Io.KnownBytes.{Appends};
 ghost use Rattle.ln_ops.specs.Reply.{IsSendable};
 ghost use Rattle.layout_core.specs.Nodes.{spec_of};
@@ -15,7 +15,7 @@ ghost use Rattle.program.specs.Scripts.{FailsInput, RefusesInput, Replays, Repla
 use crate::fault::RunFault;
 use crate::input::read_most;
 use crate::layout::print_nodes;
-use crate::output::{print, print_ended};
+use crate::output::{Lent, flush_after, print, print_ended};
 use dcc_packet::Packet;
 use layout_core::{Event, World, events_add_up, headline};
 use ln_ops::Reply;
@@ -36,16 +36,20 @@ pub(crate) fn replay<I: Read, O: Write>(
 ) -> Result<(), RunFault>
     requires nodes { IsWorldOf (roster_value roster) world.old.nodes }
     requires between { AreBetween world.old.nodes }
-    // What a buffer that is let go has written is not known: of the output `replay_to` says more.
-    ensures done { OnOk result (ReplaysInput (I.remaining input.old) (I.remaining input.new) world.old (entries_in (roster_value roster.entry)) world.new None None) }
+    ensures printed { OnOk result (ReplaysInput (I.remaining input.old) (I.remaining input.new) world.old (entries_in (roster_value roster.entry)) world.new (O.contents output.old) (O.contents output.new)) }
     ensures refused { RefusesInput (I.remaining input.old) result world.old world.new None None }
     ensures failed { FailsInput (I.remaining input.old) result world.old }
+    // Where neither memory ran out nor the output failed, a fault prints nothing.
+    ensures untouched { IfErr result (λ e. e ≢ RunFault.NoMemory → e ≢ RunFault.Output → output.new ≡ output.old) }
 {
-    let Ok(mut buffered) = BufWriter::new(alloc, output) else {
+    let Ok(mut buffered) = BufWriter::new(alloc, Lent::new(output)) else {
         return Err(RunFault::NoMemory);
     };
-    replay_to(alloc, world, roster, input, &mut buffered)?;
-    buffered.flush().map_err(|_| RunFault::Output)
+    let done = replay_to(alloc, world, roster, input, &mut buffered);
+    let done = flush_after(done, &mut buffered);
+    let (lent, _rest) = buffered.into_parts();
+    let Lent { writer: _writer } = lent;
+    done
 }
 
 /// The same, on an output that is written as it comes. Every clause is of any output: where its bytes are known, they
@@ -62,6 +66,7 @@ fn replay_to<I: Read, O: Write>(
     ensures printed { OnOk result (ReplaysInput (I.remaining input.old) (I.remaining input.new) world.old (entries_in (roster_value roster.entry)) world.new (O.contents output.old) (O.contents output.new)) }
     ensures refused { RefusesInput (I.remaining input.old) result world.old world.new (O.contents output.old) (O.contents output.new) }
     ensures failed { FailsInput (I.remaining input.old) result world.old }
+    ensures untouched { IfErr result (λ e. e ≢ RunFault.Output → output.new ≡ output.old) }
 {
     let text = read_most(alloc, input, LONGEST_TEXT + 1).map_err(|fault| fault.of_input())?;
     let lines = world.station().lines();

@@ -1,14 +1,15 @@
 //! `station serve`: throttles over TCP.
-ghost use Rattle.std.specs.Prelude.{ℕ, ◌≡◌, List, OnErr, OnOk, map};
+ghost use Rattle.std.specs.Prelude.{◌≡◌, [], IfErr, OnErr, OnOk, false, map};
+ghost use Rattle.std.specs.Io.KnownBytes.{Appends};
 ghost use Rattle.layout_core.specs.Nodes.{spec_of};
-ghost use Rattle.layout_core.specs.Served.{served_events};
-ghost use Rattle.program.specs.Connections.{HasGivenUp, HasServed, ServesPart};
-ghost use Rattle.program.specs.Layout.{IsWorldOf, roster_value};
-ghost use Rattle.program.specs.Replayed.{HasDone};
+ghost use Rattle.program.specs.Connections.{GivesUp, HasGivenUp, HasServed, Serves, ServesPart, listening_text};
+ghost use Rattle.program.specs.Fault.{status_of};
+ghost use Rattle.program.specs.Layout.{IsWorldOf, entries_in, roster_value};
 
 use crate::fault::RunFault;
 use crate::layout::print_nodes;
-use layout_core::{Limits, Port, World, events_add_up, headline, serve};
+use crate::output::Lent;
+use layout_core::{Limits, Port, Sink, World, events_add_up, headline, serve};
 use roster::Roster;
 use std::io::Write;
 use std::net::{Net, TcpListener, TcpStream};
@@ -27,14 +28,24 @@ where
     R: Net<Listener = TcpListener, Stream = TcpStream>,
     O: Write,
     requires { IsWorldOf (roster_value roster) world.old.nodes }
-    ensures { OnOk result (HasServed limits.turns connections world.old world.new) }
+    // What is printed begins with the line that tells the port.
+    ensures served { OnOk result (HasServed limits connections (entries_in (roster_value roster.entry)) world.old world.new (listening_text port) (O.contents output.old) (O.contents output.new)) }
+    ensures status { IfErr result (λ e. status_of e ≡ 4) }
 {
     let Ok(listener) = TcpListener::bind(rt, ("127.0.0.1", port)) else {
         return Err(RunFault::Network);
     };
-    writeln!(output, "listening 127.0.0.1:{port}").map_err(|_| RunFault::Output)?;
-    output.flush().map_err(|_| RunFault::Output)?;
+    print_port(port, output)?;
     serve_on(&listener, world, roster, limits, connections, output)
+}
+
+/// Tells the port that is bound, at once.
+fn print_port<O: Write>(port: u16, output: &mut O) -> Result<(), RunFault>
+    ensures printed { OnOk result (Appends (O.contents output.old) (O.contents output.new) (listening_text port)) }
+    ensures fault { IfErr result (λ e. e ≡ RunFault.Output) }
+{
+    writeln!(output, "listening 127.0.0.1:{port}").map_err(|_| RunFault::Output)?;
+    output.flush().map_err(|_| RunFault::Output)
 }
 
 /// Serves connections one after another, each on line 0 of the one layout, and prints their trace, and after each how
@@ -53,9 +64,10 @@ pub fn serve_on<O: Write>(
     requires { IsWorldOf (roster_value roster) world.old.nodes }
     // So it may be served on again.
     ensures nodes { IsWorldOf (roster_value roster.entry) world.new.nodes }
-    // Each connection goes on with the layout that the one before left.
-    ensures served { OnOk result (HasServed limits.turns connections world.old world.new) }
-    ensures given_up { OnErr result (HasGivenUp limits.turns connections world.old world.new) }
+    // Each connection goes on with the layout that the one before left; its trace is printed, and behind it a line for
+    // each decoder.
+    ensures served { OnOk result (HasServed limits connections (entries_in (roster_value roster.entry)) world.old world.new [] (O.contents output.old) (O.contents output.new)) }
+    ensures given_up { IfErr result (λ e. HasGivenUp e limits connections (entries_in (roster_value roster.entry)) world.old world.new (O.contents output.old) (O.contents output.new)) }
 {
     events_add_up();
     headline();
@@ -71,7 +83,7 @@ pub fn serve_on<O: Write>(
     Ok(())
 }
 
-/// Serves one connection.
+/// Serves one connection, and prints its trace.
 fn serve_stream<O: Write>(
     stream: &TcpStream,
     world: &mut World,
@@ -79,14 +91,31 @@ fn serve_stream<O: Write>(
     output: &mut O,
 ) -> Result<(), RunFault>
     ensures specs { map spec_of world.new.nodes ≡ map spec_of world.old.nodes }
-    ensures served { OnOk result ((bytes : List ℕ) × HasDone (served_events 0 limits.turns bytes) world.old world.new) }
-    ensures given_up { OnErr result (ServesPart limits.turns world.old world.new) }
+    ensures served { OnOk result (Serves limits world.old world.new (O.contents output.old) (O.contents output.new)) }
+    ensures part { OnErr result (ServesPart limits.turns world.old world.new) }
+    ensures given_up { IfErr result (λ e. GivesUp e limits world.old world.new (O.contents output.old) (O.contents output.new)) }
+{
+    let mut trace = Port::new(Lent::new(output));
+    serve_traced(stream, world, limits, &mut trace)
+}
+
+/// Serves one connection, with any sink for its trace.
+fn serve_traced<T: Sink>(
+    stream: &TcpStream,
+    world: &mut World,
+    limits: Limits,
+    trace: &mut T,
+) -> Result<(), RunFault>
+    requires { T.failed trace.old ≡ false }
+    ensures specs { map spec_of world.new.nodes ≡ map spec_of world.old.nodes }
+    ensures served { OnOk result (Serves limits world.old world.new (T.held trace.old) (T.held trace.new)) }
+    ensures part { OnErr result (ServesPart limits.turns world.old world.new) }
+    ensures given_up { IfErr result (λ e. GivesUp e limits world.old world.new (T.held trace.old) (T.held trace.new)) }
 {
     // A station promises there that it has a line.
     let _ = world.station().lines();
     let mut source = Port::new(stream);
     let mut sink = Port::new(stream);
-    let mut trace = Port::new(output);
-    serve(world, 0, &mut source, &mut sink, &mut trace, limits)?;
+    serve(world, 0, &mut source, &mut sink, trace, limits)?;
     Ok(())
 }
