@@ -1,8 +1,9 @@
 //! Why a run ends with a status other than 0.
 ghost use Rattle.std.specs.Prelude.{◌≡◌};
-ghost use Rattle.program.specs.declared.fault.RunFault.TheVariants.{NoMemory};
+ghost use Rattle.program.specs.declared.fault.RunFault.TheVariants.{NoMemory, Output};
 ghost use Rattle.program.specs.Fault.{of_hex, of_order, of_roster, of_script, of_serve, of_station, status_of};
 
+use crate::output::Unwritten;
 use command_line::{FileName, OrderFault};
 use layout_core::ServeFault;
 use roster::RosterFault;
@@ -85,6 +86,14 @@ impl From<AllocError> for RunFault {
 
     fn from(_error: AllocError) -> RunFault {
         RunFault::NoMemory
+    }
+}
+
+impl From<Unwritten> for RunFault {
+    ghost from_gives = { λ _ run. run ≡ Output };
+
+    fn from(_error: Unwritten) -> RunFault {
+        RunFault::Output
     }
 }
 

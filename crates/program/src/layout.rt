@@ -8,7 +8,7 @@ ghost use Rattle.program.specs.Printed.{decoder_lines, lines_text, standing_of};
 
 use crate::fault::RunFault;
 use crate::input::read_file;
-use crate::output::print;
+use crate::output::{Unwritten, print};
 use command_line::FileName;
 use decoder_node::NodeList;
 use layout_core::World;
@@ -60,10 +60,9 @@ pub(crate) fn print_nodes<O: Write>(
     world: &World,
     roster: Option<&Roster>,
     output: &mut O,
-) -> Result<(), RunFault>
+) -> Result<(), Unwritten>
     requires { IsWorldOf (roster_value roster) world.now.nodes }
     ensures printed { OnOk result (Appends (O.contents output.old) (O.contents output.new) (lines_text (decoder_lines (entries_in (roster_value roster.entry)) (map standing_of world.now.nodes)))) }
-    ensures fault { IfErr result (λ e. e ≡ RunFault.Output) }
 {
     match roster {
         Some(roster) => print_decoders(world, roster, output),
@@ -72,10 +71,9 @@ pub(crate) fn print_nodes<O: Write>(
 }
 
 /// Prints a line for each decoder of the roster.
-fn print_decoders<O: Write>(world: &World, roster: &Roster, output: &mut O) -> Result<(), RunFault>
+fn print_decoders<O: Write>(world: &World, roster: &Roster, output: &mut O) -> Result<(), Unwritten>
     requires { IsWorldOf (Some roster.now) world.now.nodes }
     ensures printed { OnOk result (Appends (O.contents output.old) (O.contents output.new) (lines_text (decoder_lines roster.now (map standing_of world.now.nodes)))) }
-    ensures fault { IfErr result (λ e. e ≡ RunFault.Output) }
 {
     for (i, spec) in roster.nodes().as_slice().iter().enumerate() {
         let line = node_line(roster.name(i), spec, world.running(i), world.outputs(i));

@@ -9,7 +9,7 @@ ghost use Rattle.program.specs.Printed.{PrintsMessages, messages_text};
 
 use crate::fault::RunFault;
 use crate::input::read_file;
-use crate::output::{Lent, flush_after, print};
+use crate::output::{Lent, Unwritten, flush_after, print};
 use command_line::FileName;
 use ln_frame::{Framer, any_cut};
 use show_text::{LONGEST_TEXT, message_line, read_hex};
@@ -51,13 +51,12 @@ fn monitor_text<O: Write>(alloc: Global, text: &[u8], output: &mut O) -> Result<
     ensures untouched { IfErr result (λ e. e ≢ RunFault.Output → output.new ≡ output.old) }
 {
     let bytes = read_hex(alloc, text)?;
-    print_messages(bytes.as_slice(), output)
+    Ok(print_messages(bytes.as_slice(), output)?)
 }
 
 /// Prints each message that ends in these bytes.
-fn print_messages<O: Write>(bytes: &[u8], output: &mut O) -> Result<(), RunFault>
+fn print_messages<O: Write>(bytes: &[u8], output: &mut O) -> Result<(), Unwritten>
     ensures printed { OnOk result (Appends (O.contents output.old) (O.contents output.new) (messages_text (messages_of bytes.now))) }
-    ensures fault { IfErr result (λ e. e ≡ RunFault.Output) }
 {
     any_cut();
     let mut framer = Framer::new();

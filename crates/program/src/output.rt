@@ -9,6 +9,12 @@ use show_text::Line;
 use std::io;
 use std::io::{BufWriter, Write};
 
+/// The output could not be written.
+///
+/// It is small, and a `RunFault` is not: what each event of a script makes is passed on through calls that answer one.
+#[derive(Debug)]
+pub(crate) struct Unwritten;
+
 /// A writer that is lent, as a value of its own.
 ///
 /// What proofs see in it begins with the name of the loan, and the writer's bytes follow. So where bytes were appended
@@ -59,27 +65,24 @@ pub(crate) fn flush_after<O: Write>(
 }
 
 /// Prints a line, and a line feed.
-pub(crate) fn print<O: Write>(output: &mut O, line: &Line) -> Result<(), RunFault>
+pub(crate) fn print<O: Write>(output: &mut O, line: &Line) -> Result<(), Unwritten>
     ensures printed { OnOk result (Appends (O.contents output.old) (O.contents output.new) (line.now.bytes ++ 10 ∷ [])) }
-    ensures fault { IfErr result (λ e. e ≡ RunFault.Output) }
 {
     print_all(output, line.as_str().as_bytes())?;
     print_all(output, b"\n")
 }
 
 /// Ends a line with a line feed, and prints it by one write.
-pub(crate) fn print_ended<O: Write>(output: &mut O, line: &mut Line) -> Result<(), RunFault>
+pub(crate) fn print_ended<O: Write>(output: &mut O, line: &mut Line) -> Result<(), Unwritten>
     requires { length line.old.bytes < 640 }
     ensures printed { OnOk result (Appends (O.contents output.old) (O.contents output.new) (line.old.bytes ++ 10 ∷ [])) }
-    ensures fault { IfErr result (λ e. e ≡ RunFault.Output) }
 {
     line.push_str("\n");
     print_all(output, line.as_str().as_bytes())
 }
 
-fn print_all<O: Write>(output: &mut O, bytes: &[u8]) -> Result<(), RunFault>
+fn print_all<O: Write>(output: &mut O, bytes: &[u8]) -> Result<(), Unwritten>
     ensures printed { OnOk result (Appends (O.contents output.old) (O.contents output.new) bytes.now) }
-    ensures fault { IfErr result (λ e. e ≡ RunFault.Output) }
 {
-    output.write_all(bytes).map_err(|_| RunFault::Output)
+    output.write_all(bytes).map_err(|_| Unwritten)
 }

@@ -15,7 +15,7 @@ ghost use Rattle.program.specs.Scripts.{FailsInput, RefusesInput, Replays, Repla
 use crate::fault::RunFault;
 use crate::input::read_most;
 use crate::layout::print_nodes;
-use crate::output::{Lent, flush_after, print, print_ended};
+use crate::output::{Lent, Unwritten, flush_after, print, print_ended};
 use dcc_packet::Packet;
 use layout_core::{Event, World, events_add_up, headline};
 use ln_ops::Reply;
@@ -72,7 +72,7 @@ fn replay_to<I: Read, O: Write>(
     let lines = world.station().lines();
     let nodes = world.nodes() as u8;
     let commands = read_script(alloc, text.as_slice(), lines, nodes)?;
-    play(world, roster, commands.as_slice(), output)
+    Ok(play(world, roster, commands.as_slice(), output)?)
 }
 
 /// Does the commands one after another, and prints what each prints. Turns are numbered from 1.
@@ -81,13 +81,12 @@ fn play<O: Write>(
     roster: Option<&Roster>,
     commands: &[Command],
     output: &mut O,
-) -> Result<(), RunFault>
+) -> Result<(), Unwritten>
     requires lines { AreOnLines (length world.old.station.lines) commands.now }
     requires nodes { IsWorldOf (roster_value roster) world.old.nodes }
     requires between { AreBetween world.old.nodes }
     requires numbers { turns_among (events_in commands.now) + 1 < 2 ^ 64 }
     ensures replayed { OnOk result (Replays world.old (entries_in (roster_value roster.entry)) commands.now world.new (O.contents output.old) (O.contents output.new)) }
-    ensures fault { IfErr result (λ e. e ≡ RunFault.Output) }
 {
     events_add_up();
     headline();
@@ -110,14 +109,13 @@ fn play_command<O: Write>(
     turn: u64,
     text: &mut Line,
     output: &mut O,
-) -> Result<u64, RunFault>
+) -> Result<u64, Unwritten>
     requires line { IsTrue (is_on_line (length world.old.station.lines) command) }
     requires nodes { IsWorldOf (roster_value roster) world.old.nodes }
     requires numbers { turn + turns_among (events_of command) < 2 ^ 64 }
     ensures done { OnOk result (HasDone (events_of command) world.old world.new) }
     ensures printed { OnOk result (Appends (O.contents output.old) (O.contents output.new) (command_text (entries_in (roster_value roster.entry)) (scene_of world.old turn) command)) }
     ensures next { IfOk result (λ next. next ≡ turn + turns_among (events_of command)) }
-    ensures fault { IfErr result (λ e. e ≡ RunFault.Output) }
     ensures lines { length world.new.station.lines ≡ length world.old.station.lines }
     ensures specs { map spec_of world.new.nodes ≡ map spec_of world.old.nodes }
 {
@@ -143,12 +141,11 @@ fn play_turns<O: Write>(
     first: u64,
     text: &mut Line,
     output: &mut O,
-) -> Result<u64, RunFault>
+) -> Result<u64, Unwritten>
     requires { first + count < 2 ^ 64 }
     ensures done { OnOk result (HasDone (replicate count (Event.Turn missed)) world.old world.new) }
     ensures printed { OnOk result (Appends (O.contents output.old) (O.contents output.new) (traced_from 0 first (answers_to world.old.station (replicate count (Event.Turn missed))))) }
     ensures next { IfOk result (λ next. next ≡ first + count) }
-    ensures fault { IfErr result (λ e. e ≡ RunFault.Output) }
     ensures lines { length world.new.station.lines ≡ length world.old.station.lines }
     ensures specs { map spec_of world.new.nodes ≡ map spec_of world.old.nodes }
 {
@@ -169,13 +166,12 @@ fn play_event<O: Write>(
     turn: u64,
     text: &mut Line,
     output: &mut O,
-) -> Result<(), RunFault>
+) -> Result<(), Unwritten>
     requires { IsTrue (is_event (length world.old.station.lines) (length world.old.nodes) event) }
     ensures done { HasDone (event ∷ []) world.old world.new }
     ensures printed { OnOk result (Appends (O.contents output.old) (O.contents output.new) (line_of_answer line turn (answer_to world.old.station event))) }
     ensures lines { length world.new.station.lines ≡ length world.old.station.lines }
     ensures specs { map spec_of world.new.nodes ≡ map spec_of world.old.nodes }
-    ensures fault { IfErr result (λ e. e ≡ RunFault.Output) }
 {
     events_add_up();
     let answer = world.step(event);
@@ -189,10 +185,9 @@ fn print_answer<O: Write>(
     turn: u64,
     text: &mut Line,
     output: &mut O,
-) -> Result<(), RunFault>
+) -> Result<(), Unwritten>
     requires { IsSendableAnswer answer.now }
     ensures printed { OnOk result (Appends (O.contents output.old) (O.contents output.new) (line_of_answer line turn answer.now)) }
-    ensures fault { IfErr result (λ e. e ≡ RunFault.Output) }
 {
     match answer {
         Step::Quiet => Ok(()),
@@ -204,10 +199,9 @@ fn print_answer<O: Write>(
 
 // A call of its own: room for the line is cleared where it is declared, and most bytes have no reply.
 #[inline(never)]
-fn print_reply<O: Write>(line: u8, reply: &Reply, output: &mut O) -> Result<(), RunFault>
+fn print_reply<O: Write>(line: u8, reply: &Reply, output: &mut O) -> Result<(), Unwritten>
     requires { IsSendable reply.now }
     ensures printed { OnOk result (Appends (O.contents output.old) (O.contents output.new) (ended (reply_text line reply.now))) }
-    ensures fault { IfErr result (λ e. e ≡ RunFault.Output) }
 {
     print(output, &reply_line(line, reply))
 }
@@ -217,18 +211,16 @@ fn print_packet<O: Write>(
     packet: &Packet,
     text: &mut Line,
     output: &mut O,
-) -> Result<(), RunFault>
+) -> Result<(), Unwritten>
     ensures printed { OnOk result (Appends (O.contents output.old) (O.contents output.new) (ended (track_text turn packet.now))) }
-    ensures fault { IfErr result (λ e. e ≡ RunFault.Output) }
 {
     text.clear();
     push_track(text, turn, packet);
     print_ended(output, text)
 }
 
-fn print_off<O: Write>(turn: u64, text: &mut Line, output: &mut O) -> Result<(), RunFault>
+fn print_off<O: Write>(turn: u64, text: &mut Line, output: &mut O) -> Result<(), Unwritten>
     ensures printed { OnOk result (Appends (O.contents output.old) (O.contents output.new) (ended (off_text turn))) }
-    ensures fault { IfErr result (λ e. e ≡ RunFault.Output) }
 {
     text.clear();
     push_off(text, turn);
