@@ -130,9 +130,9 @@ dumped_more all time left packet rest end old now new has more here at =
       written = has.written ++ first;
       appended = appends_more old now new has.written first has.appended here;
       texts = append_assoc has.written first (changes_text (changes_from after true halves))
-      ∙ ap (λ (bs : List ℕ). has.written ++ bs) (sym parts)
-      ∙ ap (λ (ps : List (List ℕ)). has.written ++ changes_text (changes_from time true (halves_in ps))) (sym more)
-      ∙ has.texts;
+          ∙ ap (λ (bs : List ℕ). has.written ++ bs) (sym parts)
+          ∙ ap (λ (ps : List (List ℕ)). has.written ++ changes_text (changes_from time true (halves_in ps))) (sym more)
+          ∙ has.texts;
       ends = omega (arith, has.ends, sums);
     })
 

@@ -14,7 +14,6 @@ use Rattle.dcc_packet.specs.Packet.{IsPacket, has_packet_length, is_checked}
 use Rattle.show_text.specs.Lines.{hex_byte, hex_word, hex_words, off_text, track_text}
 use Rattle.track_signal.specs.Traffic.{Tells, is_of_turn}
 
-
 not_space : (digit : ℕ) → digit_value digit < 10 → (digit == 32) ≡ false
 not_space digit small = elim (cases_eq digit 32) [
   | inl same ↦ absurd (let space : digit_value 32 < 10 = subst (λ (n : ℕ). digit_value n < 10) same small in omega (arith, space))
@@ -107,10 +106,10 @@ read_all words items rest has end packet is w =
     none : (left : List ℕ) → items ++ left ≡ packet → rest ≡ hex_words left → items ≡ packet
     none [] e r = sym (append-nil items) ∙ e
     none (x ∷ xs) e r = absurd (
-      let most : length packet ≤ 6 = (few packet is).1 in
-      let count : length items + suc (length xs) ≡ length packet = sym (length-append items (x ∷ xs)) ∙ ap length e in
-      let some : length rest ≡ suc (suc (suc (length (hex_words xs)))) = ap length r in
-      elim end [ | inl nothing ↦ omega (arith, nothing, some) | inr full ↦ omega (arith, full, count, most) ])
+        let most : length packet ≤ 6 = (few packet is).1 in
+        let count : length items + suc (length xs) ≡ length packet = sym (length-append items (x ∷ xs)) ∙ ap length e in
+        let some : length rest ≡ suc (suc (suc (length (hex_words xs)))) = ap length r in
+        elim end [ inl nothing ↦ omega (arith, nothing, some) | inr full ↦ omega (arith, full, count, most) ])
 
 pub nonempty : (xs : List ℕ) (none : Bool) → none ≡ (length xs == 0) → none ≡ false → 0 < length xs
 nonempty xs none is some = grind (arith, nat_tests)
@@ -171,13 +170,13 @@ length-hex_words (b ∷ bs) = omega (arith, length-hex_words bs)
 pub tells_off : (line : List ℕ) (told : Option (List ℕ)) (turn : ℕ) (rest : List ℕ) → IsCut line told turn rest → line ≡ off_text turn → None ≡ told
 tells_off line None turn rest is off = refl
 tells_off line (Some packet) turn rest is off = absurd (
-  let same : codes "track " ++ (decimal turn ++ rest) ≡ codes "track " ++ (decimal turn ++ codes " off") = sym is.line_is ∙ off in
-  let longer : length (decimal turn ++ rest) ≡ length (decimal turn ++ codes " off") = ap (λ bs. length (drop 6 bs)) same in
-  let left : length (decimal turn ++ rest) ≡ length (decimal turn) + length rest = length-append (decimal turn) rest in
-  let right : length (decimal turn ++ codes " off") ≡ length (decimal turn) + 4 = length-append (decimal turn) (codes " off") in
-  let words : length rest ≡ 3 * length packet = ap length is.behind.2 ∙ length-hex_words packet in
-  let some : 3 ≤ length packet = (few packet is.behind.0).0 in
-  omega (arith, longer, left, right, words, some))
+    let same : codes "track " ++ (decimal turn ++ rest) ≡ codes "track " ++ (decimal turn ++ codes " off") = sym is.line_is ∙ off in
+    let longer : length (decimal turn ++ rest) ≡ length (decimal turn ++ codes " off") = ap (λ bs. length (drop 6 bs)) same in
+    let left : length (decimal turn ++ rest) ≡ length (decimal turn) + length rest = length-append (decimal turn) rest in
+    let right : length (decimal turn ++ codes " off") ≡ length (decimal turn) + 4 = length-append (decimal turn) (codes " off") in
+    let words : length rest ≡ 3 * length packet = ap length is.behind.2 ∙ length-hex_words packet in
+    let some : 3 ≤ length packet = (few packet is.behind.0).0 in
+    omega (arith, longer, left, right, words, some))
 
 -- and any other tells the packet that is read
 pub tells_packet : (line : List ℕ) (told : Option (List ℕ)) (turn : ℕ) (rest packet : List ℕ) → IsCut line told turn rest → (line ≡ off_text turn → ⊥)

@@ -14,7 +14,7 @@ use Rattle.track_signal.specs.Traffic.{FailsAt, IsTraffic, TellAll}
 use Rattle.track_signal.proofs.Telling.{fails_once, never_both}
 
 at_end : (old new : Option (List ℕ)) (bytes : List ℕ) → ReadsMost old new 16777217 bytes → length bytes ≤ 16777216 → IsAtEnd new
-at_end old new bytes read short = elim read.enough [ | inl long ↦ absurd (omega (arith, long, short)) | inr end ↦ end ]
+at_end old new bytes read short = elim read.enough [ inl long ↦ absurd (omega (arith, long, short)) | inr end ↦ end ]
 
 -- A text that is not too long is read whole, and of any other too much for one.
 
@@ -32,9 +32,6 @@ no_longer text new bytes read =
     let parts = consumed text new bytes read.taken in
     let sum : length text ≡ length bytes + length parts.0 = ap length parts.1 ∙ length-append bytes parts.0 in
     omega (arith, sum)
-
-short_text : (text : List ℕ) (new : Option (List ℕ)) (bytes : List ℕ) → ReadsMost (Some text) new 16777217 bytes → length text ≤ 16777216 → text ≡ bytes
-short_text text new bytes read short = whole text new bytes read (omega (arith, short, no_longer text new bytes read))
 
 -- what is read has the fault of the text
 same_fault : (text : List ℕ) (new : Option (List ℕ)) (bytes : List ℕ) (fault e : SignalFault) → ReadsMost (Some text) new 16777217 bytes → Refuses text fault → Refuses bytes e → e ≡ fault
@@ -72,15 +69,9 @@ pub refuses : {A : Type 0} (up : Result A SignalFault) (e : SignalFault) (old ne
     → RefusesInput old up output output
 refuses up e None new bytes output is read why = tt
 refuses up e (Some text) new bytes output is read why = λ fault refused.
-    (refl, passed_up up e (IsRefusal fault) is (elim why [ | inl memory ↦ inr (inr memory) | inr found ↦ inl (same_fault text new bytes fault e read refused found) ]))
+    (refl, passed_up up e (IsRefusal fault) is (elim why [ inl memory ↦ inr (inr memory) | inr found ↦ inl (same_fault text new bytes fault e read refused found) ]))
 
 pub refuses_none : {A : Type 0} (result : Result A SignalFault) (old new : Option (List ℕ)) (bytes : List ℕ) (packets : List (List ℕ)) (old_output new_output : Option (List ℕ)) → ReadsMost old new 16777217 bytes → IsTraffic bytes packets
     → RefusesInput old result old_output new_output
 refuses_none result None new bytes packets old_output new_output read told = tt
 refuses_none result (Some text) new bytes packets old_output new_output read told = λ fault refused. absurd (no_fault text new bytes packets fault read told refused)
-
-pub fails : {A : Type 0} (up : Result A SignalFault) (e : SignalFault) (old new : Option (List ℕ)) (bytes : List ℕ) → IsErrAnd up (λ f. f ≡ e) → ReadsMost old new 16777217 bytes → ((packets : List (List ℕ)) → IsTraffic bytes packets → e ≡ NoMemory)
-    → FailsInput old up
-fails up e None new bytes is read why = tt
-fails up e (Some text) new bytes is read why = λ packets told.
-    passed_up up e IsBroken is (inr (inr (why packets (subst (λ (bs : List ℕ). IsTraffic bs packets) (short_text text new bytes read told.0) told))))

@@ -11,7 +11,8 @@ use half_bits::halves;
 use std::io::Write;
 
 /// What stands before the first time stamp: the unit of time and the one wire.
-const HEADER: &[u8] = b"$timescale 1 us $end\n$scope module track $end\n$var wire 1 ! rails $end\n$upscope $end\n$enddefinitions $end\n";
+const HEADER: &[u8] =
+    b"$timescale 1 us $end\n$scope module track $end\n$var wire 1 ! rails $end\n$upscope $end\n$enddefinitions $end\n";
 
 fn write_bytes<O: Write>(bytes: &[u8], output: &mut O) -> Result<(), SignalFault>
     ensures text { OnOk result (Appends (O.contents output.old) (O.contents output.new) bytes.now) }

@@ -14,6 +14,9 @@ pub use signal::execute;
 use std::io;
 use std::process::ExitCode;
 
+#[cfg(test)]
+mod tests;
+
 fn main(rt: HostRuntime) -> ExitCode {
     ExitCode::from(execute(
         rt.alloc(),

@@ -12,8 +12,8 @@ loop-packet-init g c = record {
 pub loop-packet-preserved : goal.loop-packet-preserved
 loop-packet-preserved g c = record {
   drawn = dumped_more c.args.packets.now c.loop-packet.time (drop c.loop-packet.packet-index c.args.packets.now) c.packet-item.result (drop (c.loop-packet.packet-index + 1) c.args.packets.now) c.in_ok-time.time (g.O.Write.contents c.args.output.now) (g.O.Write.contents c.loop-packet.output) (g.O.Write.contents c.draw_packet.new.output) c.loop-packet.invariant.drawn
-    (drop_more c.args.packets.now c.loop-packet.packet-index c.packet-item.result c.loop-packet-test.true ∙ ap (λ (p : List ℕ). p ∷ drop (c.loop-packet.packet-index + 1) c.args.packets.now) (sym c.packet-item.is))
-    c.in_ok-time.ensures.text c.in_ok-time.ensures.end;
+      (drop_more c.args.packets.now c.loop-packet.packet-index c.packet-item.result c.loop-packet-test.true ∙ ap (λ (p : List ℕ). p ∷ drop (c.loop-packet.packet-index + 1) c.args.packets.now) (sym c.packet-item.is))
+      c.in_ok-time.ensures.text c.in_ok-time.ensures.end;
   soon = omega (arith, c.loop-packet.invariant.soon, c.in_ok-time.ensures.soon);
 }
 

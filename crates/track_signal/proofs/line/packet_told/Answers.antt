@@ -33,12 +33,12 @@ returns-then-not-is_checked-clause-exact c = λ told tells.
     absurd (tells_nothing c.args.line.now told c.in-Some.turn c.in-Some.rest.now cut
     (λ off. is_other c.is_text.ensures c.if-is_text.false (off ∙ sym c.off_line.ensures))
     (λ p is right words line.
-      let read : Some c.in-Some-packet_of.packet ≡ Some p = c.in-Some-packet_of.ensures p is words in
-      let same : c.in-Some-packet_of.packet ≡ p = cc in
-      elim c.then-not-is_checked.branch [
-        | then-not-is_checked-via-then-not-is_checked w ↦ let both : true ≡ false = sym right ∙ ap is_checked (sym same) ∙ sym c.is_checked.ensures ∙ w.if-not-is_checked.true in cc
-        | then-not-is_checked-via-else-not-is_checked+then-not-is_text w ↦ is_other w.is_text-else-not-is_checked.ensures w.if-not-is_text.true (line ∙ ap (track_text c.in-Some.turn) (sym same) ∙ sym w.track_line.ensures)
-      ]))
+    let read : Some c.in-Some-packet_of.packet ≡ Some p = c.in-Some-packet_of.ensures p is words in
+    let same : c.in-Some-packet_of.packet ≡ p = cc in
+    elim c.then-not-is_checked.branch [
+      | then-not-is_checked-via-then-not-is_checked w ↦ let both : true ≡ false = sym right ∙ ap is_checked (sym same) ∙ sym c.is_checked.ensures ∙ w.if-not-is_checked.true in cc
+      | then-not-is_checked-via-else-not-is_checked+then-not-is_text w ↦ is_other w.is_text-else-not-is_checked.ensures w.if-not-is_text.true (line ∙ ap (track_text c.in-Some.turn) (sym same) ∙ sym w.track_line.ensures)
+    ]))
 
 pub returns-clause-exact : goal.returns-clause-exact
 returns-clause-exact c = λ told tells.
