@@ -35,8 +35,8 @@ loop-i-preserved g c =
     (told_line entries nodes specs c.loop-i.i c.name.result.now c.spec-item.result c.running.result c.outputs.result are below count c.spec-item.is c.name.ensures.value c.running.ensures c.outputs.ensures ∙ sym c.node_line-line.ensures)
     c.loop-i.invariant c.in_ok-print.ensures.printed
 
-pub returns-clause-printed : goal.returns-clause-printed
-returns-clause-printed g c =
+pub returns : goal.returns
+returns g c =
     let nodes = c.args.world.now.nodes in
     let entries = c.args.roster.now in
     let specs : List NodeSpec = c.as_slice-spec-items.result.now in
@@ -45,4 +45,6 @@ returns-clause-printed g c =
     let as_many : length (map standing_of nodes) ≡ length entries = length-map nodes standing_of ∙ sym (length-map nodes spec_of) ∙ ap length c.requires ∙ length-map entries spec_of_entry in
     let so_many : length (decoder_lines entries (map standing_of nodes)) ≡ length entries = length-decoder_lines entries (map standing_of nodes) as_many in
     let all : length (decoder_lines entries (map standing_of nodes)) ≤ c.loop-i.i = omega (arith, over, so_many, ap length are, length-map entries spec_of_entry) in
-    subst (λ (lines : List (List ℕ)). Appends (g.O.Write.contents c.args.output.now) (g.O.Write.contents c.loop-i.output) (lines_text lines)) (take_all c.loop-i.i (decoder_lines entries (map standing_of nodes)) all) c.loop-i.invariant
+    record {
+      printed = subst (λ (lines : List (List ℕ)). Appends (g.O.Write.contents c.args.output.now) (g.O.Write.contents c.loop-i.output) (lines_text lines)) (take_all c.loop-i.i (decoder_lines entries (map standing_of nodes)) all) c.loop-i.invariant;
+    }

@@ -38,23 +38,25 @@ loop-command-preserved g c =
       nodes = c.play_command.ensures.specs ∙ c.loop-command.invariant.nodes;
     }
 
-pub returns-clause-replayed : goal.returns-clause-replayed
-returns-clause-replayed g c =
+pub returns : goal.returns
+returns g c =
     let commands : List Command = c.args.commands.now in
     let entries = entries_in (roster_value c.args.roster) in
     let all : take c.loop-command.command-index commands ≡ commands = take_all c.loop-command.command-index commands c.loop-command-test.false in
     let done : HasDone (events_in commands) c.args.world.now c.loop-command.world =
     subst (λ (done : List Command). HasDone (events_in done) c.args.world.now c.loop-command.world) all c.loop-command.invariant.replayed.done in
     record {
-      done = done;
-      printed =
-          subst (λ (done : List Command). Appends (g.O.Write.contents c.args.output.now) (g.O.Write.contents c.loop-command.output) (commands_text c.args.world.now entries [] done)) all
-          c.loop-command.invariant.replayed.printed;
-      wanted =
-          shows_as_wanted c.events_add_up.ensures.obeyed c.headline.ensures.headline c.args.world.now entries commands
-          (subst (λ (seen : Seen). HasDesk seen.powered) c.station.ensures c.lines.ensures.desk)
-          (as_many (roster_value c.args.roster) c.args.world.now.nodes c.requires.nodes) c.requires.between
-          (subst (λ (done : List Command). HasPassed done c.args.world.now) all c.loop-command.invariant.replayed.passed);
+      replayed = record {
+        done = done;
+        printed =
+            subst (λ (done : List Command). Appends (g.O.Write.contents c.args.output.now) (g.O.Write.contents c.loop-command.output) (commands_text c.args.world.now entries [] done)) all
+            c.loop-command.invariant.replayed.printed;
+        wanted =
+            shows_as_wanted c.events_add_up.ensures.obeyed c.headline.ensures.headline c.args.world.now entries commands
+            (subst (λ (seen : Seen). HasDesk seen.powered) c.station.ensures c.lines.ensures.desk)
+            (as_many (roster_value c.args.roster) c.args.world.now.nodes c.requires.nodes) c.requires.between
+            (subst (λ (done : List Command). HasPassed done c.args.world.now) all c.loop-command.invariant.replayed.passed);
+      };
     }
 
 pub loop-command-init : goal.loop-command-init

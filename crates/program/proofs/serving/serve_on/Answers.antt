@@ -2,7 +2,7 @@ use Rattle.std.proofs.Common.{◌≡◌, ◌∙◌, refl, subst, inl, inr, arith
 use Rattle.program.proofs.Connecting.{given_up, part_none, part_whole, passed_up, served_all, served_more, served_none}
 use Rattle.program.proofs.Replaying.{done_none}
 use Rattle.program.specs.declared.fault.RunFault.{RunFault}
-use Rattle.program.specs.declared.fault.RunFault.TheVariants.{Network}
+use Rattle.program.specs.declared.fault.RunFault.TheVariants.{Network, Output}
 use Rattle.program.specs.Layout.{entries_in, roster_value}
 use Rattle.station_core.specs.Powered.{HasDesk}
 use Rattle.station_core.specs.Seen.{Seen}
@@ -33,12 +33,11 @@ returns-in_err-serve_stream-clause-given_up g c =
 
 pub returns-in_err-print_nodes-clause-given_up : goal.returns-in_err-print_nodes-clause-given_up
 returns-in_err-print_nodes-clause-given_up g c =
-    let fault : RunFault = c.in_err-print_nodes.field-0.0 in
     let served = c.in_ok-serve_stream.ensures.served in
-    passed_up c.from_residual-in_err-print_nodes.result fault _ (search rules)
-    (given_up fault c.args.limits c.loop-served._served c.args.connections (entries_in (roster_value c.args.roster)) c.args.world.now c.loop-served.world c.serve_stream.new.world
+    passed_up c.from_residual-in_err-print_nodes.result Output _ (search rules)
+    (given_up Output c.args.limits c.loop-served._served c.args.connections (entries_in (roster_value c.args.roster)) c.args.world.now c.loop-served.world c.serve_stream.new.world
     (g.O.Write.contents c.args.output.now) (g.O.Write.contents c.loop-served.output) (g.O.Write.contents c.print_nodes.new.output) c.loop-served.invariant.served c.loop-served-test.true
-    (part_whole c.args.limits c.loop-served.world c.serve_stream.new.world _ _ served) (inr (inr (c.in_err-print_nodes.ensures.fault, (served.0, served.1)))))
+    (part_whole c.args.limits c.loop-served.world c.serve_stream.new.world _ _ served) (inr (inr (refl, (served.0, served.1)))))
 
 pub returns-clause-served : goal.returns-clause-served
 returns-clause-served g c =
