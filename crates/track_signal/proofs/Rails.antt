@@ -1,12 +1,11 @@
 -- What is drawn, half-bit after half-bit and packet after packet.
-use Rattle.std.proofs.Common.{◌≡◌, ℕ, zero, suc, ◌+◌, ◌*◌, ◌<◌, ◌≤◌, ◌^◌, Bool, true, false, not, sum, List, [], ◌∷◌, ◌++◌, map, replicate, length, Option, Some, None, refl, ap, ap₂, sym, subst, ◌∙◌, append_assoc, arith, IsTrue}
+use Rattle.std.proofs.Common.{◌≡◌, ℕ, ◌+◌, ◌*◌, ◌≤◌, Bool, true, false, not, sum, List, [], ◌∷◌, ◌++◌, map, replicate, length, Option, Some, None, refl, ap, ap₂, sym, subst, ◌∙◌, append_assoc, arith}
 use Rattle.std.proofs.lemmas.List.{append-nil}
 use Rattle.std.proofs.lemmas.List.Sums.{sum_by-append, sum_by-cons}
-use Rattle.std.proofs.lemmas.Bool.{and_parts}
 use Rattle.std.proofs.lemmas.Bool.Decides.{nat_tests}
 use Rattle.std.specs.Io.KnownBytes.{Appends}
 use Rattle.std.specs.Prelude.{Result, Ok, Err, OnOk}
-use Rattle.dcc_packet.specs.Packet.{IsPacket, has_packet_length}
+use Rattle.dcc_packet.specs.Packet.{IsPacket}
 use Rattle.dcc_packet.specs.Wave.{bits_of, doubled}
 use Rattle.half_bits.specs.Halves.{halves_of, micros}
 use Rattle.track_signal.specs.Dump.{Change, change_text, changes_from, changes_text, dump_of, halves_in, header, stamp}

@@ -1,5 +1,5 @@
 -- What lines tell, one after another.
-use Rattle.std.proofs.Common.{◌≡◌, ℕ, suc, ◌+◌, ◌<◌, ◌≤◌, List, [], ◌∷◌, ◌++◌, length, length-append, Option, Some, None, Result, Ok, Err, Bool, true, false, if◌then◌else◌, refl, ap, ap₂, sym, subst, ◌∙◌, append_assoc, arith}
+use Rattle.std.proofs.Common.{◌≡◌, ℕ, suc, ◌+◌, ◌≤◌, List, [], ◌∷◌, ◌++◌, length, length-append, Option, Result, Ok, Err, Bool, true, false, if◌then◌else◌, refl, ap, sym, subst, ◌∙◌, append_assoc, arith}
 use Rattle.std.proofs.lemmas.List.{append-nil}
 use Rattle.std.specs.Option.{option_to_list}
 use Rattle.std.specs.Result.{is_err, is_ok}
@@ -14,6 +14,9 @@ pub record HasTold (all left : List (List ℕ)) (number : ℕ) (packets : List (
   pub counted : length before ≡ number
   pub told : TellAll before packets
   pub exact : (whole : List (List ℕ)) → TellAll all whole → (more : List (List ℕ)) × (packets ++ more ≡ whole) × TellAll left more
+
+pub told_none : (all : List (List ℕ)) → HasTold all all 0 []
+told_none all = record { before = []; all_are = refl; counted = refl; told = refl; exact = λ whole tell. (whole, refl, tell) }
 
 one_more : (before : List (List ℕ)) (packets : List (List ℕ)) (line : List ℕ) (told : Option (List ℕ)) → TellAll before packets → Tells line told → TellAll (before ++ line ∷ []) (packets ++ option_to_list told)
 one_more [] packets line told tell tells = (told, [], tells, refl, ap (λ (ps : List (List ℕ)). ps ++ option_to_list told) tell ∙ sym (append-nil (option_to_list told)))
@@ -42,6 +45,41 @@ told_more all left number packets line rest told now has next tells only pushed 
             here.3,
           );
     }
+
+pub told_all : (all left : List (List ℕ)) (number : ℕ) (packets : List (List ℕ)) → HasTold all left number packets → left ≡ [] → TellAll all packets
+told_all all left number packets has none =
+    let whole : has.before ≡ all = sym (has.all_are ∙ ap (λ (ls : List (List ℕ)). has.before ++ ls) none ∙ append-nil has.before) in
+    subst (λ (ls : List (List ℕ)). TellAll ls packets) whole has.told
+
+pub told_exactly : (all left : List (List ℕ)) (number : ℕ) (packets whole : List (List ℕ)) → HasTold all left number packets → left ≡ [] → TellAll all whole → packets ≡ whole
+told_exactly all left number packets whole has none tell =
+    let so_far = has.exact whole tell in
+    let nothing : so_far.0 ≡ [] = subst (λ (ls : List (List ℕ)). TellAll ls so_far.0) none so_far.2 in
+    sym (append-nil packets) ∙ ap (λ (ps : List (List ℕ)). packets ++ ps) (sym nothing) ∙ so_far.1
+
+-- the next line has a fault
+pub fails : (all left : List (List ℕ)) (number : ℕ) (packets : List (List ℕ)) (line : List ℕ) (rest : List (List ℕ)) → HasTold all left number packets → left ≡ line ∷ rest → IsFaulty line → FailsAt all (number + 1)
+fails all left number packets line rest has next faulty = record {
+  before = has.before;
+  line = line;
+  after = rest;
+  packets = packets;
+  all_are = has.all_are ∙ ap (λ (ls : List (List ℕ)). has.before ++ ls) next;
+  numbered = sym (length-append has.before (line ∷ []) ∙ ap (λ n. n + 1) has.counted);
+  told = has.told;
+  faulty = faulty;
+}
+
+-- and then the lines tell nothing
+pub fails_for_all : (all left : List (List ℕ)) (number : ℕ) (packets whole : List (List ℕ)) (line : List ℕ) (rest : List (List ℕ)) → HasTold all left number packets → left ≡ line ∷ rest → IsFaulty line → TellAll all whole → ⊥
+fails_for_all all left number packets whole line rest has next faulty tell =
+    let so_far = has.exact whole tell in
+    let here : TellAll (line ∷ rest) so_far.0 = subst (λ (ls : List (List ℕ)). TellAll ls so_far.0) next so_far.2 in
+    faulty here.0 here.2
+
+pub no_lines : (text : List ℕ) → length text ≡ 0 → lines text ≡ []
+no_lines [] none = refl
+no_lines (b ∷ bs) none = absurd (omega (arith, none))
 
 pub pushed : {A E : Type 0} (r : Result A E) (failed : Bool) (packets now : List (List ℕ)) (packet : List ℕ) → now ≡ (if is_ok r then packets ++ packet ∷ [] else packets) → failed ≡ is_err r → failed ≡ false → now ≡ packets ++ packet ∷ []
 pushed (Ok a) failed packets now packet is same no_fault = is

@@ -1,5 +1,5 @@
 -- The line of a turn: its number, and the bytes of its packet.
-use Rattle.std.proofs.Common.{◌≡◌, ℕ, suc, ◌+◌, ◌-◌, ◌*◌, ◌/◌, ◌%◌, ◌<◌, ◌≤◌, ◌^◌, ◌==◌, Bool, true, false, not, List, [], ◌∷◌, ◌++◌, length, length-append, length-drop, take, drop, Option, Some, None, position, refl, ap, sym, subst, ◌∙◌, arith, ne_eqb, ltb-true, append_assoc, ap₂, inl, inr, ◌⊎◌, ◌&&◌, nat_lt, codes, IsTrue, if◌then◌else◌}
+use Rattle.std.proofs.Common.{◌≡◌, ℕ, suc, ◌+◌, ◌-◌, ◌*◌, ◌/◌, ◌%◌, ◌<◌, ◌≤◌, ◌^◌, ◌==◌, Bool, true, false, List, [], ◌∷◌, ◌++◌, length, length-append, length-drop, take, drop, Option, Some, None, position, refl, ap, sym, subst, ◌∙◌, arith, ne_eqb, ltb-true, append_assoc, ap₂, inl, inr, ◌⊎◌, ◌&&◌, nat_lt, codes, IsTrue, if◌then◌else◌}
 use Rattle.std.specs.List.{list_all, position_or_len}
 use Rattle.std.specs.Char.{digit_value}
 use Rattle.std.specs.Fmt.{decimal}
@@ -7,7 +7,6 @@ use Rattle.std.specs.Str.Parse.{AllDigits}
 use Rattle.std.proofs.lemmas.Bool.{and_parts, cases_eq}
 use Rattle.std.proofs.lemmas.Bool.Decides.{nat_tests}
 use Rattle.std.proofs.lemmas.Fmt.{decimal_is_IsNumeral}
-use Rattle.std.proofs.lemmas.Grind.{common_steps}
 use Rattle.std.proofs.lemmas.List.{append-nil, take_all}
 use Rattle.std.proofs.lemmas.List.Folds.{list_all-append}
 use Rattle.dcc_packet.specs.Packet.{IsPacket, has_packet_length, is_checked}
@@ -189,3 +188,11 @@ pub tells_nothing : (line : List ℕ) (told : Option (List ℕ)) (turn : ℕ) (r
     → ((p : List ℕ) → IsPacket p → is_checked p ≡ true → rest ≡ hex_words p → line ≡ track_text turn p → ⊥) → ⊥
 tells_nothing line None turn rest is on read = on (is.line_is ∙ ap (λ (r : List ℕ). codes "track " ++ decimal turn ++ r) is.behind)
 tells_nothing line (Some p) turn rest is on read = read p is.behind.0 is.behind.1 is.behind.2 (is.line_is ∙ ap (λ (r : List ℕ). codes "track " ++ decimal turn ++ r) is.behind.2)
+
+-- a line whose first word is another tells of none
+pub no_turn : (line : List ℕ) (told : Option (List ℕ)) → Tells line told → is_of_turn line ≡ false → None ≡ told
+no_turn line None tells other = refl
+no_turn line (Some packet) tells other =
+    let as_turn : is_of_turn (track_text tells.0 packet) ≡ true = refl in
+    let both : true ≡ false = sym as_turn ∙ ap is_of_turn (sym tells.4) ∙ other in
+    cc

@@ -1,5 +1,5 @@
 -- What is known of a whole input.
-use Rattle.std.proofs.Common.{◌≡◌, ℕ, ◌+◌, ◌<◌, ◌≤◌, ◌⊎◌, inl, inr, List, [], ◌∷◌, ◌++◌, length, length-append, Option, Some, None, refl, ap, sym, subst, ◌∙◌, arith}
+use Rattle.std.proofs.Common.{◌≡◌, ℕ, ◌+◌, ◌≤◌, ◌⊎◌, inl, inr, List, [], ◌++◌, length, length-append, Option, Some, None, refl, ap, sym, subst, ◌∙◌, arith}
 use Rattle.std.proofs.lemmas.List.{append-nil}
 use Rattle.std.specs.Prelude.{Result, Ok, Err, OnOk, IfErr, IsErrAnd}
 use Rattle.std.specs.Io.KnownBytes.{Appends, Consumes, IsAtEnd}
@@ -10,7 +10,7 @@ use Rattle.track_signal.specs.Drawn.{DrawsInput, FailsInput, IsBroken, IsRefusal
 use Rattle.track_signal.specs.Dump.{dump_of}
 use Rattle.track_signal.specs.Fault.{Refuses}
 use Rattle.track_signal.specs.Input.{ReadsMost}
-use Rattle.track_signal.specs.Traffic.{FailsAt, IsTraffic, TellAll}
+use Rattle.track_signal.specs.Traffic.{FailsAt, IsTraffic}
 use Rattle.track_signal.proofs.Telling.{fails_once, never_both}
 
 at_end : (old new : Option (List ℕ)) (bytes : List ℕ) → ReadsMost old new 16777217 bytes → length bytes ≤ 16777216 → IsAtEnd new
@@ -32,6 +32,9 @@ no_longer text new bytes read =
     let parts = consumed text new bytes read.taken in
     let sum : length text ≡ length bytes + length parts.0 = ap length parts.1 ∙ length-append bytes parts.0 in
     omega (arith, sum)
+
+short_text : (text : List ℕ) (new : Option (List ℕ)) (bytes : List ℕ) → ReadsMost (Some text) new 16777217 bytes → length text ≤ 16777216 → text ≡ bytes
+short_text text new bytes read short = whole text new bytes read (omega (arith, short, no_longer text new bytes read))
 
 -- what is read has the fault of the text
 same_fault : (text : List ℕ) (new : Option (List ℕ)) (bytes : List ℕ) (fault e : SignalFault) → ReadsMost (Some text) new 16777217 bytes → Refuses text fault → Refuses bytes e → e ≡ fault
@@ -75,3 +78,9 @@ pub refuses_none : {A : Type 0} (result : Result A SignalFault) (old new : Optio
     → RefusesInput old result old_output new_output
 refuses_none result None new bytes packets old_output new_output read told = tt
 refuses_none result (Some text) new bytes packets old_output new_output read told = λ fault refused. absurd (no_fault text new bytes packets fault read told refused)
+
+pub fails : {A : Type 0} (up : Result A SignalFault) (e : SignalFault) (old new : Option (List ℕ)) (bytes : List ℕ) → IsErrAnd up (λ f. f ≡ e) → ReadsMost old new 16777217 bytes → ((packets : List (List ℕ)) → IsTraffic bytes packets → e ≡ NoMemory)
+    → FailsInput old up
+fails up e None new bytes is read why = tt
+fails up e (Some text) new bytes is read why = λ packets told.
+    passed_up up e IsBroken is (inr (inr (why packets (subst (λ (bs : List ℕ). IsTraffic bs packets) (short_text text new bytes read told.0) told))))

@@ -1,6 +1,6 @@
 -- A value change dump of the rails (IEEE 1364, 18.2): a header, then time stamps in microseconds, each with the value that
 -- the one wire has from then on.
-use Rattle.std.specs.Prelude.{ℕ, ◌+◌, Bool, true, false, not, sum, List, [], ◌∷◌, ◌++◌, codes, if◌then◌else◌}
+use Rattle.std.specs.Prelude.{ℕ, ◌+◌, Bool, true, not, sum, List, [], ◌∷◌, ◌++◌, codes, if◌then◌else◌}
 use Rattle.std.specs.Fmt.{decimal}
 use Rattle.half_bits.specs.Halves.{halves_of}
 

@@ -11,7 +11,7 @@ use show_text::{Line, off_line, track_line};
 use std::str;
 
 /// Of a line that begins as the line of a turn and is none.
-#[derive(Clone, Copy, Debug)]
+#[derive(Clone, Copy)]
 pub(crate) struct NoTurn;
 
 /// Whether the line is, by its first word, that of a turn.

@@ -1,4 +1,4 @@
-use Rattle.std.proofs.Common.{◌≡◌, ◌+◌, ◌<◌, ◌≤◌, ◌^◌, sum, ◌∙◌, ap, arith}
+use Rattle.std.proofs.Common.{◌∙◌, arith}
 use Rattle.half_bits.specs.Halves.{halves_of}
 use Rattle.track_signal.proofs.Rails.{drawn_end, drawn_more, drawn_none, drawn_whole, half_fits, longest}
 use Rattle.track_signal.proofs.drawing.draw_packet.Goals as goal

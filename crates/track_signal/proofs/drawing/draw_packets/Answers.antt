@@ -1,4 +1,4 @@
-use Rattle.std.proofs.Common.{◌≡◌, ◌+◌, ◌*◌, ◌<◌, ◌≤◌, ◌^◌, ℕ, List, ◌∷◌, length, drop, drop_of_length-le as drop_all, ap, sym, ◌∙◌, arith}
+use Rattle.std.proofs.Common.{◌+◌, ℕ, List, ◌∷◌, drop, drop_of_length-le as drop_all, ap, sym, ◌∙◌, arith}
 use Rattle.std.proofs.lemmas.List.{drop_more}
 use Rattle.track_signal.proofs.Rails.{dumped_all, dumped_more, dumped_none}
 use Rattle.track_signal.proofs.drawing.draw_packets.Goals as goal

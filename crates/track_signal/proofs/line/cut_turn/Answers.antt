@@ -1,5 +1,4 @@
-use Rattle.std.proofs.Common.{◌≡◌, ◌<◌, ◌^◌, ◌∙◌, ◌∷◌, ◌++◌, List, ℕ, Option, Some, None, ap, drop, sym}
-use Rattle.std.specs.Fmt.{decimal}
+use Rattle.std.proofs.Common.{◌≡◌, ◌∙◌, Some, None, ap, drop, sym}
 use Rattle.track_signal.proofs.Turns.{cut_there, some_space}
 use Rattle.track_signal.proofs.line.cut_turn.Goals as goal
 

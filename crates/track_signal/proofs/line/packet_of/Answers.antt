@@ -1,4 +1,4 @@
-use Rattle.std.proofs.Common.{◌≡◌, ◌<◌, ◌++◌, ◌∷◌, ◌∙◌, [], List, ℕ, Some, None, length, ◌≤◌, ◌⊎◌, inl, inr, true, false, sym}
+use Rattle.std.proofs.Common.{◌≡◌, length, ◌≤◌, ◌⊎◌, inl, inr}
 use Rattle.track_signal.proofs.Turns.{empty, full, made, nonempty, read_all, read_fails, read_more}
 use Rattle.track_signal.proofs.line.packet_of.Goals as goal
 use Rattle.track_signal.proofs.line.packet_of.Goals.{then-loop-bytes-test+else-not-is_full, else-loop-bytes-test}

@@ -1,9 +1,7 @@
-use Rattle.std.proofs.Common.{◌≡◌, ◌<◌, ◌^◌, ◌∷◌, ◌++◌, ◌∙◌, List, ℕ, Option, Some, None, Ok, true, false, codes, ap, sym}
-use Rattle.std.specs.Fmt.{decimal}
+use Rattle.std.proofs.Common.{rules, ◌≡◌, ◌∙◌, Some, None, Ok, true, false, inl, inr, ap, sym}
 use Rattle.dcc_packet.specs.Packet.{is_checked}
-use Rattle.show_text.specs.Lines.{off_text, track_text}
-use Rattle.track_signal.specs.Traffic.{Tells}
-use Rattle.track_signal.proofs.Turns.{IsCut, IsTurn, is_cut, is_other, is_turn, tells_nothing, tells_off, tells_packet}
+use Rattle.show_text.specs.Lines.{track_text}
+use Rattle.track_signal.proofs.Turns.{IsCut, IsTurn, is_cut, is_other, is_turn, no_turn, tells_nothing, tells_off, tells_packet}
 use Rattle.track_signal.proofs.line.packet_told.Goals as goal
 use Rattle.track_signal.proofs.line.packet_told.Goals.{then-not-is_checked-via-then-not-is_checked, then-not-is_checked-via-else-not-is_checked+then-not-is_text}
 
@@ -45,3 +43,15 @@ returns-clause-exact c = λ told tells.
     let turn : IsTurn c.args.line.now told = is_turn c.args.line.now told tells (sym c.is_of_turn.ensures ∙ c.if-not-is_of_turn.false) in
     let cut : IsCut c.args.line.now told c.in-Some.turn c.in-Some.rest.now = is_cut c.args.line.now told c.in-Some.turn c.in-Some.rest.now turn c.in-Some.ensures in
     ap Ok (tells_packet c.args.line.now told c.in-Some.turn c.in-Some.rest.now c.in-Some-packet_of.packet cut (λ off. is_other c.is_text.ensures c.if-is_text.false (off ∙ sym c.off_line.ensures)) c.in-Some-packet_of.ensures)
+
+pub returns-then-not-is_of_turn-clause-told : goal.returns-then-not-is_of_turn-clause-told
+returns-then-not-is_of_turn-clause-told c = inl (sym c.is_of_turn.ensures ∙ c.if-not-is_of_turn.true)
+
+pub returns-then-not-is_of_turn-clause-exact : goal.returns-then-not-is_of_turn-clause-exact
+returns-then-not-is_of_turn-clause-exact c = λ told tells. ap Ok (no_turn c.args.line.now told tells (sym c.is_of_turn.ensures ∙ c.if-not-is_of_turn.true))
+
+pub returns-then-is_text-clause-told : goal.returns-then-is_text-clause-told
+returns-then-is_text-clause-told c = inr (c.in-Some.turn, search rules, c.is_text.ensures.0 c.if-is_text.true ∙ c.off_line.ensures)
+
+pub returns-clause-told : goal.returns-clause-told
+returns-clause-told c = (c.in-Some.turn, search rules, search rules, sym c.is_checked.ensures ∙ c.if-not-is_checked.false, c.is_text-else-not-is_checked.ensures.0 c.if-not-is_text.false ∙ c.track_line.ensures)
