@@ -1,0 +1,3 @@
+pub mod Boxed
+pub mod Decoders
+pub mod Steps
