@@ -23,7 +23,7 @@ const OFF: u8 = 3;
 
 /// What one event answers.
 #[repr(C)]
-#[derive(Clone, Copy, Debug, PartialEq, Eq)]
+#[derive(Clone, Copy, Debug, PartialEq)]
 pub struct Answer {
     /// 0 where nothing was answered, 1 for a reply, 2 for a packet, 3 for a turn without power.
     pub kind: u8,

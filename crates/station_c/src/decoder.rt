@@ -11,7 +11,7 @@ const MOST_DECODERS: usize = 64;
 
 /// What a decoder is: the accessory decoder of a module, or else a locomotive decoder with these variables.
 #[repr(C)]
-#[derive(Clone, Copy, Debug, PartialEq, Eq)]
+#[derive(Clone, Copy)]
 pub struct Decoder {
     /// The module of an accessory decoder, 1 to 510.
     pub module: u16,

@@ -16,7 +16,7 @@ const NOISE: u8 = 2;
 
 /// One event of a layout. The fields that its kind does not name mean nothing.
 #[repr(C)]
-#[derive(Clone, Copy, Debug, PartialEq, Eq)]
+#[derive(Clone, Copy)]
 pub struct EventFields {
     /// Of a turn: decoder i misses the packet where bit i is set.
     pub missed: u64,

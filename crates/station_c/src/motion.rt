@@ -16,7 +16,7 @@ const STEP: u8 = 2;
 
 /// How a locomotive runs.
 #[repr(C)]
-#[derive(Clone, Copy, Debug, PartialEq, Eq)]
+#[derive(Clone, Copy, Debug, PartialEq)]
 pub struct Motion {
     /// Bit k is function Fk.
     pub functions: u16,

@@ -1,16 +1,26 @@
-use Rattle.std.proofs.Common.{◌≡◌, ◌+◌, List, [], ◌∷◌, ◌++◌, drop, take, map, ap, sym, subst, ◌∙◌, rules, arith, append_assoc, drop_of_length-le}
+use Rattle.std.proofs.Common.{◌≡◌, ℕ, length, ◌+◌, List, [], ◌∷◌, ◌++◌, drop, take, map, ap, sym, subst, ◌∙◌, rules, arith, append_assoc, drop_of_length-le}
+use Rattle.std.proofs.lemmas.Bool.{and_parts}
 use Rattle.std.proofs.lemmas.List.{drop_more, take_more_set}
+use Rattle.std.specs.Prelude.{IsTrue}
 use Rattle.station_core.specs.declared.call.Step.{Step}
 use Rattle.station_core.specs.Powered.{HasDesk}
 use Rattle.station_core.specs.Seen.{Seen}
 use Rattle.layout_core.specs.declared.event.Event.{Event}
-use Rattle.layout_core.specs.Played.{after_events, answer_to, answers_to}
+use Rattle.layout_core.specs.Played.{after_events, answer_to, answers_to, is_event}
 use Rattle.layout_core.specs.World.{AfterEvent, HaveHeard}
 use Rattle.station_c.specs.declared.answer.Answer.{Answer}
 use Rattle.station_c.specs.declared.event.EventFields.{EventFields}
 use Rattle.station_c.specs.Answer.{answered}
 use Rattle.station_c.specs.Event.{event_of}
+use Rattle.station_c.proofs.Events.{one_at}
 use Rattle.station_c.proofs.run.run.Goals as goal
+
+pub step-step-requires : goal.step-step-requires
+step-step-requires c =
+    subst (λ (lines : ℕ). IsTrue (is_event lines (length c.loop-i.world.nodes) c.read.result)) (sym c.loop-i.invariant.lines)
+    (subst (λ (nodes : ℕ). IsTrue (is_event (length c.args.world.now.station.lines) nodes c.read.result)) (sym c.loop-i.invariant.count)
+    (subst (λ (event : Event). IsTrue (is_event (length c.args.world.now.station.lines) (length c.args.world.now.nodes) event)) (sym c.read.ensures)
+    (and_parts _ _ (one_at _ _ c.args.events.now c.loop-i.i _ c.loop-i-test.true c.requires.events)).1))
 
 pub loop-i-preserved : goal.loop-i-preserved
 loop-i-preserved c =
@@ -49,11 +59,16 @@ loop-i-preserved c =
       specs = c.step-step.ensures.specs ∙ c.loop-i.invariant.specs;
     }
 
+abbrev none_left : (c : goal.After-loop-i) → map event_of (drop c.loop-i.i c.args.events.now) ≡ []
+none_left c = ap (λ (fields : List EventFields). map event_of fields) (drop_of_length-le c.args.events.now c.loop-i-test.false)
+
+pub returns-clause-station : goal.returns-clause-station
+returns-clause-station c = ap (λ (events : List Event). after_events c.loop-i.world.station events) (sym (none_left c)) ∙ c.loop-i.invariant.rest
+
 pub returns-clause-nodes : goal.returns-clause-nodes
 returns-clause-nodes c =
-    let done : map event_of (drop c.loop-i.i c.args.events.now) ≡ [] = ap (λ (fields : List EventFields). map event_of fields) (drop_of_length-le c.args.events.now c.loop-i-test.false) in
     c.loop-i.invariant.heard c.loop-i.world.nodes
-    (subst (λ (events : List Event). HaveHeard c.loop-i.world.station events c.loop-i.world.nodes c.loop-i.world.nodes) (sym done)
+    (subst (λ (events : List Event). HaveHeard c.loop-i.world.station events c.loop-i.world.nodes c.loop-i.world.nodes) (sym (none_left c))
     (c.events_add_up.ensures.none c.loop-i.world.station c.loop-i.world.nodes))
 
 has_desk : (c : goal.After-loop-i) → HasDesk c.args.world.now.station.powered
