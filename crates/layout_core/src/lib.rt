@@ -20,6 +20,15 @@ pub use nodes::Nodes;
 pub use port::Port;
 pub use world::World;
 
+// What goes into a layout and comes out of it, so that a program needs no other crate.
+pub use dcc_packet::{Motion, Steps};
+pub use decoder_cv::CvSet;
+pub use decoder_node::{NodeList, NodeSpec, Running};
+pub use ln_frame::Msg;
+pub use ln_ops::Reply;
+pub use show_text::{node_line, reply_line, track_line};
+pub use station_core::Step;
+
 #[cfg(test)]
 mod serve_tests;
 #[cfg(test)]

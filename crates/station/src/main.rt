@@ -2,28 +2,14 @@
 //! messages, and serves throttles over TCP.
 #![tactic(auto)]
 
-mod command_line;
-mod execute;
-mod fault;
-mod input;
-mod layout;
-mod monitor;
-mod orders;
-mod output;
 mod reading;
-mod replay;
-mod serving;
-mod words;
 
-pub use execute::execute;
-use execute::tell;
-pub use fault::RunFault;
-pub use orders::{OrderFault, order};
+pub use command_line::{FileName, Order, OrderFault, order};
+use program::tell;
+pub use program::{RunFault, execute, serve_on};
 use reading::{read_words, texts};
-pub use serving::serve_on;
 use std::io;
 use std::process::ExitCode;
-pub use words::{FileName, Order};
 
 #[cfg(test)]
 mod tests;

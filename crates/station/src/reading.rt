@@ -1,7 +1,7 @@
 //! The words that the program is given.
 
-use crate::fault::RunFault;
-use crate::orders::no_text;
+use command_line::no_text;
+use program::RunFault;
 use std::alloc::{AllocError, Global};
 use std::env::Env;
 use std::io::ErrorKind;

@@ -1,29 +1,17 @@
-//! A throttle by the libraries alone: it takes a locomotive, drives it over a track that loses two packets of three, and
+//! A throttle by the library alone: it takes a locomotive, drives it over a track that loses two packets of three, and
 //! looks at its decoder until that runs as it was told.
 #![tactic(auto)]
 
 ghost use Rattle.std.specs.Prelude.{◌≡◌, ◌<◌, length};
 
-use dcc_packet::{Motion, Steps};
-use decoder_cv::CvSet;
-use decoder_node::{NodeList, NodeSpec, Running};
-use layout_core::{Event, World};
-use ln_frame::Msg;
-use ln_ops::Reply;
-use show_text::{node_line, reply_line, track_line};
-use station_core::Step;
+use layout_core::{
+    CvSet, Event, Motion, Msg, NodeList, NodeSpec, Reply, Running, Step, Steps, World, node_line,
+    reply_line, track_line,
+};
 use std::io;
 use std::process::ExitCode;
 
-/// The address of the locomotive.
-const ADDRESS: u8 = 3;
-
-/// What it is told: speed 40, forward, with F0 on.
-const SPD: u8 = 0x40;
-
-const DIRF: u8 = 0x10;
-
-/// How it runs then: step 63 of 128.
+/// How the locomotive is to run: step 63 of 128, forward, with F0 on.
 const TOLD: Running = Running {
     motion: Motion::Step {
         of: Steps::S128,
@@ -33,9 +21,6 @@ const TOLD: Running = Running {
     functions: 1,
 };
 
-/// A throttle waits no longer than so many turns.
-const MOST_TURNS: u64 = 100;
-
 fn main(rt: HostRuntime) -> ExitCode {
     match run(&rt) {
         Ok(true) => ExitCode::from(0),
@@ -43,9 +28,9 @@ fn main(rt: HostRuntime) -> ExitCode {
     }
 }
 
-/// Whether there is a layout, the locomotive was taken, and it settled.
+/// Whether there is a layout, locomotive 3 was taken, and it settled.
 fn run(rt: &HostRuntime) -> io::Result<bool> {
-    let Ok(settings) = CvSet::new(ADDRESS, 192, 0, 2) else {
+    let Ok(settings) = CvSet::new(3, 192, 0, 2) else {
         return Ok(false);
     };
     let locomotive = NodeSpec::Loco(settings);
@@ -54,15 +39,15 @@ fn run(rt: &HostRuntime) -> io::Result<bool> {
     let Ok(mut world) = World::new(rt.alloc(), 1, nodes) else {
         return Ok(false);
     };
-    // Power, and the slot of the address.
+    // Power, and the slot of address 3.
     say(rt, &mut world, &[0x83])?;
-    let Some(slot) = slot_in(&say(rt, &mut world, &[0xBF, 0, ADDRESS])?) else {
+    let Some(slot) = slot_in(&say(rt, &mut world, &[0xBF, 0, 3])?) else {
         return Ok(false);
     };
-    // A null move puts it in use.
+    // A null move puts it in use; then speed 64, and forward with F0.
     say(rt, &mut world, &[0xBA, slot, slot])?;
-    say(rt, &mut world, &[0xA0, slot, SPD])?;
-    say(rt, &mut world, &[0xA1, slot, DIRF])?;
+    say(rt, &mut world, &[0xA0, slot, 0x40])?;
+    say(rt, &mut world, &[0xA1, slot, 0x10])?;
     let settled = drive(rt, &mut world)?;
     if let Some(running) = world.running(0) {
         let line = node_line("engine", &locomotive, Some(running), None);
@@ -88,10 +73,11 @@ fn say(rt: &HostRuntime, world: &mut World, body: &[u8]) -> io::Result<Option<Re
     let mut answered = None;
     if Msg::is_body(body) {
         for byte in Msg::sealed(body).bytes() {
-            if let Step::Reply(reply) = world.step(Event::Byte {
+            let byte = Event::Byte {
                 line: 0,
                 byte: *byte,
-            }) {
+            };
+            if let Step::Reply(reply) = world.step(byte) {
                 println!(rt; "{}", reply_line(0, &reply).as_str())?;
                 answered = Some(reply);
             }
@@ -100,17 +86,15 @@ fn say(rt: &HostRuntime, world: &mut World, body: &[u8]) -> io::Result<Option<Re
     Ok(answered)
 }
 
-/// Turns, of which the locomotive hears every third, until it runs as it was told. Whether it does.
+/// Up to 100 turns, of which the locomotive hears every third, until it runs as it was told. Whether it does.
 fn drive(rt: &HostRuntime, world: &mut World) -> io::Result<bool>
     requires { 0 < length world.old.nodes }
     ensures { length world.new.nodes ≡ length world.old.nodes }
 {
-    for turn in 1..=MOST_TURNS {
+    for turn in 1..=100 {
         let is_lost = turn % 3 != 0;
-        let step = world.step(Event::Turn {
-            missed: u64::from(is_lost),
-        });
-        if let Step::Packet(packet) = &step {
+        let missed = u64::from(is_lost);
+        if let Step::Packet(packet) = &world.step(Event::Turn { missed }) {
             let end = if is_lost { " lost" } else { "" };
             println!(rt; "{}{end}", track_line(turn, packet).as_str())?;
         }

@@ -1,10 +1,10 @@
 //! Clients on loopback, all in one process, one after another.
 
 use super::run;
-use crate::layout::new_world;
 use crate::serve_on;
 use layout_core::Limits;
 use ln_ops::State;
+use program::new_world;
 use std::io::{Read, Write};
 use std::net::{Shutdown, TcpListener, TcpStream};
 use std::test::Fail;

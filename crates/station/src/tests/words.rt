@@ -1,9 +1,9 @@
 //! The words of the command line.
 
 use super::run;
-use crate::execute::tell;
 use crate::reading::{read_words, texts};
 use crate::{Order, OrderFault, order};
+use program::tell;
 use std::env::{Env, FillError};
 use std::test::Fail;
 

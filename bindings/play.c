@@ -1,0 +1,181 @@
+/* play ROSTER SCRIPT LINES: plays a script on the layout of a roster, and prints what `station replay` prints.
+ *
+ * play sizes: prints the sizes of the structs of station.h and where their fields stand. */
+#include <stdio.h>
+#include <stdlib.h>
+#include <string.h>
+
+#include "station.h"
+
+enum { MOST_DECODERS = 64, MOST_TEXT = 65536, MOST_TURNS = 4096 };
+
+/* What the roster says of a decoder beside what the station keeps: its name, and how its line begins. */
+typedef struct named {
+    char name[17];
+    unsigned cv[30];
+    unsigned module;
+} named;
+
+static named nodes[MOST_DECODERS];
+static size_t count;
+
+/* Takes names, variables and modules from a roster whose pairs and keys stand as in examples/. */
+static void read_names(const char *text) {
+    for (const char *at = text; *at; at++) {
+        unsigned number, value;
+        if (at > text && at[-1] != '\n' && *at != '[')
+            continue;
+        if (strncmp(at, "[[node]]", 8) == 0 && count < MOST_DECODERS) {
+            nodes[count++].cv[17] = 192;
+            at += 7;
+        } else if (count && sscanf(at, "name = \"%16[^\"]", nodes[count - 1].name) != 1
+                && sscanf(at, "module = %u", &nodes[count - 1].module) != 1
+                && (sscanf(at, "cv%u = %u", &number, &value) == 2 || sscanf(at, "[%u, %u]", &number, &value) == 2)
+                && number < 30)
+            nodes[count - 1].cv[number] = value;
+    }
+}
+
+static char *read_file(const char *name, size_t *size) {
+    static char text[2][MOST_TEXT];
+    static int next;
+    char *into = text[next++];
+    FILE *file = fopen(name, "rb");
+    if (!file) {
+        fprintf(stderr, "play: cannot read %s\n", name);
+        exit(2);
+    }
+    *size = fread(into, 1, MOST_TEXT - 1, file);
+    fclose(file);
+    return into;
+}
+
+static void print_bytes(const char *what, unsigned long at, const station_answer *answer) {
+    printf("%s %lu", what, at);
+    for (unsigned i = 0; i < answer->size; i++)
+        printf(" %02X", answer->bytes[i]);
+    printf("\n");
+}
+
+static void print_answer(const station_event *event, const station_answer *answer, unsigned long *turns) {
+    if (event->kind == STATION_TURN)
+        ++*turns;
+    if (answer->kind == STATION_REPLY)
+        print_bytes("reply", event->line, answer);
+    if (answer->kind == STATION_PACKET)
+        print_bytes("track", *turns, answer);
+    if (answer->kind == STATION_OFF)
+        printf("track %lu off\n", *turns);
+}
+
+static void print_bits(unsigned bits, unsigned many) {
+    for (unsigned k = 0; k < many; k++)
+        putchar('0' + (bits >> k & 1));
+    putchar('\n');
+}
+
+static void print_address(const named *node) {
+    if (node->cv[29] & 32)
+        printf("long %u", (node->cv[17] - 192) * 256 + node->cv[18]);
+    else
+        printf("short %u", node->cv[1]);
+}
+
+static void print_nodes(station_layout *layout) {
+    for (size_t i = 0; i < count; i++) {
+        station_motion motion = { 0 };
+        uint8_t outputs = 0;
+        printf("node %s ", nodes[i].name);
+        if (station_running(layout, i, &motion)) {
+            print_address(&nodes[i]);
+            if (motion.kind == STATION_STEP)
+                printf(" step %u of %u", motion.step, motion.steps == 126 ? 128 : motion.steps);
+            else
+                printf(motion.kind == STATION_STOP ? " stop" : " emergency");
+            printf(" %s F ", motion.forward ? "forward" : "reverse");
+            print_bits(motion.functions, 13);
+        } else if (station_outputs(layout, i, &outputs)) {
+            printf("module %u outputs ", nodes[i].module);
+            print_bits(outputs, 8);
+        }
+    }
+}
+
+/* The events of a line of the script are run as one list. */
+static void play(station_layout *layout, const char *line, unsigned long *turns) {
+    static station_event events[MOST_TURNS];
+    static station_answer answers[MOST_TURNS];
+    station_event event = { 0 };
+    size_t many = 0;
+    char *rest;
+    if (strncmp(line, "line ", 5) == 0) {
+        event.line = (uint8_t)strtoul(line + 5, &rest, 10);
+        for (char *next; event.byte = (uint8_t)strtoul(rest, &next, 16), next != rest && many < MOST_TURNS; rest = next)
+            events[many++] = event;
+    } else if (strncmp(line, "turn ", 5) == 0) {
+        unsigned long wanted = strtoul(line + 5, &rest, 10);
+        char *missed = strstr(rest, "miss");
+        event.kind = STATION_TURN;
+        if (missed)
+            for (char *next, *from = missed + 4;; from = next) {
+                unsigned long i = strtoul(from, &next, 10);
+                if (next == from)
+                    break;
+                event.missed |= (uint64_t)1 << i;
+            }
+        while (many < wanted && many < MOST_TURNS)
+            events[many++] = event;
+    }
+    if (!station_run(layout, events, many, answers, many)) {
+        fprintf(stderr, "play: not played: %s\n", line);
+        exit(2);
+    }
+    for (size_t i = 0; i < many; i++)
+        print_answer(&events[i], &answers[i], turns);
+}
+
+#define FIELD(type, field) printf("%s.%s %zu\n", #type, #field, offsetof(type, field))
+
+static void print_sizes(void) {
+    printf("station_layout %zu\nstation_decoder %zu\n", sizeof(station_layout), sizeof(station_decoder));
+    printf("station_event %zu\nstation_answer %zu\n", sizeof(station_event), sizeof(station_answer));
+    printf("station_motion %zu\n", sizeof(station_motion));
+    FIELD(station_layout, at), FIELD(station_layout, made);
+    FIELD(station_decoder, module), FIELD(station_decoder, accessory), FIELD(station_decoder, cv1);
+    FIELD(station_decoder, cv17), FIELD(station_decoder, cv18), FIELD(station_decoder, cv29);
+    FIELD(station_event, missed), FIELD(station_event, half), FIELD(station_event, kind);
+    FIELD(station_event, line), FIELD(station_event, byte), FIELD(station_event, node);
+    FIELD(station_answer, kind), FIELD(station_answer, size), FIELD(station_answer, bytes);
+    FIELD(station_motion, functions), FIELD(station_motion, kind), FIELD(station_motion, step);
+    FIELD(station_motion, steps), FIELD(station_motion, forward);
+}
+
+int main(int argc, char **argv) {
+    if (argc == 2 && strcmp(argv[1], "sizes") == 0) {
+        print_sizes();
+        return 0;
+    }
+    if (argc != 4) {
+        fprintf(stderr, "usage: play ROSTER SCRIPT LINES | play sizes\n");
+        return 2;
+    }
+    size_t size;
+    char *roster = read_file(argv[1], &size);
+    station_layout layout = STATION_NONE;
+    uint8_t node = 0;
+    uint8_t lines = (uint8_t)atoi(argv[3]);
+    uint8_t status = station_read(&layout, lines, (const uint8_t *)roster, size, &node);
+    if (status != STATION_MADE) {
+        fprintf(stderr, "play: no layout: status %u at decoder %u\n", status, node);
+        return 2;
+    }
+    read_names(roster);
+    unsigned long turns = 0;
+    for (char *line = strtok(read_file(argv[2], &size), "\n"); line; line = strtok(NULL, "\n"))
+        if (strncmp(line, "show", 4) == 0)
+            print_nodes(&layout);
+        else if (line[0] != '#')
+            play(&layout, line, &turns);
+    station_free(&layout);
+    return 0;
+}

@@ -1,0 +1,74 @@
+-- The command line, as clap reads it.
+use Rattle.std.specs.Prelude.{ℕ, [], ◌∷◌, codes, Some, true, pos}
+use Rattle.clap.specs.Words.{App, Rule, Text, new_app, new_rule, with_rule, with_subcommand}
+use Rattle.clap.specs.declared.builder.ArgAction.TheVariants.{Set}
+use Rattle.clap.specs.declared.builder.value_parser.ValueParser.TheVariants as vp
+
+-- a value that stands at its place
+abbrev pub value : Text → Rule
+value id = record (new_rule id) { value_names = 1; action = Some Set }
+
+-- `--id VALUE`
+abbrev pub option : Text → Rule
+option id = record (value id) { long = Some id }
+
+-- `--id N`, a number in a range
+abbrev pub number : Text → ℕ → ℕ → Rule
+number id least most = record (option id) { parser = Some (vp.Signed (pos least) (pos most)) }
+
+-- what stands for an option that is not given
+abbrev pub or_else : Rule → Text → Rule
+or_else rule text = record rule { defaults = text ∷ [] }
+
+abbrev pub needed : Rule → Rule
+needed rule = record rule { required = true }
+
+-- The options.
+
+unfoldable pub roster_rule : Rule
+roster_rule = option (codes "roster")
+
+unfoldable pub lines_rule : Rule
+lines_rule = or_else (number (codes "lines") 1 8) (codes "1")
+
+unfoldable pub file_rule : Rule
+file_rule = needed (value (codes "file"))
+
+unfoldable pub port_rule : Rule
+port_rule = needed (number (codes "port") 1 65535)
+
+unfoldable pub turns_rule : Rule
+turns_rule = or_else (number (codes "turns") 0 255) (codes "1")
+
+unfoldable pub reads_rule : Rule
+reads_rule = or_else (number (codes "reads") 1 4294967295) (codes "100000")
+
+unfoldable pub connections_rule : Rule
+connections_rule = or_else (number (codes "connections") 1 1000) (codes "1")
+
+-- The commands.
+
+unfoldable pub replay_app : App
+replay_app = with_rule (with_rule (new_app (codes "replay")) lines_rule) roster_rule
+
+unfoldable pub monitor_app : App
+monitor_app = with_rule (new_app (codes "monitor")) file_rule
+
+unfoldable pub served_at_app : App
+served_at_app = with_rule (new_app (codes "serve")) port_rule
+
+unfoldable pub served_app : App
+served_app = with_rule (with_rule served_at_app roster_rule) turns_rule
+
+unfoldable pub serve_app : App
+serve_app = with_rule (with_rule served_app reads_rule) connections_rule
+
+-- the program's own words come without its name, and a command is wanted
+unfoldable pub bare_app : App
+bare_app = record (new_app (codes "station")) { top = record (new_app (codes "station")).top { no_binary_name = true; subcommand_required = true } }
+
+unfoldable pub without_server_app : App
+without_server_app = with_subcommand (with_subcommand bare_app replay_app.top) monitor_app.top
+
+unfoldable pub station_app : App
+station_app = with_subcommand without_server_app serve_app.top

@@ -1,0 +1,189 @@
+//! Reading the command line.
+ghost use Rattle.std.specs.Prelude.{◌≡◌, ℕ, [], Ok, None, IfOk, IfSome, map, option_map, codes};
+ghost use Rattle.clap.specs.Words.{first_of, found_of, one_of, rows_of, subcommand_of, subcommand_rows_of};
+ghost use Rattle.command_line.specs.CommandLine.{station_app};
+ghost use Rattle.command_line.specs.Order.{IsMatched, IsNumber, IsOrder, IsOrderOf, Writes};
+
+use crate::command::station_command;
+use crate::words::{FileName, Order};
+use clap::error::ErrorKind;
+use clap::{ArgMatches, Error};
+use std::alloc::{AllocError, Global};
+use thiserror::Error;
+
+/// Why the words are no order.
+#[derive(Debug, Drop, Error)]
+pub enum OrderFault {
+    /// The program does not know the words, or they ask for help. Its text is what to tell the user.
+    #[error("{0}")]
+    Usage(clap::Error),
+    /// A growth was refused.
+    #[error("no memory")]
+    NoMemory,
+}
+
+impl From<AllocError> for OrderFault {
+    fn from(_error: AllocError) -> OrderFault {
+        OrderFault::NoMemory
+    }
+}
+
+impl From<Error> for OrderFault {
+    fn from(error: Error) -> OrderFault {
+        match error.kind() {
+            ErrorKind::OutOfMemory => OrderFault::NoMemory,
+            _ => OrderFault::Usage(error),
+        }
+    }
+}
+
+/// The number of an option, if it is in this range.
+fn number(found: &ArgMatches<'_>, id: &str, least: u32, most: u32) -> Option<u32>
+    ensures { IfSome result (λ n. IsNumber (one_of id.now (rows_of (found_of found.now))) least most n) }
+{
+    match any_number(found, id) {
+        Some(number) if least <= number && number <= most => Some(number),
+        _ => None,
+    }
+}
+
+fn any_number(found: &ArgMatches<'_>, id: &str) -> Option<u32>
+    ensures { IfSome result (λ n. Writes (one_of id.now (rows_of (found_of found.now))) n) }
+{
+    found.get_one::<u32>(id)
+}
+
+#[tactic(auto, using(crate::proofs::Found::first_in_rows))]
+fn text<'a>(found: &ArgMatches<'a>, id: &str) -> Option<&'a str>
+    ensures { option_map (λ text. text.now) result ≡ first_of id.now (rows_of (found_of found.now)) }
+{
+    found.get_str(id)
+}
+
+fn file_name(
+    alloc: Global,
+    found: &ArgMatches<'_>,
+    id: &str,
+) -> Result<Option<FileName>, AllocError>
+    ensures { IfOk result (λ name. name ≡ first_of id.now (rows_of (found_of found.now))) }
+{
+    match text(found, id) {
+        Some(text) => Ok(Some(FileName::new(alloc, text)?)),
+        None => Ok(None),
+    }
+}
+
+// Clap has checked each value that is read here, so no words come to this.
+fn out_of_range(alloc: Global) -> OrderFault {
+    usage(
+        alloc,
+        ErrorKind::ValueValidation,
+        "a value is out of its range",
+    )
+}
+
+/// What to tell of a word that is no text: it is not UTF-8. The usage stands behind it.
+pub fn no_text(alloc: Global) -> OrderFault {
+    usage(alloc, ErrorKind::InvalidValue, "a word is not UTF-8")
+}
+
+/// Tells the usage, behind this message.
+fn usage(alloc: Global, kind: ErrorKind, message: &str) -> OrderFault {
+    let error = match station_command(alloc) {
+        Ok(mut command) => command.error(kind, message),
+        Err(error) => Err(error),
+    };
+    match error {
+        Ok(error) => OrderFault::Usage(error),
+        Err(_) => OrderFault::NoMemory,
+    }
+}
+
+fn replay(alloc: Global, found: &ArgMatches<'_>) -> Result<Order, OrderFault>
+    ensures { IfOk result (λ order. IsOrder (codes "replay") (rows_of (found_of found.now)) order) }
+{
+    let Some(lines) = number(found, "lines", 1, 8) else {
+        return Err(out_of_range(alloc));
+    };
+    let roster = file_name(alloc, found, "roster")?;
+    Ok(Order::Replay {
+        lines: lines as u8,
+        roster,
+    })
+}
+
+fn monitor(alloc: Global, found: &ArgMatches<'_>) -> Result<Order, OrderFault>
+    ensures { IfOk result (λ order. IsOrder (codes "monitor") (rows_of (found_of found.now)) order) }
+{
+    match file_name(alloc, found, "file")? {
+        Some(file) => Ok(Order::Monitor { file }),
+        None => Err(out_of_range(alloc)),
+    }
+}
+
+fn serve(alloc: Global, found: &ArgMatches<'_>) -> Result<Order, OrderFault>
+    ensures { IfOk result (λ order. IsOrder (codes "serve") (rows_of (found_of found.now)) order) }
+{
+    let (Some(port), Some(turns), Some(reads), Some(connections)) = (
+        number(found, "port", 1, 65_535),
+        number(found, "turns", 0, 255),
+        number(found, "reads", 1, u32::MAX),
+        number(found, "connections", 1, 1000),
+    ) else {
+        return Err(out_of_range(alloc));
+    };
+    Ok(Order::Serve {
+        port: port as u16,
+        roster: file_name(alloc, found, "roster")?,
+        turns: turns as u8,
+        reads,
+        connections,
+    })
+}
+
+fn command_order(alloc: Global, command: &str, found: &ArgMatches<'_>) -> Result<Order, OrderFault>
+    ensures { IfOk result (λ order. IsOrder command.now (rows_of (found_of found.now)) order) }
+{
+    match command {
+        "replay" => replay(alloc, found),
+        "monitor" => monitor(alloc, found),
+        "serve" => serve(alloc, found),
+        _ => Err(out_of_range(alloc)),
+    }
+}
+
+fn matched(alloc: Global, matches: &ArgMatches<'_>) -> Result<Order, OrderFault>
+    ensures { IfOk result (λ order. IsMatched (subcommand_rows_of matches.now) order) }
+{
+    match matches.subcommand() {
+        Some((command, found)) => command_order(alloc, command, found),
+        None => Err(out_of_range(alloc)),
+    }
+}
+
+/// What clap makes of the words.
+#[tactic(auto, using(crate::proofs::Simple::is_simple_command))]
+fn matches_of<'a>(alloc: Global, words: &'a [&'a str]) -> Result<ArgMatches<'a>, Error>
+    ensures { IfOk result (λ m. subcommand_rows_of m ≡ subcommand_of station_app (map (λ word. word.now) words.entry.now)) }
+{
+    station_command(alloc)?.try_get_matches_from(words)
+}
+
+/// What the words ask for.
+///
+/// Words that the program does not know are `Usage`, and so are those that ask for help.
+#[tactic(auto, using(crate::proofs::Found::of_some_words))]
+pub fn order<'a>(alloc: Global, words: &'a [&'a str]) -> Result<Order, OrderFault>
+    // An order holds what clap's matches of the words hold, each number in its range.
+    ensures order { IfOk result (λ order. IsOrderOf (map (λ word. word.now) words.entry.now) order) }
+    ensures no_words { words.entry.now ≡ [] → result ≡ Ok (Order.Replay 1 None) }
+{
+    if words.is_empty() {
+        return Ok(Order::Replay {
+            lines: 1,
+            roster: None,
+        });
+    }
+    let matches = matches_of(alloc, words)?;
+    matched(alloc, &matches)
+}

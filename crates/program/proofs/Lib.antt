@@ -1,0 +1,11 @@
+pub mod Connecting
+pub mod Known
+pub mod Told
+pub mod Printing
+pub mod Replaying
+pub mod Running
+pub mod Standing
+pub mod Few
+pub mod Lending
+pub mod Unseen
+pub mod Wanted

@@ -1,0 +1,24 @@
+-- What was done on a new layout.
+use Rattle.std.proofs.Common.{◌≡◌, ℕ, List, Option, subst}
+use Rattle.std.specs.Prelude.{Result, Ok, Err, OnOk}
+use Rattle.clap.specs.Words.{Text}
+use Rattle.layout_core.specs.declared.engine.Limits.{Limits}
+use Rattle.layout_core.specs.declared.world.World.{World}
+use Rattle.roster.specs.Entry.{Entry}
+use Rattle.program.specs.Connections.{HasServed, listening_text}
+use Rattle.program.specs.Layout.{entries_in}
+use Rattle.program.specs.Runs.{IsNew, IsRosterOf, ReplaysNew, ServesNew}
+use Rattle.program.specs.Scripts.{ReplaysInput}
+
+-- the roster that was lent twice is the one that was read
+pub replayed_new : {A E : Type 0} (r : Result A E) (lines : ℕ) (file : Option Text) (roster first second : Option (List Entry)) (start new : World) (input input' output output' : Option (List ℕ)) → first ≡ roster → second ≡ roster
+    → IsRosterOf file roster → IsNew lines first start → OnOk r (ReplaysInput input input' start (entries_in second) new output output') → OnOk r (ReplaysNew lines file input input' output output')
+replayed_new (Ok a) lines file roster first second start new input input' output output' one two is made has =
+    (roster, start, new, is, subst (λ (o : Option (List Entry)). IsNew lines o start) one made, subst (λ (o : Option (List Entry)). ReplaysInput input input' start (entries_in o) new output output') two has)
+replayed_new (Err e) lines file roster first second start new input input' output output' one two is made has = tt
+
+pub served_new : {A E : Type 0} (r : Result A E) (port : ℕ) (file : Option Text) (limits : Limits) (count : ℕ) (roster first second : Option (List Entry)) (start new : World) (output output' : Option (List ℕ)) → first ≡ roster → second ≡ roster
+    → IsRosterOf file roster → IsNew 1 first start → OnOk r (HasServed limits count (entries_in second) start new (listening_text port) output output') → OnOk r (ServesNew port file limits count output output')
+served_new (Ok a) port file limits count roster first second start new output output' one two is made has =
+    (roster, start, new, is, subst (λ (o : Option (List Entry)). IsNew 1 o start) one made, subst (λ (o : Option (List Entry)). HasServed limits count (entries_in o) start new (listening_text port) output output') two has)
+served_new (Err e) port file limits count roster first second start new output output' one two is made has = tt

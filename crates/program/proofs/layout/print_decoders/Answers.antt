@@ -1,0 +1,50 @@
+use Rattle.std.proofs.Common.{arith, ◌≡◌, ◌≤◌, ◌<◌, ◌∙◌, length, List, ℕ, map, ap, sym, subst}
+use Rattle.std.proofs.lemmas.List.{length-map, take_all}
+use Rattle.std.specs.Io.KnownBytes.{Appends}
+use Rattle.decoder_node.specs.declared.node.NodeSpec.{NodeSpec}
+use Rattle.layout_core.specs.Nodes.{spec_of}
+use Rattle.roster.specs.Entry.{spec_of as spec_of_entry}
+use Rattle.program.specs.Printed.{decoder_lines, lines_text, standing_of}
+use Rattle.program.proofs.Printing.{one_line_more}
+use Rattle.program.proofs.Told.{length-decoder_lines, told_at, told_line}
+use Rattle.program.proofs.layout.print_decoders.Goals as goal
+
+pub node_line-line-requires-clause-told : goal.node_line-line-requires-clause-told
+node_line-line-requires-clause-told g c =
+    let same : map spec_of c.args.world.now.nodes ≡ c.as_slice-spec-items.result.now = c.requires ∙ sym c.nodes.ensures.nodes ∙ sym c.as_slice-spec-items.ensures.value in
+    let below : c.loop-i.i < length c.as_slice-spec-items.result.now = c.loop-i-test.true in
+    let count : length c.args.world.now.nodes ≡ length c.as_slice-spec-items.result.now = sym (length-map c.args.world.now.nodes spec_of) ∙ ap length same in
+    told_at c.args.world.now.nodes c.as_slice-spec-items.result.now c.loop-i.i c.spec-item.result c.running.result c.outputs.result
+    same (omega (arith, below, count)) c.spec-item.is c.running.ensures c.outputs.ensures
+
+pub loop-i-preserved : goal.loop-i-preserved
+loop-i-preserved g c =
+    let nodes = c.args.world.now.nodes in
+    let entries = c.args.roster.now in
+    let specs : List NodeSpec = c.as_slice-spec-items.result.now in
+    let are : specs ≡ map spec_of_entry entries = c.as_slice-spec-items.ensures.value ∙ c.nodes.ensures.nodes in
+    let below : c.loop-i.i < length specs = c.loop-i-test.true in
+    let same : map spec_of nodes ≡ specs = c.requires ∙ sym are in
+    let count : length nodes ≡ length specs = sym (length-map nodes spec_of) ∙ ap length same in
+    let as_many : length (map standing_of nodes) ≡ length entries = length-map nodes standing_of ∙ count ∙ ap length are ∙ length-map entries spec_of_entry in
+    let so_many : length (decoder_lines entries (map standing_of nodes)) ≡ length entries = length-decoder_lines entries (map standing_of nodes) as_many in
+    let same_length : length specs ≡ length entries = ap length are ∙ length-map entries spec_of_entry in
+    let inside : c.loop-i.i < length entries = omega (arith, below, same_length) in
+    one_line_more (decoder_lines entries (map standing_of nodes)) c.loop-i.i c.node_line-line.result.bytes (g.O.Write.contents c.args.output.now) (g.O.Write.contents c.loop-i.output) (g.O.Write.contents c.print.new.output)
+    (omega (arith, inside, so_many))
+    (told_line entries nodes specs c.loop-i.i c.name.result.now c.spec-item.result c.running.result c.outputs.result are below count c.spec-item.is c.name.ensures.value c.running.ensures c.outputs.ensures ∙ sym c.node_line-line.ensures)
+    c.loop-i.invariant c.in_ok-print.ensures.printed
+
+pub returns : goal.returns
+returns g c =
+    let nodes = c.args.world.now.nodes in
+    let entries = c.args.roster.now in
+    let specs : List NodeSpec = c.as_slice-spec-items.result.now in
+    let are : specs ≡ map spec_of_entry entries = c.as_slice-spec-items.ensures.value ∙ c.nodes.ensures.nodes in
+    let over : length specs ≤ c.loop-i.i = c.loop-i-test.false in
+    let as_many : length (map standing_of nodes) ≡ length entries = length-map nodes standing_of ∙ sym (length-map nodes spec_of) ∙ ap length c.requires ∙ length-map entries spec_of_entry in
+    let so_many : length (decoder_lines entries (map standing_of nodes)) ≡ length entries = length-decoder_lines entries (map standing_of nodes) as_many in
+    let all : length (decoder_lines entries (map standing_of nodes)) ≤ c.loop-i.i = omega (arith, over, so_many, ap length are, length-map entries spec_of_entry) in
+    record {
+      printed = subst (λ (lines : List (List ℕ)). Appends (g.O.Write.contents c.args.output.now) (g.O.Write.contents c.loop-i.output) (lines_text lines)) (take_all c.loop-i.i (decoder_lines entries (map standing_of nodes)) all) c.loop-i.invariant;
+    }

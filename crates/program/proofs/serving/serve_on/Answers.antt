@@ -1,0 +1,50 @@
+use Rattle.std.proofs.Common.{◌≡◌, ◌∙◌, refl, subst, inl, inr, arith, rules}
+use Rattle.program.proofs.Connecting.{given_up, part_none, part_whole, passed_up, served_all, served_more, served_none}
+use Rattle.program.proofs.Replaying.{done_none}
+use Rattle.program.specs.declared.fault.RunFault.{RunFault}
+use Rattle.program.specs.declared.fault.RunFault.TheVariants.{Network, Output}
+use Rattle.program.specs.Layout.{entries_in, roster_value}
+use Rattle.station_core.specs.Powered.{HasDesk}
+use Rattle.station_core.specs.Seen.{Seen}
+use Rattle.program.proofs.serving.serve_on.Goals as goal
+
+pub loop-served-preserved : goal.loop-served-preserved
+loop-served-preserved g c = record {
+  nodes = c.serve_stream.ensures.specs ∙ c.loop-served.invariant.nodes;
+  served =
+      served_more c.events_add_up.ensures.more c.args.limits c.loop-served._served (entries_in (roster_value c.args.roster)) c.args.world.now c.loop-served.world c.serve_stream.new.world
+      (g.O.Write.contents c.args.output.now) (g.O.Write.contents c.loop-served.output) (g.O.Write.contents c.serve_stream.new.output) (g.O.Write.contents c.print_nodes.new.output)
+      c.loop-served.invariant.served c.in_ok-serve_stream.ensures.served c.in_ok-print_nodes.ensures.printed;
+}
+
+pub returns-in_default-clause-given_up : goal.returns-in_default-clause-given_up
+returns-in_default-clause-given_up g c =
+    given_up Network c.args.limits c.loop-served._served c.args.connections (entries_in (roster_value c.args.roster)) c.args.world.now c.loop-served.world c.loop-served.world
+    (g.O.Write.contents c.args.output.now) (g.O.Write.contents c.loop-served.output) (g.O.Write.contents c.loop-served.output) c.loop-served.invariant.served c.loop-served-test.true
+    (part_none c.args.limits.turns c.loop-served.world (done_none c.events_add_up.ensures.none c.loop-served.world)) (inl (refl, refl, refl))
+
+pub returns-in_err-serve_stream-clause-given_up : goal.returns-in_err-serve_stream-clause-given_up
+returns-in_err-serve_stream-clause-given_up g c =
+    let fault : RunFault = c.in_err-serve_stream.field-0.0 in
+    passed_up c.from_residual.result fault _ (search rules)
+    (given_up fault c.args.limits c.loop-served._served c.args.connections (entries_in (roster_value c.args.roster)) c.args.world.now c.loop-served.world c.serve_stream.new.world
+    (g.O.Write.contents c.args.output.now) (g.O.Write.contents c.loop-served.output) (g.O.Write.contents c.serve_stream.new.output) c.loop-served.invariant.served c.loop-served-test.true
+    c.in_err-serve_stream.ensures.part (inr (inl c.in_err-serve_stream.ensures.given_up)))
+
+pub returns-in_err-print_nodes-clause-given_up : goal.returns-in_err-print_nodes-clause-given_up
+returns-in_err-print_nodes-clause-given_up g c =
+    let served = c.in_ok-serve_stream.ensures.served in
+    passed_up c.from_residual-in_err-print_nodes.result Output _ (search rules)
+    (given_up Output c.args.limits c.loop-served._served c.args.connections (entries_in (roster_value c.args.roster)) c.args.world.now c.loop-served.world c.serve_stream.new.world
+    (g.O.Write.contents c.args.output.now) (g.O.Write.contents c.loop-served.output) (g.O.Write.contents c.print_nodes.new.output) c.loop-served.invariant.served c.loop-served-test.true
+    (part_whole c.args.limits c.loop-served.world c.serve_stream.new.world _ _ served) (inr (inr (refl, (served.0, served.1)))))
+
+pub returns-clause-served : goal.returns-clause-served
+returns-clause-served g c =
+    let all : c.loop-served._served ≡ c.args.connections = omega (arith, c.loop-served-test.false) in
+    let desk : HasDesk c.args.world.now.station.powered = subst (λ (seen : Seen). HasDesk seen.powered) c.station.ensures c.lines.ensures.desk in
+    served_all c.headline.ensures.headline c.args.limits c.loop-served._served c.args.connections (entries_in (roster_value c.args.roster)) c.args.world.now c.loop-served.world
+    (g.O.Write.contents c.args.output.now) (g.O.Write.contents c.loop-served.output) desk all c.loop-served.invariant.served
+
+pub loop-served-init : goal.loop-served-init
+loop-served-init g c = record { nodes = c.requires; served = served_none c.events_add_up.ensures.none c.args.limits (entries_in (roster_value c.args.roster)) c.args.world.now (g.O.Write.contents c.args.output.now) }

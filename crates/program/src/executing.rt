@@ -1,0 +1,140 @@
+//! The program on its words and streams.
+ghost use Rattle.std.specs.Prelude.{◌≡◌, ◌≢◌, ◌≤◌, IfErr, OnOk, map};
+ghost use Rattle.program.specs.Fault.{status_of};
+ghost use Rattle.program.specs.Runs.{CarriesOut, ReplaysNew, Runs, ServesNew};
+
+use crate::fault::RunFault;
+use crate::layout::{new_world, read_roster};
+use crate::monitor::monitor;
+use crate::replay::replay;
+use crate::serving::serve_at;
+use command_line::{FileName, Order, order};
+use layout_core::Limits;
+use std::io::{Read, Write};
+use std::net::{Net, TcpListener, TcpStream};
+use std::rt::Files;
+
+/// Runs the program on the words behind its name, and answers its exit status, 0 to 6.
+///
+/// Results go to `output`. Where the status is not 0, `faults` gets one line `station: ..`, or what `clap` tells of the
+/// command line.
+pub fn execute<R, I, O, E>(
+    rt: &R,
+    words: &[&str],
+    input: &mut I,
+    output: &mut O,
+    faults: &mut E,
+) -> u8
+where
+    R: Files + AllocGlobal + Net<Listener = TcpListener, Stream = TcpStream>,
+    I: Read,
+    O: Write,
+    E: Write,
+    ensures most { result ≤ 6 }
+    // The words are an order, and it was carried out.
+    ensures done { result ≡ 0 → Runs (map (λ word. word.now) words.entry.now) (I.remaining input.old) (I.remaining input.new) (O.contents output.old) (O.contents output.new) }
+    // A fault of the words, of what is read, of a roster, a script or a hex text prints nothing.
+    ensures untouched { result ≢ 0 → result ≢ 4 → result ≢ 6 → output.new ≡ output.old }
+{
+    match run(rt, words, input, output) {
+        Ok(()) => 0,
+        Err(fault) => tell(&fault, faults),
+    }
+}
+
+/// Tells a fault, and answers its status. Where it cannot be told, nobody can be told that.
+pub fn tell<E: Write>(fault: &RunFault, faults: &mut E) -> u8
+    ensures { result ≡ status_of fault.now }
+{
+    let _ = match fault {
+        RunFault::Usage(error) => write!(faults, "{error}"),
+        _ => writeln!(faults, "station: {fault}"),
+    };
+    fault.status()
+}
+
+/// Does what the words ask for.
+fn run<R, I, O>(rt: &R, words: &[&str], input: &mut I, output: &mut O) -> Result<(), RunFault>
+where
+    R: Files + AllocGlobal + Net<Listener = TcpListener, Stream = TcpStream>,
+    I: Read,
+    O: Write,
+    ensures done { OnOk result (Runs (map (λ word. word.now) words.entry.now) (I.remaining input.old) (I.remaining input.new) (O.contents output.old) (O.contents output.new)) }
+    ensures untouched { IfErr result (λ e. status_of e ≢ 4 → status_of e ≢ 6 → output.new ≡ output.old) }
+{
+    let order = order(rt.alloc(), words)?;
+    carry_out(rt, order, input, output)
+}
+
+/// Carries an order out.
+fn carry_out<R, I, O>(rt: &R, order: Order, input: &mut I, output: &mut O) -> Result<(), RunFault>
+where
+    R: Files + AllocGlobal + Net<Listener = TcpListener, Stream = TcpStream>,
+    I: Read,
+    O: Write,
+    ensures done { OnOk result (CarriesOut order (I.remaining input.old) (I.remaining input.new) (O.contents output.old) (O.contents output.new)) }
+    ensures untouched { IfErr result (λ e. status_of e ≢ 4 → status_of e ≢ 6 → output.new ≡ output.old) }
+{
+    match order {
+        Order::Replay { lines, roster } => replay_new(rt, lines, roster, input, output),
+        Order::Monitor { file } => monitor(rt, file, output),
+        Order::Serve {
+            port,
+            roster,
+            turns,
+            reads,
+            connections,
+        } => {
+            let limits = Limits { reads, turns };
+            serve_new(rt, port, roster, limits, connections, output)
+        }
+    }
+}
+
+/// Replays standard input on a new layout.
+fn replay_new<R, I, O>(
+    rt: &R,
+    lines: u8,
+    roster: Option<FileName>,
+    input: &mut I,
+    output: &mut O,
+) -> Result<(), RunFault>
+where
+    R: Files + AllocGlobal,
+    I: Read,
+    O: Write,
+    ensures done { OnOk result (ReplaysNew lines roster (I.remaining input.old) (I.remaining input.new) (O.contents output.old) (O.contents output.new)) }
+    ensures untouched { IfErr result (λ e. status_of e ≢ 4 → status_of e ≢ 6 → output.new ≡ output.old) }
+{
+    let roster = read_roster(rt, roster)?;
+    let mut world = new_world(rt.alloc(), lines, roster.as_ref())?;
+    replay(rt.alloc(), &mut world, roster.as_ref(), input, output)
+}
+
+/// Serves connections on a new layout.
+fn serve_new<R, O>(
+    rt: &R,
+    port: u16,
+    roster: Option<FileName>,
+    limits: Limits,
+    connections: u32,
+    output: &mut O,
+) -> Result<(), RunFault>
+where
+    R: Files + AllocGlobal + Net<Listener = TcpListener, Stream = TcpStream>,
+    O: Write,
+    ensures done { OnOk result (ServesNew port roster limits connections (O.contents output.old) (O.contents output.new)) }
+    ensures untouched { IfErr result (λ e. status_of e ≢ 4 → status_of e ≢ 6 → output.new ≡ output.old) }
+{
+    let roster = read_roster(rt, roster)?;
+    let mut world = new_world(rt.alloc(), 1, roster.as_ref())?;
+    serve_at(
+        rt,
+        port,
+        &mut world,
+        roster.as_ref(),
+        limits,
+        connections,
+        output,
+    )
+}

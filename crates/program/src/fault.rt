@@ -1,0 +1,180 @@
+//! Why a run ends with a status other than 0.
+ghost use Rattle.std.specs.Prelude.{◌≡◌};
+ghost use Rattle.program.specs.declared.fault.RunFault.TheVariants.{NoMemory, Output};
+ghost use Rattle.program.specs.Fault.{of_hex, of_order, of_roster, of_script, of_serve, of_station, status_of};
+
+use crate::output::Unwritten;
+use command_line::{FileName, OrderFault};
+use layout_core::ServeFault;
+use roster::RosterFault;
+use show_text::{HexFault, HexWhy, ScriptFault};
+use station_core::StationFault;
+use std::alloc::AllocError;
+use thiserror::Error;
+
+/// Why a run ends with a status other than 0. Its text is what follows `station: ` on standard error, but for `Usage`,
+/// whose text stands there alone.
+#[derive(Debug, Drop, Error)]
+pub enum RunFault {
+    /// Status 1: the words of the command line are none that the program knows, or ask for help.
+    #[error("{0}")]
+    Usage(clap::Error),
+    /// Status 1: a station has 1 to 8 lines.
+    #[error("a station has 1 to 8 lines")]
+    Lines,
+    /// Status 2: a file could not be opened or read.
+    #[error("cannot read {0}")]
+    Unreadable(FileName),
+    /// Status 2: standard input could not be read.
+    #[error("cannot read -")]
+    UnreadableInput,
+    /// Status 2: a roster has more than 65,536 bytes.
+    #[error("{0} is too long")]
+    TooLong(FileName),
+    /// Status 3: the roster has a fault, of this number, at this node from 1 or at 0.
+    #[error("roster fault {number} at node {node}")]
+    Roster { number: u8, node: u8 },
+    /// Status 4: the port could not be bound, or a connection not accepted.
+    #[error("network")]
+    Network,
+    /// Status 4: standard output could not be written.
+    #[error("output")]
+    Output,
+    /// Status 4: a connection was given up, for the reason of this number.
+    #[error("serve fault {0}")]
+    Serve(u8),
+    /// Status 5: the script has a fault, of this number, at this line from 1 or at 0.
+    #[error("script fault {number} at line {line}")]
+    Script { number: u8, line: u64 },
+    /// Status 5: the hex text has a fault, of this number, at this byte from 0.
+    #[error("hex fault {number} at byte {at}")]
+    Hex { number: u8, at: u64 },
+    /// Status 6: want of memory.
+    #[error("no memory")]
+    NoMemory,
+}
+
+impl RunFault {
+    /// The exit status.
+    pub fn status(&self) -> u8
+        ensures { result ≡ status_of self.now }
+    {
+        match self {
+            RunFault::Usage(_) | RunFault::Lines => 1,
+            RunFault::Unreadable(_) | RunFault::UnreadableInput | RunFault::TooLong(_) => 2,
+            RunFault::Roster { .. } => 3,
+            RunFault::Network | RunFault::Output | RunFault::Serve(_) => 4,
+            RunFault::Script { .. } | RunFault::Hex { .. } => 5,
+            RunFault::NoMemory => 6,
+        }
+    }
+}
+
+impl From<OrderFault> for RunFault {
+    ghost from_gives = { λ order run. run ≡ of_order order };
+
+    fn from(fault: OrderFault) -> RunFault {
+        match fault {
+            OrderFault::Usage(error) => RunFault::Usage(error),
+            OrderFault::NoMemory => RunFault::NoMemory,
+        }
+    }
+}
+
+impl From<AllocError> for RunFault {
+    ghost from_gives = { λ _ run. run ≡ NoMemory };
+
+    fn from(_error: AllocError) -> RunFault {
+        RunFault::NoMemory
+    }
+}
+
+impl From<Unwritten> for RunFault {
+    ghost from_gives = { λ _ run. run ≡ Output };
+
+    fn from(_error: Unwritten) -> RunFault {
+        RunFault::Output
+    }
+}
+
+impl From<StationFault> for RunFault {
+    ghost from_gives = { λ station run. run ≡ of_station station };
+
+    fn from(fault: StationFault) -> RunFault {
+        match fault {
+            StationFault::BadLines => RunFault::Lines,
+            StationFault::NoMemory => RunFault::NoMemory,
+        }
+    }
+}
+
+impl From<RosterFault> for RunFault {
+    ghost from_gives = { λ roster run. run ≡ of_roster roster };
+
+    fn from(fault: RosterFault) -> RunFault {
+        let number = match fault.why {
+            roster::Why::NotToml => 1,
+            roster::Why::BadShape => 2,
+            roster::Why::TooMany => 3,
+            roster::Why::BadName => 4,
+            roster::Why::BadCv => 5,
+            roster::Why::BadModule => 6,
+            roster::Why::Empty => 7,
+            roster::Why::NoMemory => return RunFault::NoMemory,
+            roster::Why::BadCvList => 9,
+        };
+        RunFault::Roster {
+            number,
+            node: fault.node,
+        }
+    }
+}
+
+impl From<ScriptFault> for RunFault {
+    ghost from_gives = { λ script run. run ≡ of_script script };
+
+    fn from(fault: ScriptFault) -> RunFault {
+        let number = match fault.why {
+            show_text::Why::BadWord => 1,
+            show_text::Why::BadHex => 2,
+            show_text::Why::BadNumber => 3,
+            show_text::Why::BadLine => 4,
+            show_text::Why::BadNode => 5,
+            show_text::Why::TooLong => 6,
+            show_text::Why::NoMemory => return RunFault::NoMemory,
+        };
+        RunFault::Script {
+            number,
+            line: fault.line,
+        }
+    }
+}
+
+impl From<HexFault> for RunFault {
+    ghost from_gives = { λ hex run. run ≡ of_hex hex };
+
+    fn from(fault: HexFault) -> RunFault {
+        let number = match fault.why {
+            HexWhy::BadHex => 1,
+            HexWhy::TooLong => 2,
+            HexWhy::NoMemory => return RunFault::NoMemory,
+        };
+        RunFault::Hex {
+            number,
+            at: fault.at,
+        }
+    }
+}
+
+impl From<ServeFault> for RunFault {
+    ghost from_gives = { λ serve run. run ≡ of_serve serve };
+
+    fn from(fault: ServeFault) -> RunFault {
+        RunFault::Serve(match fault {
+            ServeFault::Read => 1,
+            ServeFault::Write => 2,
+            ServeFault::Trace => 3,
+            ServeFault::TooManyReads => 4,
+        })
+    }
+}

@@ -1,0 +1,83 @@
+//! The layout that a run works on, and the lines of its decoders.
+ghost use Rattle.std.specs.Prelude.{◌≡◌, IfErr, IfOk, OnOk, Some, length, map, true};
+ghost use Rattle.std.specs.Io.KnownBytes.{Appends};
+ghost use Rattle.station_core.specs.Seen.{is_line_count};
+ghost use Rattle.program.specs.Layout.{AreBetween, IsWorldOf, entries_in, roster_value};
+ghost use Rattle.program.specs.Runs.{IsNew, IsRosterOf};
+ghost use Rattle.program.specs.Printed.{decoder_lines, lines_text, standing_of};
+
+use crate::fault::RunFault;
+use crate::input::read_file;
+use crate::output::{Unwritten, print};
+use command_line::FileName;
+use decoder_node::NodeList;
+use layout_core::World;
+use roster::Roster;
+use show_text::node_line;
+use std::alloc::Global;
+use std::io::Write;
+use std::rt::Files;
+
+/// The longest roster, in bytes.
+const LONGEST_ROSTER: usize = 65_536;
+
+/// The roster of this file, if there is one.
+pub(crate) fn read_roster<R: Files + AllocGlobal>(
+    rt: &R,
+    file: Option<FileName>,
+) -> Result<Option<Roster>, RunFault>
+    ensures { IfOk result (λ roster. IsRosterOf file roster) }
+{
+    let Some(file) = file else {
+        return Ok(None);
+    };
+    let text = match read_file(rt, &file, LONGEST_ROSTER + 1) {
+        Ok(text) => text,
+        Err(fault) => return Err(fault.of_file(file)),
+    };
+    if text.len() > LONGEST_ROSTER {
+        return Err(RunFault::TooLong(file));
+    }
+    Ok(Some(roster::read(rt.alloc(), text.as_slice())?))
+}
+
+/// A new station with so many lines, and the decoders of the roster; without one there are none.
+pub fn new_world(alloc: Global, lines: u8, roster: Option<&Roster>) -> Result<World, RunFault>
+    ensures lines { IfOk result (λ world. (is_line_count lines ≡ true) × (length world.station.lines ≡ lines)) }
+    ensures new { IfOk result (λ world. IsNew lines (roster_value roster.entry) world) }
+    ensures nodes { IfOk result (λ world. IsWorldOf (roster_value roster.entry) world.nodes) }
+    ensures between { IfOk result (λ world. AreBetween world.nodes) }
+{
+    let nodes = match roster {
+        Some(roster) => roster.nodes(),
+        None => NodeList::new(),
+    };
+    Ok(World::new(alloc, lines, nodes)?)
+}
+
+/// Prints how each decoder stands, in order.
+pub(crate) fn print_nodes<O: Write>(
+    world: &World,
+    roster: Option<&Roster>,
+    output: &mut O,
+) -> Result<(), Unwritten>
+    requires { IsWorldOf (roster_value roster) world.now.nodes }
+    ensures printed { OnOk result (Appends (O.contents output.old) (O.contents output.new) (lines_text (decoder_lines (entries_in (roster_value roster.entry)) (map standing_of world.now.nodes)))) }
+{
+    match roster {
+        Some(roster) => print_decoders(world, roster, output),
+        None => Ok(()),
+    }
+}
+
+/// Prints a line for each decoder of the roster.
+fn print_decoders<O: Write>(world: &World, roster: &Roster, output: &mut O) -> Result<(), Unwritten>
+    requires { IsWorldOf (Some roster.now) world.now.nodes }
+    ensures printed { OnOk result (Appends (O.contents output.old) (O.contents output.new) (lines_text (decoder_lines roster.now (map standing_of world.now.nodes)))) }
+{
+    for (i, spec) in roster.nodes().as_slice().iter().enumerate() {
+        let line = node_line(roster.name(i), spec, world.running(i), world.outputs(i));
+        print(output, &line)?;
+    }
+    Ok(())
+}

@@ -1,0 +1,228 @@
+//! `station replay`: a script, and what the layout makes of it.
+ghost use Rattle.std.specs.Prelude.{◌≡◌, ◌≢◌, ◌<◌, ◌+◌, ◌^◌, [], ◌∷◌, IfErr, IfOk, IsTrue, None, OnOk, Some, length, map, replicate};
+ghost use Rattle.std.specs.Io.KnownBytes.{Appends};
+ghost use Rattle.ln_ops.specs.Reply.{IsSendable};
+ghost use Rattle.layout_core.specs.Nodes.{spec_of};
+ghost use Rattle.layout_core.specs.Played.{answer_to, answers_to, is_event};
+ghost use Rattle.layout_core.specs.Served.{IsSendableAnswer, line_of_answer, traced_from};
+ghost use Rattle.show_text.specs.Lines.{off_text, reply_text, track_text};
+ghost use Rattle.show_text.specs.Script.{AreOnLines, is_on_line};
+ghost use Rattle.program.specs.Layout.{AreBetween, IsWorldOf, entries_in, roster_value};
+ghost use Rattle.program.specs.Printed.{ended};
+ghost use Rattle.program.specs.Replayed.{HasDone, command_text, events_in, events_of, scene_of, turns_among};
+ghost use Rattle.program.specs.Scripts.{FailsInput, RefusesInput, Replays, ReplaysInput};
+
+use crate::fault::RunFault;
+use crate::input::read_most;
+use crate::layout::print_nodes;
+use crate::output::{Lent, Unwritten, flush_after, print, print_ended};
+use dcc_packet::Packet;
+use layout_core::{Event, World, events_add_up, headline};
+use ln_ops::Reply;
+use roster::Roster;
+use show_text::{Command, LONGEST_TEXT, Line, push_off, push_track, read_script, reply_line};
+use station_core::{Step, calls_are_moves};
+use std::alloc::Global;
+use std::io::{BufWriter, Read, Write};
+
+/// Reads a script from standard input, whole, and then prints the replies to its bytes, its turns, and the decoders
+/// that it shows.
+pub(crate) fn replay<I: Read, O: Write>(
+    alloc: Global,
+    world: &mut World,
+    roster: Option<&Roster>,
+    input: &mut I,
+    output: &mut O,
+) -> Result<(), RunFault>
+    requires nodes { IsWorldOf (roster_value roster) world.old.nodes }
+    requires between { AreBetween world.old.nodes }
+    ensures printed { OnOk result (ReplaysInput (I.remaining input.old) (I.remaining input.new) world.old (entries_in (roster_value roster.entry)) world.new (O.contents output.old) (O.contents output.new)) }
+    ensures refused { RefusesInput (I.remaining input.old) result world.old world.new None None }
+    ensures failed { FailsInput (I.remaining input.old) result world.old }
+    // Where neither memory ran out nor the output failed, a fault prints nothing.
+    ensures untouched { IfErr result (λ e. e ≢ RunFault.NoMemory → e ≢ RunFault.Output → output.new ≡ output.old) }
+{
+    let Ok(mut buffered) = BufWriter::new(alloc, Lent::new(output)) else {
+        return Err(RunFault::NoMemory);
+    };
+    let done = replay_to(alloc, world, roster, input, &mut buffered);
+    let done = flush_after(done, &mut buffered);
+    let (lent, _rest) = buffered.into_parts();
+    let Lent { writer: _writer } = lent;
+    done
+}
+
+/// The same, on an output that is written as it comes. Every clause is of any output: where its bytes are known, they
+/// are those that are promised.
+fn replay_to<I: Read, O: Write>(
+    alloc: Global,
+    world: &mut World,
+    roster: Option<&Roster>,
+    input: &mut I,
+    output: &mut O,
+) -> Result<(), RunFault>
+    requires nodes { IsWorldOf (roster_value roster) world.old.nodes }
+    requires between { AreBetween world.old.nodes }
+    ensures printed { OnOk result (ReplaysInput (I.remaining input.old) (I.remaining input.new) world.old (entries_in (roster_value roster.entry)) world.new (O.contents output.old) (O.contents output.new)) }
+    ensures refused { RefusesInput (I.remaining input.old) result world.old world.new (O.contents output.old) (O.contents output.new) }
+    ensures failed { FailsInput (I.remaining input.old) result world.old }
+    ensures untouched { IfErr result (λ e. e ≢ RunFault.Output → output.new ≡ output.old) }
+{
+    let text = read_most(alloc, input, LONGEST_TEXT + 1).map_err(|fault| fault.of_input())?;
+    let lines = world.station().lines();
+    let nodes = world.nodes() as u8;
+    let commands = read_script(alloc, text.as_slice(), lines, nodes)?;
+    Ok(play(world, roster, commands.as_slice(), output)?)
+}
+
+/// Does the commands one after another, and prints what each prints. Turns are numbered from 1.
+fn play<O: Write>(
+    world: &mut World,
+    roster: Option<&Roster>,
+    commands: &[Command],
+    output: &mut O,
+) -> Result<(), Unwritten>
+    requires lines { AreOnLines (length world.old.station.lines) commands.now }
+    requires nodes { IsWorldOf (roster_value roster) world.old.nodes }
+    requires between { AreBetween world.old.nodes }
+    requires numbers { turns_among (events_in commands.now) + 1 < 2 ^ 64 }
+    ensures replayed { OnOk result (Replays world.old (entries_in (roster_value roster.entry)) commands.now world.new (O.contents output.old) (O.contents output.new)) }
+{
+    events_add_up();
+    headline();
+    // The station promises there that it has a desk.
+    let _ = world.station().lines();
+    let mut turn = 1;
+    let mut text = Line::new();
+    for command in commands {
+        turn = play_command(world, roster, *command, turn, &mut text, output)?;
+    }
+    Ok(())
+}
+
+/// Does a command, and prints what it prints, where the next turn has this number. Gives the number of the next turn
+/// then. The lines of turns are written one after the other into `text`, so that no room is cleared for each.
+fn play_command<O: Write>(
+    world: &mut World,
+    roster: Option<&Roster>,
+    command: Command,
+    turn: u64,
+    text: &mut Line,
+    output: &mut O,
+) -> Result<u64, Unwritten>
+    requires line { IsTrue (is_on_line (length world.old.station.lines) command) }
+    requires nodes { IsWorldOf (roster_value roster) world.old.nodes }
+    requires numbers { turn + turns_among (events_of command) < 2 ^ 64 }
+    ensures done { OnOk result (HasDone (events_of command) world.old world.new) }
+    ensures printed { OnOk result (Appends (O.contents output.old) (O.contents output.new) (command_text (entries_in (roster_value roster.entry)) (scene_of world.old turn) command)) }
+    ensures next { IfOk result (λ next. next ≡ turn + turns_among (events_of command)) }
+    ensures lines { length world.new.station.lines ≡ length world.old.station.lines }
+    ensures specs { map spec_of world.new.nodes ≡ map spec_of world.old.nodes }
+{
+    events_add_up();
+    match command {
+        Command::Byte { line, byte } => {
+            play_event(world, Event::Byte { line, byte }, line, turn, text, output)?;
+            Ok(turn)
+        }
+        Command::Turns { count, missed } => play_turns(world, count, missed, turn, text, output),
+        Command::Show => {
+            print_nodes(world, roster, output)?;
+            Ok(turn)
+        }
+    }
+}
+
+/// So many turns, each printed, of which the first has this number. Gives the number of the turn behind them.
+fn play_turns<O: Write>(
+    world: &mut World,
+    count: u32,
+    missed: u64,
+    first: u64,
+    text: &mut Line,
+    output: &mut O,
+) -> Result<u64, Unwritten>
+    requires { first + count < 2 ^ 64 }
+    ensures done { OnOk result (HasDone (replicate count (Event.Turn missed)) world.old world.new) }
+    ensures printed { OnOk result (Appends (O.contents output.old) (O.contents output.new) (traced_from 0 first (answers_to world.old.station (replicate count (Event.Turn missed))))) }
+    ensures next { IfOk result (λ next. next ≡ first + count) }
+    ensures lines { length world.new.station.lines ≡ length world.old.station.lines }
+    ensures specs { map spec_of world.new.nodes ≡ map spec_of world.old.nodes }
+{
+    calls_are_moves();
+    events_add_up();
+    let next = first + u64::from(count);
+    for turn in first..next {
+        play_event(world, Event::Turn { missed }, 0, turn, text, output)?;
+    }
+    Ok(next)
+}
+
+/// Does an event, and prints the line of its answer, where a turn has this number.
+fn play_event<O: Write>(
+    world: &mut World,
+    event: Event,
+    line: u8,
+    turn: u64,
+    text: &mut Line,
+    output: &mut O,
+) -> Result<(), Unwritten>
+    requires { IsTrue (is_event (length world.old.station.lines) (length world.old.nodes) event) }
+    ensures done { HasDone (event ∷ []) world.old world.new }
+    ensures printed { OnOk result (Appends (O.contents output.old) (O.contents output.new) (line_of_answer line turn (answer_to world.old.station event))) }
+    ensures lines { length world.new.station.lines ≡ length world.old.station.lines }
+    ensures specs { map spec_of world.new.nodes ≡ map spec_of world.old.nodes }
+{
+    events_add_up();
+    let answer = world.step(event);
+    print_answer(&answer, line, turn, text, output)
+}
+
+/// Prints the line of an answer, where a turn has this number. A byte without a reply has none.
+fn print_answer<O: Write>(
+    answer: &Step,
+    line: u8,
+    turn: u64,
+    text: &mut Line,
+    output: &mut O,
+) -> Result<(), Unwritten>
+    requires { IsSendableAnswer answer.now }
+    ensures printed { OnOk result (Appends (O.contents output.old) (O.contents output.new) (line_of_answer line turn answer.now)) }
+{
+    match answer {
+        Step::Quiet => Ok(()),
+        Step::Reply(reply) => print_reply(line, reply, output),
+        Step::Packet(packet) => print_packet(turn, packet, text, output),
+        Step::Off => print_off(turn, text, output),
+    }
+}
+
+// A call of its own: room for the line is cleared where it is declared, and most bytes have no reply.
+#[inline(never)]
+fn print_reply<O: Write>(line: u8, reply: &Reply, output: &mut O) -> Result<(), Unwritten>
+    requires { IsSendable reply.now }
+    ensures printed { OnOk result (Appends (O.contents output.old) (O.contents output.new) (ended (reply_text line reply.now))) }
+{
+    print(output, &reply_line(line, reply))
+}
+
+fn print_packet<O: Write>(
+    turn: u64,
+    packet: &Packet,
+    text: &mut Line,
+    output: &mut O,
+) -> Result<(), Unwritten>
+    ensures printed { OnOk result (Appends (O.contents output.old) (O.contents output.new) (ended (track_text turn packet.now))) }
+{
+    text.clear();
+    push_track(text, turn, packet);
+    print_ended(output, text)
+}
+
+fn print_off<O: Write>(turn: u64, text: &mut Line, output: &mut O) -> Result<(), Unwritten>
+    ensures printed { OnOk result (Appends (O.contents output.old) (O.contents output.new) (ended (off_text turn))) }
+{
+    text.clear();
+    push_off(text, turn);
+    print_ended(output, text)
+}

@@ -1,0 +1,121 @@
+//! `station serve`: throttles over TCP.
+ghost use Rattle.std.specs.Prelude.{◌≡◌, [], IfErr, OnErr, OnOk, false, map};
+ghost use Rattle.std.specs.Io.KnownBytes.{Appends};
+ghost use Rattle.layout_core.specs.Nodes.{spec_of};
+ghost use Rattle.program.specs.Connections.{GivesUp, HasGivenUp, HasServed, Serves, ServesPart, listening_text};
+ghost use Rattle.program.specs.Fault.{status_of};
+ghost use Rattle.program.specs.Layout.{IsWorldOf, entries_in, roster_value};
+
+use crate::fault::RunFault;
+use crate::layout::print_nodes;
+use crate::output::Lent;
+use layout_core::{Limits, Port, Sink, World, events_add_up, headline, serve};
+use roster::Roster;
+use std::io::Write;
+use std::net::{Net, TcpListener, TcpStream};
+
+/// Binds the port on 127.0.0.1, tells so, and serves that many connections.
+pub(crate) fn serve_at<R, O>(
+    rt: &R,
+    port: u16,
+    world: &mut World,
+    roster: Option<&Roster>,
+    limits: Limits,
+    connections: u32,
+    output: &mut O,
+) -> Result<(), RunFault>
+where
+    R: Net<Listener = TcpListener, Stream = TcpStream>,
+    O: Write,
+    requires { IsWorldOf (roster_value roster) world.old.nodes }
+    // What is printed begins with the line that tells the port.
+    ensures served { OnOk result (HasServed limits connections (entries_in (roster_value roster.entry)) world.old world.new (listening_text port) (O.contents output.old) (O.contents output.new)) }
+    ensures status { IfErr result (λ e. status_of e ≡ 4) }
+{
+    let Ok(listener) = TcpListener::bind(rt, ("127.0.0.1", port)) else {
+        return Err(RunFault::Network);
+    };
+    print_port(port, output)?;
+    serve_on(&listener, world, roster, limits, connections, output)
+}
+
+/// Tells the port that is bound, at once.
+fn print_port<O: Write>(port: u16, output: &mut O) -> Result<(), RunFault>
+    ensures printed { OnOk result (Appends (O.contents output.old) (O.contents output.new) (listening_text port)) }
+    ensures fault { IfErr result (λ e. e ≡ RunFault.Output) }
+{
+    writeln!(output, "listening 127.0.0.1:{port}").map_err(|_| RunFault::Output)?;
+    output.flush().map_err(|_| RunFault::Output)
+}
+
+/// Serves connections one after another, each on line 0 of the one layout, and prints their trace, and after each how
+/// the decoders stand. The bytes of the connections follow one another.
+///
+/// The first fault ends it, and what was done and written before stands: `Network` where no connection was accepted,
+/// `Serve` where one was given up, `Output` where a line could not be printed.
+pub fn serve_on<O: Write>(
+    listener: &TcpListener,
+    world: &mut World,
+    roster: Option<&Roster>,
+    limits: Limits,
+    connections: u32,
+    output: &mut O,
+) -> Result<(), RunFault>
+    requires { IsWorldOf (roster_value roster) world.old.nodes }
+    // So it may be served on again.
+    ensures nodes { IsWorldOf (roster_value roster.entry) world.new.nodes }
+    // Each connection goes on with the layout that the one before left; its trace is printed, and behind it a line for
+    // each decoder.
+    ensures served { OnOk result (HasServed limits connections (entries_in (roster_value roster.entry)) world.old world.new [] (O.contents output.old) (O.contents output.new)) }
+    ensures given_up { IfErr result (λ e. HasGivenUp e limits connections (entries_in (roster_value roster.entry)) world.old world.new (O.contents output.old) (O.contents output.new)) }
+{
+    events_add_up();
+    headline();
+    // A station promises there that it has a desk.
+    let _ = world.station().lines();
+    for _served in 0..connections {
+        let Ok((stream, _)) = listener.accept() else {
+            return Err(RunFault::Network);
+        };
+        serve_stream(&stream, world, limits, output)?;
+        print_nodes(world, roster, output)?;
+    }
+    Ok(())
+}
+
+/// Serves one connection, and prints its trace.
+fn serve_stream<O: Write>(
+    stream: &TcpStream,
+    world: &mut World,
+    limits: Limits,
+    output: &mut O,
+) -> Result<(), RunFault>
+    ensures specs { map spec_of world.new.nodes ≡ map spec_of world.old.nodes }
+    ensures served { OnOk result (Serves limits world.old world.new (O.contents output.old) (O.contents output.new)) }
+    ensures part { OnErr result (ServesPart limits.turns world.old world.new) }
+    ensures given_up { IfErr result (λ e. GivesUp e limits world.old world.new (O.contents output.old) (O.contents output.new)) }
+{
+    let mut trace = Port::new(Lent::new(output));
+    serve_traced(stream, world, limits, &mut trace)
+}
+
+/// Serves one connection, with any sink for its trace.
+fn serve_traced<T: Sink>(
+    stream: &TcpStream,
+    world: &mut World,
+    limits: Limits,
+    trace: &mut T,
+) -> Result<(), RunFault>
+    requires { T.failed trace.old ≡ false }
+    ensures specs { map spec_of world.new.nodes ≡ map spec_of world.old.nodes }
+    ensures served { OnOk result (Serves limits world.old world.new (T.held trace.old) (T.held trace.new)) }
+    ensures part { OnErr result (ServesPart limits.turns world.old world.new) }
+    ensures given_up { IfErr result (λ e. GivesUp e limits world.old world.new (T.held trace.old) (T.held trace.new)) }
+{
+    // A station promises there that it has a line.
+    let _ = world.station().lines();
+    let mut source = Port::new(stream);
+    let mut sink = Port::new(stream);
+    serve(world, 0, &mut source, &mut sink, trace, limits)?;
+    Ok(())
+}

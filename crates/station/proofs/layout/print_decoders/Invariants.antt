@@ -1,8 +1,0 @@
-use Rattle.std.proofs.Common.{map, take}
-use Rattle.std.specs.Io.KnownBytes.{Appends}
-use Rattle.station.specs.Printed.{decoder_lines, lines_text, standing_of}
-use Rattle.station.proofs.layout.print_decoders.Given as goal
-
--- so many lines are printed
-abbrev pub invariant-loop-i : goal.invariant-loop-i
-invariant-loop-i g l = Appends (g.O.Write.contents l.fn.output) (g.O.Write.contents l.output) (lines_text (take l.i (decoder_lines l.roster (map standing_of l.world.nodes))))

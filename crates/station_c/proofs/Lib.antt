@@ -1,0 +1,4 @@
+pub mod Boxed
+pub mod Decoders
+pub mod Events
+pub mod Steps

@@ -1,0 +1,17 @@
+-- What a layout owns that a program in C holds: what a box of it owns.
+use Rattle.std.specs.Prelude.{Bool, true, false}
+use base.Fml.{Fml, ftrue}
+use base.Stored.{Coded}
+use denote.RawPtr.{Ptr}
+use Rattle.std.specs.Box.Ownership.{box_owns}
+use Rattle.std.specs.Global.{Global}
+use Rattle.std.specs.contracts.prelude.GlobalAllocator.TheImpl.{ghosts}
+use Rattle.layout_core.specs.contracts.world.World.{the_row}
+
+-- nothing where there is no layout
+abbrev pub held_owns : (made : Bool) → Global → Ptr → the_row.Denot → Fml
+held_owns true alloc at world = box_owns (ghosts.dealloc_token alloc) the_row at world
+held_owns false alloc at world = ftrue
+
+abbrev pub world_coded : Coded the_row.Denot
+world_coded = the_row.coded

@@ -1,0 +1,47 @@
+-- A layout that a program in C holds, and how one is made.
+use Rattle.std.specs.Prelude.{ℕ, ◌≡◌, ◌⊎◌, Bool, true, false, if◌then◌else◌, List, length, map, Option, Some, None, Result, Ok, Err}
+use Rattle.station_core.specs.Seen.{Seen, first_seen, is_line_count}
+use Rattle.decoder_node.specs.declared.node.NodeSpec.{NodeSpec}
+use Rattle.layout_core.specs.declared.node.Node.{Node}
+use Rattle.layout_core.specs.Nodes.{node_of}
+use Rattle.roster.specs.declared.fault.RosterFault.{RosterFault}
+use Rattle.roster.specs.Entry.{Entry, spec_of}
+use Rattle.station_c.specs.declared.layout.Layout.{Layout}
+
+abbrev pub station_of : Layout → Seen
+station_of layout = layout.inside.world.station
+
+abbrev pub nodes_of : Layout → List Node
+nodes_of layout = layout.inside.world.nodes
+
+abbrev pub lines_of : Layout → ℕ
+lines_of layout = length (station_of layout).lines
+
+-- there is one as there was, with the same station and decoders
+abbrev pub IsUnchanged : (old new : Layout) → Type 0
+IsUnchanged old new = (new.made ≡ old.made) × (new.inside.world ≡ old.inside.world)
+
+-- there is one, with a new station and these decoders in their first state
+pub record IsNew (lines : ℕ) (specs : List NodeSpec) (layout : Layout) : Type 0 where
+  pub made : layout.made ≡ true
+  pub station : station_of layout ≡ first_seen lines
+  pub nodes : nodes_of layout ≡ map node_of specs
+
+-- Why none is made: 4 there is one already, 2 the decoders are none, 1 the lines are not 1 to 8. 0 where nothing is wrong.
+abbrev pub refusal : (made : Bool) → Option (List NodeSpec) → (lines : ℕ) → ℕ
+refusal true specs lines = 4
+refusal false None lines = 2
+refusal false (Some specs) lines = if is_line_count lines then 0 else 1
+
+-- 3 where there is no memory, which comes only where nothing else is wrong
+abbrev pub IsStatus : (refusal status : ℕ) → Type 0
+IsStatus refusal status = (status ≡ refusal) ⊎ ((refusal ≡ 0) × (status ≡ 3))
+
+-- the decoders of a roster, and the number of the one at fault
+abbrev pub specs_in : Result (List Entry) RosterFault → Option (List NodeSpec)
+specs_in (Ok entries) = Some (map spec_of entries)
+specs_in (Err fault) = None
+
+abbrev pub IsFaultyNode : Result (List Entry) RosterFault → ℕ → Type 0
+IsFaultyNode (Ok entries) node = ⊥
+IsFaultyNode (Err fault) node = node ≡ fault.node

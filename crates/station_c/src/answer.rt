@@ -1,0 +1,61 @@
+//! Answers, as C sees them.
+ghost use Rattle.std.specs.Prelude.{◌≡◌, ◌≤◌, length};
+ghost use Rattle.layout_core.specs.Served.{IsSendableAnswer};
+ghost use Rattle.station_c.specs.Answer.{answered, filled};
+
+use ln_ops::to_msg;
+use station_core::Step;
+
+/// The most bytes of an answer: those of slot data.
+const MOST_BYTES: usize = 14;
+
+/// Nothing was answered.
+const QUIET: u8 = 0;
+
+/// A reply, on the line of the byte.
+const REPLY: u8 = 1;
+
+/// A packet, on the track.
+const PACKET: u8 = 2;
+
+/// A turn while the track has no power.
+const OFF: u8 = 3;
+
+/// What one event answers.
+#[repr(C)]
+#[derive(Clone, Copy, Debug, PartialEq)]
+pub struct Answer {
+    /// 0 where nothing was answered, 1 for a reply, 2 for a packet, 3 for a turn without power.
+    pub kind: u8,
+    /// How many bytes there are: of a reply 4 or 14, of a packet 3 to 6, else 0.
+    pub size: u8,
+    /// The bytes, and behind them zeros.
+    pub bytes: [u8; MOST_BYTES],
+}
+
+/// An answer, for C.
+pub(crate) fn answered(step: &Step) -> Answer
+    requires { IsSendableAnswer step.now }
+    ensures { result ≡ answered step.now }
+{
+    match step {
+        Step::Quiet => filled(QUIET, &[]),
+        Step::Reply(reply) => filled(REPLY, to_msg(reply).bytes()),
+        Step::Packet(packet) => filled(PACKET, packet.bytes()),
+        Step::Off => filled(OFF, &[]),
+    }
+}
+
+/// An answer of this kind with these bytes.
+fn filled(kind: u8, from: &[u8]) -> Answer
+    requires { length from.now ≤ 14 }
+    ensures { result ≡ filled kind from.now }
+{
+    let mut bytes = [0; MOST_BYTES];
+    bytes[..from.len()].copy_from_slice(from);
+    Answer {
+        kind,
+        size: from.len() as u8,
+        bytes,
+    }
+}

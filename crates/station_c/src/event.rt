@@ -1,0 +1,71 @@
+//! Events, as C describes them.
+ghost use Rattle.std.specs.Prelude.{◌≡◌, ◌≤◌};
+ghost use Rattle.std.specs.List.{list_all};
+ghost use Rattle.station_c.specs.Event.{event_of, is_one};
+
+use layout_core::Event;
+
+/// A byte comes on a line.
+const BYTE: u8 = 0;
+
+/// The track has room for a packet.
+const TURN: u8 = 1;
+
+/// The receiver of one decoder hears a half-bit that belongs to no packet.
+const NOISE: u8 = 2;
+
+/// One event of a layout. The fields that its kind does not name mean nothing.
+#[repr(C)]
+#[derive(Clone, Copy)]
+pub struct EventFields {
+    /// Of a turn: decoder i misses the packet where bit i is set.
+    pub missed: u64,
+    /// Of noise: the microseconds of the half-bit.
+    pub half: u16,
+    /// 0 for a byte, 1 for a turn, 2 for noise.
+    pub kind: u8,
+    /// Of a byte: its line.
+    pub line: u8,
+    /// Of a byte: the byte.
+    pub byte: u8,
+    /// Of noise: the decoder that hears it.
+    pub node: u8,
+}
+
+/// The event that these fields describe.
+pub(crate) fn read(fields: &EventFields) -> Event
+    ensures { result ≡ event_of fields.now }
+{
+    match fields.kind {
+        BYTE => Event::Byte {
+            line: fields.line,
+            byte: fields.byte,
+        },
+        TURN => Event::Turn {
+            missed: fields.missed,
+        },
+        _ => Event::Noise {
+            node: fields.node,
+            half: fields.half,
+        },
+    }
+}
+
+/// Whether these fields describe an event of a layout with so many lines and decoders.
+fn is_one(fields: &EventFields, lines: u8, nodes: usize) -> bool
+    ensures { result ≡ is_one lines nodes fields.now }
+{
+    match fields.kind {
+        BYTE => fields.line < lines,
+        TURN => true,
+        NOISE => usize::from(fields.node) < nodes,
+        _ => false,
+    }
+}
+
+/// Whether each of these describes an event of a layout with so many lines and decoders.
+pub(crate) fn are_events(events: &[EventFields], lines: u8, nodes: usize) -> bool
+    ensures { result ≡ list_all (is_one lines nodes) events.now }
+{
+    events.iter().all(|fields| is_one(fields, lines, nodes))
+}

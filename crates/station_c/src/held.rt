@@ -1,0 +1,77 @@
+//! A layout behind a pointer that a program in C keeps.
+ghost use Rattle.std.specs.Prelude.{◌≡◌, Bool, true, false};
+ghost use Rattle.layout_core.specs.declared.world.World.{World as WorldValue};
+ghost use Rattle.station_c.specs.Held.{held_owns, world_coded};
+
+use crate::raw::Raw;
+use layout_core::World;
+use std::alloc::Global;
+use std::marker::Model;
+use std::ptr;
+
+/// A layout behind a pointer that a program in C keeps and never looks behind, or nothing.
+///
+/// To let it go is to leak the layout.
+#[repr(C)]
+#[derive(Drop)]
+pub struct Held {
+    at: *mut u8,
+    alloc: Global,
+    /// Whether there is a layout behind the pointer.
+    pub ghost made: { Bool },
+    /// The layout.
+    pub ghost world: { WorldValue } by { world_coded },
+}
+
+impl Model for Held {
+    ghost also_owns = { λ held. held_owns held.made held.alloc held.at held.world };
+}
+
+impl Held {
+    /// Nothing.
+    pub(crate) fn none(alloc: Global) -> Held
+        ensures { result.made ≡ false }
+    {
+        Held {
+            at: ptr::null_mut(),
+            alloc,
+        }
+    }
+
+    /// The layout in this box.
+    pub(crate) fn of(world: Box<World, Global>) -> Held
+        ensures made { result.made ≡ true }
+        ensures world { result.world ≡ world.value }
+    {
+        Held::of_raw(Raw::of(world))
+    }
+
+    /// Its box.
+    pub(crate) fn into_box(self) -> Box<World, Global>
+        requires { self.made ≡ true }
+        ensures { result.value ≡ self.world }
+    {
+        self.into_raw().into_box()
+    }
+
+    fn of_raw(raw: Raw<World, Global>) -> Held
+        ensures { (result.made ≡ true) × (result.world ≡ raw.value) }
+    {
+        let Raw { at, alloc } = raw;
+        Held {
+            at: at as *mut u8,
+            alloc,
+        }
+    }
+
+    fn into_raw(self) -> Raw<World, Global>
+        requires { self.made ≡ true }
+        ensures { result.value ≡ self.world }
+    {
+        let Held { at, alloc } = self;
+        Raw {
+            at: at as *mut World,
+            alloc,
+        }
+    }
+}

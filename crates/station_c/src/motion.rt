@@ -1,0 +1,51 @@
+//! How a locomotive runs, as C sees it.
+ghost use Rattle.std.specs.Prelude.{◌≡◌};
+ghost use Rattle.station_c.specs.Motion.{told};
+
+use dcc_packet::{Motion as Asked, Steps};
+use decoder_node::Running;
+
+/// It stands, or brakes to stand.
+const STOP: u8 = 0;
+
+/// It was stopped at once.
+const EMERGENCY: u8 = 1;
+
+/// It runs at a step.
+const STEP: u8 = 2;
+
+/// How a locomotive runs.
+#[repr(C)]
+#[derive(Clone, Copy, Debug, PartialEq)]
+pub struct Motion {
+    /// Bit k is function Fk.
+    pub functions: u16,
+    /// 0 where it stands, 1 where it was stopped at once, 2 where it runs.
+    pub kind: u8,
+    /// The speed step, from 1, where it runs, and else 0.
+    pub step: u8,
+    /// How many steps there are, 14, 28 or 126, where it runs, and else 0.
+    pub steps: u8,
+    /// Its direction in its own sense.
+    pub forward: bool,
+}
+
+/// How a locomotive runs, for C.
+pub(crate) fn told(running: Running) -> Motion
+    ensures { result ≡ told running }
+{
+    let (kind, step, steps) = match running.motion {
+        Asked::Stop => (STOP, 0, 0),
+        Asked::Emergency => (EMERGENCY, 0, 0),
+        Asked::Step { of: Steps::S14, n } => (STEP, n, 14),
+        Asked::Step { of: Steps::S28, n } => (STEP, n, 28),
+        Asked::Step { of: Steps::S128, n } => (STEP, n, 126),
+    };
+    Motion {
+        functions: running.functions,
+        kind,
+        step,
+        steps,
+        forward: running.forward,
+    }
+}

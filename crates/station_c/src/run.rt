@@ -1,0 +1,36 @@
+//! A list of events, one after another.
+ghost use Rattle.std.specs.Prelude.{◌≡◌, ◌+◌, IsTrue, length, map};
+ghost use Rattle.std.specs.List.{list_all};
+ghost use Rattle.station_core.specs.Seen.{known_of};
+ghost use Rattle.layout_core.specs.Cycle.{RunsAfterNoise, RunsAsWanted};
+ghost use Rattle.layout_core.specs.Nodes.{spec_of};
+ghost use Rattle.layout_core.specs.Played.{after_events, answers_to};
+ghost use Rattle.layout_core.specs.World.{HaveHeard};
+ghost use Rattle.station_c.specs.Answer.{answered};
+ghost use Rattle.station_c.specs.Event.{event_of, is_one};
+
+use crate::answer::{Answer, answered};
+use crate::event::{EventFields, read};
+use layout_core::{World, events_add_up, headline};
+
+/// Each event in order, its answer written at its place.
+pub(crate) fn run(world: &mut World, events: &[EventFields], answers: &mut [Answer])
+    requires places { length events.now ≡ length answers.old }
+    requires events { IsTrue (list_all (is_one (length world.old.station.lines) (length world.old.nodes)) events.now) }
+    ensures station { world.new.station ≡ after_events world.old.station (map event_of events.now) }
+    ensures answers { answers.new ≡ map answered (answers_to world.old.station (map event_of events.now)) }
+    ensures nodes { HaveHeard world.old.station (map event_of events.now) world.old.nodes world.new.nodes }
+    ensures specs { map spec_of world.new.nodes ≡ map spec_of world.old.nodes }
+    ensures lines { length world.new.station.lines ≡ length world.old.station.lines }
+    ensures headline { RunsAsWanted (known_of world.old.station) (map event_of events.now) world.old.nodes world.new.nodes }
+    ensures after_noise { RunsAfterNoise (known_of world.old.station) (map event_of events.now) world.old.nodes world.new.nodes }
+{
+    events_add_up();
+    headline();
+    // The station promises there that it has a desk.
+    let _ = world.station().lines();
+    for (i, fields) in events.iter().enumerate() {
+        let step = world.step(read(fields));
+        answers[i] = answered(&step);
+    }
+}

@@ -1,0 +1,5 @@
+pub mod Drawn
+pub mod Dump
+pub mod Fault
+pub mod Input
+pub mod Traffic

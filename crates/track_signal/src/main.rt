@@ -1,0 +1,27 @@
+//! `track_signal`: the signal on the rails, half-bit by half-bit, of the packets in what `station` prints, as a value
+//! change dump that wave viewers open.
+#![tactic(auto)]
+
+mod drawing;
+mod fault;
+mod input;
+mod line;
+mod reading;
+mod signal;
+
+pub use fault::SignalFault;
+pub use signal::execute;
+use std::io;
+use std::process::ExitCode;
+
+#[cfg(test)]
+mod tests;
+
+fn main(rt: HostRuntime) -> ExitCode {
+    ExitCode::from(execute(
+        rt.alloc(),
+        &mut rt.reader(),
+        &mut io::writer(&rt),
+        &mut rt.stderr(),
+    ))
+}
