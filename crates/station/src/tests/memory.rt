@@ -166,6 +166,11 @@ fn answer_in(rt: &HostRuntime, work: Work<'_>, room: usize) -> Result<Option<boo
 /// Whether it is refused with no memory, and at last done with more and more of it, by steps of so many bytes; and whether
 /// no answer is wrong, here and with ample memory twice after it.
 fn grows_or_says_so(rt: &HostRuntime, work: Work<'_>, step: usize) -> Result<bool, Fail> {
+    // The stack grows to all that the call needs of it, while there is room for that.
+    let mut first = Pages::new(rt.alloc())?;
+    if answer(rt, work, &mut first) != Some(true) {
+        return Ok(false);
+    }
     let mut refused = 0u32;
     for count in 0..1000usize {
         let Some(right) = answer_in(rt, work, count.saturating_mul(step))? else {
