@@ -64,9 +64,13 @@ draws (Ok a) old new bytes packets drawn old_output new_output read told same ap
     (bytes, packets, read.taken, at_end old new bytes read told.0, told, subst (λ (ps : List (List ℕ)). Appends old_output new_output (dump_of ps)) same appended)
 draws (Err e) old new bytes packets drawn old_output new_output read told same appended = tt
 
-passed_up : {A : Type 0} (result : Result A SignalFault) (e : SignalFault) (P : SignalFault → Type 0) → IsErrAnd result (λ f. f ≡ e) → P e → IfErr result P
-passed_up (Ok a) e P is holds = tt
+passed_up : {A : Type 0} (result : Result A SignalFault) (e : SignalFault) (P : SignalFault → Type 0) → IsErrAnd result (λ f. f ≡ e) → P e → IsErrAnd result P
+passed_up (Ok a) e P is holds = is
 passed_up (Err f) e P is holds = subst P (sym is) holds
+
+if_err : {A : Type 0} (result : Result A SignalFault) (P : SignalFault → Type 0) → IsErrAnd result P → IfErr result P
+if_err (Ok a) P is = tt
+if_err (Err e) P is = is
 
 pub refuses : {A : Type 0} (up : Result A SignalFault) (e : SignalFault) (old new : Option (List ℕ)) (bytes : List ℕ) (output : Option (List ℕ)) → IsErrAnd up (λ f. f ≡ e) → ReadsMost old new 16777217 bytes → (e ≡ NoMemory) ⊎ Refuses bytes e
     → RefusesInput old up output output
@@ -83,4 +87,4 @@ pub fails : {A : Type 0} (up : Result A SignalFault) (e : SignalFault) (old new 
     → FailsInput old up
 fails up e None new bytes is read why = tt
 fails up e (Some text) new bytes is read why = λ packets told.
-    passed_up up e IsBroken is (inr (inr (why packets (subst (λ (bs : List ℕ). IsTraffic bs packets) (short_text text new bytes read told.0) told))))
+    if_err up IsBroken (passed_up up e IsBroken is (inr (inr (why packets (subst (λ (bs : List ℕ). IsTraffic bs packets) (short_text text new bytes read told.0) told)))))

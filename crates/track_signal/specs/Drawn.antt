@@ -1,10 +1,10 @@
 -- What becomes of an input.
-use Rattle.std.specs.Prelude.{ℕ, ◌≡◌, ◌⊎◌, List, Option, Some, None, Result, IfErr}
+use Rattle.std.specs.Prelude.{ℕ, ◌≡◌, ◌≤◌, ◌⊎◌, List, Option, Some, None, Result, IfErr, IsErrAnd}
 use Rattle.std.specs.Io.KnownBytes.{Appends, Consumes, IsAtEnd}
 use Rattle.track_signal.specs.declared.fault.SignalFault.{SignalFault}
 use Rattle.track_signal.specs.declared.fault.SignalFault.TheVariants.{NoMemory, Output, Unreadable}
 use Rattle.track_signal.specs.Dump.{dump_of}
-use Rattle.track_signal.specs.Fault.{Refuses}
+use Rattle.track_signal.specs.Fault.{Refuses, status_of}
 use Rattle.track_signal.specs.Traffic.{IsTraffic}
 
 -- The input was read to its end, and what was written is the dump of the packets that its lines tell.
@@ -16,11 +16,11 @@ DrawsInput old_input new_input old_output new_output =
 abbrev pub IsRefusal : SignalFault → SignalFault → Type 0
 IsRefusal fault e = (e ≡ fault) ⊎ (e ≡ Unreadable) ⊎ (e ≡ NoMemory)
 
--- Where the input has a fault, nothing is written, and the fault is told.
+-- Where the input has a fault, the run fails, nothing is written, and the fault is told.
 abbrev pub RefusesInput : {A : Type 0} → (input : Option (List ℕ)) → Result A SignalFault → (old_output new_output : Option (List ℕ)) → Type 0
 RefusesInput None result old_output new_output = Unit {0}
 RefusesInput (Some text) result old_output new_output =
-    (fault : SignalFault) → Refuses text fault → (new_output ≡ old_output) × IfErr result (IsRefusal fault)
+    (fault : SignalFault) → Refuses text fault → (new_output ≡ old_output) × IsErrAnd result (IsRefusal fault)
 
 -- And where it has none, a run that fails had a read or a write that failed, or no memory.
 abbrev pub IsBroken : SignalFault → Type 0
@@ -29,3 +29,11 @@ IsBroken e = (e ≡ Unreadable) ⊎ (e ≡ Output) ⊎ (e ≡ NoMemory)
 abbrev pub FailsInput : {A : Type 0} → (input : Option (List ℕ)) → Result A SignalFault → Type 0
 FailsInput None result = Unit {0}
 FailsInput (Some text) result = (packets : List (List ℕ)) → IsTraffic text packets → IfErr result IsBroken
+
+-- The exit status of a run: that of the input's fault, or 0 where it has none; else 2, 4 or 6, as a read, a write or a
+-- growth failed.
+abbrev pub EndsAs : (input : Option (List ℕ)) → (status : ℕ) → Type 0
+EndsAs None status = status ≤ 6
+EndsAs (Some text) status =
+    ((fault : SignalFault) → Refuses text fault → (status ≡ status_of fault) ⊎ (status ≡ 2) ⊎ (status ≡ 6))
+    × ((packets : List (List ℕ)) → IsTraffic text packets → (status ≡ 0) ⊎ (status ≡ 2) ⊎ (status ≡ 4) ⊎ (status ≡ 6))

@@ -4,7 +4,7 @@ use Rattle.std.specs.Prelude.{ℕ, ◌+◌, Bool, true, not, sum, List, [], ◌�
 use Rattle.std.specs.Fmt.{decimal}
 use Rattle.half_bits.specs.Halves.{halves_of}
 
--- the unit of time, and the wire, whose short name is `!`
+-- the unit of time, and the wire, whose short name is `!` (18.2.3; the names are our own)
 abbrev pub header : List ℕ
 header =
     codes "$timescale 1 us $end\n"
@@ -38,6 +38,6 @@ abbrev pub halves_in : List (List ℕ) → List ℕ
 halves_in [] = []
 halves_in (packet ∷ packets) = halves_of packet ++ halves_in packets
 
--- the dump of packets, from time 0 on and high at first; the last time stamp is their end
+-- the dump of packets, from time 0 on and high at first (own); the last time stamp is their end
 abbrev pub dump_of : List (List ℕ) → List ℕ
 dump_of packets = header ++ changes_text (changes_from 0 true (halves_in packets)) ++ stamp (sum (halves_in packets))

@@ -14,7 +14,7 @@ pub enum SignalFault {
     #[error("output")]
     Output,
     /// Status 5: the line of this number, from 1, begins as the line of a turn and is none.
-    #[error("line {0}: no line of a turn")]
+    #[error("line {0}: bad track line")]
     BadLine(u64),
     /// Status 5: the input has more than 16,777,216 bytes.
     #[error("too long")]

@@ -1,6 +1,6 @@
 //! The program on its streams.
 ghost use Rattle.std.specs.Prelude.{◌≡◌, ◌≤◌, None, OnOk};
-ghost use Rattle.track_signal.specs.Drawn.{DrawsInput, FailsInput, RefusesInput};
+ghost use Rattle.track_signal.specs.Drawn.{DrawsInput, EndsAs, FailsInput, RefusesInput};
 ghost use Rattle.track_signal.specs.Fault.{status_of};
 
 use crate::drawing::draw_packets;
@@ -18,7 +18,7 @@ where
     I: Read,
     O: Write,
     E: Write,
-    ensures { result ≤ 6 }
+    ensures { EndsAs (I.remaining input.old) result }
 {
     match draw_buffered(alloc, input, output) {
         Ok(()) => 0,
@@ -39,7 +39,12 @@ fn draw_buffered<I: Read, O: Write>(
     alloc: Global,
     input: &mut I,
     output: &mut O,
-) -> Result<(), SignalFault> {
+) -> Result<(), SignalFault>
+    // What a buffer that is let go has written is not known: of the output `draw_input` says more.
+    ensures drawn { OnOk result (DrawsInput (I.remaining input.old) (I.remaining input.new) None None) }
+    ensures refused { RefusesInput (I.remaining input.old) result None None }
+    ensures failed { FailsInput (I.remaining input.old) result }
+{
     let Ok(mut buffered) = BufWriter::new(alloc, output) else {
         return Err(SignalFault::NoMemory);
     };

@@ -98,7 +98,7 @@ fn lines_with_a_fault_are_refused(rt: HostRuntime) -> Result<(), Fail> {
     ];
     for (text, line) in rows {
         let ran = run(&rt, text);
-        let told = format!(in rt.alloc(); "track_signal: line {line}: no line of a turn\n")?;
+        let told = format!(in rt.alloc(); "track_signal: line {line}: bad track line\n")?;
         assert_eq!(rt; ran.status, 5);
         assert_eq!(rt; ran.faults.as_slice(), told.as_str().as_bytes());
         assert_eq!(rt; ran.output.as_slice(), b"".as_slice());
