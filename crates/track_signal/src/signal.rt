@@ -1,5 +1,5 @@
 //! The program on its streams.
-ghost use Rattle.std.specs.Prelude.{◌≡◌, ◌≤◌, None, OnOk};
+ghost use Rattle.std.specs.Prelude.{◌≡◌, ◌⊎◌, IfErr, None, OnOk};
 ghost use Rattle.track_signal.specs.Drawn.{DrawsInput, EndsAs, FailsInput, RefusesInput};
 ghost use Rattle.track_signal.specs.Fault.{status_of};
 
@@ -61,6 +61,7 @@ fn draw_input<I: Read, O: Write>(
     ensures drawn { OnOk result (DrawsInput (I.remaining input.old) (I.remaining input.new) (O.contents output.old) (O.contents output.new)) }
     ensures refused { RefusesInput (I.remaining input.old) result (O.contents output.old) (O.contents output.new) }
     ensures failed { FailsInput (I.remaining input.old) result }
+    ensures kept { IfErr result (λ e. (e ≡ SignalFault.Output) ⊎ (O.contents output.new ≡ O.contents output.old)) }
 {
     let text = read_most(alloc, input, LONGEST_TEXT + 1)?;
     let packets = read_packets(alloc, text.as_slice())?;
