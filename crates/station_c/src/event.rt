@@ -1,5 +1,5 @@
 //! Events, as C describes them.
-ghost use Rattle.std.specs.Prelude.{◌≡◌, ◌≤◌};
+ghost use Rattle.std.specs.Prelude.{◌≡◌};
 ghost use Rattle.std.specs.List.{list_all};
 ghost use Rattle.station_c.specs.Event.{event_of, is_one};
 

@@ -3,12 +3,12 @@
 //! Each function is exported under its name. `bindings/station.h` says what its caller owes.
 #![tactic(auto)]
 
-ghost use Rattle.std.specs.Prelude.{◌≡◌, ◌≢◌, ◌⊎◌, ◌<◌, ◌==◌, ◌&&◌, nat_lt, Some, IfSome, IsTrue, true, false, length, map, is_some, option_map};
+ghost use Rattle.std.specs.Prelude.{◌≡◌, ◌≢◌, ◌⊎◌, ◌==◌, ◌&&◌, nat_lt, Some, IfSome, true, false, length, map, is_some, option_map};
 ghost use Rattle.std.specs.List.{list_all, slice_index_or};
-ghost use Rattle.station_core.specs.Seen.{known_of, is_line_count};
+ghost use Rattle.station_core.specs.Seen.{known_of};
 ghost use Rattle.layout_core.specs.declared.node.Node.{Node as NodeValue};
 ghost use Rattle.layout_core.specs.Cycle.{RunsAfterNoise, RunsAsWanted};
-ghost use Rattle.layout_core.specs.Nodes.{outputs_of, running_of, spec_of};
+ghost use Rattle.layout_core.specs.Nodes.{outputs_of, running_of};
 ghost use Rattle.layout_core.specs.Played.{after_event, after_events, answer_to, answers_to};
 ghost use Rattle.layout_core.specs.World.{AfterEvent, HaveHeard};
 ghost use Rattle.roster.specs.Format.{roster_in};

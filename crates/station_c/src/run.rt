@@ -1,5 +1,5 @@
 //! A list of events, one after another.
-ghost use Rattle.std.specs.Prelude.{◌≡◌, ◌+◌, IsTrue, length, map};
+ghost use Rattle.std.specs.Prelude.{◌≡◌, IsTrue, length, map};
 ghost use Rattle.std.specs.List.{list_all};
 ghost use Rattle.station_core.specs.Seen.{known_of};
 ghost use Rattle.layout_core.specs.Cycle.{RunsAfterNoise, RunsAsWanted};

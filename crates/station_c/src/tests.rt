@@ -34,7 +34,7 @@ const DRIVE: Answer = Answer {
     bytes: [0x03, 0x3F, 0xC0, 0xFC, 0, 0, 0, 0, 0, 0, 0, 0, 0, 0],
 };
 
-/// Slot 1 with address 3, which it was loaded with: free, or so it reads.
+/// The reply to OPC_LOCO_ADR for address 3: slot 1, idle, and nothing asked of it yet.
 const LOADED: Answer = Answer {
     kind: 1,
     size: 14,
