@@ -1,5 +1,5 @@
 //! The program on its streams.
-ghost use Rattle.std.specs.Prelude.{◌≡◌, ◌⊎◌, IfErr, None, OnOk};
+ghost use Rattle.std.specs.Prelude.{◌≡◌, ◌≢◌, IfErr, OnOk};
 ghost use Rattle.track_signal.specs.Drawn.{DrawsInput, EndsAs, FailsInput, RefusesInput};
 ghost use Rattle.track_signal.specs.Fault.{status_of};
 
@@ -8,7 +8,7 @@ use crate::fault::SignalFault;
 use crate::input::read_most;
 use crate::reading::{LONGEST_TEXT, read_packets};
 use std::alloc::Global;
-use std::io::{BufWriter, Read, Write};
+use std::io::{Read, Write};
 
 /// Draws the packets in what `input` gives, to its end, and answers the exit status, 0 to 6.
 ///
@@ -18,9 +18,12 @@ where
     I: Read,
     O: Write,
     E: Write,
-    ensures { EndsAs (I.remaining input.old) result }
+    ensures status { EndsAs (I.remaining input.old) result }
+    ensures drawn { result ≡ 0 → DrawsInput (I.remaining input.old) (I.remaining input.new) (O.contents output.old) (O.contents output.new) }
+    // Where neither memory ran out nor the output failed, a fault writes nothing.
+    ensures kept { result ≢ 0 → result ≢ 4 → result ≢ 6 → output.new ≡ output.old }
 {
-    match draw_buffered(alloc, input, output) {
+    match draw_input(alloc, input, output) {
         Ok(()) => 0,
         Err(fault) => tell(fault, faults),
     }
@@ -34,24 +37,6 @@ fn tell<E: Write>(fault: SignalFault, faults: &mut E) -> u8
     fault.status()
 }
 
-/// The same as `draw_input`, on an output that is written in large parts.
-fn draw_buffered<I: Read, O: Write>(
-    alloc: Global,
-    input: &mut I,
-    output: &mut O,
-) -> Result<(), SignalFault>
-    // What a buffer that is let go has written is not known: of the output `draw_input` says more.
-    ensures drawn { OnOk result (DrawsInput (I.remaining input.old) (I.remaining input.new) None None) }
-    ensures refused { RefusesInput (I.remaining input.old) result None None }
-    ensures failed { FailsInput (I.remaining input.old) result }
-{
-    let Ok(mut buffered) = BufWriter::new(alloc, output) else {
-        return Err(SignalFault::NoMemory);
-    };
-    draw_input(alloc, input, &mut buffered)?;
-    buffered.flush().map_err(|_| SignalFault::Output)
-}
-
 /// Reads the input, whole, and then draws the packets that its lines tell. Where a line has a fault nothing is written.
 fn draw_input<I: Read, O: Write>(
     alloc: Global,
@@ -61,9 +46,9 @@ fn draw_input<I: Read, O: Write>(
     ensures drawn { OnOk result (DrawsInput (I.remaining input.old) (I.remaining input.new) (O.contents output.old) (O.contents output.new)) }
     ensures refused { RefusesInput (I.remaining input.old) result (O.contents output.old) (O.contents output.new) }
     ensures failed { FailsInput (I.remaining input.old) result }
-    ensures kept { IfErr result (λ e. (e ≡ SignalFault.Output) ⊎ (O.contents output.new ≡ O.contents output.old)) }
+    ensures kept { IfErr result (λ e. e ≢ SignalFault.Output → e ≢ SignalFault.NoMemory → output.new ≡ output.old) }
 {
     let text = read_most(alloc, input, LONGEST_TEXT + 1)?;
     let packets = read_packets(alloc, text.as_slice())?;
-    draw_packets(packets.as_slice(), output)
+    draw_packets(alloc, packets.as_slice(), output)
 }

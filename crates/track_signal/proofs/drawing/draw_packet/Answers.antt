@@ -13,7 +13,7 @@ overflow_add-time g c =
     omega (arith, c.requires, within, most)
 
 pub loop-half-preserved : goal.loop-half-preserved
-loop-half-preserved g c = drawn_more c.args.start (halves_of c.args.packet.now) c.loop-half.time c.loop-half.is_high c.loop-half.half-iterator c.in-Some.half c.from-time.result c.next.new.self (g.O.Write.contents c.args.output.now) (g.O.Write.contents c.loop-half.output) (g.O.Write.contents c.write_change.new.output) c.loop-half.invariant c.in-Some.ensures.steps c.from-time.ensures c.in_ok-write_change.ensures.text
+loop-half-preserved g c = drawn_more c.args.start (halves_of c.args.packet.now) c.loop-half.time c.loop-half.is_high c.loop-half.half-iterator c.in-Some.half c.from-time.result c.next.new.self (g.O.Write.contents c.args.output.now) (g.O.Write.contents c.loop-half.output) (g.O.Write.contents c.write_change.new.output) c.loop-half.invariant c.in-Some.ensures.steps c.from-time.ensures c.in_ok-write_change.ensures
 
 pub returns-clause-text : goal.returns-clause-text
 returns-clause-text g c = drawn_whole c.args.start (halves_of c.args.packet.now) c.loop-half.time c.loop-half.is_high c.loop-half.half-iterator (g.O.Write.contents c.args.output.now) (g.O.Write.contents c.loop-half.output) c.loop-half.invariant c.in-None.ensures.steps.0

@@ -1,4 +1,4 @@
-use Rattle.std.proofs.Common.{◌+◌, ℕ, List, ◌∷◌, drop, drop_of_length-le as drop_all, ap, sym, ◌∙◌, arith}
+use Rattle.std.proofs.Common.{◌+◌, ℕ, List, ◌∷◌, drop, drop_of_length-le as drop_all, ap, sym, ◌∙◌, arith, rules}
 use Rattle.std.proofs.lemmas.List.{drop_more}
 use Rattle.track_signal.proofs.Rails.{dumped_all, dumped_more, dumped_none}
 use Rattle.track_signal.proofs.drawing.draw_packets.Goals as goal
@@ -11,7 +11,7 @@ loop-packet-init g c = record {
 
 pub loop-packet-preserved : goal.loop-packet-preserved
 loop-packet-preserved g c = record {
-  drawn = dumped_more c.args.packets.now c.loop-packet.time (drop c.loop-packet.packet-index c.args.packets.now) c.packet-item.result (drop (c.loop-packet.packet-index + 1) c.args.packets.now) c.in_ok-time.time (g.O.Write.contents c.args.output.now) (g.O.Write.contents c.loop-packet.output) (g.O.Write.contents c.draw_packet.new.output) c.loop-packet.invariant.drawn
+  drawn = dumped_more c.args.packets.now c.loop-packet.time (drop c.loop-packet.packet-index c.args.packets.now) c.packet-item.result (drop (c.loop-packet.packet-index + 1) c.args.packets.now) c.in_ok-time.time (g.O.Write.contents c.args.output.now) (g.O.Write.contents c.loop-packet.output) (g.O.Write.contents c.write_packet.new.output) c.loop-packet.invariant.drawn
       (drop_more c.args.packets.now c.loop-packet.packet-index c.packet-item.result c.loop-packet-test.true ∙ ap (λ (p : List ℕ). p ∷ drop (c.loop-packet.packet-index + 1) c.args.packets.now) (sym c.packet-item.is))
       c.in_ok-time.ensures.text c.in_ok-time.ensures.end;
   soon = omega (arith, c.loop-packet.invariant.soon, c.in_ok-time.ensures.soon);
@@ -19,4 +19,5 @@ loop-packet-preserved g c = record {
 
 pub returns-clause-text : goal.returns-clause-text
 returns-clause-text g c =
-    dumped_all c.write_stamp.result c.args.packets.now c.loop-packet.time (drop c.loop-packet.packet-index c.args.packets.now) (g.O.Write.contents c.args.output.now) (g.O.Write.contents c.loop-packet.output) (g.O.Write.contents c.write_stamp.new.output) c.loop-packet.invariant.drawn (drop_all c.args.packets.now c.loop-packet-test.false) c.write_stamp.ensures.text
+    let all = dumped_all c.write_stamp.result c.args.packets.now c.loop-packet.time (drop c.loop-packet.packet-index c.args.packets.now) (g.O.Write.contents c.args.output.now) (g.O.Write.contents c.loop-packet.output) (g.O.Write.contents c.write_stamp.new.output) c.loop-packet.invariant.drawn (drop_all c.args.packets.now c.loop-packet-test.false) c.write_stamp.ensures in
+    search (rules, all)
