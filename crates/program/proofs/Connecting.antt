@@ -1,15 +1,17 @@
 -- Connections that are served one after another add up.
-use Rattle.std.proofs.Common.{◌≡◌, inl, inr, ◌<◌, ℕ, ◌+◌, List, [], ◌∷◌, ◌++◌, Option, length, length-append, take, refl, ap, sym, subst, ◌∙◌, append_assoc, arith}
+use Rattle.std.proofs.Common.{◌≡◌, inl, inr, ◌<◌, ◌≤◌, ℕ, ◌+◌, List, [], ◌∷◌, ◌++◌, Option, length, length-append, take, refl, ap, sym, subst, ◌∙◌, append_assoc, arith}
 use Rattle.std.specs.Prelude.{Result, Ok, Err, IfErr, OnErr, OnOk}
 use Rattle.std.proofs.lemmas.List.{append-nil}
 use Rattle.std.specs.Io.KnownBytes.{Appends}
 use Rattle.layout_core.specs.declared.engine.Limits.{Limits}
 use Rattle.layout_core.specs.declared.engine.ServeFault.{ServeFault}
+use Rattle.layout_core.specs.declared.engine.Summary.{Summary}
 use Rattle.layout_core.specs.declared.engine.ServeFault.TheVariants.{Read, Write, Trace, TooManyReads}
 use Rattle.layout_core.specs.declared.event.Event.{Event}
 use Rattle.layout_core.specs.declared.world.World.{World}
 use Rattle.layout_core.specs.Faults.{HasFaulted, Leaves, StopsAfter}
-use Rattle.layout_core.specs.Served.{Input, Moment, Serves as EngineServes, moment_of, served_events}
+use Rattle.layout_core.specs.Played.{answers_to}
+use Rattle.layout_core.specs.Served.{HasServed as EngineHasServed, Input, Moment, Serves as EngineServes, moment_of, served_events, traced_from}
 use Rattle.program.specs.declared.fault.RunFault.{RunFault}
 use Rattle.program.specs.Connections.{AreServed, GivesUp, HasGivenUp, HasServed, IsServed, Serves, ServesPart, StopsPrinting, events_of_all, next_line, nodes_text, trace_text}
 use Rattle.layout_core.specs.declared.node.Node.{Node}
@@ -41,6 +43,16 @@ leaves_part Read turns bytes done old new leaves = whole_part turns bytes done o
 leaves_part TooManyReads turns bytes done old new leaves = whole_part turns bytes done old.world new.world leaves.0 (done_whole (served_events 0 turns bytes) old new leaves.1)
 leaves_part Write turns bytes done old new leaves = stopped_part Write turns bytes done old new leaves
 leaves_part Trace turns bytes done old new leaves = stopped_part Trace turns bytes done old new leaves
+
+-- a connection that was served, as the engine says it: at most as many reads as the limits give, of at most 64 bytes
+pub served_whole : (limits : Limits) (summary : Summary) (input input' : Input) (old new : Moment) → EngineHasServed 0 limits.turns summary input input' old new → old.turns ≡ 0 → input'.reads ≤ input.reads + limits.reads
+    → Serves limits old.world new.world old.traced new.traced
+served_whole limits summary input input' old new has first most =
+    let bytes : List ℕ = has.0 in (
+      bytes,
+      record { done = done_whole (served_events 0 limits.turns bytes) old new has.3; few = omega (arith, has.1.few, has.1.counted, most) },
+      subst (λ (turns : ℕ). Appends old.traced new.traced (traced_from 0 (turns + 1) (answers_to old.world.station (served_events 0 limits.turns bytes)))) first has.3.traced,
+    )
 
 -- a connection that was given up
 pub faulted_part : (fault : ServeFault) (turns : ℕ) (input input' : Input) (old : Moment) (world : World) (written traced : Option (List ℕ)) → HasFaulted fault 0 turns input input' old world written traced → ServesPart turns old.world world
