@@ -14,7 +14,7 @@ use std::{fs, io};
 const CHUNK: usize = 4096;
 
 /// Why bytes were not read.
-#[derive(Clone, Copy, Debug)]
+#[derive(Clone, Copy)]
 pub(crate) enum ReadFault {
     /// The file was not opened, or a read failed.
     Failed,
