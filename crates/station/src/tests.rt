@@ -10,6 +10,9 @@ mod sockets;
 mod words;
 
 use crate::execute;
+use std::fs;
+use std::process::Abort;
+use std::test::Fail;
 
 /// What a run answers and prints.
 #[derive(Drop)]
@@ -30,4 +33,25 @@ fn run(rt: &HostRuntime, words: &[&str], text: &[u8]) -> Ran {
         output,
         faults,
     }
+}
+
+/// Runs it on words that name a file with this text.
+fn run_on(
+    rt: &HostRuntime,
+    words: &[&str],
+    file: &str,
+    text: &[u8],
+    input: &[u8],
+) -> Result<Ran, Fail> {
+    fs::write(rt, file, text)?;
+    let ran = run(rt, words, input);
+    fs::remove_file(rt, file)?;
+    Ok(ran)
+}
+
+/// Looks that a run ended so.
+fn look(rt: &impl Abort, ran: &Ran, status: u8, output: &[u8], faults: &[u8]) {
+    assert_eq!(rt; ran.faults.as_slice(), faults);
+    assert_eq!(rt; ran.output.as_slice(), output);
+    assert_eq!(rt; ran.status, status);
 }

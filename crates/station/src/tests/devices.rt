@@ -1,5 +1,6 @@
 //! Standard streams that fail.
 
+use super::{Ran, look};
 use crate::execute;
 use std::io;
 use std::io::{ErrorKind, Read, Write};
@@ -61,9 +62,13 @@ impl Read for Spaces {
 fn standard_input_cannot_be_read(rt: HostRuntime) {
     let mut output = Vec::new(rt.alloc());
     let mut faults = Vec::new(rt.alloc());
-    assert_eq!(rt; execute(&rt, &[], &mut Broken, &mut output, &mut faults), 2);
-    assert_eq!(rt; faults.as_slice(), b"station: cannot read -\n".as_slice());
-    assert_eq!(rt; output.as_slice(), b"".as_slice());
+    let status = execute(&rt, &[], &mut Broken, &mut output, &mut faults);
+    let ran = Ran {
+        status,
+        output,
+        faults,
+    };
+    look(&rt, &ran, 2, b"", b"station: cannot read -\n");
 }
 
 #[test]
@@ -74,9 +79,13 @@ fn standard_input_is_interrupted_once(rt: HostRuntime) {
     };
     let mut output = Vec::new(rt.alloc());
     let mut faults = Vec::new(rt.alloc());
-    assert_eq!(rt; execute(&rt, &[], &mut input, &mut output, &mut faults), 0);
-    assert_eq!(rt; faults.as_slice(), b"".as_slice());
-    assert_eq!(rt; output.as_slice(), b"track 1 off\n".as_slice());
+    let status = execute(&rt, &[], &mut input, &mut output, &mut faults);
+    let ran = Ran {
+        status,
+        output,
+        faults,
+    };
+    look(&rt, &ran, 0, b"track 1 off\n", b"");
 }
 
 #[test]

@@ -1,7 +1,6 @@
 //! The files of `examples/`, and what they print. `./check` compares these texts with the files.
 
-use super::run;
-use std::fs;
+use super::{look, run_on};
 use std::test::Fail;
 
 const LAYOUT: &[u8] = b"# The decoders of a small layout: a shunter and a turnout.
@@ -335,37 +334,25 @@ fn scripts_of_the_examples(rt: HostRuntime) -> Result<(), Fail> {
         ("1", LAYOUT, FUNCTIONS, LIT),
         ("1", LAYOUT, REFUSALS, REFUSED),
     ] {
-        fs::write(&rt, file, layout)?;
-        let ran = run(&rt, &["replay", "--lines", lines, "--roster", file], script);
-        assert_eq!(rt; ran.faults.as_slice(), b"".as_slice());
-        assert_eq!(rt; ran.output.as_slice(), printed);
-        assert_eq!(rt; ran.status, 0);
+        let words = ["replay", "--lines", lines, "--roster", file];
+        let ran = run_on(&rt, &words, file, layout, script)?;
+        look(&rt, &ran, 0, printed, b"");
     }
-    fs::remove_file(&rt, file)?;
     Ok(())
 }
 
+/// Captures, and what is printed of them. What is behind the last whole message is no message, and is not printed.
+const SHOWN: [(&'static [u8], &'static [u8]); 2] = [
+    (CAPTURE, CAPTURED),
+    (b"83 7C A0 01 40", b"msg 83 7C power on\n"),
+];
+
 #[test]
-fn capture_of_the_examples(rt: HostRuntime) -> Result<(), Fail> {
+fn captures_are_printed(rt: HostRuntime) -> Result<(), Fail> {
     let file = "station-test-capture.hex";
-    fs::write(&rt, file, CAPTURE)?;
-    let ran = run(&rt, &["monitor", file], b"");
-    assert_eq!(rt; ran.faults.as_slice(), b"".as_slice());
-    assert_eq!(rt; ran.output.as_slice(), CAPTURED);
-    assert_eq!(rt; ran.status, 0);
-    fs::remove_file(&rt, file)?;
-    Ok(())
-}
-
-// What is behind the last whole message is no message, and is not printed.
-#[test]
-fn a_capture_that_ends_in_mid_message(rt: HostRuntime) -> Result<(), Fail> {
-    let file = "station-test-cut.hex";
-    fs::write(&rt, file, b"83 7C A0 01 40".as_slice())?;
-    let ran = run(&rt, &["monitor", file], b"");
-    fs::remove_file(&rt, file)?;
-    assert_eq!(rt; ran.faults.as_slice(), b"".as_slice());
-    assert_eq!(rt; ran.output.as_slice(), b"msg 83 7C power on\n".as_slice());
-    assert_eq!(rt; ran.status, 0);
+    for (capture, printed) in SHOWN {
+        let ran = run_on(&rt, &["monitor", file], file, capture, b"")?;
+        look(&rt, &ran, 0, printed, b"");
+    }
     Ok(())
 }

@@ -1,6 +1,6 @@
 //! Files that are missing, too long, or have a fault.
 
-use super::{Ran, run};
+use super::{look, run, run_on};
 use crate::execute;
 use std::alloc::Global;
 use std::io::{ErrorKind, Write};
@@ -19,14 +19,6 @@ impl Write for Full {
     fn flush(&mut self) -> io::Result<()> {
         Ok(())
     }
-}
-
-/// Runs the program on words of which the last is a file with this text.
-fn run_on(rt: &HostRuntime, words: &[&str], file: &str, text: &[u8]) -> Result<Ran, Fail> {
-    fs::write(rt, file, text)?;
-    let ran = run(rt, words, b"");
-    fs::remove_file(rt, file)?;
-    Ok(ran)
 }
 
 /// So many spaces.
@@ -48,12 +40,7 @@ fn files_that_are_missing(rt: HostRuntime) {
     ];
     for words in rows {
         let ran = run(&rt, words, b"turn 0");
-        assert_eq!(rt; ran.status, 2, "of {words:?}");
-        assert_eq!(rt;
-            ran.faults.as_slice(),
-            b"station: cannot read no such file\n".as_slice()
-        );
-        assert!(rt; ran.output.is_empty(), "of {words:?}");
+        look(&rt, &ran, 2, b"", b"station: cannot read no such file\n");
     }
 }
 
@@ -104,10 +91,8 @@ const ROSTERS: [(&'static [u8], &'static [u8]); 12] = [
 fn rosters_with_faults(rt: HostRuntime) -> Result<(), Fail> {
     let file = "station-test-bad.toml";
     for (text, fault) in ROSTERS {
-        let ran = run_on(&rt, &["replay", "--roster", file], file, text)?;
-        assert_eq!(rt; ran.faults.as_slice(), fault);
-        assert_eq!(rt; ran.status, 3);
-        assert!(rt; ran.output.is_empty());
+        let ran = run_on(&rt, &["replay", "--roster", file], file, text, b"")?;
+        look(&rt, &ran, 3, b"", fault);
     }
     Ok(())
 }
@@ -120,58 +105,56 @@ fn a_roster_of_65_nodes(rt: HostRuntime) -> Result<(), Fail> {
         text.extend_from_slice(b"[[node]]\n")?;
     }
     let file = "station-test-many.toml";
-    let ran = run_on(&rt, &["replay", "--roster", file], file, text.as_slice())?;
-    assert_eq!(rt;
-        ran.faults.as_slice(),
-        b"station: roster fault 3 at node 0\n".as_slice()
-    );
-    assert_eq!(rt; ran.status, 3);
+    let ran = run_on(
+        &rt,
+        &["replay", "--roster", file],
+        file,
+        text.as_slice(),
+        b"",
+    )?;
+    look(&rt, &ran, 3, b"", b"station: roster fault 3 at node 0\n");
     Ok(())
 }
 
 #[test]
 fn hex_texts_with_faults(rt: HostRuntime) -> Result<(), Fail> {
     let file = "station-test-bad.hex";
-    let ran = run_on(&rt, &["monitor", file], file, b"BF 0")?;
-    assert_eq!(rt;
-        ran.faults.as_slice(),
-        b"station: hex fault 1 at byte 3\n".as_slice()
-    );
-    assert_eq!(rt; ran.status, 5);
-    assert!(rt; ran.output.is_empty());
+    let ran = run_on(&rt, &["monitor", file], file, b"BF 0", b"")?;
+    look(&rt, &ran, 5, b"", b"station: hex fault 1 at byte 3\n");
     Ok(())
 }
 
+const LONG: &str = "station-test-long";
+
+/// The words, the bytes of the file, and then the status and standard error.
+const LIMITS: [(&'static [&'static str], usize, u8, &'static [u8]); 4] = [
+    (&["monitor", LONG], 1_048_576, 0, b""),
+    (
+        &["monitor", LONG],
+        1_048_577,
+        5,
+        b"station: hex fault 2 at byte 0\n",
+    ),
+    (
+        &["replay", "--roster", LONG],
+        65_536,
+        3,
+        b"station: roster fault 2 at node 0\n",
+    ),
+    (
+        &["replay", "--roster", LONG],
+        65_537,
+        2,
+        b"station: station-test-long is too long\n",
+    ),
+];
+
 #[test]
 fn files_at_their_limit(rt: HostRuntime) -> Result<(), Fail> {
-    let file = "station-test-long";
-    // The words, the bytes of the file, and then the status and standard error.
-    let rows: [(&[&str], usize, u8, &[u8]); 4] = [
-        (&["monitor", file], 1_048_576, 0, b""),
-        (
-            &["monitor", file],
-            1_048_577,
-            5,
-            b"station: hex fault 2 at byte 0\n",
-        ),
-        (
-            &["replay", "--roster", file],
-            65_536,
-            3,
-            b"station: roster fault 2 at node 0\n",
-        ),
-        (
-            &["replay", "--roster", file],
-            65_537,
-            2,
-            b"station: station-test-long is too long\n",
-        ),
-    ];
-    for (words, count, status, fault) in rows {
+    for (words, count, status, fault) in LIMITS {
         let text = spaces(rt.alloc(), count)?;
-        let ran = run_on(&rt, words, file, text.as_slice())?;
-        assert_eq!(rt; ran.faults.as_slice(), fault);
-        assert_eq!(rt; ran.status, status);
+        let ran = run_on(&rt, words, LONG, text.as_slice(), b"")?;
+        look(&rt, &ran, status, b"", fault);
     }
     Ok(())
 }

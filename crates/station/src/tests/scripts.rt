@@ -1,7 +1,6 @@
 //! Scripts: replies, turns and script faults.
 
-use super::run;
-use std::fs;
+use super::{look, run, run_on};
 use std::test::Fail;
 
 // Words, standard input, and then the status, standard output and standard error.
@@ -102,10 +101,7 @@ const RUNS: [Run; 13] = [
 #[test]
 fn scripts_end_with_their_status(rt: HostRuntime) {
     for (words, text, status, printed, fault) in RUNS {
-        let ran = run(&rt, words, text);
-        assert_eq!(rt; ran.status, status, "of {text:?}");
-        assert_eq!(rt; ran.output.as_slice(), printed, "of {text:?}");
-        assert_eq!(rt; ran.faults.as_slice(), fault, "of {text:?}");
+        look(&rt, &run(&rt, words, text), status, printed, fault);
     }
 }
 
@@ -148,11 +144,8 @@ node a short 3 stop forward F 0000000001000
 #[test]
 fn f9_in_sixteen_turns(rt: HostRuntime) -> Result<(), Fail> {
     let file = "station-test-one.toml";
-    fs::write(&rt, file, ONE_LOCOMOTIVE)?;
-    let ran = run(&rt, &["replay", "--roster", file], F9_ON);
-    fs::remove_file(&rt, file)?;
-    assert_eq!(rt; ran.faults.as_slice(), b"".as_slice());
-    assert_eq!(rt; ran.output.as_slice(), F9_SENT);
-    assert_eq!(rt; ran.status, 0);
+    let words = ["replay", "--roster", file];
+    let ran = run_on(&rt, &words, file, ONE_LOCOMOTIVE, F9_ON)?;
+    look(&rt, &ran, 0, F9_SENT, b"");
     Ok(())
 }

@@ -1,6 +1,6 @@
 //! Clients on loopback, all in one process, one after another.
 
-use super::run;
+use super::{look, run};
 use crate::serve_on;
 use layout_core::Limits;
 use ln_ops::State;
@@ -86,8 +86,6 @@ fn a_port_that_is_taken(rt: HostRuntime) -> Result<(), Fail> {
     let listener: TcpListener = TcpListener::bind(&rt, "127.0.0.1:0")?;
     let port = format!(in rt.alloc(); "{}", listener.local_addr()?.port())?;
     let ran = run(&rt, &["serve", "--port", port.as_str()], b"");
-    assert_eq!(rt; ran.faults.as_slice(), b"station: network\n".as_slice());
-    assert_eq!(rt; ran.status, 4);
-    assert!(rt; ran.output.is_empty());
+    look(&rt, &ran, 4, b"", b"station: network\n");
     Ok(())
 }

@@ -4,6 +4,7 @@ use super::run;
 use crate::reading::{read_words, texts};
 use crate::{Order, OrderFault, order};
 use program::tell;
+use std::alloc::Global;
 use std::env::{Env, FillError};
 use std::test::Fail;
 
@@ -45,20 +46,37 @@ fn words_behind_the_name(rt: HostRuntime) -> Result<(), Fail> {
     Ok(())
 }
 
-#[test]
-fn a_word_that_is_not_utf_8(rt: HostRuntime) -> Result<(), Fail> {
-    let given = Given {
-        words: &[b"station", b"monitor", b"caf\xE9.hex"],
+/// Whether the text has each of these parts.
+fn has_all(text: &[u8], parts: &[&str]) -> bool {
+    let Ok(text) = std::str::from_utf8(text) else {
+        return false;
     };
+    for part in parts {
+        if !text.contains(*part) {
+            return false;
+        }
+    }
+    true
+}
+
+/// What is answered and told where the words cannot be read.
+fn told_of(rt: &HostRuntime, words: &[&[u8]]) -> Result<(u8, Vec<u8>), Fail> {
+    let given = Given { words };
     let fault = read_words(rt.alloc(), &given).err().ok_or("a fault")?;
     let mut faults = Vec::new(rt.alloc());
-    assert_eq!(rt; tell(&fault, &mut faults), 1);
-    let text = std::str::from_utf8(faults.as_slice())
-        .ok()
-        .ok_or("no text")?;
-    for part in ["a word is not UTF-8", "Usage: station"] {
-        assert!(rt; text.contains(part), "{text}");
-    }
+    Ok((tell(&fault, &mut faults), faults))
+}
+
+#[test]
+fn a_word_that_is_not_utf_8(rt: HostRuntime) -> Result<(), Fail> {
+    let (status, faults) = told_of(&rt, &[b"station", b"monitor", b"caf\xE9.hex"])?;
+    assert!(rt; status == 1);
+    assert!(rt;
+        has_all(
+            faults.as_slice(),
+            &["a word is not UTF-8", "Usage: station"]
+        )
+    );
     Ok(())
 }
 
@@ -87,9 +105,10 @@ fn words_that_are_no_order(rt: HostRuntime) {
     ];
     for words in rows {
         let ran = run(&rt, words, b"");
-        assert_eq!(rt; ran.status, 1, "of {words:?}");
-        assert!(rt; ran.output.is_empty(), "of {words:?}");
-        assert!(rt; !ran.faults.is_empty(), "of {words:?}");
+        assert!(rt;
+            ran.status == 1 && ran.output.is_empty() && !ran.faults.is_empty(),
+            "of {words:?}"
+        );
         assert!(rt;
             matches!(order(rt.alloc(), words), Err(OrderFault::Usage(_))),
             "of {words:?}"
@@ -110,80 +129,99 @@ fn defaults_of_replay(rt: HostRuntime) -> Result<(), Fail> {
     Ok(())
 }
 
+/// Whether the words are an order to replay with this roster, on so many lines.
+fn is_replay(alloc: Global, words: &[&str], file: &str, count: u8) -> bool {
+    match order(alloc, words) {
+        Ok(
+            Order::Replay {
+                lines,
+                roster: Some(roster),
+            },
+        ) => lines == count && roster.as_str() == file,
+        _ => false,
+    }
+}
+
+/// Whether the words are an order to print this capture.
+fn is_monitor(alloc: Global, words: &[&str], capture: &str) -> bool {
+    match order(alloc, words) {
+        Ok(Order::Monitor { file }) => file.as_str() == capture,
+        _ => false,
+    }
+}
+
 #[test]
-fn options_of_replay_and_monitor(rt: HostRuntime) -> Result<(), Fail> {
+fn options_of_replay_and_monitor(rt: HostRuntime) {
     let words = ["replay", "--roster", "a b.toml", "--lines", "8"];
-    let Order::Replay { lines, roster } = order(rt.alloc(), &words)? else {
-        return Err("no replay".into());
-    };
-    assert_eq!(rt; lines, 8);
-    let roster = roster.ok_or("no roster")?;
-    assert_eq!(rt; roster.as_str(), "a b.toml");
-    let Order::Monitor { file } = order(rt.alloc(), &["monitor", "capture.hex"])? else {
-        return Err("no monitor".into());
-    };
-    assert_eq!(rt; file.as_str(), "capture.hex");
-    Ok(())
+    assert!(rt; is_replay(rt.alloc(), &words, "a b.toml", 8));
+    assert!(rt; is_monitor(rt.alloc(), &["monitor", "capture.hex"], "capture.hex"));
 }
 
-#[test]
-fn options_of_serve(rt: HostRuntime) -> Result<(), Fail> {
-    let all = [
-        "serve",
-        "--port=65535",
-        "--turns=0",
-        "--reads=4294967295",
-        "--connections=1000",
-        "--roster=layout.toml",
-    ];
-    // The words, and then port, turns, reads, connections and whether there is a roster.
-    let rows: [(&[&str], u16, u8, u32, u32, bool); 2] = [
-        (&["serve", "--port", "5550"], 5550, 1, 100_000, 1, false),
-        (&all, 65_535, 0, 4_294_967_295, 1000, true),
-    ];
-    for (words, at, each, most, count, given) in rows {
-        let Order::Serve {
-            port,
-            roster,
-            turns,
-            reads,
-            connections,
-        } = order(rt.alloc(), words)?
-        else {
-            return Err("no serve".into());
-        };
-        assert_eq!(rt; (port, turns, reads, connections), (at, each, most, count));
-        assert_eq!(rt; roster.is_some(), given);
+/// What an order to serve holds: port, turns, reads, connections and whether there is a roster.
+type Served = (u16, u8, u32, u32, bool);
+
+/// The words of an order to serve, and what it holds.
+const SERVED: [(&'static [&'static str], Served); 2] = [
+    (&["serve", "--port", "5550"], (5550, 1, 100_000, 1, false)),
+    (
+        &[
+            "serve",
+            "--port=65535",
+            "--turns=0",
+            "--reads=4294967295",
+            "--connections=1000",
+            "--roster=layout.toml",
+        ],
+        (65_535, 0, 4_294_967_295, 1000, true),
+    ),
+];
+
+fn served(alloc: Global, words: &[&str]) -> Option<Served> {
+    match order(alloc, words) {
+        Ok(
+            Order::Serve {
+                port,
+                roster,
+                turns,
+                reads,
+                connections,
+            },
+        ) => Some((port, turns, reads, connections, roster.is_some())),
+        _ => None,
     }
-    Ok(())
 }
 
 #[test]
-fn help_and_usage(rt: HostRuntime) -> Result<(), Fail> {
-    // The words, and parts of what standard error is told.
-    let rows: [(&[&str], [&str; 3]); 4] = [
-        (
-            &["--help"],
-            ["Usage: station", "monitor", "station < session.script"],
-        ),
-        (
-            &["serve", "--help"],
-            ["Usage: station serve", "--connections <C>", "127.0.0.1"],
-        ),
-        (
-            &["serve"],
-            ["Usage: station serve", "--port <P>", "required"],
-        ),
-        (&["replay", "--lines", "9"], ["'9'", "--lines <N>", "1..=8"]),
-    ];
-    for (words, parts) in rows {
+fn options_of_serve(rt: HostRuntime) {
+    for (words, held) in SERVED {
+        assert!(rt; served(rt.alloc(), words) == Some(held), "of {words:?}");
+    }
+}
+
+/// Words, and parts of what standard error is told.
+const TOLD: [(&'static [&'static str], &'static [&'static str]); 4] = [
+    (
+        &["--help"],
+        &["Usage: station", "monitor", "station < session.script"],
+    ),
+    (
+        &["serve", "--help"],
+        &["Usage: station serve", "--connections <C>", "127.0.0.1"],
+    ),
+    (
+        &["serve"],
+        &["Usage: station serve", "--port <P>", "required"],
+    ),
+    (
+        &["replay", "--lines", "9"],
+        &["'9'", "--lines <N>", "1..=8"],
+    ),
+];
+
+#[test]
+fn help_and_usage(rt: HostRuntime) {
+    for (words, parts) in TOLD {
         let ran = run(&rt, words, b"");
-        let text = std::str::from_utf8(ran.faults.as_slice())
-            .ok()
-            .ok_or("no text")?;
-        for part in parts {
-            assert!(rt; text.contains(part), "{part}");
-        }
+        assert!(rt; has_all(ran.faults.as_slice(), parts), "of {words:?}");
     }
-    Ok(())
 }
