@@ -2,7 +2,7 @@
 ghost use Rattle.std.specs.Prelude.{◌≡◌, IfOk, false};
 ghost use Rattle.clap.specs.Words.{app_of, rule_of};
 ghost use Rattle.clap.specs.declared.builder.Command.TheViews.{out-Command as fields_of};
-ghost use Rattle.command_line.specs.CommandLine.{option, roster_rule, lines_rule, file_rule, port_rule, turns_rule, reads_rule, connections_rule, replay_on_lines_app, replay_app, monitor_app, served_at_app, served_app, serve_app, bare_app, with_replay_app, without_server_app, station_app};
+ghost use Rattle.command_line.specs.CommandLine.{option, number, roster_rule, lines_rule, file_rule, port_rule, turns_rule, reads_rule, connections_rule, replay_on_lines_app, replay_app, monitor_app, served_at_app, served_app, serve_app, bare_app, with_replay_app, without_server_app, station_app};
 
 use clap::{Arg, ArgAction, Command};
 use std::alloc::{AllocError, Global};
@@ -16,6 +16,15 @@ fn option<'a>(alloc: Global, id: &'a str, value_name: &'a str) -> Arg<'a>
         .long(id)
         .value_name(value_name)
         .action(ArgAction::Set)
+}
+
+/// `--ID VALUE`, where the value is a number in this range.
+fn number<'a>(alloc: Global, id: &'a str, value_name: &'a str, least: u32, most: u32) -> Arg<'a>
+    ensures rule { rule_of result ≡ number id.entry.now least most }
+    ensures local { result.global ≡ false }
+{
+    let range = i64::from(least)..=i64::from(most);
+    option(alloc, id, value_name).value_parser(clap::value_parser!(u32).range(range))
 }
 
 /// `--roster FILE`.
@@ -35,8 +44,7 @@ fn lines<'a>(alloc: Global) -> Arg<'a>
     ensures rule { rule_of result ≡ lines_rule }
     ensures local { result.global ≡ false }
 {
-    option(alloc, "lines", "N")
-        .value_parser(clap::value_parser!(u8).range(1..=8))
+    number(alloc, "lines", "N", 1, 8)
         .default_value("1")
         .help("The lines of the station, 1 to 8")
 }
@@ -60,9 +68,8 @@ fn port<'a>(alloc: Global) -> Arg<'a>
     ensures rule { rule_of result ≡ port_rule }
     ensures local { result.global ≡ false }
 {
-    option(alloc, "port", "P")
+    number(alloc, "port", "P", 1, 65_535)
         .required(true)
-        .value_parser(clap::value_parser!(u16).range(1..=65535))
         .help("The TCP port on 127.0.0.1, 1 to 65535")
 }
 
@@ -72,8 +79,7 @@ fn turns<'a>(alloc: Global) -> Arg<'a>
     ensures rule { rule_of result ≡ turns_rule }
     ensures local { result.global ≡ false }
 {
-    option(alloc, "turns", "T")
-        .value_parser(clap::value_parser!(u8).range(0..=255))
+    number(alloc, "turns", "T", 0, 255)
         .default_value("1")
         .help("Track turns after each byte, 0 to 255")
 }
@@ -84,8 +90,7 @@ fn reads<'a>(alloc: Global) -> Arg<'a>
     ensures rule { rule_of result ≡ reads_rule }
     ensures local { result.global ≡ false }
 {
-    option(alloc, "reads", "R")
-        .value_parser(clap::value_parser!(u32).range(1..=4_294_967_295))
+    number(alloc, "reads", "R", 1, u32::MAX)
         .default_value("100000")
         .help("The most reads of one connection")
 }
@@ -96,8 +101,7 @@ fn connections<'a>(alloc: Global) -> Arg<'a>
     ensures rule { rule_of result ≡ connections_rule }
     ensures local { result.global ≡ false }
 {
-    option(alloc, "connections", "C")
-        .value_parser(clap::value_parser!(u32).range(1..=1000))
+    number(alloc, "connections", "C", 1, 1000)
         .default_value("1")
         .help("How many connections are served, one after another, 1 to 1000")
 }
