@@ -25,4 +25,4 @@ returns-clause-rule c =
     let given = c.value_parser-2.ensures.given in
     let parser : c.value_parser-2.result.value_parser ≡ Some (vp.Signed (pos c.args.least) (pos c.args.most)) = given.1 ∙ ap Some (given.2 ∙ made) in
     let with_parser : Option ValueParser → Rule = λ p. record (rule_of c.option.result) { parser = p } in
-    ap rule_of c.value_parser-2.ensures.others ∙ ap with_parser parser ∙ ap (λ (r : Rule). record r { parser = Some (vp.Signed (pos c.args.least) (pos c.args.most)) }) c.option.ensures.rule
+    ap rule_of {y = record c.option.result { value_parser = c.value_parser-2.result.value_parser }} c.value_parser-2.ensures.others ∙ ap with_parser parser ∙ ap (λ (r : Rule). record r { parser = Some (vp.Signed (pos c.args.least) (pos c.args.most)) }) c.option.ensures.rule
