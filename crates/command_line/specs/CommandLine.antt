@@ -48,8 +48,11 @@ connections_rule = or_else (number (codes "connections") 1 1000) (codes "1")
 
 -- The commands.
 
+unfoldable pub replay_on_lines_app : App
+replay_on_lines_app = with_rule (new_app (codes "replay")) lines_rule
+
 unfoldable pub replay_app : App
-replay_app = with_rule (with_rule (new_app (codes "replay")) lines_rule) roster_rule
+replay_app = with_rule replay_on_lines_app roster_rule
 
 unfoldable pub monitor_app : App
 monitor_app = with_rule (new_app (codes "monitor")) file_rule
@@ -67,8 +70,11 @@ serve_app = with_rule (with_rule served_app reads_rule) connections_rule
 unfoldable pub bare_app : App
 bare_app = record (new_app (codes "station")) { top = record (new_app (codes "station")).top { no_binary_name = true; subcommand_required = true } }
 
+unfoldable pub with_replay_app : App
+with_replay_app = with_subcommand bare_app replay_app.top
+
 unfoldable pub without_server_app : App
-without_server_app = with_subcommand (with_subcommand bare_app replay_app.top) monitor_app.top
+without_server_app = with_subcommand with_replay_app monitor_app.top
 
 unfoldable pub station_app : App
 station_app = with_subcommand without_server_app serve_app.top

@@ -2,10 +2,30 @@
 ghost use Rattle.std.specs.Prelude.{◌≡◌, IfOk, false};
 ghost use Rattle.clap.specs.Words.{app_of, rule_of};
 ghost use Rattle.clap.specs.declared.builder.Command.TheViews.{out-Command as fields_of};
-ghost use Rattle.command_line.specs.CommandLine.{roster_rule, lines_rule, file_rule, port_rule, turns_rule, reads_rule, connections_rule, replay_app, monitor_app, served_at_app, served_app, serve_app, bare_app, without_server_app, station_app};
+ghost use Rattle.command_line.specs.CommandLine.{option, number, roster_rule, lines_rule, file_rule, port_rule, turns_rule, reads_rule, connections_rule, replay_on_lines_app, replay_app, monitor_app, served_at_app, served_app, serve_app, bare_app, with_replay_app, without_server_app, station_app};
 
 use clap::{Arg, ArgAction, Command};
 use std::alloc::{AllocError, Global};
+
+/// `--ID VALUE`, with this id and this name of the value.
+fn option<'a>(alloc: Global, id: &'a str, value_name: &'a str) -> Arg<'a>
+    ensures rule { rule_of result ≡ option id.entry.now }
+    ensures local { result.global ≡ false }
+{
+    Arg::new(alloc, id)
+        .long(id)
+        .value_name(value_name)
+        .action(ArgAction::Set)
+}
+
+/// `--ID VALUE`, where the value is a number in this range.
+fn number<'a>(alloc: Global, id: &'a str, value_name: &'a str, least: u32, most: u32) -> Arg<'a>
+    ensures rule { rule_of result ≡ number id.entry.now least most }
+    ensures local { result.global ≡ false }
+{
+    let range = i64::from(least)..=i64::from(most);
+    option(alloc, id, value_name).value_parser(clap::value_parser!(u32).range(range))
+}
 
 /// `--roster FILE`.
 #[tactic(auto, unfolding(crate::specs::CommandLine::roster_rule))]
@@ -13,11 +33,9 @@ fn roster<'a>(alloc: Global) -> Arg<'a>
     ensures rule { rule_of result ≡ roster_rule }
     ensures local { result.global ≡ false }
 {
-    Arg::new(alloc, "roster")
-        .long("roster")
-        .value_name("FILE")
-        .action(ArgAction::Set)
-        .help("The decoders of the layout, as TOML; without it there are none")
+    option(alloc, "roster", "FILE").help(
+        "The decoders of the layout, as TOML; without it there are none",
+    )
 }
 
 /// `--lines N`.
@@ -26,11 +44,7 @@ fn lines<'a>(alloc: Global) -> Arg<'a>
     ensures rule { rule_of result ≡ lines_rule }
     ensures local { result.global ≡ false }
 {
-    Arg::new(alloc, "lines")
-        .long("lines")
-        .value_name("N")
-        .action(ArgAction::Set)
-        .value_parser(clap::value_parser!(u8).range(1..=8))
+    number(alloc, "lines", "N", 1, 8)
         .default_value("1")
         .help("The lines of the station, 1 to 8")
 }
@@ -54,12 +68,8 @@ fn port<'a>(alloc: Global) -> Arg<'a>
     ensures rule { rule_of result ≡ port_rule }
     ensures local { result.global ≡ false }
 {
-    Arg::new(alloc, "port")
-        .long("port")
-        .value_name("P")
+    number(alloc, "port", "P", 1, 65_535)
         .required(true)
-        .action(ArgAction::Set)
-        .value_parser(clap::value_parser!(u16).range(1..=65535))
         .help("The TCP port on 127.0.0.1, 1 to 65535")
 }
 
@@ -69,11 +79,7 @@ fn turns<'a>(alloc: Global) -> Arg<'a>
     ensures rule { rule_of result ≡ turns_rule }
     ensures local { result.global ≡ false }
 {
-    Arg::new(alloc, "turns")
-        .long("turns")
-        .value_name("T")
-        .action(ArgAction::Set)
-        .value_parser(clap::value_parser!(u8).range(0..=255))
+    number(alloc, "turns", "T", 0, 255)
         .default_value("1")
         .help("Track turns after each byte, 0 to 255")
 }
@@ -84,11 +90,7 @@ fn reads<'a>(alloc: Global) -> Arg<'a>
     ensures rule { rule_of result ≡ reads_rule }
     ensures local { result.global ≡ false }
 {
-    Arg::new(alloc, "reads")
-        .long("reads")
-        .value_name("R")
-        .action(ArgAction::Set)
-        .value_parser(clap::value_parser!(u32).range(1..=4_294_967_295))
+    number(alloc, "reads", "R", 1, u32::MAX)
         .default_value("100000")
         .help("The most reads of one connection")
 }
@@ -99,26 +101,30 @@ fn connections<'a>(alloc: Global) -> Arg<'a>
     ensures rule { rule_of result ≡ connections_rule }
     ensures local { result.global ≡ false }
 {
-    Arg::new(alloc, "connections")
-        .long("connections")
-        .value_name("C")
-        .action(ArgAction::Set)
-        .value_parser(clap::value_parser!(u32).range(1..=1000))
+    number(alloc, "connections", "C", 1, 1000)
         .default_value("1")
         .help("How many connections are served, one after another, 1 to 1000")
 }
 
-/// `station replay [--lines N] [--roster FILE]`.
-#[tactic(auto, unfolding(crate::specs::CommandLine::replay_app))]
-fn replay<'a>(alloc: Global) -> Result<Command<'a>, AllocError>
-    ensures app { IfOk result (λ c. app_of c ≡ replay_app) }
+/// The replay of a script: `station replay [--lines N]`.
+#[tactic(auto, unfolding(crate::specs::CommandLine::replay_on_lines_app))]
+fn replay_on_lines<'a>(alloc: Global) -> Result<Command<'a>, AllocError>
+    ensures app { IfOk result (λ c. app_of c ≡ replay_on_lines_app) }
     ensures local { IfOk result (λ c. (fields_of c).has_globals ≡ false) }
 {
     Command::new(alloc, "replay")
         .about("Plays a script from standard input and prints replies, packets and decoders")
         .after_help("Example: station replay --roster layout.toml < session.script")
-        .arg(lines(alloc))?
-        .arg(roster(alloc))
+        .arg(lines(alloc))
+}
+
+/// The same, with the layout that is played to: `[--roster FILE]`.
+#[tactic(auto, unfolding(crate::specs::CommandLine::replay_app))]
+fn replay<'a>(alloc: Global) -> Result<Command<'a>, AllocError>
+    ensures app { IfOk result (λ c. app_of c ≡ replay_app) }
+    ensures local { IfOk result (λ c. (fields_of c).has_globals ≡ false) }
+{
+    replay_on_lines(alloc)?.arg(roster(alloc))
 }
 
 /// `station monitor FILE`.
@@ -179,15 +185,22 @@ fn program<'a>(alloc: Global) -> Result<Command<'a>, AllocError>
         .bin_name("station")
 }
 
+/// The program with its first command.
+#[tactic(auto, unfolding(crate::specs::CommandLine::with_replay_app))]
+fn with_replay<'a>(alloc: Global) -> Result<Command<'a>, AllocError>
+    ensures app { IfOk result (λ c. app_of c ≡ with_replay_app) }
+    ensures local { IfOk result (λ c. (fields_of c).has_globals ≡ false) }
+{
+    program(alloc)?.subcommand(replay(alloc)?)
+}
+
 /// The program with the commands that come to an end by themselves.
 #[tactic(auto, unfolding(crate::specs::CommandLine::without_server_app))]
 fn without_server<'a>(alloc: Global) -> Result<Command<'a>, AllocError>
     ensures app { IfOk result (λ c. app_of c ≡ without_server_app) }
     ensures local { IfOk result (λ c. (fields_of c).has_globals ≡ false) }
 {
-    program(alloc)?
-        .subcommand(replay(alloc)?)?
-        .subcommand(monitor(alloc)?)
+    with_replay(alloc)?.subcommand(monitor(alloc)?)
 }
 
 /// The whole command line.

@@ -27,15 +27,18 @@ use Rattle.roster.specs.Toml.{table_in, items_len, knows_only, text_at, integer_
 -- Node by node. First the shape of its table: which keys it has, and of which types their values are.
 
 -- version 1: a key for each of the four variables
+abbrev pub variables_in : Members → Result Described Why
+variables_in table = do
+  cv1 ← integer_at (codes "cv1") table
+  cv17 ← integer_or (get_member (codes "cv17") table) (pos 192)
+  cv18 ← integer_or (get_member (codes "cv18") table) (pos 0)
+  cv29 ← integer_at (codes "cv29") table
+  Ok (Loco cv1 cv17 cv18 cv29)
+
 abbrev pub loco_in_keys : Members → Result Described Why
 loco_in_keys table =
     if knows_only (codes "name" ∷ codes "kind" ∷ codes "cv1" ∷ codes "cv17" ∷ codes "cv18" ∷ codes "cv29" ∷ []) table
-    then (do
-      cv1 ← integer_at (codes "cv1") table
-      cv17 ← integer_or (get_member (codes "cv17") table) (pos 192)
-      cv18 ← integer_or (get_member (codes "cv18") table) (pos 0)
-      cv29 ← integer_at (codes "cv29") table
-      Ok (Loco cv1 cv17 cv18 cv29))
+    then variables_in table
     else Err BadShape
 
 -- version 2: a list of variables
@@ -106,6 +109,13 @@ decoder_of (Loco cv1 cv17 cv18 cv29) = do
   d ← byte_of cv29
   loco_of (settings_of a b c d)
 
+-- the node with this name and this decoder, after those before it
+abbrev pub entry_with : List Entry → List ℕ → Described → Result Entry Why
+entry_with earlier given described = do
+  name ← name_after earlier given
+  spec ← decoder_of described
+  Ok (record { name = name; spec = spec })
+
 -- the node of this table, after those before it
 abbrev pub entry_of : Version → List Entry → Data → Result Entry Why
 entry_of version earlier value = do
@@ -113,9 +123,7 @@ entry_of version earlier value = do
   given ← text_at (codes "name") table
   kind ← text_at (codes "kind") table
   described ← described_as version kind table
-  name ← name_after earlier given
-  spec ← decoder_of described
-  Ok (record { name = name; spec = spec })
+  entry_with earlier given described
 
 -- a fault of node k, and of the whole where k is 0
 abbrev pub at_node : {A : Type 0} → ℕ → Result A Why → Result A RosterFault

@@ -1,7 +1,8 @@
 //! What the table of a node says of its decoder.
 ghost use Rattle.std.specs.Prelude.{◌≡◌};
 ghost use Rattle.toml.specs.View.{table_view};
-ghost use Rattle.roster.specs.Format.{accessory_in, byte_of, decoder_of, described_as, loco_in_keys, loco_in_list};
+ghost use Rattle.roster.specs.Format.{accessory_in, byte_of, decoder_of, described_as, loco_in_keys, loco_in_list, variables_in};
+ghost use Rattle.roster.specs.declared.described.Described.TheVariants.{Loco};
 
 use crate::decoder::{accessory, loco};
 use crate::fault::Why;
@@ -57,7 +58,7 @@ impl<'a> Described<'a> {
                 cv17,
                 cv18,
                 cv29,
-            } => loco(CvSet::new(byte(cv1)?, byte(cv17)?, byte(cv18)?, byte(cv29)?)),
+            } => loco_of_four(cv1, cv17, cv18, cv29),
             Described::Listed { pairs } => pairs.decoder(),
             Described::Accessory { module } => accessory(module),
         }
@@ -71,6 +72,13 @@ fn read_keys<'a>(table: &'a Table) -> Result<Described<'a>, Why>
     if !knows_only(table, &["name", "kind", "cv1", "cv17", "cv18", "cv29"]) {
         return Err(Why::BadShape);
     }
+    read_variables(table)
+}
+
+/// The variables of a locomotive of version 1, of which two have a default.
+fn read_variables<'a>(table: &'a Table) -> Result<Described<'a>, Why>
+    ensures { result ≡ variables_in (table_view table.now) }
+{
     Ok(Described::Loco {
         cv1: integer_at(table, "cv1")?,
         cv17: integer_or(table, "cv17", 192)?,
@@ -102,6 +110,13 @@ fn read_accessory<'a>(table: &'a Table) -> Result<Described<'a>, Why>
     }
     let module = integer_at(table, "module")?;
     Ok(Described::Accessory { module })
+}
+
+/// The locomotive decoder with these values of its four variables, or `BadCv`.
+fn loco_of_four(cv1: i64, cv17: i64, cv18: i64, cv29: i64) -> Result<NodeSpec, Why>
+    ensures { result ≡ decoder_of (Loco cv1 cv17 cv18 cv29) }
+{
+    loco(CvSet::new(byte(cv1)?, byte(cv17)?, byte(cv18)?, byte(cv29)?))
 }
 
 /// The value of a configuration variable, or `BadCv` outside 0 to 255.

@@ -3,7 +3,7 @@ ghost use Rattle.std.specs.Prelude.{◌≡◌, IfOk, IsTrue, MatchResult, Ok, Er
 ghost use Rattle.std.specs.List.{list_all};
 ghost use Rattle.toml.specs.View.{view};
 ghost use Rattle.roster.specs.Entry.{is_free, is_name, is_name_byte, is_taken};
-ghost use Rattle.roster.specs.Format.{entry_of, name_after};
+ghost use Rattle.roster.specs.Format.{entry_of, entry_with, name_after};
 
 use crate::described::Described;
 use crate::fault::Why;
@@ -46,6 +46,14 @@ impl Entry {
         let table = value.as_table().ok_or(Why::BadShape)?;
         let name = text_at(table, "name")?;
         let described = Described::read(version, text_at(table, "kind")?, table)?;
+        Entry::of(earlier, name, described)
+    }
+
+    /// The entry of this name and this decoder after the `earlier` ones, or its first fault.
+    fn of(earlier: &[Entry], name: &str, described: Described<'_>) -> Result<Entry, Why>
+        ensures answer { result ≡ entry_with earlier.now name.now described.entry }
+        ensures free { IfOk result (λ entry. IsTrue (is_free earlier.now entry.name)) }
+    {
         let name = read_name(earlier, name)?;
         let spec = described.spec()?;
         Ok(Entry { name, spec })

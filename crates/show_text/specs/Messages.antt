@@ -1,5 +1,5 @@
 -- The texts of lines of messages.
-use Rattle.std.specs.Prelude.{ℕ, Bool, if◌then◌else◌, List, [], ◌∷◌, ◌++◌, codes}
+use Rattle.std.specs.Prelude.{ℕ, Bool, true, false, if◌then◌else◌, List, [], ◌∷◌, ◌++◌, codes}
 use Rattle.std.specs.Fmt.{decimal}
 use Rattle.ln_ops.specs.Fields.{SlotBytes}
 use Rattle.ln_ops.specs.Message.{op_of}
@@ -27,6 +27,16 @@ fields_text f =
 -- how many bytes of a packet are meant, and all five that the message has
 abbrev pub packet_text : ℕ → List ℕ → List ℕ
 packet_text count bytes = codes "imm " ++ decimal count ++ hex_words bytes
+
+-- an operation that is told as two labels, each with a number behind it
+abbrev pub is_pair : Op → Bool
+is_pair (Speed slot spd) = true
+is_pair (Dirf slot dirf) = true
+is_pair (Snd slot snd) = true
+is_pair (LongAck opc ack) = true
+is_pair (SlotStat slot stat) = true
+is_pair (Move src dest) = true
+is_pair op = false
 
 -- what an operation asks or tells
 abbrev pub op_text : Op → List ℕ

@@ -1,23 +1,23 @@
 //! Lines of messages.
-ghost use Rattle.std.specs.Prelude.{◌≡◌, ◌≤◌, ◌+◌, ◌++◌, length};
+ghost use Rattle.std.specs.Prelude.{◌≡◌, ◌≤◌, ◌+◌, ◌++◌, length, true};
 ghost use Rattle.std.specs.Fmt.{decimal};
 ghost use Rattle.arrayvec.specs.ArrayString.{array_string_len};
-ghost use Rattle.show_text.specs.Messages.{switch_text, fields_text, packet_text, pair_text, op_text, message_text};
+ghost use Rattle.show_text.specs.Messages.{switch_text, fields_text, packet_text, pair_text, is_pair, op_text, message_text};
 
 use crate::line::{Line, push_bytes, push_field};
 use ln_frame::Msg;
 use ln_ops::{Op, SlotFields, read};
 
 /// Two labels, each with a byte behind it.
-fn push_pair(line: &mut Line, first: (&str, u8), second: (&str, u8))
-    requires first { length first.0.now ≤ 20 }
-    requires second { length second.0.now ≤ 20 }
+fn push_pair(line: &mut Line, first: &str, n: u8, second: &str, m: u8)
+    requires first { length first.now ≤ 20 }
+    requires second { length second.now ≤ 20 }
     requires room { array_string_len line.old ≤ 590 }
-    ensures text { line.new.bytes ≡ line.old.bytes ++ pair_text first.entry.0.now first.entry.1 second.entry.0.now second.entry.1 }
-    ensures len { array_string_len line.new ≤ array_string_len line.old + length first.entry.0.now + length second.entry.0.now + 10 }
+    ensures text { line.new.bytes ≡ line.old.bytes ++ pair_text first.now n second.now m }
+    ensures len { array_string_len line.new ≤ array_string_len line.old + length first.now + length second.now + 10 }
 {
-    push_field(line, first.0, u16::from(first.1));
-    push_field(line, second.0, u16::from(second.1));
+    push_field(line, first, u16::from(n));
+    push_field(line, second, u16::from(m));
 }
 
 /// `switch N closed on`, by either label.
@@ -37,12 +37,12 @@ fn push_fields(line: &mut Line, fields: &SlotFields)
     ensures { line.new.bytes ≡ line.old.bytes ++ fields_text fields.now }
 {
     let address = u16::from(fields.adr2) * 128 + u16::from(fields.adr);
-    push_pair(line, ("slot ", fields.slot), (" stat ", fields.stat));
+    push_pair(line, "slot ", fields.slot, " stat ", fields.stat);
     push_field(line, " address ", address);
-    push_pair(line, (" spd ", fields.spd), (" dirf ", fields.dirf));
-    push_pair(line, (" trk ", fields.trk), (" ss2 ", fields.ss2));
+    push_pair(line, " spd ", fields.spd, " dirf ", fields.dirf);
+    push_pair(line, " trk ", fields.trk, " ss2 ", fields.ss2);
     push_field(line, " snd ", u16::from(fields.snd));
-    push_pair(line, (" ids ", fields.id1), (" ", fields.id2));
+    push_pair(line, " ids ", fields.id1, " ", fields.id2);
 }
 
 /// `imm C` and the bytes that the message has for a packet, of which C are meant.
@@ -54,6 +54,23 @@ fn push_packet(line: &mut Line, count: u8, bytes: [u8; 5])
     push_bytes(line, &bytes);
 }
 
+/// What an operation of two numbers asks or tells.
+fn push_pair_op(line: &mut Line, op: &Op)
+    requires pair { is_pair op.now ≡ true }
+    requires room { array_string_len line.old ≤ 590 }
+    ensures { line.new.bytes ≡ line.old.bytes ++ op_text op.now }
+{
+    match op {
+        Op::Speed { slot, spd } => push_pair(line, "speed slot ", *slot, " spd ", *spd),
+        Op::Dirf { slot, dirf } => push_pair(line, "dirf slot ", *slot, " dirf ", *dirf),
+        Op::Snd { slot, snd } => push_pair(line, "snd slot ", *slot, " snd ", *snd),
+        Op::LongAck { opc, ack } => push_pair(line, "ack opc ", *opc, " code ", *ack),
+        Op::SlotStat { slot, stat } => push_pair(line, "status slot ", *slot, " stat ", *stat),
+        Op::Move { src, dest } => push_pair(line, "move ", *src, " ", *dest),
+        _ => {}
+    }
+}
+
 /// What the message asks or tells.
 fn push_op(line: &mut Line, op: &Op)
     requires { array_string_len line.old ≤ 385 }
@@ -63,14 +80,8 @@ fn push_op(line: &mut Line, op: &Op)
         Op::PowerOff => line.push_str("power off"),
         Op::PowerOn => line.push_str("power on"),
         Op::ForceIdle => line.push_str("force idle"),
-        Op::Speed { slot, spd } => push_pair(line, ("speed slot ", *slot), (" spd ", *spd)),
-        Op::Dirf { slot, dirf } => push_pair(line, ("dirf slot ", *slot), (" dirf ", *dirf)),
-        Op::Snd { slot, snd } => push_pair(line, ("snd slot ", *slot), (" snd ", *snd)),
         Op::SwReq { number, closed, on } => push_switch(line, "switch ", *number, *closed, *on),
         Op::SwAck { number, closed, on } => push_switch(line, "switch-ack ", *number, *closed, *on),
-        Op::LongAck { opc, ack } => push_pair(line, ("ack opc ", *opc), (" code ", *ack)),
-        Op::SlotStat { slot, stat } => push_pair(line, ("status slot ", *slot), (" stat ", *stat)),
-        Op::Move { src, dest } => push_pair(line, ("move ", *src), (" ", *dest)),
         Op::SlotRead { slot } => push_field(line, "read slot ", u16::from(*slot)),
         Op::LocoAddr { high, low } => {
             push_field(line, "address ", u16::from(*high) * 128 + u16::from(*low));
@@ -92,6 +103,7 @@ fn push_op(line: &mut Line, op: &Op)
             im5,
         } => push_packet(line, *count, [*im1, *im2, *im3, *im4, *im5]),
         Op::Other => line.push_str("other"),
+        _ => push_pair_op(line, op),
     }
 }
 

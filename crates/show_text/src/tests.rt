@@ -6,6 +6,8 @@ use decoder_cv::CvSet;
 use decoder_node::{NodeSpec, Running};
 use ln_frame::Msg;
 use ln_ops::read_reply;
+use std::alloc::Global;
+use std::process::Abort;
 use std::test::Fail;
 
 #[test]
@@ -41,50 +43,70 @@ fn reads_each_command(rt: HostRuntime) -> Result<(), Fail> {
 }
 
 // The fault of a script for eight lines and no nodes.
-fn script_fault(rt: &HostRuntime, text: &[u8]) -> Option<ScriptFault> {
-    read_script(rt.alloc(), text, 8, 0).err()
+fn check_script(rt: &impl Abort, alloc: Global, text: &[u8], wanted: Option<ScriptFault>) {
+    let fault = read_script(alloc, text, 8, 0).err();
+    assert_eq!(rt; fault, wanted, "in {text:?}");
 }
 
-const SCRIPT_FAULTS: [(&'static [u8], Why, u64); 31] = [
-    (b"line", Why::BadWord, 1),
-    (b"line 0", Why::BadWord, 1),
-    (b"line 0 \t", Why::BadWord, 1),
-    (b"lien 0 83", Why::BadWord, 1),
-    (b"LINE 0 83", Why::BadWord, 1),
-    (b"lines 0 83", Why::BadWord, 1),
-    (b" # no comment", Why::BadWord, 1),
-    (b"turn", Why::BadWord, 1),
-    (b"turn 1 miss", Why::BadWord, 1),
-    (b"turn 1 2", Why::BadWord, 1),
-    (b"turn 1 missed 0", Why::BadWord, 1),
-    (b"show now", Why::BadWord, 1),
-    (b"show\r", Why::BadWord, 1),
-    (b"line 0 8", Why::BadHex, 1),
-    (b"line 0 83 7G", Why::BadHex, 1),
-    (b"line 0 837C", Why::BadHex, 1),
-    (b"line 0 83\r", Why::BadHex, 1),
-    (b"line 12345678 83", Why::BadNumber, 1),
-    (b"line x", Why::BadNumber, 1),
-    (b"line -1 83", Why::BadNumber, 1),
-    (b"turn 0", Why::BadNumber, 1),
-    (b"turn 1000001", Why::BadNumber, 1),
-    (b"turn 0 2", Why::BadNumber, 1),
-    (b"turn 1 miss x", Why::BadNumber, 1),
-    (b"line 8", Why::BadLine, 1),
-    (b"line 8 83", Why::BadLine, 1),
-    (b"line 8 8", Why::BadLine, 1),
-    (b"turn 1 miss 0", Why::BadNode, 1),
-    (b"turn 1 miss 0 x", Why::BadNode, 1),
-    (b"\n# one\nline 0 83\nline 8\nline", Why::BadLine, 4),
-    (b"show\r\nturn 1\r\nturn 1 miss 0 0\r\n", Why::BadNode, 3),
-];
+// Scripts with one line each and this fault in it, with a bar between them.
+fn check_lines(rt: &impl Abort, alloc: Global, scripts: &[u8], why: Why) {
+    for text in scripts.split(|byte| *byte == b'|') {
+        check_script(rt, alloc, text, Some(ScriptFault { why, line: 1 }));
+    }
+}
 
 #[test]
 fn refuses_a_script_by_its_first_fault(rt: HostRuntime) {
-    for (text, why, line) in SCRIPT_FAULTS {
-        let wanted = ScriptFault { why, line };
-        assert_eq!(rt; script_fault(&rt, text), Some(wanted), "in {text:?}");
-    }
+    let alloc = rt.alloc();
+    check_lines(
+        &rt,
+        alloc,
+        b"line|line 0|line 0 \t|lien 0 83|LINE 0 83|lines 0 83| # no comment|turn|turn 1 miss|turn 1 2|turn 1 missed 0|show now|show\r",
+        Why::BadWord,
+    );
+    check_lines(
+        &rt,
+        alloc,
+        b"line 0 8|line 0 83 7G|line 0 837C|line 0 83\r",
+        Why::BadHex,
+    );
+    check_lines(
+        &rt,
+        alloc,
+        b"line 12345678 83|line x|line -1 83|turn 0|turn 1000001|turn 0 2|turn 1 miss x",
+        Why::BadNumber,
+    );
+    check_lines(&rt, alloc, b"line 8|line 8 83|line 8 8", Why::BadLine);
+    check_lines(&rt, alloc, b"turn 1 miss 0|turn 1 miss 0 x", Why::BadNode);
+}
+
+#[test]
+fn tells_the_line_of_the_first_fault(rt: HostRuntime) {
+    let fourth = ScriptFault {
+        why: Why::BadLine,
+        line: 4,
+    };
+    check_script(
+        &rt,
+        rt.alloc(),
+        b"\n# one\nline 0 83\nline 8\nline",
+        Some(fourth),
+    );
+    let third = ScriptFault {
+        why: Why::BadNode,
+        line: 3,
+    };
+    check_script(
+        &rt,
+        rt.alloc(),
+        b"show\r\nturn 1\r\nturn 1 miss 0 0\r\n",
+        Some(third),
+    );
+}
+
+fn check_hex(rt: &impl Abort, alloc: Global, text: &[u8], wanted: Option<HexFault>) {
+    let fault = read_hex(alloc, text).err();
+    assert_eq!(rt; fault, wanted, "in {text:?}");
 }
 
 #[test]
@@ -93,19 +115,19 @@ fn refuses_long_texts_before_all_else(rt: HostRuntime) -> Result<(), Fail> {
     for _ in 0..LONGEST_TEXT {
         text.push(b' ')?;
     }
-    assert_eq!(rt; script_fault(&rt, text.as_slice()), None);
-    assert!(rt; read_hex(rt.alloc(), text.as_slice()).is_ok());
+    check_script(&rt, rt.alloc(), text.as_slice(), None);
+    check_hex(&rt, rt.alloc(), text.as_slice(), None);
     text.push(b'?')?;
     let long = ScriptFault {
         why: Why::TooLong,
         line: 0,
     };
-    assert_eq!(rt; script_fault(&rt, text.as_slice()), Some(long));
+    check_script(&rt, rt.alloc(), text.as_slice(), Some(long));
     let long = HexFault {
         why: HexWhy::TooLong,
         at: 0,
     };
-    assert_eq!(rt; read_hex(rt.alloc(), text.as_slice()).err(), Some(long));
+    check_hex(&rt, rt.alloc(), text.as_slice(), Some(long));
     Ok(())
 }
 
@@ -142,12 +164,12 @@ fn refuses_hex_text_where_the_first_wrong_word_begins(rt: HostRuntime) {
             why: HexWhy::BadHex,
             at,
         };
-        assert_eq!(rt;
-            read_hex(rt.alloc(), text).err(),
-            Some(wanted),
-            "in {text:?}"
-        );
+        check_hex(&rt, rt.alloc(), text, Some(wanted));
     }
+}
+
+fn check_line(rt: &impl Abort, line: &Line, wanted: &str) {
+    assert_eq!(rt; line.as_str(), wanted);
 }
 
 #[test]
@@ -164,7 +186,7 @@ fn prints_replies(rt: HostRuntime) -> Result<(), Fail> {
     ];
     for (line, body, text) in rows {
         let reply = read_reply(&Msg::sealed(body)).ok_or("a reply")?;
-        assert_eq!(rt; reply_line(line, &reply).as_str(), text);
+        check_line(&rt, &reply_line(line, &reply), text);
     }
     Ok(())
 }
@@ -187,14 +209,14 @@ fn prints_turns(rt: HostRuntime) -> Result<(), Fail> {
     ];
     for (turn, bytes, text) in rows {
         let packet = Packet::of(bytes).ok_or("a packet")?;
-        assert_eq!(rt; track_line(turn, &packet).as_str(), text);
+        check_line(&rt, &track_line(turn, &packet), text);
     }
-    assert_eq!(rt; off_line(0).as_str(), "track 0 off");
-    assert_eq!(rt; off_line(4_294_967_296).as_str(), "track 4294967296 off");
+    check_line(&rt, &off_line(0), "track 0 off");
+    check_line(&rt, &off_line(4_294_967_296), "track 4294967296 off");
     Ok(())
 }
 
-// Bytes of CV17, CV18 and CV29, how the decoder runs, and the text behind `node a `.
+// Bytes of CV17, CV18 and CV29, how the decoder runs, and the text.
 const LOCOMOTIVES: [(u8, u8, u8, Motion, bool, u16, &'static str); 5] = [
     (
         192,
@@ -206,7 +228,7 @@ const LOCOMOTIVES: [(u8, u8, u8, Motion, bool, u16, &'static str); 5] = [
         },
         true,
         0,
-        "short 3 step 63 of 128 forward F 0000000000000",
+        "node a short 3 step 63 of 128 forward F 0000000000000",
     ),
     (
         192,
@@ -218,7 +240,7 @@ const LOCOMOTIVES: [(u8, u8, u8, Motion, bool, u16, &'static str); 5] = [
         },
         false,
         1,
-        "short 3 step 28 of 28 reverse F 1000000000000",
+        "node a short 3 step 28 of 28 reverse F 1000000000000",
     ),
     (
         192,
@@ -230,7 +252,7 @@ const LOCOMOTIVES: [(u8, u8, u8, Motion, bool, u16, &'static str); 5] = [
         },
         true,
         0x106,
-        "short 3 step 1 of 14 forward F 0110000010000",
+        "node a short 3 step 1 of 14 forward F 0110000010000",
     ),
     (
         196,
@@ -239,7 +261,7 @@ const LOCOMOTIVES: [(u8, u8, u8, Motion, bool, u16, &'static str); 5] = [
         Motion::Stop,
         false,
         0x1FFF,
-        "long 1234 stop reverse F 1111111111111",
+        "node a long 1234 stop reverse F 1111111111111",
     ),
     (
         196,
@@ -248,7 +270,7 @@ const LOCOMOTIVES: [(u8, u8, u8, Motion, bool, u16, &'static str); 5] = [
         Motion::Emergency,
         true,
         0x220,
-        "long 1234 emergency forward F 0000010001000",
+        "node a long 1234 emergency forward F 0000010001000",
     ),
 ];
 
@@ -262,7 +284,7 @@ fn prints_locomotives(rt: HostRuntime) -> Result<(), Fail> {
             functions,
         };
         let line = node_line("a", &NodeSpec::Loco(cv), Some(running), None);
-        assert_eq!(rt; line.as_str().strip_prefix("node a "), Some(text));
+        check_line(&rt, &line, text);
     }
     Ok(())
 }
@@ -285,7 +307,7 @@ fn prints_accessory_decoders(rt: HostRuntime) -> Result<(), Fail> {
     ];
     for (name, number, outputs, text) in rows {
         let spec = NodeSpec::Accessory(Module::new(number).ok_or("a module")?);
-        assert_eq!(rt; node_line(name, &spec, None, Some(outputs)).as_str(), text);
+        check_line(&rt, &node_line(name, &spec, None, Some(outputs)), text);
     }
     Ok(())
 }
@@ -327,9 +349,14 @@ const MESSAGES: [(&'static [u8], &'static str); 18] = [
     (&[0x81], "msg 81 7E other"),
 ];
 
+fn check_message(rt: &impl Abort, body: &[u8], text: &str) {
+    assert!(rt; Msg::is_body(body));
+    check_line(rt, &message_line(&Msg::sealed(body)), text);
+}
+
 #[test]
 fn prints_messages(rt: HostRuntime) {
     for (body, text) in MESSAGES {
-        assert_eq!(rt; message_line(&Msg::sealed(body)).as_str(), text);
+        check_message(&rt, body, text);
     }
 }

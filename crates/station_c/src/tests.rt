@@ -112,37 +112,51 @@ fn turn_missed_by(missed: u64) -> EventFields {
     }
 }
 
+fn is_turn(alloc: Global, layout: &mut Layout, missed: u64, wanted: &Answer) -> bool {
+    let mut answer = LOADED;
+    station_turn(alloc, layout, missed, &mut answer) && answer == *wanted
+}
+
+/// Whether a change is sent as soon as it may be: in this turn or the next.
+fn is_driven(alloc: Global, layout: &mut Layout, missed: u64) -> bool {
+    let mut answer = LOADED;
+    station_turn(alloc, layout, missed, &mut answer)
+        && (answer == DRIVE || is_turn(alloc, layout, missed, &DRIVE))
+}
+
+fn is_running(alloc: Global, layout: &mut Layout, wanted: &Motion) -> bool {
+    let mut motion = Motion {
+        functions: 1,
+        ..STANDING
+    };
+    station_running(alloc, layout, 0, &mut motion) && motion == *wanted
+}
+
+/// Whether byte i of [`DRIVING`] is answered as it should be.
+fn is_heard(alloc: Global, layout: &mut Layout, i: usize, byte: u8) -> bool {
+    let mut answer = OFF;
+    let heard = station_byte(alloc, layout, 0, byte, &mut answer);
+    let right = match i {
+        3 => answer == LOADED,
+        9 => true,
+        _ => answer == QUIET,
+    };
+    heard && right && (i != 5 || is_turn(alloc, layout, 0, &IDLE))
+}
+
 #[test]
 fn plays_a_layout(rt: HostRuntime) -> Result<(), Fail> {
     let alloc = rt.alloc();
     let mut layout = made(alloc)?;
-    let mut answer = LOADED;
-    assert!(rt; station_turn(alloc, &mut layout, 0, &mut answer));
-    assert_eq!(rt; answer, OFF);
+    assert!(rt; is_turn(alloc, &mut layout, 0, &OFF));
     for (i, byte) in DRIVING.iter().enumerate() {
-        assert!(rt; station_byte(alloc, &mut layout, 0, *byte, &mut answer));
-        if i == 3 {
-            assert_eq!(rt; answer, LOADED);
-        } else if i != 9 {
-            assert_eq!(rt; answer, QUIET);
-        }
-        if i == 5 {
-            assert!(rt; station_turn(alloc, &mut layout, 0, &mut answer));
-            assert_eq!(rt; answer, IDLE);
-        }
+        assert!(rt; is_heard(alloc, &mut layout, i, *byte), "byte {i}");
     }
-    let mut motion = STANDING;
+    // The change is sent as soon as it may be, and once again.
     for missed in [1, 0] {
-        assert!(rt; station_running(alloc, &mut layout, 0, &mut motion));
-        assert_eq!(rt; motion, STANDING);
-        // The change is sent as soon as it may be, and once again.
-        assert!(rt; station_turn(alloc, &mut layout, missed, &mut answer));
-        if answer != DRIVE {
-            assert!(rt; station_turn(alloc, &mut layout, missed, &mut answer));
-        }
-        assert_eq!(rt; answer, DRIVE);
+        assert!(rt; is_running(alloc, &mut layout, &STANDING));
+        assert!(rt; is_driven(alloc, &mut layout, missed));
     }
-    assert!(rt; station_running(alloc, &mut layout, 0, &mut motion));
     let running = Motion {
         functions: 0,
         kind: 2,
@@ -150,70 +164,95 @@ fn plays_a_layout(rt: HostRuntime) -> Result<(), Fail> {
         steps: 126,
         forward: true,
     };
-    assert_eq!(rt; motion, running);
+    assert!(rt; is_running(alloc, &mut layout, &running));
     station_free(alloc, &mut layout);
     assert!(rt; !layout.made);
     Ok(())
+}
+
+/// Whether the events of [`DRIVING`], and turns behind them, are answered as they should be.
+fn is_list_of_driving(alloc: Global, layout: &mut Layout) -> bool {
+    let mut events = [turn_missed_by(0); 30];
+    for (event, byte) in events.iter_mut().zip(DRIVING.iter()) {
+        *event = byte_of(*byte);
+    }
+    let mut answers = [LOADED; 30];
+    station_run(alloc, layout, &events, &mut answers)
+        && answers[2] == QUIET
+        && answers[3] == LOADED
+        && answers.contains(&DRIVE)
+        && !answers.contains(&OFF)
+}
+
+/// Whether address 0 is refused; then noise is heard, by each decoder.
+fn is_list_of_noise(alloc: Global, layout: &mut Layout) -> bool {
+    let noise = EventFields {
+        half: 58,
+        kind: 2,
+        ..byte_of(0)
+    };
+    let events = [
+        byte_of(0xBF),
+        byte_of(0),
+        byte_of(0),
+        byte_of(0x40),
+        noise,
+        EventFields { node: 1, ..noise },
+    ];
+    let mut answers = [LOADED; 6];
+    station_run(alloc, layout, &events, &mut answers)
+        && answers[3] == REFUSED
+        && answers[4] == QUIET
+        && answers[5] == QUIET
 }
 
 #[test]
 fn runs_a_list(rt: HostRuntime) -> Result<(), Fail> {
     let alloc = rt.alloc();
     let mut layout = made(alloc)?;
-    let mut events = [turn_missed_by(0); 30];
-    for (event, byte) in events.iter_mut().zip(DRIVING.iter()) {
-        *event = byte_of(*byte);
-    }
-    let mut answers = [LOADED; 30];
-    assert!(rt; station_run(alloc, &mut layout, &events, &mut answers));
-    assert_eq!(rt; answers[2], QUIET);
-    assert_eq!(rt; answers[3], LOADED);
-    assert!(rt; answers.contains(&DRIVE));
-    assert!(rt; !answers.contains(&OFF));
+    assert!(rt; is_list_of_driving(alloc, &mut layout));
     let mut motion = STANDING;
     assert!(rt; station_running(alloc, &mut layout, 0, &mut motion));
-    assert_eq!(rt; (motion.kind, motion.step, motion.steps), (2, 63, 126));
-    // Address 0 is refused; then noise, to each decoder.
-    let mut more = [
-        byte_of(0xBF),
-        byte_of(0),
-        byte_of(0),
-        byte_of(0x40),
-        byte_of(0),
-        byte_of(0),
-    ];
-    for node in 0..2u8 {
-        more[4 + usize::from(node)] = EventFields {
-            missed: 0,
-            half: 58,
-            kind: 2,
-            line: 0,
-            byte: 0,
-            node,
-        };
-    }
-    let mut found = [LOADED; 6];
-    assert!(rt; station_run(alloc, &mut layout, &more, &mut found));
-    assert_eq!(rt; found[3], REFUSED);
-    assert_eq!(rt; (found[4], found[5]), (QUIET, QUIET));
+    assert!(rt; motion.kind == 2 && motion.step == 63 && motion.steps == 126);
+    assert!(rt; is_list_of_noise(alloc, &mut layout));
     assert!(rt; station_run(alloc, &mut layout, &[], &mut []));
     station_free(alloc, &mut layout);
     Ok(())
+}
+
+fn has_no_line(alloc: Global, layout: &mut Layout, line: u8) -> bool {
+    let mut answer = LOADED;
+    !station_byte(alloc, layout, line, 0x83, &mut answer) && answer == LOADED
+}
+
+fn has_no_turn(alloc: Global, layout: &mut Layout) -> bool {
+    let mut answer = LOADED;
+    !station_turn(alloc, layout, 0, &mut answer) && answer == LOADED
+}
+
+fn has_no_motion(alloc: Global, layout: &mut Layout, i: usize) -> bool {
+    let mut motion = Motion {
+        functions: 1,
+        ..STANDING
+    };
+    !station_running(alloc, layout, i, &mut motion) && motion.functions == 1
+}
+
+fn has_no_outputs(alloc: Global, layout: &mut Layout, i: usize) -> bool {
+    let mut outputs = 9;
+    !station_outputs(alloc, layout, i, &mut outputs) && outputs == 9
 }
 
 #[test]
 fn says_no_where_there_is_none(rt: HostRuntime) -> Result<(), Fail> {
     let alloc = rt.alloc();
     let mut layout = Layout::none(alloc);
-    let (mut answer, mut motion, mut outputs) = (LOADED, STANDING, 9u8);
-    motion.functions = 1;
     for _ in 0..2u8 {
-        assert!(rt; !station_byte(alloc, &mut layout, 0, 0x83, &mut answer));
-        assert!(rt; !station_turn(alloc, &mut layout, 0, &mut answer));
+        assert!(rt; has_no_line(alloc, &mut layout, 0));
+        assert!(rt; has_no_turn(alloc, &mut layout));
         assert!(rt; !station_run(alloc, &mut layout, &[], &mut []));
-        assert!(rt; !station_running(alloc, &mut layout, 0, &mut motion));
-        assert!(rt; !station_outputs(alloc, &mut layout, 0, &mut outputs));
-        assert_eq!(rt; (answer, motion.functions, outputs), (LOADED, 1, 9));
+        assert!(rt; has_no_motion(alloc, &mut layout, 0));
+        assert!(rt; has_no_outputs(alloc, &mut layout, 0));
         // A layout that was ended is none, and may be ended again.
         station_free(alloc, &mut layout);
         layout = made(alloc)?;
@@ -222,8 +261,24 @@ fn says_no_where_there_is_none(rt: HostRuntime) -> Result<(), Fail> {
     Ok(())
 }
 
+fn is_made(
+    alloc: Global,
+    layout: &mut Layout,
+    lines: u8,
+    decoders: &[Decoder],
+    status: u8,
+) -> bool {
+    station_new(alloc, layout, lines, decoders) == status
+        && layout.made == (status == 0 || status == 4)
+}
+
+fn is_read(alloc: Global, layout: &mut Layout, lines: u8, text: &[u8], status: u8, at: u8) -> bool {
+    let mut node = 7;
+    station_read(alloc, layout, lines, text, &mut node) == status && node == at
+}
+
 #[test]
-fn makes_none_of_what_is_wrong(rt: HostRuntime) -> Result<(), Fail> {
+fn makes_none_of_what_is_wrong(rt: HostRuntime) {
     let alloc = rt.alloc();
     let no_loco = Decoder { cv1: 0, ..SHUNTER };
     let no_module = Decoder {
@@ -241,31 +296,27 @@ fn makes_none_of_what_is_wrong(rt: HostRuntime) -> Result<(), Fail> {
     ];
     let mut layout = Layout::none(alloc);
     for (lines, decoders, status) in rows {
-        assert_eq!(rt; station_new(alloc, &mut layout, lines, decoders), status);
-        assert_eq!(rt; layout.made, status == 0 || status == 4);
-    }
-    let mut node = 7;
-    assert_eq!(rt; station_read(alloc, &mut layout, 1, ROSTER, &mut node), 4);
-    station_free(alloc, &mut layout);
-    let rows: [(&[u8], u8, u8, u8); 4] = [
-        (b"version = 3", 1, 2, 0),
-        (FAULTY, 1, 2, 2),
-        (ROSTER, 9, 1, 7),
-        (ROSTER, 2, 0, 7),
-    ];
-    for (text, lines, status, at) in rows {
-        node = 7;
-        assert_eq!(rt;
-            station_read(alloc, &mut layout, lines, text, &mut node),
-            status
+        assert!(rt;
+            is_made(alloc, &mut layout, lines, decoders, status),
+            "{status}"
         );
-        assert_eq!(rt; node, at);
     }
+    assert!(rt; is_read(alloc, &mut layout, 1, ROSTER, 4, 7));
+    station_free(alloc, &mut layout);
+}
+
+#[test]
+fn reads_none_of_what_is_wrong(rt: HostRuntime) {
+    let alloc = rt.alloc();
+    let mut layout = Layout::none(alloc);
+    assert!(rt; is_read(alloc, &mut layout, 1, b"version = 3", 2, 0));
+    assert!(rt; is_read(alloc, &mut layout, 1, FAULTY, 2, 2));
+    assert!(rt; is_read(alloc, &mut layout, 9, ROSTER, 1, 7));
+    assert!(rt; is_read(alloc, &mut layout, 2, ROSTER, 0, 7));
     let mut outputs = 9;
     assert!(rt; station_outputs(alloc, &mut layout, 1, &mut outputs));
-    assert_eq!(rt; outputs, 0);
+    assert!(rt; outputs == 0);
     station_free(alloc, &mut layout);
-    Ok(())
 }
 
 const ROSTER: &[u8] =
@@ -274,40 +325,49 @@ const ROSTER: &[u8] =
 const FAULTY: &[u8] =
     b"version = 2\n\n[[node]]\nname = \"a\"\nkind = \"loco\"\ncvs = [[1, 3], [29, 2]]\n\n[[node]]\nname = \"b\"\nkind = \"accessory\"\nmodule = 0\n";
 
+fn is_refused(alloc: Global, layout: &mut Layout, events: &[EventFields; 3]) -> bool {
+    let mut answers = [LOADED; 3];
+    !station_run(alloc, layout, events, &mut answers)
+        && answers[0] == LOADED
+        && answers[1] == LOADED
+}
+
 #[test]
 fn does_nothing_of_what_is_wrong(rt: HostRuntime) -> Result<(), Fail> {
     let alloc = rt.alloc();
     let mut layout = made(alloc)?;
-    let (mut answer, mut motion, mut outputs) = (LOADED, STANDING, 9u8);
-    motion.functions = 1;
     // There is line 0 alone, decoder 0 is a locomotive, and decoder 1 an accessory decoder.
-    assert!(rt; !station_byte(alloc, &mut layout, 1, 0x83, &mut answer));
+    assert!(rt; has_no_line(alloc, &mut layout, 1));
     for i in [1, 2, usize::MAX] {
-        assert!(rt; !station_running(alloc, &mut layout, i, &mut motion));
+        assert!(rt; has_no_motion(alloc, &mut layout, i));
     }
     for i in [0, 2, usize::MAX] {
-        assert!(rt; !station_outputs(alloc, &mut layout, i, &mut outputs));
+        assert!(rt; has_no_outputs(alloc, &mut layout, i));
     }
-    assert_eq!(rt; (answer, motion.functions, outputs), (LOADED, 1, 9));
-    let on = [byte_of(0x83), byte_of(0x7C)];
-    let no_line = EventFields { line: 1, ..on[0] };
-    let no_kind = EventFields { kind: 3, ..on[0] };
+    station_free(alloc, &mut layout);
+    Ok(())
+}
+
+#[test]
+fn runs_no_list_with_a_wrong_event(rt: HostRuntime) -> Result<(), Fail> {
+    let alloc = rt.alloc();
+    let mut layout = made(alloc)?;
+    let on = byte_of(0x83);
+    let mut one = [LOADED];
+    assert!(rt; !station_run(alloc, &mut layout, &[on, byte_of(0x7C)], &mut one));
+    assert!(rt; one[0] == LOADED);
+    let no_line = EventFields { line: 1, ..on };
+    let no_kind = EventFields { kind: 3, ..on };
     let no_node = EventFields {
         kind: 2,
         node: 2,
-        ..on[0]
+        ..on
     };
-    let mut one = [LOADED];
-    assert!(rt; !station_run(alloc, &mut layout, &on, &mut one));
-    let mut three = [LOADED; 3];
     for wrong in [no_line, no_kind, no_node] {
-        let events = [on[0], on[1], wrong];
-        assert!(rt; !station_run(alloc, &mut layout, &events, &mut three));
+        assert!(rt; is_refused(alloc, &mut layout, &[on, byte_of(0x7C), wrong]));
     }
-    assert_eq!(rt; (one[0], three[0], three[1]), (LOADED, LOADED, LOADED));
     // No byte of them came: the power is off.
-    assert!(rt; station_turn(alloc, &mut layout, 0, &mut answer));
-    assert_eq!(rt; answer, OFF);
+    assert!(rt; is_turn(alloc, &mut layout, 0, &OFF));
     station_free(alloc, &mut layout);
     Ok(())
 }
@@ -315,11 +375,11 @@ fn does_nothing_of_what_is_wrong(rt: HostRuntime) -> Result<(), Fail> {
 /// The sizes that `bindings/station.h` gives these structs.
 #[test]
 fn structs_are_as_large_as_in_c(rt: HostRuntime) {
-    assert_eq!(rt; size_of::<Layout>(), 16);
-    assert_eq!(rt; size_of::<Decoder>(), 8);
-    assert_eq!(rt; size_of::<EventFields>(), 16);
-    assert_eq!(rt; size_of::<Answer>(), 16);
-    assert_eq!(rt; size_of::<Motion>(), 6);
+    assert!(rt; size_of::<Layout>() == 16);
+    assert!(rt; size_of::<Decoder>() == 8);
+    assert!(rt; size_of::<EventFields>() == 16);
+    assert!(rt; size_of::<Answer>() == 16);
+    assert!(rt; size_of::<Motion>() == 6);
 }
 
 /// Takes all memory that the process can still have: blocks of half the size wherever one is refused.
@@ -340,24 +400,34 @@ fn take_all(alloc: Global, held: &mut Vec<Vec<u8>>) {
     }
 }
 
+/// What comes of making a layout and of reading one with so much memory left, if it is right.
+fn made_with(alloc: Global, layout: &mut Layout, room: usize) -> Option<(u8, u8)> {
+    let mut node = 7;
+    let mut held: Vec<Vec<u8>> = Vec::with_capacity(alloc, 60_000).ok()?;
+    let left: Vec<u8> = Vec::with_capacity(alloc, room).ok()?;
+    take_all(alloc, &mut held);
+    drop(left);
+    let made = station_new(alloc, layout, 1, &[SHUNTER, YARD]);
+    let none = layout.made != (made == 0);
+    station_free(alloc, layout);
+    let read = station_read(alloc, layout, 1, ROSTER, &mut node);
+    let none = none || layout.made != (read == 0);
+    station_free(alloc, layout);
+    if none || node != 7 {
+        return None;
+    }
+    Some((made, read))
+}
+
 #[test]
 fn says_that_there_is_no_memory(rt: HostRuntime) -> Result<(), Fail> {
     let alloc = rt.alloc();
     let mut layout = Layout::none(alloc);
-    let (mut refused, mut node) = (0u32, 7u8);
+    let mut refused = 0u32;
     for count in 0..400usize {
-        let mut held: Vec<Vec<u8>> = Vec::with_capacity(alloc, 60_000)?;
-        let left: Vec<u8> = Vec::with_capacity(alloc, count.saturating_mul(512))?;
-        take_all(alloc, &mut held);
-        drop(left);
-        let made = station_new(alloc, &mut layout, 1, &[SHUNTER, YARD]);
-        let none = layout.made != (made == 0);
-        station_free(alloc, &mut layout);
-        let read = station_read(alloc, &mut layout, 1, ROSTER, &mut node);
-        let none = none || layout.made != (read == 0);
-        station_free(alloc, &mut layout);
-        drop(held);
-        assert_eq!(rt; (none, node), (false, 7));
+        let (made, read) = made_with(alloc, &mut layout, count.saturating_mul(512)).ok_or(
+            "what is right",
+        )?;
         if made == 0 && read == 0 {
             assert!(rt; refused > 1);
             return Ok(());
