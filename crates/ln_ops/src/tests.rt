@@ -138,23 +138,23 @@ fn reads_each_message(rt: HostRuntime) -> Result<(), Fail> {
     Ok(())
 }
 
-// The reply is written as these bytes, and read back.
-fn check_reply(rt: &impl Abort, reply: Reply, bytes: &[u8]) {
-    let message = to_msg(&reply);
+// The message has these bytes, and is read as this reply.
+fn check_reply(rt: &impl Abort, message: &Msg, bytes: &[u8], reply: Reply) {
     assert_eq!(rt; message.bytes(), bytes);
-    assert!(rt; read_reply(&message) == Some(reply));
+    assert!(rt; read_reply(message) == Some(reply));
 }
 
 #[test]
 fn writes_and_reads_replies(rt: HostRuntime) {
-    let data = [
+    let data = Reply::SlotData(SLOT_2);
+    let bytes = [
         0xE7, 0x0E, 0x02, 0x33, 0x04, 0x20, 0x10, 0x07, 0x00, 0x00, 0x05, 0x00, 0x00, 0x11,
     ];
-    check_reply(&rt, Reply::SlotData(SLOT_2), &data);
+    check_reply(&rt, &to_msg(&data), &bytes, data);
     let accepted = Reply::LongAck {
         opc: 0x6F,
         ack: 0x7F,
     };
-    check_reply(&rt, accepted, &[0xB4, 0x6F, 0x7F, 0x5B]);
+    check_reply(&rt, &to_msg(&accepted), &[0xB4, 0x6F, 0x7F, 0x5B], accepted);
     assert!(rt; read_reply(&Msg::sealed(&[0x83])).is_none());
 }
