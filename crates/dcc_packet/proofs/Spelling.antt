@@ -52,21 +52,26 @@ checked_four a b c d e h = ap (λ (z : ℕ). a ∷ b ∷ c ∷ d ∷ z ∷ []) (
 -- one byte behind an address
 module _ (address : Address) (b : ℕ) where
   speed_form : (d : Bool) (low : ℕ) → b / 64 ≡ 1 → b / 32 % 2 ≡ bit d → b % 32 ≡ low → short_form_of address b ≡ Some (Speed address d low)
+  unfolding short_form_of
   speed_form d low e f g = rw (eq-eqb (b / 64) 1 e, bit_set (b / 32) d f, g) refl
 
   one_form : (bits : ℕ) → b / 32 ≡ 4 → b % 32 ≡ bits → short_form_of address b ≡ Some (GroupOne address bits)
+  unfolding short_form_of
   one_form bits e f = rw (ne_eqb (b / 64) 1 (λ h. omega arith), eq-eqb (b / 32) 4 e, f) refl
 
   two_form : (bits : ℕ) → b / 16 ≡ 11 → b % 16 ≡ bits → short_form_of address b ≡ Some (GroupTwo address bits)
+  unfolding short_form_of
   two_form bits e f = rw (ne_eqb (b / 64) 1 (λ h. omega arith), ne_eqb (b / 32) 4 (λ h. omega arith), eq-eqb (b / 16) 11 e, f) refl
 
   three_form : (bits : ℕ) → b / 16 ≡ 10 → b % 16 ≡ bits → short_form_of address b ≡ Some (GroupThree address bits)
+  unfolding short_form_of
   three_form bits e f = rw (ne_eqb (b / 64) 1 (λ h. omega arith), ne_eqb (b / 32) 4 (λ h. omega arith), ne_eqb (b / 16) 11 (λ h. omega arith), eq-eqb (b / 16) 10 e, f) refl
 
   low_is : b / 64 ≡ 1 → b ≡ 64 + 32 * bit (is_set (b / 32)) + b % 32
   low_is e = omega (arith, set_bit (b / 32))
 
   short_sound : (bytes : List ℕ) (i : Instr) → Tells bytes address (b ∷ []) → short_form_of address b ≡ Some i → Spells bytes i
+  unfolding short_form_of
   short_sound bytes i tells = elim (cases_eq (b / 64) 1) [
     | inl is ↦ λ e.
         let same : Speed address (is_set (b / 32)) (b % 32) ≡ i = same_instr _ _ (rw (eq-eqb (b / 64) 1 is) at e) in
@@ -95,9 +100,11 @@ module _ (address : Address) (b : ℕ) where
 
 -- two bytes behind an address
 long_complete : (address : Address) (d : Bool) (s b : ℕ) → b / 128 % 2 ≡ bit d → b % 128 ≡ s → long_form_of address 63 b ≡ Some (Speed128 address d s)
+unfolding long_form_of
 long_complete address d s b e f = rw (bit_set (b / 128) d e, f) refl
 
 long_sound : (address : Address) (a b : ℕ) (bytes : List ℕ) (i : Instr) → b < 256 → Tells bytes address (a ∷ b ∷ []) → long_form_of address a b ≡ Some i → Spells bytes i
+unfolding long_form_of
 long_sound address a b bytes i below tells = elim (cases_eq a 63) [
   | inl is ↦ λ e.
       let same : Speed128 address (is_set (b / 128)) (b % 128) ≡ i = same_instr _ _ (rw (eq-eqb a 63 is) at e) in
@@ -108,11 +115,13 @@ long_sound address a b bytes i below tells = elim (cases_eq a 63) [
 
 -- a basic accessory packet
 accessory_form : (number pair first second : ℕ) (closed on : Bool) → first % 64 ≡ number % 64 → 7 - second / 16 % 8 ≡ number / 64 → 128 ≤ second → second / 2 % 4 ≡ pair → second % 2 ≡ bit closed → second / 8 % 2 ≡ bit on → is_module number ≡ true → accessory_of first second ≡ Some (Accessory number pair closed on)
+unfolding accessory_of
 accessory_form number pair first second closed on e f high g h k legal =
     let same : first % 64 + 64 * (7 - second / 16 % 8) ≡ number = omega arith in
     rw (same, g, bit_set second closed h, bit_set (second / 8) on k, le-leb 128 second high, legal) refl
 
 accessory_sound : (first second : ℕ) (bytes : List ℕ) (i : Instr) → first / 64 ≡ 2 → second < 256 → bytes ≡ with_check (first ∷ second ∷ []) → accessory_of first second ≡ Some i → Spells bytes i
+unfolding accessory_of
 accessory_sound first second bytes i is below sealed = by_test (nat_le 128 second && is_module number) refl where
   number : ℕ
   number = first % 64 + 64 * (7 - second / 16 % 8)
@@ -155,6 +164,7 @@ short_address : (n : ℕ) (rest : List ℕ) → is_legal (Short n) ≡ true → 
 short_address n rest legal = rw legal refl
 
 long_address : (n : ℕ) (rest : List ℕ) → is_legal (Long n) ≡ true → form_of ((192 + n / 256) ∷ (n % 256) ∷ rest) ≡ told_of (Long n) rest
+unfolding long_told_of
 long_address n rest legal =
     let below : n ≤ 10239 = leb-true n 10239 legal in
     let back : (192 + n / 256 - 192) * 256 + n % 256 ≡ n = omega arith in
@@ -164,6 +174,7 @@ legal_short : (n : ℕ) → is_legal (Short n) ≡ true → n < 256
 legal_short n legal = let parts = and_parts (nat_le 1 n) (nat_le n 127) legal in let below : n ≤ 127 = leb-true n 127 parts.1 in omega arith
 
 one_told : (bytes : List ℕ) (address : Address) (b : ℕ) → b < 256 → Tells bytes address (b ∷ []) → instruction_of bytes ≡ short_form_of address b
+unfolding told_of
 one_told bytes (Short n) b below tells =
     rw tells.1 (two_open n b (legal_short n tells.0) below ∙ short_address n (b ∷ xor_of (n ∷ b ∷ []) ∷ []) tells.0)
 one_told bytes (Long n) b below tells =
@@ -171,6 +182,7 @@ one_told bytes (Long n) b below tells =
     rw tells.1 (three_open (192 + n / 256) (n % 256) b (omega arith) (omega arith) below ∙ long_address n (b ∷ xor_of ((192 + n / 256) ∷ (n % 256) ∷ b ∷ []) ∷ []) tells.0)
 
 two_told : (bytes : List ℕ) (address : Address) (a b : ℕ) → a < 256 → b < 256 → Tells bytes address (a ∷ b ∷ []) → instruction_of bytes ≡ long_form_of address a b
+unfolding told_of
 two_told bytes (Short n) a b below_a below tells =
     rw tells.1 (three_open n a b (legal_short n tells.0) below_a below ∙ short_address n (a ∷ b ∷ xor_of (n ∷ a ∷ b ∷ []) ∷ []) tells.0)
 two_told bytes (Long n) a b below_a below tells =
@@ -182,10 +194,12 @@ other_address first rest is =
     rw (lt-leb first 127 (omega arith), le-leb 1 first (omega arith), lt-leb 192 first (omega arith)) refl
 
 accessory_other : (first second check : ℕ) → first / 64 ≡ 2 → other_of first (second ∷ check ∷ []) ≡ accessory_of first second
+unfolding other_of
 accessory_other first second check is = rw (ne_eqb first 0 (λ h. omega arith), eq-eqb (first / 64) 2 is) refl
 
 -- whatever bytes spell is their instruction
 pub complete : (bytes : List ℕ) (i : Instr) → Spells bytes i → instruction_of bytes ≡ Some i
+unfolding other_of broadcast_of
 complete bytes Idle s = rw s (two_open 255 0 (omega arith) (omega arith))
 complete bytes Reset s = rw s (two_open 0 0 (omega arith) (omega arith))
 complete bytes (StopAll emergency) s = rw s.2 (two_open 0 (64 + 32 * bit s.0 + 16 * bit s.1 + bit emergency) (omega arith) (omega (arith, bit-le s.0, bit-le s.1, bit-le emergency)) ∙ stop_form s.0 s.1 emergency) where
@@ -237,6 +251,7 @@ head_below first rest all =
     (ltb-true first 256 parts.0, parts.1)
 
 short_told : (n : ℕ) (rest : List ℕ) (i : Instr) → is_legal (Short n) ≡ true → list_all (λ byte. nat_lt byte 256) rest ≡ true → is_checked (n ∷ rest) ≡ true → told_of (Short n) rest ≡ Some i → Spells (n ∷ rest) i
+unfolding told_of
 short_told n [] i legal all checked e = absurd (not_none i e)
 short_told n (a ∷ []) i legal all checked e = absurd (not_none i e)
 short_told n (a ∷ b ∷ []) i legal all checked e = short_sound (Short n) a (n ∷ a ∷ b ∷ []) i (legal, checked_two n a b checked) e
@@ -245,6 +260,7 @@ short_told n (a ∷ b ∷ c ∷ []) i legal all checked e =
 short_told n (a ∷ b ∷ c ∷ d ∷ rest) i legal all checked e = absurd (not_none i e)
 
 long_told : (h l n : ℕ) (rest : List ℕ) (i : Instr) → h ≡ 192 + n / 256 → l ≡ n % 256 → is_legal (Long n) ≡ true → list_all (λ byte. nat_lt byte 256) rest ≡ true → is_checked (h ∷ l ∷ rest) ≡ true → told_of (Long n) rest ≡ Some i → Spells (h ∷ l ∷ rest) i
+unfolding told_of
 long_told h l n [] i high low legal all checked e = absurd (not_none i e)
 long_told h l n (a ∷ []) i high low legal all checked e = absurd (not_none i e)
 long_told h l n (a ∷ b ∷ []) i high low legal all checked e =
@@ -254,6 +270,7 @@ long_told h l n (a ∷ b ∷ c ∷ []) i high low legal all checked e =
 long_told h l n (a ∷ b ∷ c ∷ d ∷ rest) i high low legal all checked e = absurd (not_none i e)
 
 long_told_sound : (h : ℕ) (rest : List ℕ) (i : Instr) → 192 ≤ h → h ≤ 231 → list_all (λ byte. nat_lt byte 256) rest ≡ true → is_checked (h ∷ rest) ≡ true → long_told_of h rest ≡ Some i → Spells (h ∷ rest) i
+unfolding long_told_of
 long_told_sound h [] i low high all checked e = absurd (not_none i e)
 long_told_sound h (l ∷ rest) i low high all checked e =
     let parts = head_below l rest all in
@@ -261,6 +278,7 @@ long_told_sound h (l ∷ rest) i low high all checked e =
     long_told h l ((h - 192) * 256 + l) rest i (omega arith) (omega arith) (le-leb ((h - 192) * 256 + l) 10239 (omega arith)) parts.1 checked e
 
 broadcast_sound : (b : ℕ) (bytes : List ℕ) (i : Instr) → bytes ≡ with_check (0 ∷ b ∷ []) → broadcast_of b ≡ Some i → Spells bytes i
+unfolding broadcast_of
 broadcast_sound b bytes i sealed = elim (cases_eq b 0) [
   | inl is ↦ λ e.
       let same : Reset ≡ i = same_instr _ _ (rw (eq-eqb b 0 is) at e) in
@@ -278,6 +296,7 @@ broadcast_sound b bytes i sealed = elim (cases_eq b 0) [
       subst (Spells bytes) same (is_set (b / 32), is_set (b / 16), sealed ∙ ap (λ (n : ℕ). with_check (0 ∷ n ∷ [])) is)
 
 other_sound : (first : ℕ) (rest : List ℕ) (i : Instr) → list_all (λ byte. nat_lt byte 256) rest ≡ true → is_checked (first ∷ rest) ≡ true → other_of first rest ≡ Some i → Spells (first ∷ rest) i
+unfolding other_of
 other_sound first [] i all checked = λ e. absurd (not_none i e)
 other_sound first (a ∷ []) i all checked = λ e. absurd (not_none i e)
 other_sound first (second ∷ check ∷ []) i all checked = by_zero (cases_eq first 0) where

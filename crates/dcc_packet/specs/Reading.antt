@@ -12,18 +12,18 @@ abbrev pub is_set : ℕ → Bool
 is_set n = (n % 2) == 1
 
 -- behind 00000000
-abbrev pub broadcast_of : ℕ → Option Instr
+unfoldable pub broadcast_of : ℕ → Option Instr
 broadcast_of byte =
     if byte == 0 then Some Reset else
     (if (byte / 64 == 1) && (byte / 2 % 8 == 0) then Some (StopAll (is_set byte)) else None)
 
-abbrev pub accessory_of : ℕ → ℕ → Option Instr
+unfoldable pub accessory_of : ℕ → ℕ → Option Instr
 accessory_of first second =
     let number = first % 64 + 64 * (7 - second / 16 % 8) in
     if nat_le 128 second && is_module number then Some (Accessory number (second / 2 % 4) (is_set second) (is_set (second / 8))) else None
 
 -- one byte behind an address
-abbrev pub short_form_of : Address → ℕ → Option Instr
+unfoldable pub short_form_of : Address → ℕ → Option Instr
 short_form_of address byte =
     if byte / 64 == 1 then Some (Speed address (is_set (byte / 32)) (byte % 32)) else
     (if byte / 32 == 4 then Some (GroupOne address (byte % 32)) else
@@ -31,22 +31,22 @@ short_form_of address byte =
     (if byte / 16 == 10 then Some (GroupThree address (byte % 16)) else None)))
 
 -- two bytes behind an address
-abbrev pub long_form_of : Address → ℕ → ℕ → Option Instr
+unfoldable pub long_form_of : Address → ℕ → ℕ → Option Instr
 long_form_of address first second =
     if first == 63 then Some (Speed128 address (is_set (second / 128)) (second % 128)) else None
 
 -- the bytes behind an address, the check last
-abbrev pub told_of : Address → List ℕ → Option Instr
+unfoldable pub told_of : Address → List ℕ → Option Instr
 told_of address (byte ∷ check ∷ []) = short_form_of address byte
 told_of address (first ∷ second ∷ check ∷ []) = long_form_of address first second
 told_of address _ = None
 
-abbrev pub long_told_of : ℕ → List ℕ → Option Instr
+unfoldable pub long_told_of : ℕ → List ℕ → Option Instr
 long_told_of high (low ∷ rest) = told_of (Long ((high - 192) * 256 + low)) rest
 long_told_of high [] = None
 
 -- the bytes behind a first byte that is no locomotive's, the check last
-abbrev pub other_of : ℕ → List ℕ → Option Instr
+unfoldable pub other_of : ℕ → List ℕ → Option Instr
 other_of first (second ∷ check ∷ []) =
     if first == 0 then broadcast_of second else
     (if first / 64 == 2 then accessory_of first second else

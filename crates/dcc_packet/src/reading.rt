@@ -36,6 +36,7 @@ fn form(bytes: &[u8]) -> Option<Instr>
 }
 
 /// What the bytes behind the first of a two-byte address, the check last, say.
+#[tactic(auto, unfolding(crate::specs::Reading::long_told_of))]
 fn told_to_long(high: u8, told: &[u8]) -> Option<Instr>
     requires low { 192 ≤ high }
     requires high { high ≤ 231 }
@@ -51,6 +52,7 @@ fn told_to_long(high: u8, told: &[u8]) -> Option<Instr>
 }
 
 /// What the bytes behind a first byte that is no locomotive's, the check last, say.
+#[tactic(auto, unfolding(crate::specs::Reading::other_of))]
 fn other(first: u8, told: &[u8]) -> Option<Instr>
     ensures { result ≡ other_of first told.now }
 {
@@ -66,6 +68,7 @@ fn other(first: u8, told: &[u8]) -> Option<Instr>
 }
 
 /// What the byte behind a broadcast address says to every locomotive decoder.
+#[tactic(auto, unfolding(crate::specs::Reading::broadcast_of))]
 fn broadcast(byte: u8) -> Option<Instr>
     ensures { result ≡ broadcast_of byte }
 {
@@ -79,6 +82,7 @@ fn broadcast(byte: u8) -> Option<Instr>
 }
 
 /// What two bytes say to an accessory decoder.
+#[tactic(auto, unfolding(crate::specs::Reading::accessory_of))]
 fn accessory(first: u8, second: u8) -> Option<Instr>
     ensures { result ≡ accessory_of first second }
 {
@@ -95,6 +99,7 @@ fn accessory(first: u8, second: u8) -> Option<Instr>
 }
 
 /// What the bytes behind its address, the check last, say to a locomotive decoder.
+#[tactic(auto, unfolding(crate::specs::Reading::told_of, crate::specs::Reading::long_form_of))]
 fn told_to(address: Address, told: &[u8]) -> Option<Instr>
     ensures { result ≡ told_of address told.now }
 {
@@ -110,6 +115,7 @@ fn told_to(address: Address, told: &[u8]) -> Option<Instr>
 }
 
 /// What one byte says to a locomotive decoder.
+#[tactic(auto, unfolding(crate::specs::Reading::short_form_of))]
 fn short_form(address: Address, byte: u8) -> Option<Instr>
     ensures { result ≡ short_form_of address byte }
 {

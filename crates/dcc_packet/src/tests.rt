@@ -4,7 +4,13 @@ use crate::{
     Address, Instr, Module, Motion, Packet, Steps, accessory, group_one, group_three, group_two,
     idle, read, speed, steps_of, stop_all,
 };
+use std::process::Abort;
 use std::test::Fail;
+
+/// Stops the test where the packet has other bytes.
+fn check(rt: &impl Abort, packet: &Packet, bytes: &[u8]) {
+    assert_eq!(rt; packet.bytes(), bytes);
+}
 
 /// An address, steps, SPD, forward and F0, and the bytes of the packet.
 type SpeedRow = (Address, Steps, u8, bool, bool, &'static [u8]);
@@ -124,11 +130,11 @@ const SPEED_ROWS: [SpeedRow; 13] = [
 
 #[test]
 fn speed_packets_have_the_bytes_of_the_standard(rt: HostRuntime) {
-    for (address, steps, spd, forward, f0, bytes) in SPEED_ROWS {
+    for &(address, steps, spd, forward, f0, bytes) in &SPEED_ROWS {
         assert!(rt; address.is_legal());
         assert!(rt; spd < 128);
-        let packet = speed(address, steps, steps_of(steps, spd), forward, f0);
-        assert_eq!(rt; packet.bytes(), bytes, "SPD {spd} of {address:?}");
+        let motion = steps_of(steps, spd);
+        check(&rt, &speed(address, steps, motion, forward, f0), bytes);
     }
 }
 
@@ -186,24 +192,30 @@ const FUNCTION_ROWS: [FunctionRow; 6] = [
 ];
 
 #[test]
-fn other_packets_have_the_bytes_of_the_standard(rt: HostRuntime) {
-    for (address, set, one, two, three) in FUNCTION_ROWS {
+fn function_packets_have_the_bytes_of_the_standard(rt: HostRuntime) {
+    for &(address, set, one, two, three) in &FUNCTION_ROWS {
         assert!(rt; address.is_legal());
-        assert_eq!(rt; group_one(address, set).bytes(), one);
-        assert_eq!(rt; group_two(address, set).bytes(), two);
-        assert_eq!(rt; group_three(address, set).bytes(), three);
+        check(&rt, &group_one(address, set), one);
+        check(&rt, &group_two(address, set), two);
+        check(&rt, &group_three(address, set), three);
     }
-    let switches: [(u16, bool, bool, &[u8]); 3] = [
-        (0, true, true, &[0x81, 0xF9, 0x78]),
-        (4, true, true, &[0x82, 0xF9, 0x7B]),
-        (2039, false, true, &[0xBE, 0x8E, 0x30]),
-    ];
-    for (number, closed, on, bytes) in switches {
+}
+
+/// A switch, closed, on, and the bytes of the packet.
+const SWITCH_ROWS: [(u16, bool, bool, &'static [u8]); 3] = [
+    (0, true, true, &[0x81, 0xF9, 0x78]),
+    (4, true, true, &[0x82, 0xF9, 0x7B]),
+    (2039, false, true, &[0xBE, 0x8E, 0x30]),
+];
+
+#[test]
+fn other_packets_have_the_bytes_of_the_standard(rt: HostRuntime) {
+    for &(number, closed, on, bytes) in &SWITCH_ROWS {
         assert!(rt; number <= 2039);
-        assert_eq!(rt; accessory(number, closed, on).bytes(), bytes);
+        check(&rt, &accessory(number, closed, on), bytes);
     }
-    assert_eq!(rt; idle().bytes(), [0xFF, 0x00, 0xFF].as_slice());
-    assert_eq!(rt; stop_all().bytes(), [0x00, 0x51, 0x51].as_slice());
+    check(&rt, &idle(), &[0xFF, 0x00, 0xFF]);
+    check(&rt, &stop_all(), &[0x00, 0x51, 0x51]);
 }
 
 // Bytes, and the instruction that they spell.
@@ -301,82 +313,118 @@ const READ_ROWS: [(&'static [u8], Option<Instr>); 22] = [
     (&[0xFE, 0x00, 0xFE], None),
 ];
 
+/// Stops the test where the packet of these bytes says something else.
+fn check_reading(rt: &impl Abort, bytes: &[u8], instruction: Option<Instr>) -> Result<(), Fail> {
+    let packet = Packet::of(bytes).ok_or("no packet")?;
+    assert_eq!(rt; read(&packet), instruction, "{bytes:?}");
+    Ok(())
+}
+
 #[test]
 fn reads_listed_forms_alone(rt: HostRuntime) -> Result<(), Fail> {
-    let first = Module::new(1).ok_or("no module")?;
-    let last = Module::new(510).ok_or("no module")?;
-    let accessories = [
-        (
-            [0x81, 0xF9, 0x78],
-            Some(Instr::Accessory {
-                module: first,
-                pair: 0,
-                closed: true,
-                on: true,
-            }),
-        ),
-        (
-            [0xBE, 0x8E, 0x30],
-            Some(Instr::Accessory {
-                module: last,
-                pair: 3,
-                closed: false,
-                on: true,
-            }),
-        ),
-    ];
-    for (bytes, instruction) in accessories {
-        let packet = Packet::of(bytes.as_slice()).ok_or("no packet")?;
-        assert_eq!(rt; read(&packet), instruction, "{bytes:?}");
-    }
-    for (bytes, instruction) in READ_ROWS {
-        let packet = Packet::of(bytes).ok_or("no packet")?;
-        assert_eq!(rt; read(&packet), instruction, "{bytes:?}");
+    for &(bytes, instruction) in &READ_ROWS {
+        check_reading(&rt, bytes, instruction)?;
     }
     Ok(())
 }
 
 #[test]
-fn tables_have_their_bounds(rt: HostRuntime) {
-    // SPD, and its step with 128, 28 and 14 steps.
-    for (spd, s128, s28, s14) in [(2, 1, 1, 1), (127, 126, 28, 14)] {
+fn reads_the_first_and_the_last_module(rt: HostRuntime) -> Result<(), Fail> {
+    let first = Instr::Accessory {
+        module: Module::new(1).ok_or("no module")?,
+        pair: 0,
+        closed: true,
+        on: true,
+    };
+    let last = Instr::Accessory {
+        module: Module::new(510).ok_or("no module")?,
+        pair: 3,
+        closed: false,
+        on: true,
+    };
+    check_reading(&rt, &[0x81, 0xF9, 0x78], Some(first))?;
+    check_reading(&rt, &[0xBE, 0x8E, 0x30], Some(last))
+}
+
+/// Steps, SPD, and its step.
+const STEP_ROWS: [(Steps, u8, u8); 6] = [
+    (Steps::S128, 2, 1),
+    (Steps::S28, 2, 1),
+    (Steps::S14, 2, 1),
+    (Steps::S128, 127, 126),
+    (Steps::S28, 127, 28),
+    (Steps::S14, 127, 14),
+];
+
+#[test]
+fn speeds_rise_from_the_first_step_to_the_last(rt: HostRuntime) {
+    for &(of, spd, n) in &STEP_ROWS {
         assert!(rt; spd < 128);
-        for (of, n) in [(Steps::S128, s128), (Steps::S28, s28), (Steps::S14, s14)] {
-            assert_eq!(rt; steps_of(of, spd), Motion::Step { of, n });
-        }
+        assert!(rt;
+            steps_of(of, spd) == Motion::Step { of, n },
+            "SPD {spd} is not step {n}"
+        );
     }
-    for (kind, steps) in [
-        (0, Some(Steps::S28)),
-        (1, None),
-        (2, Some(Steps::S14)),
-        (3, Some(Steps::S128)),
-        (4, Some(Steps::S28)),
-        (5, None),
-        (6, None),
-        (7, Some(Steps::S128)),
-        (8, None),
-    ] {
-        assert_eq!(rt; Steps::of_kind(kind), steps, "kind {kind}");
+}
+
+/// A decoder type, and its steps.
+const KIND_ROWS: [(u8, Option<Steps>); 9] = [
+    (0, Some(Steps::S28)),
+    (1, None),
+    (2, Some(Steps::S14)),
+    (3, Some(Steps::S128)),
+    (4, Some(Steps::S28)),
+    (5, None),
+    (6, None),
+    (7, Some(Steps::S128)),
+    (8, None),
+];
+
+#[test]
+fn decoder_types_have_their_steps(rt: HostRuntime) {
+    for &(kind, steps) in &KIND_ROWS {
+        assert!(rt; Steps::of_kind(kind) == steps, "kind {kind}");
     }
-    for (address, legal) in [
-        (Address::Short(0), false),
-        (Address::Short(1), true),
-        (Address::Short(127), true),
-        (Address::Short(128), false),
-        (Address::Long(0), true),
-        (Address::Long(10239), true),
-        (Address::Long(10240), false),
-    ] {
-        assert_eq!(rt; address.is_legal(), legal, "{address:?}");
+}
+
+/// An address, and whether a decoder may have it.
+const ADDRESS_ROWS: [(Address, bool); 7] = [
+    (Address::Short(0), false),
+    (Address::Short(1), true),
+    (Address::Short(127), true),
+    (Address::Short(128), false),
+    (Address::Long(0), true),
+    (Address::Long(10239), true),
+    (Address::Long(10240), false),
+];
+
+#[test]
+fn addresses_have_their_bounds(rt: HostRuntime) {
+    for &(address, legal) in &ADDRESS_ROWS {
+        assert!(rt; address.is_legal() == legal, "{address:?}");
     }
-    for (number, module) in [(0, None), (1, Some(1)), (510, Some(510)), (511, None)] {
-        assert_eq!(rt; Module::new(number).map(|module| module.number()), module);
+}
+
+/// A number, and whether a module has it.
+const MODULE_ROWS: [(u16, bool); 4] = [(0, false), (1, true), (510, true), (511, false)];
+
+#[test]
+fn modules_have_their_bounds(rt: HostRuntime) {
+    for &(number, is_module) in &MODULE_ROWS {
+        let module = Module::new(number).map(|module| module.number());
+        assert!(rt; module == is_module.then_some(number), "{number}");
     }
-    for (len, is_packet) in [(2, false), (3, true), (6, true), (7, false)] {
-        let bytes = [0; 7];
-        assert_eq!(rt;
-            Packet::of(&bytes[..len]).is_some(),
-            is_packet,
+}
+
+/// How many bytes, and whether they are a packet.
+const LENGTH_ROWS: [(usize, bool); 4] = [(2, false), (3, true), (6, true), (7, false)];
+
+#[test]
+fn packets_have_three_to_six_bytes(rt: HostRuntime) {
+    for &(len, is_packet) in &LENGTH_ROWS {
+        assert!(rt; len <= 7);
+        assert!(rt;
+            Packet::of(&[0; 7][..len]).is_some() == is_packet,
             "{len} bytes"
         );
     }

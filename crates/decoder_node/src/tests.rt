@@ -57,10 +57,10 @@ fn first() -> Running {
 // What a locomotive at address 3 with this CV29 hears, one after another, and how it runs then.
 fn hears_in_turn(rt: &impl Abort, cv29: u8, rows: &[Row]) -> Result<(), Fail> {
     let mut loco = Loco::new(CvSet::new(3, 0, 0, cv29)?);
-    assert_eq!(rt; loco.running(), first());
+    assert!(rt; loco.running() == first());
     for (bytes, then) in rows {
         loco.hear_all(wave_of(bytes).iter().copied());
-        assert_eq!(rt; loco.running(), *then, "{cv29} {bytes:?}");
+        assert!(rt; loco.running() == *then, "{bytes:?}");
     }
     Ok(())
 }
@@ -115,45 +115,43 @@ fn a_locomotive_obeys_broadcasts_and_not_what_is_for_others(rt: HostRuntime) -> 
 
 #[test]
 fn lost_power_forgets_all(rt: HostRuntime) -> Result<(), Fail> {
+    let wave = wave_of(&[0x03, 0x3F, 0xC0, 0xFC]);
     let mut loco = Loco::new(CvSet::new(3, 0, 0, 2)?);
-    loco.hear_all(wave_of(&[0x03, 0x3F, 0xC0, 0xFC]).iter().copied());
-    assert_eq!(rt; loco.running(), running(step(Steps::S128, 63), true, 0));
+    loco.hear_all(wave.iter().copied());
+    assert!(rt; loco.running() == running(step(Steps::S128, 63), true, 0));
     // The one that closed the packet would count for the next preamble.
     loco.power_lost();
-    assert_eq!(rt; loco.running(), first());
-    for half in wave_of(&[0x03, 0x3F, 0xC0, 0xFC]).iter().skip(10) {
-        loco.hear(*half);
-    }
-    assert_eq!(rt; loco.running(), first());
+    assert!(rt; loco.running() == first());
+    loco.hear_all(wave.iter().skip(10).copied());
+    assert!(rt; loco.running() == first());
     Ok(())
 }
+
+/// A packet, and the outputs of module 1 then.
+const OUTPUT_ROWS: [(&'static [u8], u8); 5] = [
+    // Pair 0 closed on, pair 1 not closed on, pair 0 closed off, another module, the emergency stop of locomotives.
+    (&[0x81, 0xF9, 0x78], 0x02),
+    (&[0x81, 0xFA, 0x7B], 0x06),
+    (&[0x81, 0xF1, 0x70], 0x04),
+    (&[0x82, 0xF9, 0x7B], 0x04),
+    (&[0x00, 0x51, 0x51], 0x04),
+];
 
 #[test]
 fn an_accessory_decoder_switches_its_outputs(rt: HostRuntime) -> Result<(), Fail> {
     let mut accessory = Accessory::new(Module::new(1).ok_or("no module")?);
-    assert_eq!(rt; accessory.outputs(), 0);
-    // Pair 0 closed on, pair 1 not closed on, pair 0 closed off, another module, the emergency stop of locomotives.
-    let rows: [(&'static [u8], u8); 5] = [
-        (&[0x81, 0xF9, 0x78], 0x02),
-        (&[0x81, 0xFA, 0x7B], 0x06),
-        (&[0x81, 0xF1, 0x70], 0x04),
-        (&[0x82, 0xF9, 0x7B], 0x04),
-        (&[0x00, 0x51, 0x51], 0x04),
-    ];
-    for (bytes, outputs) in rows {
+    assert!(rt; accessory.outputs() == 0);
+    for &(bytes, outputs) in &OUTPUT_ROWS {
         accessory.hear_all(wave_of(bytes).iter().copied());
-        assert_eq!(rt; accessory.outputs(), outputs, "{bytes:?}");
+        assert!(rt; accessory.outputs() == outputs, "{bytes:?}");
     }
     Ok(())
 }
 
 #[test]
 fn a_list_of_decoders_is_filled_by_default(rt: HostRuntime) -> Result<(), Fail> {
-    let list = NodeList::new();
-    assert_eq!(rt; list.len(), 0);
-    assert_eq!(rt;
-        NodeSpec::default(),
-        NodeSpec::Loco(CvSet::new(3, 0, 0, 0)?)
-    );
+    let loco = NodeSpec::Loco(CvSet::new(3, 0, 0, 0)?);
+    assert!(rt; NodeList::new().len() == 0);
+    assert!(rt; NodeSpec::default() == loco);
     Ok(())
 }

@@ -2,6 +2,7 @@
 
 use super::*;
 use ln_frame::{Framer, Msg};
+use std::process::Abort;
 use std::test::Fail;
 
 // Slot 2 in use at address 4, as a throttle writes it.
@@ -130,33 +131,30 @@ const MESSAGES: [(&'static [u8], Op); 25] = [
 
 #[test]
 fn reads_each_message(rt: HostRuntime) -> Result<(), Fail> {
-    for (bytes, op) in MESSAGES {
+    for &(bytes, op) in &MESSAGES {
         let message = message(bytes).ok_or("no message")?;
-        assert_eq!(rt; read(&message), op, "in {bytes:?}");
+        assert!(rt; read(&message) == op, "in {bytes:?}");
     }
     Ok(())
+}
+
+// The message has these bytes, and is read as this reply.
+fn check_reply(rt: &impl Abort, message: &Msg, bytes: &[u8], reply: Reply) {
+    assert_eq!(rt; message.bytes(), bytes);
+    assert!(rt; read_reply(message) == Some(reply));
 }
 
 #[test]
 fn writes_and_reads_replies(rt: HostRuntime) {
     let data = Reply::SlotData(SLOT_2);
+    let bytes = [
+        0xE7, 0x0E, 0x02, 0x33, 0x04, 0x20, 0x10, 0x07, 0x00, 0x00, 0x05, 0x00, 0x00, 0x11,
+    ];
+    check_reply(&rt, &to_msg(&data), &bytes, data);
     let accepted = Reply::LongAck {
         opc: 0x6F,
         ack: 0x7F,
     };
-    let rows: [(Msg, &[u8], Reply); 2] = [
-        (
-            to_msg(&data),
-            &[
-                0xE7, 0x0E, 0x02, 0x33, 0x04, 0x20, 0x10, 0x07, 0x00, 0x00, 0x05, 0x00, 0x00, 0x11,
-            ],
-            data,
-        ),
-        (to_msg(&accepted), &[0xB4, 0x6F, 0x7F, 0x5B], accepted),
-    ];
-    for (message, bytes, reply) in rows {
-        assert_eq!(rt; message.bytes(), bytes);
-        assert_eq!(rt; read_reply(&message), Some(reply));
-    }
-    assert_eq!(rt; read_reply(&Msg::sealed(&[0x83])), None);
+    check_reply(&rt, &to_msg(&accepted), &[0xB4, 0x6F, 0x7F, 0x5B], accepted);
+    assert!(rt; read_reply(&Msg::sealed(&[0x83])).is_none());
 }

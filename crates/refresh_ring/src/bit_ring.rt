@@ -7,7 +7,7 @@ use crate::ring::Ring;
 use std::marker::Model;
 
 /// A bit for each place: those of a slot say the same.
-#[derive(Debug, Drop)]
+#[derive(Drop)]
 pub struct BitRing {
     places: PlaceSet,
 }

@@ -5,7 +5,7 @@ ghost use Rattle.refresh_ring.specs.Jobs.{is_place, sends_of};
 use crate::kind::Kind;
 
 /// What waits to be sent.
-#[derive(Clone, Copy, Debug, PartialEq, Eq)]
+#[derive(Clone, Copy)]
 pub enum Job {
     /// The packet of this kind for what stands in the slot, 1 to 119, at the moment of sending.
     Place {
@@ -22,7 +22,7 @@ pub enum Job {
 }
 
 /// The decoders that a packet goes to.
-#[derive(Clone, Copy, Debug, PartialEq, Eq)]
+#[derive(Clone, Copy)]
 pub enum Destination {
     /// The locomotive decoders at an address.
     Loco { address: u16 },

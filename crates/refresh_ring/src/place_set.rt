@@ -11,7 +11,7 @@ use std::marker::Model;
 const WORDS: u16 = LAST_PLACE / 64 + 1;
 
 /// A set of places. Bit p % 64 of word p / 64 says whether p is in it.
-#[derive(Debug, Drop)]
+#[derive(Drop)]
 pub(crate) struct PlaceSet {
     words: [u64; WORDS as usize],
 }

@@ -6,7 +6,7 @@ use crate::place::{LAST_PLACE, SLOTS};
 use crate::ring::Ring;
 
 /// A truth value for each slot.
-#[derive(Clone, Copy, Debug, PartialEq, Eq)]
+#[derive(Clone, Copy)]
 pub struct PlainRing {
     slots: [bool; SLOTS as usize],
 }

@@ -38,39 +38,98 @@ const KINDS: [Kind; 4] = [
 
 #[test]
 fn an_empty_ring_has_no_next_place(rt: HostRuntime) {
-    assert_eq!(rt; PlainRing::default().next(0), None);
-    assert_eq!(rt; BitRing::default().next(0), None);
+    assert!(rt; PlainRing::default().next(0).is_none());
+    assert!(rt; BitRing::default().next(0).is_none());
+}
+
+// After each of these cursors both rings have this place.
+fn check_next(rt: &impl Abort, plain: &PlainRing, bits: &BitRing, steps: &[(u16, u16)]) {
+    for &(cursor, place) in steps {
+        assert!(rt; cursor <= 476);
+        assert_eq!(rt; plain.next(cursor), Some(place));
+        assert_eq!(rt; bits.next(cursor), Some(place));
+    }
 }
 
 #[test]
 fn both_rings_wrap_after_the_last_place(rt: HostRuntime) {
     let (plain, bits) = both(&[(1, true), (119, true)]);
-    for (cursor, place) in [(1, 119), (119, 120), (357, 358), (358, 476), (476, 1)] {
-        assert_eq!(rt; plain.next(cursor), Some(place));
-        assert_eq!(rt; bits.next(cursor), Some(place));
-    }
+    let steps = [(1, 119), (119, 120), (357, 358), (358, 476), (476, 1)];
+    check_next(&rt, &plain, &bits, &steps);
 }
 
 #[test]
 fn both_rings_go_over_the_borders_of_words(rt: HostRuntime) {
     let (plain, bits) = both(&[(64, true), (9, true), (82, true), (118, true), (118, false)]);
-    for (cursor, place) in [(9, 64), (82, 128), (302, 320), (320, 366), (439, 9)] {
-        assert_eq!(rt; plain.next(cursor), Some(place));
-        assert_eq!(rt; bits.next(cursor), Some(place));
-    }
-    for (slot, refreshed) in [(64, true), (82, true), (118, false)] {
-        assert_eq!(rt; plain.has(slot), refreshed);
-        assert_eq!(rt; bits.has(slot), refreshed);
-    }
+    let steps = [(9, 64), (82, 128), (302, 320), (320, 366), (439, 9)];
+    check_next(&rt, &plain, &bits, &steps);
+    assert!(rt; plain.has(64) && bits.has(64));
+    assert!(rt; plain.has(82) && bits.has(82));
+    assert!(rt; !plain.has(118) && !bits.has(118));
 }
 
 #[test]
 fn a_new_schedule_has_nothing_waiting(rt: HostRuntime) -> Result<(), NoMemory> {
     let schedule: Schedule<PlainRing> = Schedule::new(rt.alloc())?;
-    assert_eq!(rt; schedule.sends_ahead(1, Kind::Speed), None);
-    assert_eq!(rt; schedule.switches_waiting(), 0);
+    assert!(rt; schedule.sends_ahead(1, Kind::Speed).is_none());
+    assert!(rt; schedule.switches_waiting() == 0);
     Ok(())
 }
+
+// Each running turn sends this, and leaves so many switch requests.
+fn check_turns<R: Ring>(rt: &impl Abort, schedule: &mut Schedule<R>, turns: &[(Pick, u8)]) {
+    let view = two_addresses();
+    for &(pick, waiting) in turns {
+        assert_eq!(rt; schedule.pick(&view, Power::Running), pick);
+        assert_eq!(rt; schedule.switches_waiting(), waiting);
+    }
+}
+
+// The packets of slot 1 and slot 2.
+const FIRST_SPEED: Pick = Pick::Place {
+    slot: 1,
+    kind: Kind::Speed,
+};
+
+const FIRST_GROUP_ONE: Pick = Pick::Place {
+    slot: 1,
+    kind: Kind::GroupOne,
+};
+
+const FIRST_GROUP_TWO: Pick = Pick::Place {
+    slot: 1,
+    kind: Kind::GroupTwo,
+};
+
+const FIRST_GROUP_THREE: Pick = Pick::Place {
+    slot: 1,
+    kind: Kind::GroupThree,
+};
+
+const SECOND_SPEED: Pick = Pick::Place {
+    slot: 2,
+    kind: Kind::Speed,
+};
+
+const SECOND_GROUP_ONE: Pick = Pick::Place {
+    slot: 2,
+    kind: Kind::GroupOne,
+};
+
+const LOCO_TURNS: [(Pick, u8); 12] = [
+    (FIRST_SPEED, 0),
+    (Pick::Idle, 0),
+    (FIRST_SPEED, 0),
+    (Pick::Idle, 0),
+    (FIRST_GROUP_ONE, 0),
+    (SECOND_SPEED, 0),
+    (FIRST_GROUP_TWO, 0),
+    (Pick::Idle, 0),
+    (FIRST_GROUP_ONE, 0),
+    (Pick::Idle, 0),
+    (FIRST_GROUP_THREE, 0),
+    (SECOND_GROUP_ONE, 0),
+];
 
 #[test]
 fn two_locomotives_take_turns_on_both_rings(rt: HostRuntime) -> Result<(), NoMemory> {
@@ -82,65 +141,47 @@ fn two_locomotives_take_turns_on_both_rings(rt: HostRuntime) -> Result<(), NoMem
 // The turns of a new schedule after both slots were loaded and changed.
 fn two_locomotives_take_turns<R: Ring>(rt: &impl Abort, mut schedule: Schedule<R>) {
     let view = two_addresses();
-    assert_eq!(rt; schedule.pick(&view, Power::Off), Pick::Off);
-    assert_eq!(rt; schedule.pick(&view, Power::Paused), Pick::StopAll);
+    assert!(rt; schedule.pick(&view, Power::Off) == Pick::Off);
+    assert!(rt; schedule.pick(&view, Power::Paused) == Pick::StopAll);
     for slot in 1..3u8 {
         schedule.refresh(slot, true);
-        for kind in KINDS {
+        for &kind in &KINDS {
             schedule.changed(slot, kind);
         }
     }
-    let turns = [
-        Some((1, Kind::Speed)),
-        None,
-        Some((1, Kind::Speed)),
-        None,
-        Some((1, Kind::GroupOne)),
-        Some((2, Kind::Speed)),
-        Some((1, Kind::GroupTwo)),
-        None,
-        Some((1, Kind::GroupOne)),
-        None,
-        Some((1, Kind::GroupThree)),
-        Some((2, Kind::GroupOne)),
-    ];
-    for turn in turns {
-        let expected = match turn {
-            Some((slot, kind)) => Pick::Place { slot, kind },
-            None => Pick::Idle,
-        };
-        assert_eq!(rt; schedule.pick(&view, Power::Running), expected);
-    }
+    check_turns(rt, &mut schedule, &LOCO_TURNS);
 }
+
+// The packets of the two requests.
+const FIRST_SWITCH: Pick = Pick::Switch {
+    number: 0,
+    closed: true,
+    on: true,
+};
+
+const SECOND_SWITCH: Pick = Pick::Switch {
+    number: 4,
+    closed: true,
+    on: true,
+};
+
+const SWITCH_TURNS: [(Pick, u8); 7] = [
+    (FIRST_SWITCH, 2),
+    (Pick::Idle, 2),
+    (FIRST_SWITCH, 1),
+    (SECOND_SWITCH, 1),
+    (Pick::Idle, 1),
+    (SECOND_SWITCH, 0),
+    (Pick::Idle, 0),
+];
 
 #[test]
 fn two_switch_requests_are_each_sent_twice(rt: HostRuntime) -> Result<(), NoMemory> {
-    let view = two_addresses();
     let mut schedule: Schedule<PlainRing> = Schedule::new(rt.alloc())?;
-    assert_eq!(rt; schedule.switch(0, true, true), Ok(()));
-    assert_eq!(rt; schedule.switch(4, true, true), Ok(()));
-    assert_eq!(rt; schedule.switches_waiting(), 2);
-    let turns = [
-        (Some(0), 2),
-        (None, 2),
-        (Some(0), 1),
-        (Some(4), 1),
-        (None, 1),
-        (Some(4), 0),
-        (None, 0),
-    ];
-    for (turn, waiting) in turns {
-        let expected = match turn {
-            Some(number) => Pick::Switch {
-                number,
-                closed: true,
-                on: true,
-            },
-            None => Pick::Idle,
-        };
-        assert_eq!(rt; schedule.pick(&view, Power::Running), expected);
-        assert_eq!(rt; schedule.switches_waiting(), waiting);
-    }
+    assert!(rt; schedule.switch(0, true, true).is_ok());
+    assert!(rt; schedule.switch(4, true, true).is_ok());
+    assert!(rt; schedule.switches_waiting() == 2);
+    check_turns(&rt, &mut schedule, &SWITCH_TURNS);
     Ok(())
 }
 
@@ -148,9 +189,9 @@ fn two_switch_requests_are_each_sent_twice(rt: HostRuntime) -> Result<(), NoMemo
 fn thirty_two_requests_wait_and_no_more(rt: HostRuntime) -> Result<(), NoMemory> {
     let mut schedule: Schedule<PlainRing> = Schedule::new(rt.alloc())?;
     for number in 0..32u16 {
-        assert_eq!(rt; schedule.switch(number, false, true), Ok(()));
+        assert!(rt; schedule.switch(number, false, true).is_ok());
     }
-    assert_eq!(rt; schedule.switch(32, false, true), Err(Full));
-    assert_eq!(rt; schedule.switches_waiting(), 32);
+    assert!(rt; schedule.switch(32, false, true) == Err(Full));
+    assert!(rt; schedule.switches_waiting() == 32);
     Ok(())
 }
