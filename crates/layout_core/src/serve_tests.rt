@@ -8,6 +8,7 @@ use ln_ops::State;
 use std::alloc::Global;
 use std::io;
 use std::io::{Read, Write};
+use std::process::Abort;
 use std::test::Fail;
 
 /// Ten bytes: slot 1 for address 3, power on, slot 1 in use.
@@ -212,6 +213,28 @@ fn ended(served: &Served, outcome: Result<Summary, ServeFault>, done: (usize, us
         && LINES.starts_with(served.traced.as_slice())
 }
 
+/// Whether the ten bytes over these devices end so.
+fn is_served(
+    alloc: Global,
+    devices: &Devices,
+    outcome: Result<Summary, ServeFault>,
+    done: (usize, usize),
+) -> Result<bool, Fail> {
+    Ok(ended(&serve_ten(alloc, devices)?, outcome, done))
+}
+
+/// Whether they end in this fault, and slot 1 is in use then.
+fn ends_in_use(
+    alloc: Global,
+    devices: &Devices,
+    fault: ServeFault,
+    done: (usize, usize),
+) -> Result<bool, Fail> {
+    let served = serve_ten(alloc, devices)?;
+    let in_use = served.world.station().row(1).state == State::InUse;
+    Ok(in_use && ended(&served, Err(fault), done))
+}
+
 #[test]
 fn power_comes_on(rt: HostRuntime) -> Result<(), Fail> {
     let mut world = World::new(rt.alloc(), 1, NodeList::new())?;
@@ -228,15 +251,10 @@ fn power_comes_on(rt: HostRuntime) -> Result<(), Fail> {
         replies: 0,
         turns: 2,
     };
-    assert_eq!(rt;
-        serve(&mut world, 0, &mut source, &mut sink, &mut trace, limits),
-        Ok(summary)
-    );
+    let outcome = serve(&mut world, 0, &mut source, &mut sink, &mut trace, limits);
+    assert!(rt; outcome == Ok(summary));
     assert!(rt; written.is_empty());
-    assert_eq!(rt;
-        traced.as_slice(),
-        b"track 1 off\ntrack 2 FF 00 FF\n".as_slice()
-    );
+    assert!(rt; traced.as_slice() == b"track 1 off\ntrack 2 FF 00 FF\n".as_slice());
     Ok(())
 }
 
@@ -269,31 +287,32 @@ fn on_line_1(alloc: Global, turns: u8) -> Result<Served, Fail> {
     })
 }
 
+/// Whether it ends well and is traced so, with so many turns after each byte.
+fn turns_after(alloc: Global, turns: u8, lines: &[u8]) -> Result<bool, Fail> {
+    let served = on_line_1(alloc, turns)?;
+    let summary = Summary {
+        reads: 2,
+        bytes: 4,
+        replies: 1,
+        turns: 4 * u64::from(turns),
+    };
+    Ok(
+        served.outcome == Ok(summary)
+            && served.written.as_slice() == &REPLIES[..14]
+            && served.traced.as_slice() == lines,
+    )
+}
+
+const NO_TURNS: &[u8] = b"reply 1 E7 0E 01 23 03 00 00 06 00 00 00 00 00 31\n";
+
+const TWO_TURNS: &[u8] =
+    b"track 1 off\ntrack 2 off\ntrack 3 off\ntrack 4 off\ntrack 5 off\ntrack 6 off\n\
+reply 1 E7 0E 01 23 03 00 00 06 00 00 00 00 00 31\ntrack 7 off\ntrack 8 off\n";
+
 #[test]
 fn turns_come_after_each_byte(rt: HostRuntime) -> Result<(), Fail> {
-    for (turns, lines) in [
-        (
-            0,
-            b"reply 1 E7 0E 01 23 03 00 00 06 00 00 00 00 00 31\n".as_slice(),
-        ),
-        (
-            2,
-            b"track 1 off\ntrack 2 off\ntrack 3 off\ntrack 4 off\ntrack 5 off\ntrack 6 off\n\
-reply 1 E7 0E 01 23 03 00 00 06 00 00 00 00 00 31\ntrack 7 off\ntrack 8 off\n"
-                .as_slice(),
-        ),
-    ] {
-        let served = on_line_1(rt.alloc(), turns)?;
-        let summary = Summary {
-            reads: 2,
-            bytes: 4,
-            replies: 1,
-            turns: 4 * u64::from(turns),
-        };
-        assert_eq!(rt; served.outcome, Ok(summary));
-        assert_eq!(rt; served.written.as_slice(), &REPLIES[..14]);
-        assert_eq!(rt; served.traced.as_slice(), lines);
-    }
+    assert!(rt; turns_after(rt.alloc(), 0, NO_TURNS)?);
+    assert!(rt; turns_after(rt.alloc(), 2, TWO_TURNS)?);
     Ok(())
 }
 
@@ -301,14 +320,11 @@ reply 1 E7 0E 01 23 03 00 00 06 00 00 00 00 00 31\ntrack 7 off\ntrack 8 off\n"
 fn no_cut_of_the_bytes_matters(rt: HostRuntime) -> Result<(), Fail> {
     for ends in 0..512u16 {
         let devices = Devices { ends, ..SOUND };
-        let served = serve_ten(rt.alloc(), &devices)?;
         let summary = Summary {
             reads: ends.count_ones() + 2,
-            bytes: 10,
-            replies: 2,
-            turns: 10,
+            ..WHOLE
         };
-        assert!(rt; ended(&served, Ok(summary), DONE[10]));
+        assert!(rt; is_served(rt.alloc(), &devices, Ok(summary), DONE[10])?);
     }
     Ok(())
 }
@@ -316,55 +332,57 @@ fn no_cut_of_the_bytes_matters(rt: HostRuntime) -> Result<(), Fail> {
 #[test]
 fn a_read_that_fails_ends_it(rt: HostRuntime) -> Result<(), Fail> {
     let second = Devices { bad: 2, ..SOUND };
-    let served = serve_ten(rt.alloc(), &second)?;
-    assert!(rt; ended(&served, Err(ServeFault::Read), DONE[10]));
-    assert_eq!(rt; served.world.station().row(1).state, State::InUse);
+    assert!(rt; ends_in_use(rt.alloc(), &second, ServeFault::Read, DONE[10])?);
     for (bytes, done) in DONE.iter().enumerate() {
         let devices = Devices {
             ends: 0x3FF,
             bad: bytes as u32 + 1,
             ..SOUND
         };
-        assert!(rt;
-            ended(
-                &serve_ten(rt.alloc(), &devices)?,
-                Err(ServeFault::Read),
-                *done
-            )
-        );
+        assert!(rt; is_served(rt.alloc(), &devices, Err(ServeFault::Read), *done)?);
     }
     Ok(())
+}
+
+/// Whether so many reads of one byte are too few, with this much done, and the other bytes are left.
+fn are_too_few(alloc: Global, reads: u32, done: (usize, usize)) -> Result<bool, Fail> {
+    let devices = Devices {
+        ends: 0x3FF,
+        reads,
+        ..SOUND
+    };
+    let served = serve_ten(alloc, &devices)?;
+    let left = 10u32.saturating_sub(reads);
+    Ok(served.unread == left as usize && ended(&served, Err(ServeFault::TooManyReads), done))
 }
 
 #[test]
 fn a_connection_may_be_too_long(rt: HostRuntime) -> Result<(), Fail> {
     let one = Devices { reads: 1, ..SOUND };
-    let served = serve_ten(rt.alloc(), &one)?;
-    assert!(rt; ended(&served, Err(ServeFault::TooManyReads), DONE[10]));
-    assert_eq!(rt; served.world.station().row(1).state, State::InUse);
-    for (bytes, done) in DONE.iter().enumerate() {
-        let devices = Devices {
-            ends: 0x3FF,
-            reads: bytes as u32,
-            ..SOUND
-        };
-        let served = serve_ten(rt.alloc(), &devices)?;
-        assert!(rt; ended(&served, Err(ServeFault::TooManyReads), *done));
-        assert_eq!(rt; served.unread, 10 - bytes);
+    assert!(rt; ends_in_use(rt.alloc(), &one, ServeFault::TooManyReads, DONE[10])?);
+    for (reads, done) in DONE.iter().enumerate() {
+        assert!(rt; are_too_few(rt.alloc(), reads as u32, *done)?);
     }
     Ok(())
+}
+
+/// Whether each slot reads as in a new layout.
+fn reads_as_new(alloc: Global, world: &World) -> Result<bool, Fail> {
+    let new = World::new(alloc, 1, NodeList::new())?;
+    let mut same = true;
+    for slot in 1..=119 {
+        same = same && world.station().row(slot) == new.station().row(slot);
+    }
+    Ok(same)
 }
 
 #[test]
 fn no_reads_change_nothing(rt: HostRuntime) -> Result<(), Fail> {
     let none = Devices { reads: 0, ..SOUND };
     let served = serve_ten(rt.alloc(), &none)?;
+    assert!(rt; served.unread == 10);
     assert!(rt; ended(&served, Err(ServeFault::TooManyReads), (0, 0)));
-    assert_eq!(rt; served.unread, 10);
-    let new = World::new(rt.alloc(), 1, NodeList::new())?;
-    for slot in 1..=119 {
-        assert_eq!(rt; served.world.station().row(slot), new.station().row(slot));
-    }
+    assert!(rt; reads_as_new(rt.alloc(), &served.world)?);
     let served = serve_ten_on(rt.alloc(), served.world, &SOUND);
     assert!(rt; ended(&served, Ok(WHOLE), DONE[10]));
     Ok(())
@@ -372,9 +390,8 @@ fn no_reads_change_nothing(rt: HostRuntime) -> Result<(), Fail> {
 
 #[test]
 fn a_write_that_fails_ends_it(rt: HostRuntime) -> Result<(), Fail> {
-    let served = serve_ten(rt.alloc(), &Devices { sink: 20, ..SOUND })?;
-    assert!(rt; ended(&served, Err(ServeFault::Write), (20, 178)));
-    assert_eq!(rt; served.world.station().row(1).state, State::InUse);
+    let twenty = Devices { sink: 20, ..SOUND };
+    assert!(rt; ends_in_use(rt.alloc(), &twenty, ServeFault::Write, (20, 178))?);
     for (each, fails) in [(1, true), (1, false), (5, true), (5, false)] {
         for sink in 0..28 {
             let devices = Devices {
@@ -384,34 +401,36 @@ fn a_write_that_fails_ends_it(rt: HostRuntime) -> Result<(), Fail> {
                 ..SOUND
             };
             let lines = if sink < 14 { 36 } else { 178 };
-            let served = serve_ten(rt.alloc(), &devices)?;
-            assert!(rt; ended(&served, Err(ServeFault::Write), (sink, lines)));
+            assert!(rt; is_served(rt.alloc(), &devices, Err(ServeFault::Write), (sink, lines))?);
         }
     }
     Ok(())
 }
 
-#[test]
-fn a_trace_that_fails_ends_it(rt: HostRuntime) -> Result<(), Fail> {
-    let mut served = serve_ten(rt.alloc(), &Devices { trace: 0, ..SOUND })?;
-    assert!(rt; ended(&served, Err(ServeFault::Trace), (0, 0)));
-    // The first byte was heard, and no other.
+/// Whether, where the first byte was heard and no other, the rest of the first message brings its reply.
+fn goes_on(alloc: Global, mut world: World) -> Result<bool, Fail>
+    requires { length world.station.lines ≡ 1 }
+{
     let more: &[u8] = &TEN[1..4];
     let mut source = Port::new(more);
-    let mut written = Vec::new(rt.alloc());
+    let mut written = Vec::new(alloc);
     let mut sink = Port::new(&mut written);
-    let mut trace = Port::new(Vec::new(rt.alloc()));
+    let mut trace = Port::new(Vec::new(alloc));
     let limits = Limits { reads: 9, turns: 0 };
-    let outcome = serve(
-        &mut served.world,
-        0,
-        &mut source,
-        &mut sink,
-        &mut trace,
-        limits,
-    );
-    assert!(rt; outcome.is_ok());
-    assert_eq!(rt; written.as_slice(), &REPLIES[..14]);
+    let outcome = serve(&mut world, 0, &mut source, &mut sink, &mut trace, limits);
+    Ok(outcome.is_ok() && written.as_slice() == &REPLIES[..14])
+}
+
+#[test]
+fn a_layout_outlives_its_trace(rt: HostRuntime) -> Result<(), Fail> {
+    let served = serve_ten(rt.alloc(), &Devices { trace: 0, ..SOUND })?;
+    assert!(rt; ended(&served, Err(ServeFault::Trace), (0, 0)));
+    assert!(rt; goes_on(rt.alloc(), served.world)?);
+    Ok(())
+}
+
+#[test]
+fn a_trace_that_fails_ends_it(rt: HostRuntime) -> Result<(), Fail> {
     for (each, fails) in [(1, true), (7, false)] {
         for trace in 0..LINES.len() {
             let devices = Devices {
@@ -420,9 +439,8 @@ fn a_trace_that_fails_ends_it(rt: HostRuntime) -> Result<(), Fail> {
                 fails,
                 ..SOUND
             };
-            let bytes = replied_before(trace);
-            let served = serve_ten(rt.alloc(), &devices)?;
-            assert!(rt; ended(&served, Err(ServeFault::Trace), (bytes, trace)));
+            let done = (replied_before(trace), trace);
+            assert!(rt; is_served(rt.alloc(), &devices, Err(ServeFault::Trace), done)?);
         }
     }
     Ok(())
@@ -447,8 +465,7 @@ fn each_write_may_fail_alone(rt: HostRuntime) -> Result<(), Fail> {
             };
             let sink = before * each;
             let lines = if sink < 14 { 36 } else { 178 };
-            let served = serve_ten(rt.alloc(), &devices)?;
-            assert!(rt; ended(&served, Err(ServeFault::Write), (sink, lines)));
+            assert!(rt; is_served(rt.alloc(), &devices, Err(ServeFault::Write), (sink, lines))?);
         }
         let none = Devices {
             each,
@@ -475,38 +492,51 @@ fn starts_of_calls(alloc: Global) -> Result<Vec<usize>, Fail> {
     Ok(starts)
 }
 
+/// Each call of the trace that starts so fails alone, and then none does.
+fn each_call_may_fail(
+    rt: &impl Abort,
+    alloc: Global,
+    each: usize,
+    fails: bool,
+    starts: &[usize],
+) -> Result<(), Fail> {
+    let mut call = 1u32;
+    for traced in starts {
+        let devices = Devices {
+            each,
+            bad_line: call,
+            fails,
+            ..SOUND
+        };
+        let done = (replied_before(*traced), *traced);
+        assert!(rt; is_served(alloc, &devices, Err(ServeFault::Trace), done)?);
+        call = call.saturating_add(1);
+    }
+    let none = Devices {
+        each,
+        bad_line: call,
+        fails,
+        ..SOUND
+    };
+    assert!(rt; ends_well(alloc, &none)?);
+    Ok(())
+}
+
 #[test]
 fn each_line_may_fail_alone(rt: HostRuntime) -> Result<(), Fail> {
+    let whole = starts_of_calls(rt.alloc())?;
+    each_call_may_fail(&rt, rt.alloc(), 1000, true, whole.as_slice())?;
+    each_call_may_fail(&rt, rt.alloc(), 1000, false, whole.as_slice())
+}
+
+#[test]
+fn each_byte_of_a_line_may_fail_alone(rt: HostRuntime) -> Result<(), Fail> {
     let mut single = Vec::new(rt.alloc());
     for at in 0..LINES.len() {
         single.push(at)?;
     }
-    let whole = starts_of_calls(rt.alloc())?;
-    for (each, starts) in [(1, &single), (1000, &whole)] {
-        for fails in [true, false] {
-            let mut call = 1u32;
-            for traced in starts {
-                let devices = Devices {
-                    each,
-                    bad_line: call,
-                    fails,
-                    ..SOUND
-                };
-                let served = serve_ten(rt.alloc(), &devices)?;
-                let bytes = replied_before(*traced);
-                assert!(rt; ended(&served, Err(ServeFault::Trace), (bytes, *traced)));
-                call = call.saturating_add(1);
-            }
-            let none = Devices {
-                each,
-                bad_line: call,
-                fails,
-                ..SOUND
-            };
-            assert!(rt; ends_well(rt.alloc(), &none)?);
-        }
-    }
-    Ok(())
+    each_call_may_fail(&rt, rt.alloc(), 1, true, single.as_slice())?;
+    each_call_may_fail(&rt, rt.alloc(), 1, false, single.as_slice())
 }
 
 /// A device whose first call answers so, and whose later calls answer with a byte, and how many calls were made.
@@ -545,23 +575,36 @@ impl Write for Once {
     }
 }
 
+type Count = Result<usize, Broken>;
+
+/// What a read gives where the device answers so at first, and how often the device was called.
+fn get_once(first: Result<usize, io::ErrorKind>) -> (Count, u32) {
+    let mut device = Once { first, calls: 0 };
+    let given = Port::new(&mut device).get(&mut [0; 3]);
+    (given, device.calls)
+}
+
+/// The same of a write.
+fn put_once(first: Result<usize, io::ErrorKind>) -> (Count, u32) {
+    let mut device = Once { first, calls: 0 };
+    let taken = Port::new(&mut device).put(&[0; 3]);
+    (taken, device.calls)
+}
+
+/// What the device answers, what a read gives then, and what a write gives.
+const ANSWERS: &[(Result<usize, io::ErrorKind>, Count, Count)] = &[
+    (Ok(0), Ok(0), Err(Broken)),
+    (Ok(1), Ok(1), Ok(1)),
+    (Ok(3), Ok(3), Ok(3)),
+    (Err(io::ErrorKind::Other), Err(Broken), Err(Broken)),
+    (Err(io::ErrorKind::Interrupted), Err(Broken), Err(Broken)),
+    (Err(io::ErrorKind::WouldBlock), Err(Broken), Err(Broken)),
+];
+
 #[test]
 fn a_port_calls_its_device_once(rt: HostRuntime) {
-    // What the device answers, what a read gives then, and what a write gives.
-    for (first, given, taken) in [
-        (Ok(0), Ok(0), Err(Broken)),
-        (Ok(1), Ok(1), Ok(1)),
-        (Ok(3), Ok(3), Ok(3)),
-        (Err(io::ErrorKind::Other), Err(Broken), Err(Broken)),
-        (Err(io::ErrorKind::Interrupted), Err(Broken), Err(Broken)),
-        (Err(io::ErrorKind::WouldBlock), Err(Broken), Err(Broken)),
-    ] {
-        let mut device = Once { first, calls: 0 };
-        let mut buf = [0; 3];
-        assert_eq!(rt; Port::new(&mut device).get(&mut buf), given);
-        assert_eq!(rt; device.calls, 1);
-        let mut device = Once { first, calls: 0 };
-        assert_eq!(rt; Port::new(&mut device).put(&buf), taken);
-        assert_eq!(rt; device.calls, 1);
+    for (first, given, taken) in ANSWERS {
+        assert!(rt; get_once(*first) == (*given, 1));
+        assert!(rt; put_once(*first) == (*taken, 1));
     }
 }

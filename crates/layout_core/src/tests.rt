@@ -14,6 +14,9 @@ type Turn = (&'static [u8], u64);
 
 const IDLE: &[u8] = &[0xFF, 0x00, 0xFF];
 
+/// Step 63 of 128, forwards, for address 3.
+const DRIVEN_BYTES: &[u8] = &[0x03, 0x3F, 0xC0, 0xFC];
+
 /// The decoder of short address 3 with this CV29.
 fn at_3(cv29: u8) -> Result<NodeSpec, Fail> {
     Ok(NodeSpec::Loco(CvSet::new(3, 0, 0, cv29)?))
@@ -45,6 +48,15 @@ fn state(nodes: &Nodes, i: usize) -> (Option<Running>, Option<u8>) {
     }
 }
 
+/// Whether these locomotives, from the first on, run so, each with no outputs.
+fn all_run(nodes: &Nodes, how: &[(Motion, bool, u16)]) -> bool {
+    let mut same = true;
+    for (i, (motion, forward, functions)) in how.iter().enumerate() {
+        same = same && state(nodes, i) == runs(*motion, *forward, *functions);
+    }
+    same
+}
+
 /// A locomotive that runs so.
 fn runs(motion: Motion, forward: bool, functions: u16) -> (Option<Running>, Option<u8>) {
     let running = Running {
@@ -68,92 +80,100 @@ fn each_number_of_lines_makes_a_layout(rt: HostRuntime) -> Result<(), Fail> {
     Ok(())
 }
 
+const FORWARD: &[Turn] = &[
+    (DRIVEN_BYTES, 0b100),
+    (&[0x03, 0x80, 0x83], 0),
+    (&[0x03, 0xB0, 0xB3], 0),
+    // The bytes of step 14 of 28 are step 7 of 14 with F0.
+    (&[0x03, 0x78, 0x7B], 0b011),
+];
+
+/// The other direction on the track.
+const THE_OTHER_WAY: &[Turn] = &[
+    (&[0x03, 0x3F, 0x40, 0x7C], 0b100),
+    (&[0x03, 0x78, 0x7B], 0b110),
+];
+
 #[test]
 fn decoders_of_one_address_run_by_their_own_settings(rt: HostRuntime) -> Result<(), Fail> {
     // 28 or 128 steps; the same reversed; 14 steps.
     let mut nodes = nodes_of(&[at_3(2)?, at_3(3)?, at_3(0)?]);
-    assert_eq!(rt; nodes.len(), 3);
-    assert!(rt; !nodes.is_empty());
-    for i in 0..3 {
-        assert_eq!(rt; state(&nodes, i), runs(Motion::Stop, true, 0));
-    }
-    hear_turns(
-        &mut nodes,
-        &[
-            (&[0x03, 0x3F, 0xC0, 0xFC], 0b100),
-            (&[0x03, 0x80, 0x83], 0),
-            (&[0x03, 0xB0, 0xB3], 0),
-            // The bytes of step 14 of 28 are step 7 of 14 with F0.
-            (&[0x03, 0x78, 0x7B], 0b011),
-        ],
-    )?;
-    assert_eq!(rt; state(&nodes, 0), runs(step(Steps::S128, 63), true, 0));
-    assert_eq!(rt; state(&nodes, 1), runs(step(Steps::S128, 63), false, 0));
-    assert_eq!(rt; state(&nodes, 2), runs(step(Steps::S14, 7), true, 1));
-    // The other direction on the track.
-    hear_turns(
-        &mut nodes,
-        &[
-            (&[0x03, 0x3F, 0x40, 0x7C], 0b100),
-            (&[0x03, 0x78, 0x7B], 0b110),
-        ],
-    )?;
-    assert_eq!(rt; state(&nodes, 0), runs(step(Steps::S28, 14), true, 0));
-    assert_eq!(rt; state(&nodes, 1), runs(step(Steps::S128, 63), true, 0));
-    assert_eq!(rt; state(&nodes, 2), runs(step(Steps::S14, 7), true, 1));
+    assert!(rt; nodes.len() == 3 && !nodes.is_empty());
+    assert!(rt; all_run(&nodes, &[(Motion::Stop, true, 0); 3]));
+    hear_turns(&mut nodes, FORWARD)?;
+    assert!(rt;
+        all_run(
+            &nodes,
+            &[
+                (step(Steps::S128, 63), true, 0),
+                (step(Steps::S128, 63), false, 0),
+                (step(Steps::S14, 7), true, 1),
+            ]
+        )
+    );
+    hear_turns(&mut nodes, THE_OTHER_WAY)?;
+    assert!(rt;
+        all_run(
+            &nodes,
+            &[
+                (step(Steps::S28, 14), true, 0),
+                (step(Steps::S128, 63), true, 0),
+                (step(Steps::S14, 7), true, 1),
+            ]
+        )
+    );
     Ok(())
 }
+
+/// A speed packet is sent twice, and then the packets of the functions, each twice.
+const A_CYCLE: &[Turn] = &[
+    (DRIVEN_BYTES, 0b10),
+    (IDLE, 0),
+    (DRIVEN_BYTES, 0b10),
+    (IDLE, 0),
+    (&[0x03, 0x80, 0x83], 0),
+    (IDLE, 0),
+    (&[0x03, 0x80, 0x83], 0),
+    (IDLE, 0),
+    (&[0x03, 0xB0, 0xB3], 0),
+    (IDLE, 0),
+    (&[0x03, 0xB0, 0xB3], 0),
+    (IDLE, 0),
+    (&[0x03, 0xA0, 0xA3], 0),
+    (IDLE, 0),
+    (&[0x03, 0xA0, 0xA3], 0),
+    (IDLE, 0),
+];
 
 #[test]
 fn one_of_two_nodes_misses_the_speed_packets(rt: HostRuntime) -> Result<(), Fail> {
     let mut nodes = nodes_of(&[at_3(2)?, at_3(2)?]);
-    let turns: [Turn; 16] = [
-        (&[0x03, 0x3F, 0xC0, 0xFC], 0b10),
-        (IDLE, 0),
-        (&[0x03, 0x3F, 0xC0, 0xFC], 0b10),
-        (IDLE, 0),
-        (&[0x03, 0x80, 0x83], 0),
-        (IDLE, 0),
-        (&[0x03, 0x80, 0x83], 0),
-        (IDLE, 0),
-        (&[0x03, 0xB0, 0xB3], 0),
-        (IDLE, 0),
-        (&[0x03, 0xB0, 0xB3], 0),
-        (IDLE, 0),
-        (&[0x03, 0xA0, 0xA3], 0),
-        (IDLE, 0),
-        (&[0x03, 0xA0, 0xA3], 0),
-        (IDLE, 0),
-    ];
-    hear_turns(&mut nodes, &turns)?;
-    assert_eq!(rt; state(&nodes, 0), runs(step(Steps::S128, 63), true, 0));
-    assert_eq!(rt; state(&nodes, 1), runs(Motion::Stop, true, 0));
+    hear_turns(&mut nodes, A_CYCLE)?;
+    assert!(rt; all_run(&nodes, &[(DRIVEN, true, 0), (Motion::Stop, true, 0)]));
     Ok(())
 }
 
 #[test]
 fn bits_past_the_last_node_mean_nothing(rt: HostRuntime) -> Result<(), Fail> {
-    let drive: &[u8] = &[0x03, 0x3F, 0xC0, 0xFC];
     let mut two = nodes_of(&[at_3(2)?, at_3(2)?]);
-    hear_turns(&mut two, &[(drive, u64::MAX)])?;
-    for i in 0..2 {
-        assert_eq!(rt; state(&two, i), runs(Motion::Stop, true, 0));
-    }
-    hear_turns(&mut two, &[(drive, u64::MAX - 3)])?;
-    for i in 0..2 {
-        assert_eq!(rt; state(&two, i), runs(step(Steps::S128, 63), true, 0));
-    }
-    // As many as there are bits: the last has the highest.
+    hear_turns(&mut two, &[(DRIVEN_BYTES, u64::MAX)])?;
+    assert!(rt; all_run(&two, &[(Motion::Stop, true, 0); 2]));
+    hear_turns(&mut two, &[(DRIVEN_BYTES, u64::MAX - 3)])?;
+    assert!(rt; all_run(&two, &[(DRIVEN, true, 0); 2]));
+    Ok(())
+}
+
+#[test]
+fn the_last_of_all_nodes_has_the_highest_bit(rt: HostRuntime) -> Result<(), Fail> {
     let mut all = nodes_of(&[at_3(2)?; 64]);
-    assert_eq!(rt; all.len(), 64);
-    hear_turns(&mut all, &[(drive, 1 << 63)])?;
-    assert_eq!(rt; state(&all, 62), runs(step(Steps::S128, 63), true, 0));
-    assert_eq!(rt; state(&all, 63), runs(Motion::Stop, true, 0));
-    // And none at all.
+    assert!(rt; all.len() == 64);
+    hear_turns(&mut all, &[(DRIVEN_BYTES, 1 << 63)])?;
+    assert!(rt; state(&all, 62) == runs(DRIVEN, true, 0));
+    assert!(rt; state(&all, 63) == runs(Motion::Stop, true, 0));
+    // And with no node at all.
     let mut none = nodes_of(&[]);
-    hear_turns(&mut none, &[(drive, 1)])?;
-    assert!(rt; none.is_empty());
-    assert_eq!(rt; none.len(), 0);
+    hear_turns(&mut none, &[(DRIVEN_BYTES, 1)])?;
+    assert!(rt; none.is_empty() && none.len() == 0);
     Ok(())
 }
 
@@ -161,20 +181,22 @@ fn bits_past_the_last_node_mean_nothing(rt: HostRuntime) -> Result<(), Fail> {
 fn locomotives_and_accessory_decoders_share_a_track(rt: HostRuntime) -> Result<(), Fail> {
     let module = Module::new(1).ok_or("no module")?;
     let mut nodes = nodes_of(&[NodeSpec::Accessory(module), at_3(2)?]);
-    assert_eq!(rt; state(&nodes, 0), (None, Some(0)));
+    assert!(rt; state(&nodes, 0) == (None, Some(0)));
     hear_turns(
         &mut nodes,
         &[(&[0x81, 0xF9, 0x78], 0), (&[0x03, 0x90, 0x93], 0)],
     )?;
-    assert_eq!(rt; state(&nodes, 0), (None, Some(0x02)));
-    assert_eq!(rt; state(&nodes, 1), runs(Motion::Stop, true, 1));
-    // A node by itself, as the list would make it.
+    assert!(rt; state(&nodes, 0) == (None, Some(0x02)));
+    assert!(rt; state(&nodes, 1) == runs(Motion::Stop, true, 1));
+    Ok(())
+}
+
+/// A node by itself, as the list would make it.
+#[test]
+fn a_node_hears_by_itself(rt: HostRuntime) -> Result<(), Fail> {
     let mut node = Node::default();
     node.hear(&Packet::of(&[0x03, 0x78, 0x7B]).ok_or("no packet")?);
-    assert_eq!(rt;
-        (node.running(), node.outputs()),
-        runs(step(Steps::S14, 7), true, 1)
-    );
+    assert!(rt; (node.running(), node.outputs()) == runs(step(Steps::S14, 7), true, 1));
     Ok(())
 }
 
@@ -204,7 +226,7 @@ const DRIVEN: Motion = Motion::Step {
     n: 63,
 };
 
-const STORIES: [Story; 4] = [
+const STORIES: &[Story] = &[
     Story {
         name: "one misses the two speed packets",
         cv29: [2, 2],
@@ -277,58 +299,74 @@ fn hear_bytes(world: &mut World, bytes: &[u8]) {
     }
 }
 
+/// Whether the decoders of the layout, from the first on, run so, each with no function on and no outputs.
+fn all_run_in(world: &World, how: &[(Motion, bool)]) -> bool {
+    let mut same = true;
+    for (i, (motion, forward)) in how.iter().enumerate() {
+        same = same && state_in(world, i) == runs(*motion, *forward, 0);
+    }
+    same
+}
+
+/// The layout of a story, once its messages were heard.
+fn begin(rt: &impl AllocGlobal, story: &Story) -> Result<World, Fail> {
+    let mut world = world_of(rt, &[at_3(story.cv29[0])?, at_3(story.cv29[1])?])?;
+    for message in story.messages {
+        hear_bytes(&mut world, message);
+    }
+    Ok(world)
+}
+
+/// A turn that some nodes miss, and whether it sends this packet, if one is told.
+fn turn_sends(world: &mut World, missed: u64, sent: Option<&&[u8]>) -> bool {
+    let step = world.step(Event::Turn { missed });
+    match (sent, &step) {
+        (None, _) => true,
+        (Some(bytes), Step::Packet(packet)) => packet.bytes() == *bytes,
+        _ => false,
+    }
+}
+
+/// The turns of a story, and whether each sends its packet.
+fn turns_send(world: &mut World, story: &Story) -> bool {
+    let mut sent = true;
+    for (turn, missed) in story.missed.iter().enumerate() {
+        sent = turn_sends(world, *missed, story.sent.get(turn)) && sent;
+    }
+    sent
+}
+
 #[test]
 fn the_slots_reach_the_decoders_over_the_track_alone(rt: HostRuntime) -> Result<(), Fail> {
     for story in STORIES {
-        let mut world = world_of(&rt, &[at_3(story.cv29[0])?, at_3(story.cv29[1])?])?;
-        assert_eq!(rt; world.nodes(), 2);
-        for message in story.messages {
-            hear_bytes(&mut world, message);
-        }
+        let mut world = begin(&rt, story)?;
+        assert!(rt; world.nodes() == 2, "{}", story.name);
         // A byte moves no decoder.
-        for i in 0..2 {
-            assert!(rt; i < world.nodes());
-            assert_eq!(rt;
-                (world.running(i), world.outputs(i)),
-                runs(Motion::Stop, true, 0)
-            );
-        }
-        for (turn, missed) in story.missed.iter().enumerate() {
-            let step = world.step(Event::Turn { missed: *missed });
-            if let (Some(bytes), Step::Packet(packet)) = (story.sent.get(turn), &step) {
-                assert_eq!(rt; packet.bytes(), *bytes, "{}: turn {turn}", story.name);
-            } else {
-                assert!(rt; story.sent.len() <= turn, "{}: turn {turn}", story.name);
-            }
-        }
-        for (i, (motion, forward)) in story.runs.iter().enumerate() {
-            assert!(rt; i < world.nodes());
-            assert_eq!(rt;
-                (world.running(i), world.outputs(i)),
-                runs(*motion, *forward, 0),
-                "{}",
-                story.name
-            );
-        }
+        assert!(rt;
+            all_run_in(&world, &[(Motion::Stop, true); 2]),
+            "{}",
+            story.name
+        );
+        assert!(rt; turns_send(&mut world, story), "{}", story.name);
+        assert!(rt; all_run_in(&world, &story.runs), "{}", story.name);
     }
     Ok(())
 }
+
+const F9_ON: &[u8] = &[
+    0xED, 0x0B, 0x7F, 0x23, 0x22, 0x03, 0x21, 0x00, 0x00, 0x00, 0x45,
+];
 
 // F9 by OPC_IMM_PACKET, which the fourth packet of the slot carries.
 #[test]
 fn f9_reaches_its_locomotive(rt: HostRuntime) -> Result<(), Fail> {
     let mut world = world_of(&rt, &[at_3(2)?])?;
     hear_bytes(&mut world, IN_USE);
-    hear_bytes(
-        &mut world,
-        &[
-            0xED, 0x0B, 0x7F, 0x23, 0x22, 0x03, 0x21, 0x00, 0x00, 0x00, 0x45,
-        ],
-    );
+    hear_bytes(&mut world, F9_ON);
     take_turns(&mut world, 12);
-    assert_eq!(rt; state_in(&world, 0), runs(Motion::Stop, true, 0));
+    assert!(rt; state_in(&world, 0) == runs(Motion::Stop, true, 0));
     take_turns(&mut world, 4);
-    assert_eq!(rt; state_in(&world, 0), runs(Motion::Stop, true, 1 << 9));
+    assert!(rt; state_in(&world, 0) == runs(Motion::Stop, true, 1 << 9));
     Ok(())
 }
 
@@ -342,11 +380,10 @@ fn a_switch_reaches_its_module(rt: HostRuntime) -> Result<(), Fail> {
         &[Event::Turn { missed: 1 }, Event::Turn { missed: 0 }],
         &mut steps,
     );
-    assert!(rt; 0 < world.nodes());
     // The second turn is idle.
-    assert_eq!(rt; world.outputs(0), Some(0));
+    assert!(rt; state_in(&world, 0) == (None, Some(0)));
     world.step(Event::Turn { missed: 0 });
-    assert_eq!(rt; world.outputs(0), Some(0x02));
+    assert!(rt; state_in(&world, 0) == (None, Some(0x02)));
     Ok(())
 }
 
@@ -371,35 +408,31 @@ fn state_in(world: &World, i: usize) -> (Option<Running>, Option<u8>) {
     }
 }
 
+/// How a decoder of this CV29 runs after these messages, one turn, a message and two turns, the last of which sends
+/// 03 78 7B.
+fn after_a_mode(
+    rt: &impl AllocGlobal,
+    cv29: u8,
+    before: [&[u8]; 3],
+    last: &[u8],
+) -> Result<(Option<Running>, Option<u8>), Fail> {
+    let mut world = world_of(rt, &[at_3(cv29)?])?;
+    for message in before {
+        hear_bytes(&mut world, message);
+    }
+    take_turns(&mut world, 1);
+    hear_bytes(&mut world, last);
+    take_turns(&mut world, 2);
+    Ok(state_in(&world, 0))
+}
+
 #[test]
 fn a_step_mode_gives_the_bytes_their_meaning(rt: HostRuntime) -> Result<(), Fail> {
-    // Messages, one turn, a message, two turns; the last sends 03 78 7B.
-    let rows: [(u8, [&[u8]; 3], &[u8], Motion, u16); 2] = [
-        (
-            2,
-            [IN_USE, DRIVE, &[]],
-            &[0xB5, 0x01, 0x30, 0x7B],
-            step(Steps::S28, 14),
-            0,
-        ),
-        (
-            0,
-            [IN_USE, &[0xB5, 0x01, 0x32, 0x79], DRIVE],
-            &[0xA1, 0x01, 0x10, 0x4F],
-            step(Steps::S14, 7),
-            1,
-        ),
-    ];
-    for (cv29, before, last, motion, functions) in rows {
-        let mut world = world_of(&rt, &[at_3(cv29)?])?;
-        for message in before {
-            hear_bytes(&mut world, message);
-        }
-        take_turns(&mut world, 1);
-        hear_bytes(&mut world, last);
-        take_turns(&mut world, 2);
-        assert_eq!(rt; state_in(&world, 0), runs(motion, true, functions));
-    }
+    let in_28 = after_a_mode(&rt, 2, [IN_USE, DRIVE, &[]], &[0xB5, 0x01, 0x30, 0x7B])?;
+    assert!(rt; in_28 == runs(step(Steps::S28, 14), true, 0));
+    let mode: &[u8] = &[0xB5, 0x01, 0x32, 0x79];
+    let in_14 = after_a_mode(&rt, 0, [IN_USE, mode, DRIVE], &[0xA1, 0x01, 0x10, 0x4F])?;
+    assert!(rt; in_14 == runs(step(Steps::S14, 7), true, 1));
     Ok(())
 }
 
@@ -411,19 +444,23 @@ fn hear_with_turns(world: &mut World, bytes: &[u8], turns: u8) {
     }
 }
 
+/// Whether a wrong check drives nothing and the right one does, with so many turns after each byte.
+fn a_check_decides(rt: &impl AllocGlobal, turns: u8) -> Result<bool, Fail> {
+    let mut world = world_of(rt, &[at_3(2)?])?;
+    hear_bytes(&mut world, IN_USE);
+    hear_with_turns(&mut world, &[0xA0, 0x01, 0x40, 0x1F], turns);
+    take_turns(&mut world, 16);
+    let stands = all_run_in(&world, &[(Motion::Stop, true)]);
+    hear_with_turns(&mut world, DRIVE, turns);
+    take_turns(&mut world, 16);
+    Ok(stands && all_run_in(&world, &[(DRIVEN, true)]))
+}
+
 #[test]
 fn a_wrong_check_drives_nothing(rt: HostRuntime) -> Result<(), Fail> {
     // Without a turn between the bytes, and with one after each.
-    for turns in [0, 1] {
-        let mut world = world_of(&rt, &[at_3(2)?])?;
-        hear_bytes(&mut world, IN_USE);
-        hear_with_turns(&mut world, &[0xA0, 0x01, 0x40, 0x1F], turns);
-        take_turns(&mut world, 16);
-        assert_eq!(rt; state_in(&world, 0), runs(Motion::Stop, true, 0));
-        hear_with_turns(&mut world, DRIVE, turns);
-        take_turns(&mut world, 16);
-        assert_eq!(rt; state_in(&world, 0), runs(DRIVEN, true, 0));
-    }
+    assert!(rt; a_check_decides(&rt, 0)?);
+    assert!(rt; a_check_decides(&rt, 1)?);
     Ok(())
 }
 
@@ -448,36 +485,35 @@ fn round_of_traffic(world: &mut World, round: u8) {
     }
 }
 
+/// Power on, and slot 119 in use and driven.
+const DRIVE_119: &[u8] = &[0x83, 0x7C, 0xBA, 0x77, 0x77, 0x45, 0xA0, 0x77, 0x40, 0x68];
+
 #[test]
 fn traffic_on_every_other_slot_stops_no_refresh(rt: HostRuntime) -> Result<(), Fail> {
     let mut world = world_of(&rt, &[NodeSpec::Loco(CvSet::new(119, 0, 0, 2)?)])?;
     for address in 1..120 {
         hear_message(&mut world, &[0xBF, 0x00, address]);
     }
-    hear_bytes(&mut world, &[0x83, 0x7C]);
-    hear_bytes(&mut world, &[0xBA, 0x77, 0x77, 0x45]);
-    hear_bytes(&mut world, &[0xA0, 0x77, 0x40, 0x68]);
+    hear_bytes(&mut world, DRIVE_119);
     // Sixteen turns for each of 119 slots.
     for round in 0..16 {
         round_of_traffic(&mut world, round);
     }
-    assert_eq!(rt; state_in(&world, 0), runs(DRIVEN, true, 0));
+    assert!(rt; all_run_in(&world, &[(DRIVEN, true)]));
     Ok(())
 }
+
+const CLOSED_TWICE: &[&[u8]] = &[&[0x81, 0xF9, 0x78], IDLE, &[0x81, 0xF9, 0x78], IDLE];
 
 #[test]
 fn a_request_is_sent_twice_and_sets_its_output(rt: HostRuntime) -> Result<(), Fail> {
     let module = Module::new(1).ok_or("no module")?;
     let mut world = world_of(&rt, &[NodeSpec::Accessory(module)])?;
     hear_bytes(&mut world, &[0x83, 0x7C, 0xB0, 0x00, 0x30, 0x7F]);
-    assert_eq!(rt; state_in(&world, 0), (None, Some(0)));
-    let closes: &[u8] = &[0x81, 0xF9, 0x78];
-    for bytes in [closes, IDLE, closes, IDLE] {
-        match world.step(Event::Turn { missed: 0 }) {
-            Step::Packet(packet) => assert_eq!(rt; packet.bytes(), bytes),
-            _ => assert!(rt; false, "no packet"),
-        }
-        assert_eq!(rt; state_in(&world, 0), (None, Some(0x02)));
+    assert!(rt; state_in(&world, 0) == (None, Some(0)));
+    for bytes in CLOSED_TWICE {
+        assert!(rt; turn_sends(&mut world, 0, Some(bytes)));
+        assert!(rt; state_in(&world, 0) == (None, Some(0x02)));
     }
     Ok(())
 }
@@ -521,7 +557,7 @@ const PREAMBLE: &[u16] = &[
     58, 58, 58, 58, 58, 58, 58, 58, 58, 58, 58, 58, 58, 58, 58, 58, 58, 58, 58, 58, 100, 100,
 ];
 
-const DIRT: [Dirt; 3] = [
+const DIRT: &[Dirt] = &[
     Dirt {
         name: "a start of a packet loses the first packet",
         messages: [IN_USE, DRIVE],
@@ -550,22 +586,33 @@ const DIRT: [Dirt; 3] = [
     },
 ];
 
+/// The layout of a decoder of address 3 after these messages.
+fn with_messages(rt: &impl AllocGlobal, messages: [&[u8]; 2]) -> Result<World, Fail> {
+    let mut world = world_of(rt, &[at_3(2)?])?;
+    for message in messages {
+        hear_bytes(&mut world, message);
+    }
+    Ok(world)
+}
+
+/// Whether the noise of this dirt is answered with nothing.
+fn is_heard_quietly(world: &mut World, dirt: &Dirt) -> Result<bool, Fail> {
+    let mut quiet = is_quiet(world, 0, dirt.noise);
+    for bytes in dirt.spelt {
+        quiet = is_spelt_quietly(world, 0, bytes)? && quiet;
+    }
+    Ok(quiet)
+}
+
 #[test]
 fn a_cycle_ends_what_noise_began(rt: HostRuntime) -> Result<(), Fail> {
     for dirt in DIRT {
         for (turns, motion) in dirt.after {
-            let mut world = world_of(&rt, &[at_3(2)?])?;
-            for message in dirt.messages {
-                hear_bytes(&mut world, message);
-            }
-            assert!(rt; is_quiet(&mut world, 0, dirt.noise), "{}", dirt.name);
-            for bytes in dirt.spelt {
-                assert!(rt; is_spelt_quietly(&mut world, 0, bytes)?, "{}", dirt.name);
-            }
+            let mut world = with_messages(&rt, dirt.messages)?;
+            assert!(rt; is_heard_quietly(&mut world, dirt)?, "{}", dirt.name);
             take_turns(&mut world, *turns);
-            assert_eq!(rt;
-                state_in(&world, 0),
-                runs(*motion, true, 0),
+            assert!(rt;
+                all_run_in(&world, &[(*motion, true)]),
                 "{}: {turns} turns",
                 dirt.name
             );
@@ -574,27 +621,39 @@ fn a_cycle_ends_what_noise_began(rt: HostRuntime) -> Result<(), Fail> {
     Ok(())
 }
 
+/// The layout of two locomotives of which one hears a packet as noise, and one hears a half in its middle that no packet
+/// has, and whether all of it was answered with nothing.
+fn hit(rt: &impl AllocGlobal, hears: u8, is_hit: u8) -> Result<(World, bool), Fail> {
+    let drive = Packet::of(DRIVEN_BYTES).ok_or("no packet")?;
+    let mut world = world_of(rt, &[at_3(2)?, at_3(2)?])?;
+    let mut quiet = true;
+    for (at, half) in halves(&drive).enumerate() {
+        quiet = is_quiet(&mut world, hears, &[half]) && quiet;
+        if at == 60 {
+            quiet = is_quiet(&mut world, is_hit, &[65535]) && quiet;
+        }
+    }
+    Ok((world, quiet))
+}
+
+/// The node that hears the packet, the one that is hit, and whether each of the two is driven then.
+const HITS: &[(u8, u8, [bool; 2])] = &[
+    (0, 1, [true, false]),
+    (1, 0, [false, true]),
+    (0, 0, [false, false]),
+    (1, 1, [false, false]),
+];
+
+fn driven_if(driven: bool) -> (Motion, bool) {
+    (if driven { DRIVEN } else { Motion::Stop }, true)
+}
+
 #[test]
 fn noise_reaches_one_node_alone(rt: HostRuntime) -> Result<(), Fail> {
-    let drive = Packet::of(&[0x03, 0x3F, 0xC0, 0xFC]).ok_or("no packet")?;
-    // The node that hears the packet as noise, the one that hears a half in its middle that no packet has, and how
-    // the two locomotives run then.
-    for (hears, is_hit, motions) in [
-        (0, 1, [DRIVEN, Motion::Stop]),
-        (1, 0, [Motion::Stop, DRIVEN]),
-        (0, 0, [Motion::Stop, Motion::Stop]),
-        (1, 1, [Motion::Stop, Motion::Stop]),
-    ] {
-        let mut world = world_of(&rt, &[at_3(2)?, at_3(2)?])?;
-        for (at, half) in halves(&drive).enumerate() {
-            assert!(rt; is_quiet(&mut world, hears, &[half]));
-            if at == 60 {
-                assert!(rt; is_quiet(&mut world, is_hit, &[65535]));
-            }
-        }
-        for (i, motion) in motions.iter().enumerate() {
-            assert_eq!(rt; state_in(&world, i), runs(*motion, true, 0));
-        }
+    for (hears, is_hit, driven) in HITS {
+        let (world, quiet) = hit(&rt, *hears, *is_hit)?;
+        assert!(rt; quiet);
+        assert!(rt; all_run_in(&world, &[driven_if(driven[0]), driven_if(driven[1])]));
     }
     Ok(())
 }
@@ -604,9 +663,34 @@ fn noise_that_spells_its_packet_sets_an_output(rt: HostRuntime) -> Result<(), Fa
     let module = Module::new(1).ok_or("no module")?;
     let mut world = world_of(&rt, &[at_3(2)?, NodeSpec::Accessory(module)])?;
     assert!(rt; is_spelt_quietly(&mut world, 1, &[0x81, 0xF9, 0x78])?);
-    assert_eq!(rt; state_in(&world, 1), (None, Some(0x02)));
-    assert_eq!(rt; state_in(&world, 0), runs(Motion::Stop, true, 0));
+    assert!(rt; state_in(&world, 1) == (None, Some(0x02)));
+    assert!(rt; state_in(&world, 0) == runs(Motion::Stop, true, 0));
     Ok(())
+}
+
+/// What the two decoders run by, where node 1 is in the middle of a packet.
+const NOISE_AND_A_TURN: &[Event] = &[
+    Event::Noise {
+        node: 0,
+        half: 65535,
+    },
+    Event::Turn { missed: 0 },
+    Event::Noise {
+        node: 0,
+        half: 65535,
+    },
+    Event::Noise {
+        node: 0,
+        half: 65535,
+    },
+];
+
+/// Whether this is the answer to noise, or that of the turn.
+fn is_answer(step: &Step, is_turn: bool) -> bool {
+    match step {
+        Step::Packet(packet) => is_turn && packet.bytes() == DRIVEN_BYTES,
+        step => !is_turn && *step == Step::Quiet,
+    }
 }
 
 #[test]
@@ -617,23 +701,11 @@ fn a_run_answers_noise_with_nothing(rt: HostRuntime) -> Result<(), Fail> {
     assert!(rt; is_quiet(&mut world, 1, PREAMBLE));
     let mut steps = [Step::Off, Step::Off, Step::Off, Step::Off];
     assert!(rt; 1 < world.nodes());
-    let turn = Event::Turn { missed: 0 };
-    let noise = Event::Noise {
-        node: 0,
-        half: 65535,
-    };
-    world.run(&[noise, turn, noise, noise], &mut steps);
-    for (step, is_turn) in steps.iter().zip([false, true, false, false]) {
-        match step {
-            Step::Packet(packet) => {
-                assert!(rt; is_turn);
-                assert_eq!(rt; packet.bytes(), [0x03, 0x3F, 0xC0, 0xFC].as_slice());
-            }
-            step => assert!(rt; !is_turn && *step == Step::Quiet),
-        }
+    world.run(NOISE_AND_A_TURN, &mut steps);
+    for (at, step) in steps.iter().enumerate() {
+        assert!(rt; is_answer(step, at == 1));
     }
-    // Node 1 was in the middle of a packet, and lost the one that was sent.
-    assert_eq!(rt; state_in(&world, 0), runs(DRIVEN, true, 0));
-    assert_eq!(rt; state_in(&world, 1), runs(Motion::Stop, true, 0));
+    // Node 1 lost the packet that was sent.
+    assert!(rt; all_run_in(&world, &[(DRIVEN, true), (Motion::Stop, true)]));
     Ok(())
 }

@@ -10,7 +10,7 @@ use slot_table::SlotTable;
 const MOST_BYTES: usize = 5;
 
 /// F9 to F12 of the locomotive in a slot.
-#[derive(Clone, Copy, Debug, PartialEq, Eq)]
+#[derive(Clone, Copy)]
 pub(crate) struct More {
     pub(crate) slot: u8,
     /// Below 16, bit 0 being F9.

@@ -11,7 +11,7 @@ use refresh_ring::{BitRing, Kind, Schedule, View};
 use slot_table::SlotTable;
 
 /// Which packets of a slot a message changes.
-#[derive(Clone, Copy, Debug, PartialEq, Eq)]
+#[derive(Clone, Copy)]
 pub(crate) enum Change {
     Nothing,
     Speed,

@@ -5,6 +5,7 @@ mod drives;
 mod hostile;
 
 use crate::{Call, Power, Station, StationFault, Step};
+use conversations::holds;
 use dcc_packet::idle;
 use ln_ops::to_msg;
 use refresh_ring::Kind;
@@ -29,6 +30,30 @@ const IN_USE: Conversation = &[
             0xE7, 0x0E, 0x01, 0x33, 0x03, 0x00, 0x00, 0x07, 0x00, 0x00, 0x00, 0x00, 0x00, 0x20,
         ],
     ),
+];
+
+// Address 3 is taken while the track has power.
+const TAKEN_WITH_POWER: &[u8] = &[
+    0xE7, 0x0E, 0x01, 0x23, 0x03, 0x00, 0x00, 0x07, 0x00, 0x00, 0x00, 0x00, 0x00, 0x30,
+];
+
+// All slots have addresses, slot 1 address 1: one more is refused, and one of them is found.
+const WHEN_FULL: Conversation = &[
+    (&[0xBF, 0x00, 0x78, 0x38], &[0xB4, 0x3F, 0x00, 0x74]),
+    (
+        &[0xBF, 0x00, 0x01, 0x41],
+        &[
+            0xE7, 0x0E, 0x01, 0x23, 0x01, 0x00, 0x00, 0x06, 0x00, 0x00, 0x00, 0x00, 0x00, 0x33,
+        ],
+    ),
+];
+
+const FIRST_SWITCH: Conversation = &[(&[0xBD, 0x00, 0x30, 0x72], &[0xB4, 0x3D, 0x7F, 0x09])];
+
+// Thirty-two switch requests wait.
+const SWITCHES_REFUSED: Conversation = &[
+    (&[0xB0, 0x00, 0x30, 0x7F], &[0xB4, 0x30, 0x00, 0x7B]),
+    (&[0xBD, 0x00, 0x30, 0x72], &[0xB4, 0x3D, 0x00, 0x76]),
 ];
 
 // Sends the bytes on line 0, and says whether they are answered by the reply, at the last byte.
@@ -63,48 +88,38 @@ fn say(rt: &impl Abort, station: &mut Station, bytes: &[u8]) {
 
 #[test]
 fn has_one_to_eight_lines(rt: HostRuntime) -> Result<(), Fail> {
-    for lines in [0, 9] {
-        assert_eq!(rt;
-            Station::new(rt.alloc(), lines).err(),
-            Some(StationFault::BadLines)
-        );
+    for lines in &[0, 9] {
+        assert!(rt; Station::new(rt.alloc(), *lines).err() == Some(StationFault::BadLines));
     }
     for lines in 1..=8 {
         let station = Station::new(rt.alloc(), lines)?;
-        assert_eq!(rt; station.lines(), lines);
-        assert_eq!(rt; station.power(), Power::Off);
+        assert!(rt; station.lines() == lines && station.power() == Power::Off);
     }
     Ok(())
 }
 
-// The bytes of two messages interleave on two lines.
+// The bytes of two messages on two lines, each byte with its line.
+const INTERLEAVED: &[(u8, u8)] = &[
+    (0, 0xBF),
+    (1, 0x83),
+    (0, 0x00),
+    (1, 0x7C),
+    (0, 0x03),
+    (0, 0x43),
+];
+
 #[test]
 fn lines_share_nothing(rt: HostRuntime) -> Result<(), Fail> {
     let mut station = Station::new(rt.alloc(), 2)?;
-    let bytes = [
-        (0, 0xBF),
-        (1, 0x83),
-        (0, 0x00),
-        (1, 0x7C),
-        (0, 0x03),
-        (0, 0x43),
-    ];
     let mut replies = 0;
-    for (line, byte) in bytes {
-        assert!(rt; line < station.lines());
-        let Some(reply) = station.byte(line, byte) else {
-            continue;
-        };
-        replies = line + 1;
-        assert_eq!(rt;
-            to_msg(&reply).bytes(),
-            [
-                0xE7, 0x0E, 0x01, 0x23, 0x03, 0x00, 0x00, 0x07, 0x00, 0x00, 0x00, 0x00, 0x00, 0x30
-            ]
-            .as_slice()
-        );
+    for (line, byte) in INTERLEAVED {
+        assert!(rt; *line < station.lines());
+        if let Some(reply) = station.byte(*line, *byte) {
+            replies = *line + 1;
+            assert!(rt; to_msg(&reply).bytes() == TAKEN_WITH_POWER);
+        }
     }
-    assert_eq!(rt; replies, 1);
+    assert!(rt; replies == 1);
     Ok(())
 }
 
@@ -112,42 +127,21 @@ fn lines_share_nothing(rt: HostRuntime) -> Result<(), Fail> {
 fn addresses_fill_the_slots_in_order(rt: HostRuntime) -> Result<(), Fail> {
     let mut station = Station::new(rt.alloc(), 1)?;
     for address in 1..=119u8 {
-        let message = [0xBF, 0x00, address, 0x40 ^ address];
-        for byte in message {
-            assert!(rt; station.lines() > 0);
-            station.byte(0, byte);
-        }
-        assert_eq!(rt; station.row(address).address, u16::from(address));
+        say(&rt, &mut station, &[0xBF, 0x00, address, 0x40 ^ address]);
+        assert!(rt; station.row(address).address == u16::from(address));
     }
-    assert!(rt;
-        is_answered(
-            &rt,
-            &mut station,
-            &[0xBF, 0x00, 0x78, 0x38],
-            &[0xB4, 0x3F, 0x00, 0x74]
-        )
-    );
-    assert!(rt;
-        is_answered(
-            &rt,
-            &mut station,
-            &[0xBF, 0x00, 0x01, 0x41],
-            &[
-                0xE7, 0x0E, 0x01, 0x23, 0x01, 0x00, 0x00, 0x06, 0x00, 0x00, 0x00, 0x00, 0x00, 0x33
-            ]
-        )
-    );
+    holds(&rt, &mut station, "full", WHEN_FULL);
     Ok(())
 }
 
 #[test]
 fn counts_what_waits(rt: HostRuntime) -> Result<(), Fail> {
     let mut station = Station::new(rt.alloc(), 1)?;
-    assert_eq!(rt; station.sends_ahead(1, Kind::Speed), None);
+    assert!(rt; station.sends_ahead(1, Kind::Speed).is_none());
     put_in_use(&rt, &mut station);
     say(&rt, &mut station, &[0xA0, 0x01, 0x40, 0x1E]);
-    assert_eq!(rt; station.sends_ahead(1, Kind::Speed), Some(0));
-    assert_eq!(rt; station.sends_ahead(1, Kind::GroupTwo), Some(2));
+    assert!(rt; station.sends_ahead(1, Kind::Speed) == Some(0));
+    assert!(rt; station.sends_ahead(1, Kind::GroupTwo) == Some(2));
     say(
         &rt,
         &mut station,
@@ -155,51 +149,20 @@ fn counts_what_waits(rt: HostRuntime) -> Result<(), Fail> {
             0xED, 0x0B, 0x7F, 0x23, 0x22, 0x03, 0x21, 0x00, 0x00, 0x00, 0x45,
         ],
     );
-    assert_eq!(rt; station.sends_ahead(1, Kind::GroupThree), Some(3));
-
-    let mut station = Station::new(rt.alloc(), 1)?;
-    say(&rt, &mut station, &[0x83, 0x7C]);
-    say(&rt, &mut station, &[0xB0, 0x00, 0x30, 0x7F]);
-    say(&rt, &mut station, &[0xB0, 0x04, 0x30, 0x7B]);
-    for waiting in [2, 2, 2, 1, 1, 1, 0] {
-        assert_eq!(rt; station.switches_waiting(), waiting);
-        station.turn();
-    }
+    assert!(rt; station.sends_ahead(1, Kind::GroupThree) == Some(3));
     Ok(())
 }
 
 #[test]
 fn takes_thirty_two_switch_requests(rt: HostRuntime) -> Result<(), Fail> {
     let mut station = Station::new(rt.alloc(), 1)?;
-    assert!(rt;
-        is_answered(
-            &rt,
-            &mut station,
-            &[0xBD, 0x00, 0x30, 0x72],
-            &[0xB4, 0x3D, 0x7F, 0x09]
-        )
-    );
+    holds(&rt, &mut station, "the first", FIRST_SWITCH);
     let mut station = Station::new(rt.alloc(), 1)?;
     for _ in 0..32 {
         assert!(rt; is_answered(&rt, &mut station, &[0xB0, 0x00, 0x30, 0x7F], &[]));
     }
-    assert!(rt;
-        is_answered(
-            &rt,
-            &mut station,
-            &[0xB0, 0x00, 0x30, 0x7F],
-            &[0xB4, 0x30, 0x00, 0x7B]
-        )
-    );
-    assert!(rt;
-        is_answered(
-            &rt,
-            &mut station,
-            &[0xBD, 0x00, 0x30, 0x72],
-            &[0xB4, 0x3D, 0x00, 0x76]
-        )
-    );
-    assert_eq!(rt; station.switches_waiting(), 32);
+    holds(&rt, &mut station, "after thirty-two", SWITCHES_REFUSED);
+    assert!(rt; station.switches_waiting() == 32);
     Ok(())
 }
 
@@ -222,7 +185,7 @@ fn runs_lists_of_calls(rt: HostRuntime) -> Result<(), Fail> {
     let mut step = [Step::Off];
     station.run(first.as_slice(), step.as_mut_slice());
     assert!(rt; step == [Step::Quiet]);
-    assert_eq!(rt; station.lines(), 1);
+    assert!(rt; station.lines() == 1);
     let mut steps = [Step::Quiet, Step::Off, Step::Quiet];
     station.run(rest.as_slice(), steps.as_mut_slice());
     let sent = idle();
@@ -236,10 +199,10 @@ fn requests_wait_until_their_second_send(rt: HostRuntime) -> Result<(), Fail> {
     say(&rt, &mut station, &[0x83, 0x7C]);
     say(&rt, &mut station, &[0xB0, 0x00, 0x30, 0x7F]);
     say(&rt, &mut station, &[0xB0, 0x04, 0x30, 0x7B]);
-    assert_eq!(rt; station.switches_waiting(), 2);
-    for waiting in [2, 2, 1, 1, 1, 0, 0] {
+    assert!(rt; station.switches_waiting() == 2);
+    for waiting in &[2, 2, 1, 1, 1, 0, 0] {
         let _ = station.turn();
-        assert_eq!(rt; station.switches_waiting(), waiting);
+        assert!(rt; station.switches_waiting() == *waiting);
     }
     Ok(())
 }

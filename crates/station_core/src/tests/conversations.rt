@@ -1,5 +1,6 @@
 //! What a throttle says, and what it is answered.
 
+use super::hostile::cuts_conversations;
 use super::{Conversation, IN_USE, is_answered};
 use crate::Station;
 use std::alloc::Global;
@@ -7,7 +8,7 @@ use std::process::Abort;
 use std::test::Fail;
 
 // On a new station.
-pub(super) const AT_FIRST: &[(&str, Conversation)] = &[
+const AT_FIRST: &[(&str, Conversation)] = &[
     (
         "switch 2040",
         &[
@@ -119,7 +120,7 @@ pub(super) const AT_FIRST: &[(&str, Conversation)] = &[
 ];
 
 // With slot 1 in use.
-pub(super) const WITH_A_LOCOMOTIVE: &[(&str, Conversation)] = &[
+const WITH_A_LOCOMOTIVE: &[(&str, Conversation)] = &[
     (
         "a wrong check",
         &[
@@ -330,14 +331,34 @@ fn holds_each(
     Ok(())
 }
 
-fn holds(rt: &impl Abort, station: &mut Station, name: &str, conversation: Conversation) {
+pub(super) fn holds(
+    rt: &impl Abort,
+    station: &mut Station,
+    name: &str,
+    conversation: Conversation,
+) {
     for (bytes, reply) in conversation {
         assert!(rt; is_answered(rt, station, bytes, reply), "{name}: {bytes:?}");
     }
 }
 
+// Each conversation, whole and cut anywhere.
+fn answers(
+    rt: &impl Abort,
+    alloc: Global,
+    before: Conversation,
+    conversations: &[(&str, Conversation)],
+) -> Result<(), Fail> {
+    holds_each(rt, alloc, before, conversations)?;
+    cuts_conversations(rt, alloc, before, conversations)
+}
+
 #[test]
-fn answers_each_message(rt: HostRuntime) -> Result<(), Fail> {
-    holds_each(&rt, rt.alloc(), &[], AT_FIRST)?;
-    holds_each(&rt, rt.alloc(), IN_USE, WITH_A_LOCOMOTIVE)
+fn a_new_station_answers(rt: HostRuntime) -> Result<(), Fail> {
+    answers(&rt, rt.alloc(), &[], AT_FIRST)
+}
+
+#[test]
+fn a_station_with_a_locomotive_answers(rt: HostRuntime) -> Result<(), Fail> {
+    answers(&rt, rt.alloc(), IN_USE, WITH_A_LOCOMOTIVE)
 }

@@ -1,10 +1,9 @@
 //! Bytes that no honest throttle sends. After any of them the power comes on as on a new station.
 
-use super::conversations::{AT_FIRST, WITH_A_LOCOMOTIVE};
-use super::drives::{DRIVES, Drive, Part};
+use super::drives::{Drive, Part};
 use super::{Conversation, IN_USE};
 use crate::{Power, Station};
-use ln_frame::Framer;
+use ln_frame::{Framer, Msg};
 use ln_ops::{Op, read};
 use std::alloc::Global;
 use std::process::Abort;
@@ -34,41 +33,67 @@ fn longest() -> [u8; 127] {
     bytes
 }
 
+/// The longest message without its check, and then OPC_GPON.
+fn longest_without_its_end() -> [u8; 128] {
+    let mut bytes = [0; 128];
+    bytes[0] = 0xFF;
+    bytes[1] = 0x7F;
+    bytes[126] = 0x83;
+    bytes[127] = 0x7C;
+    bytes
+}
+
+/// The message that the last of these bytes ends, where no byte before it ends one.
+fn message_at_end(bytes: &[u8]) -> Option<Msg> {
+    let mut framer = Framer::new();
+    let mut last = None;
+    for byte in bytes {
+        if last.is_some() {
+            return None;
+        }
+        last = framer.push(*byte);
+    }
+    last
+}
+
+/// Whether a new station answers none of these bytes, and its power is then this.
+fn leaves_power(rt: &impl Abort, alloc: Global, bytes: &[u8], power: Power) -> Result<bool, Fail> {
+    let mut station = Station::new(alloc, 1)?;
+    Ok(!are_answered(rt, &mut station, bytes) && station.power() == power)
+}
+
 #[test]
 fn the_longest_message(rt: HostRuntime) -> Result<(), Fail> {
     let bytes = longest();
-    let (last, front) = bytes.split_last().ok_or("bytes")?;
-    let mut framer = Framer::new();
-    for byte in front {
-        assert!(rt; framer.push(*byte).is_none());
-    }
-    let message = framer.push(*last).ok_or("a message")?;
-    assert_eq!(rt; message.bytes(), bytes.as_slice());
-    assert_eq!(rt; read(&message), Op::Other);
-    let mut station = Station::new(rt.alloc(), 1)?;
-    assert!(rt; !are_answered(&rt, &mut station, &bytes));
-    assert_eq!(rt; station.power(), Power::Off);
+    let message = message_at_end(&bytes).ok_or("a message")?;
+    assert!(rt; message.bytes() == bytes.as_slice());
+    assert!(rt; read(&message) == Op::Other);
+    assert!(rt; leaves_power(&rt, rt.alloc(), &bytes, Power::Off)?);
     Ok(())
 }
 
 #[test]
 fn the_longest_message_without_its_end(rt: HostRuntime) -> Result<(), Fail> {
-    let bytes = longest();
-    let (_, front) = bytes.split_last().ok_or("bytes")?;
-    let mut framer = Framer::new();
-    let mut messages = 0u32;
-    for byte in front.iter().chain(&POWER_ON) {
-        if let Some(message) = framer.push(*byte) {
-            messages = messages.saturating_add(1);
-            assert_eq!(rt; message.bytes(), POWER_ON.as_slice());
-        }
-    }
-    assert_eq!(rt; messages, 1);
-    let mut station = Station::new(rt.alloc(), 1)?;
-    assert!(rt; !are_answered(&rt, &mut station, front));
-    assert!(rt; !are_answered(&rt, &mut station, &POWER_ON));
-    assert_eq!(rt; station.power(), Power::Running);
+    let bytes = longest_without_its_end();
+    let message = message_at_end(&bytes).ok_or("a message")?;
+    assert!(rt; message.bytes() == POWER_ON.as_slice());
+    assert!(rt; leaves_power(&rt, rt.alloc(), &bytes, Power::Running)?);
     Ok(())
+}
+
+/// Whether power then comes on, and that is not answered.
+fn comes_on(rt: &impl Abort, station: &mut Station) -> bool {
+    !are_answered(rt, station, &POWER_ON) && station.power() == Power::Running
+}
+
+/// Whether this opcode, this count and then only 00 change nothing.
+fn is_ignored(rt: &impl Abort, alloc: Global, opcode: u8, count: u8) -> Result<bool, Fail> {
+    let mut station = Station::new(alloc, 1)?;
+    let mut bytes = [0; 130];
+    bytes[0] = opcode;
+    bytes[1] = count;
+    let ignored = !are_answered(rt, &mut station, &bytes) && station.power() == Power::Off;
+    Ok(ignored && comes_on(rt, &mut station))
 }
 
 /// Each opcode whose message tells its length, with each count, and then only 00.
@@ -76,17 +101,10 @@ fn the_longest_message_without_its_end(rt: HostRuntime) -> Result<(), Fail> {
 fn every_count_of_every_opcode(rt: HostRuntime) -> Result<(), Fail> {
     for opcode in 0xE0..=0xFFu8 {
         for count in 0..=127u8 {
-            let mut station = Station::new(rt.alloc(), 1)?;
-            let mut bytes = [0; 130];
-            bytes[0] = opcode;
-            bytes[1] = count;
             assert!(rt;
-                !are_answered(&rt, &mut station, &bytes),
+                is_ignored(&rt, rt.alloc(), opcode, count)?,
                 "{opcode} {count}"
             );
-            assert_eq!(rt; station.power(), Power::Off, "{opcode} {count}");
-            assert!(rt; !are_answered(&rt, &mut station, &POWER_ON));
-            assert_eq!(rt; station.power(), Power::Running, "{opcode} {count}");
         }
     }
     Ok(())
@@ -100,27 +118,31 @@ fn sent_in(bytes: &mut Vec<u8>, conversation: Conversation) -> Result<(), Fail> 
     Ok(())
 }
 
-/// After each front of the bytes power runs.
-fn power_runs_after_each_front(
+/// Whether after these bytes power comes on.
+fn comes_on_after(rt: &impl Abort, alloc: Global, bytes: &[u8]) -> Result<bool, Fail> {
+    let mut station = Station::new(alloc, 1)?;
+    are_answered(rt, &mut station, bytes);
+    Ok(comes_on(rt, &mut station))
+}
+
+/// After each front of the bytes power comes on.
+fn comes_on_after_each_front(
     rt: &impl Abort,
     alloc: Global,
     name: &str,
     bytes: &[u8],
 ) -> Result<(), Fail> {
     for length in 0..=bytes.len() {
-        let mut station = Station::new(alloc, 1)?;
-        are_answered(rt, &mut station, &bytes[..length]);
         assert!(rt;
-            !are_answered(rt, &mut station, &POWER_ON),
+            comes_on_after(rt, alloc, &bytes[..length])?,
             "{name}: {length}"
         );
-        assert_eq!(rt; station.power(), Power::Running, "{name}: {length}");
     }
     Ok(())
 }
 
 /// Each conversation cut anywhere, behind another.
-fn cuts_conversations(
+pub(super) fn cuts_conversations(
     rt: &impl Abort,
     alloc: Global,
     before: Conversation,
@@ -130,38 +152,28 @@ fn cuts_conversations(
         let mut bytes = Vec::new(alloc);
         sent_in(&mut bytes, before)?;
         sent_in(&mut bytes, conversation)?;
-        power_runs_after_each_front(rt, alloc, name, bytes.as_slice())?;
+        comes_on_after_each_front(rt, alloc, name, bytes.as_slice())?;
     }
     Ok(())
 }
 
 /// The bytes that a throttle sends in a drive, behind some.
 fn said_in(bytes: &mut Vec<u8>, parts: &[Part]) -> Result<(), Fail> {
-    for part in parts {
-        if let Part::Says(sent) = part {
-            bytes.extend_from_slice(sent)?;
-        }
+    for (said, _) in parts {
+        bytes.extend_from_slice(said)?;
     }
     Ok(())
 }
 
 /// Each drive cut anywhere.
-fn cuts_drives(rt: &impl Abort, alloc: Global, drives: &[Drive]) -> Result<(), Fail> {
+pub(super) fn cuts_drives(rt: &impl Abort, alloc: Global, drives: &[Drive]) -> Result<(), Fail> {
     for (name, in_use, parts) in drives {
         let mut bytes = Vec::new(alloc);
         if *in_use {
             sent_in(&mut bytes, IN_USE)?;
         }
         said_in(&mut bytes, parts)?;
-        power_runs_after_each_front(rt, alloc, name, bytes.as_slice())?;
+        comes_on_after_each_front(rt, alloc, name, bytes.as_slice())?;
     }
     Ok(())
-}
-
-#[test]
-fn examples_cut_anywhere(rt: HostRuntime) -> Result<(), Fail> {
-    let alloc = rt.alloc();
-    cuts_conversations(&rt, alloc, &[], AT_FIRST)?;
-    cuts_conversations(&rt, alloc, IN_USE, WITH_A_LOCOMOTIVE)?;
-    cuts_drives(&rt, alloc, DRIVES)
 }

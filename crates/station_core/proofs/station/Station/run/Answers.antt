@@ -24,3 +24,12 @@ returns-clause-neighbours c = c.neighbours.ensures c.args.self.now c.args.calls.
 
 pub returns-clause-switches_are_sent : goal.returns-clause-switches_are_sent
 returns-clause-switches_are_sent c = c.switches_are_sent.ensures c.args.self.now c.args.calls.now (legal c)
+
+pub returns-clause-coverage : goal.returns-clause-coverage
+returns-clause-coverage c = c.coverage.ensures c.args.self.now c.args.calls.now
+
+pub returns-clause-changes_first : goal.returns-clause-changes_first
+returns-clause-changes_first c = c.changes_first.ensures c.args.self.now c.args.calls.now
+
+pub returns-clause-switches_in_order : goal.returns-clause-switches_in_order
+returns-clause-switches_in_order c = c.switches_in_order.ensures c.args.self.now c.args.calls.now
