@@ -18,6 +18,3 @@ pub use module::Module;
 pub use packet::Packet;
 pub use reading::read;
 pub use steps::{Motion, Steps, steps_of};
-
-#[cfg(test)]
-mod tests;

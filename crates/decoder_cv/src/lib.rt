@@ -12,6 +12,3 @@ pub use cv_fault::CvFault;
 pub use cv_pair::CvPair;
 pub use cv_set::CvSet;
 pub use laws::{lists_are_sets, long_lists_are_refused, order_is_free, others_have_no_effect};
-
-#[cfg(test)]
-mod tests;

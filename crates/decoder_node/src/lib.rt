@@ -18,6 +18,3 @@ pub use running::Running;
 
 /// The microseconds of a half of a one.
 const ONE: u16 = 58;
-
-#[cfg(test)]
-mod tests;

@@ -12,9 +12,6 @@ mod wave;
 use dcc_packet::Packet;
 pub use wave::Halves;
 
-#[cfg(test)]
-mod tests;
-
 /// The half-bits of `packet` from its preamble of 14 ones to the one that closes it, in microseconds.
 ///
 /// A one is two halves of 58, a zero two of 100, which each decoder has to take (S-9.1), as it has to take 14 ones

@@ -6,6 +6,3 @@ mod msg;
 
 pub use framer::{Framer, any_cut, left_is_enough, never_overlap};
 pub use msg::{MAX_LEN, Msg};
-
-#[cfg(test)]
-mod tests;

@@ -10,6 +10,3 @@ pub use fields::SlotFields;
 pub use op::{Op, read};
 pub use reply::{Reply, read_reply, to_msg};
 pub use row::{Row, State};
-
-#[cfg(test)]
-mod tests;

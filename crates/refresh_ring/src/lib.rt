@@ -32,6 +32,3 @@ pub use ring::Ring;
 pub use rings::both;
 pub use schedule::Schedule;
 pub use view::View;
-
-#[cfg(test)]
-mod tests;

@@ -17,6 +17,3 @@ pub use laws::{
 };
 pub use refresh_ring::{Kind, Power};
 pub use station::{Station, StationFault};
-
-#[cfg(test)]
-mod tests;

@@ -2,7 +2,7 @@
 
 use super::hostile::cuts_drives;
 use super::{put_in_use, say};
-use crate::Station;
+use station_core::Station;
 use std::alloc::Global;
 use std::process::Abort;
 use std::test::Fail;

@@ -1,7 +1,7 @@
 //! Messages and replies, as the tables of LocoNet have them.
 
-use super::*;
 use ln_frame::{Framer, Msg};
+use ln_ops::*;
 use std::process::Abort;
 use std::test::Fail;
 

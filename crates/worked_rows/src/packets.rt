@@ -1,6 +1,6 @@
 //! Packets worked out by hand from S-9.2 and S-9.2.1.
 
-use crate::{
+use dcc_packet::{
     Address, Instr, Module, Motion, Packet, Steps, accessory, group_one, group_three, group_two,
     idle, read, speed, steps_of, stop_all,
 };

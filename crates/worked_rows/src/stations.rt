@@ -4,11 +4,11 @@ mod conversations;
 mod drives;
 mod hostile;
 
-use crate::{Call, Power, Station, StationFault, Step};
 use conversations::holds;
 use dcc_packet::idle;
 use ln_ops::to_msg;
 use refresh_ring::Kind;
+use station_core::{Call, Power, Station, StationFault, Step};
 use std::process::Abort;
 use std::test::Fail;
 

@@ -1,9 +1,9 @@
 //! What decoders make of packets that were worked out by hand from S-9.2 and S-9.2.1.
 
-use crate::{Accessory, Loco, NodeList, NodeSpec, Running};
 use arrayvec::ArrayVec;
 use dcc_packet::{Module, Motion, Steps};
 use decoder_cv::CvSet;
+use decoder_node::{Accessory, Loco, NodeList, NodeSpec, Running};
 use std::process::Abort;
 use std::test::Fail;
 

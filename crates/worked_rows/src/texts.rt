@@ -1,11 +1,11 @@
 //! Scripts, hex text and lines, as their formats have them.
 
-use super::*;
 use dcc_packet::{Module, Motion, Packet, Steps};
 use decoder_cv::CvSet;
 use decoder_node::{NodeSpec, Running};
 use ln_frame::Msg;
 use ln_ops::read_reply;
+use show_text::*;
 use std::alloc::Global;
 use std::process::Abort;
 use std::test::Fail;

@@ -2,7 +2,7 @@
 
 use super::hostile::cuts_conversations;
 use super::{Conversation, IN_USE, is_answered};
-use crate::Station;
+use station_core::Station;
 use std::alloc::Global;
 use std::process::Abort;
 use std::test::Fail;

@@ -1,7 +1,9 @@
 //! The ring's wrap, the turns of two locomotives and of two switch requests, and a queue that is full.
 ghost use Rattle.std.specs.Prelude.{◌≡◌, length};
 
-use crate::{BitRing, Full, Kind, NoMemory, Pick, PlainRing, Power, Ring, Schedule, View, both};
+use refresh_ring::{
+    BitRing, Full, Kind, NoMemory, Pick, PlainRing, Power, Ring, Schedule, View, both,
+};
 use std::process::Abort;
 
 // A table of addresses.

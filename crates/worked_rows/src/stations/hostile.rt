@@ -2,9 +2,9 @@
 
 use super::drives::{Drive, Part};
 use super::{Conversation, IN_USE};
-use crate::{Power, Station};
 use ln_frame::{Framer, Msg};
 use ln_ops::{Op, read};
+use station_core::{Power, Station};
 use std::alloc::Global;
 use std::process::Abort;
 use std::test::Fail;
