@@ -12,3 +12,4 @@ pub mod Steps
 pub mod Switches
 pub mod Waits
 pub mod Walks
+pub mod Heard
