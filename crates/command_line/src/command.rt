@@ -1,7 +1,7 @@
 //! The command line, as `clap` is told of it.
 ghost use Rattle.std.specs.Prelude.{◌≡◌, IfOk, false};
 ghost use Rattle.clap.specs.Words.{App, new_app, rule_of, with_rule, with_subcommand};
-ghost use Rattle.command_line.specs.CommandLine.{option, number, roster_rule, lines_rule, file_rule, port_rule, turns_rule, reads_rule, connections_rule, replay_app, monitor_app, served_app, serve_app, bare_app, station_app, HasApp, HasNoGlobals};
+ghost use Rattle.command_line.specs.CommandLine.{option, number, or_else, roster_rule, lines_rule, file_rule, port_rule, turns_rule, reads_rule, connections_rule, replay_app, monitor_app, served_app, serve_app, bare_app, station_app, HasApp, HasNoGlobals};
 
 use clap::{Arg, ArgAction, Command};
 use std::alloc::{AllocError, Global};
@@ -26,6 +26,24 @@ fn number<'a>(alloc: Global, id: &'a str, value_name: &'a str, least: u32, most:
     option(alloc, id, value_name).value_parser(clap::value_parser!(u32).range(range))
 }
 
+/// The same, where this number stands for one that is not given.
+fn number_or<'a>(
+    alloc: Global,
+    id: &'a str,
+    value_name: &'a str,
+    least: u32,
+    most: u32,
+    default: &'a str,
+    help: &'a str,
+) -> Arg<'a>
+    ensures rule { rule_of result ≡ or_else (number id.entry.now least most) default.entry.now }
+    ensures local { result.global ≡ false }
+{
+    number(alloc, id, value_name, least, most)
+        .default_value(default)
+        .help(help)
+}
+
 /// `--roster FILE`.
 #[tactic(auto, unfolding(crate::specs::CommandLine::roster_rule))]
 fn roster<'a>(alloc: Global) -> Arg<'a>
@@ -35,17 +53,6 @@ fn roster<'a>(alloc: Global) -> Arg<'a>
     option(alloc, "roster", "FILE").help(
         "The decoders of the layout, as TOML; without it there are none",
     )
-}
-
-/// `--lines N`.
-#[tactic(auto, unfolding(crate::specs::CommandLine::lines_rule))]
-fn lines<'a>(alloc: Global) -> Arg<'a>
-    ensures rule { rule_of result ≡ lines_rule }
-    ensures local { result.global ≡ false }
-{
-    number(alloc, "lines", "N", 1, 8)
-        .default_value("1")
-        .help("The lines of the station, 1 to 8")
 }
 
 /// `FILE`.
@@ -70,39 +77,6 @@ fn port<'a>(alloc: Global) -> Arg<'a>
     number(alloc, "port", "P", 1, 65_535)
         .required(true)
         .help("The TCP port on 127.0.0.1, 1 to 65535")
-}
-
-/// `--turns T`.
-#[tactic(auto, unfolding(crate::specs::CommandLine::turns_rule))]
-fn turns<'a>(alloc: Global) -> Arg<'a>
-    ensures rule { rule_of result ≡ turns_rule }
-    ensures local { result.global ≡ false }
-{
-    number(alloc, "turns", "T", 0, 255)
-        .default_value("1")
-        .help("Track turns after each byte, 0 to 255")
-}
-
-/// `--reads R`.
-#[tactic(auto, unfolding(crate::specs::CommandLine::reads_rule))]
-fn reads<'a>(alloc: Global) -> Arg<'a>
-    ensures rule { rule_of result ≡ reads_rule }
-    ensures local { result.global ≡ false }
-{
-    number(alloc, "reads", "R", 1, u32::MAX)
-        .default_value("100000")
-        .help("The most reads of one connection")
-}
-
-/// `--connections C`.
-#[tactic(auto, unfolding(crate::specs::CommandLine::connections_rule))]
-fn connections<'a>(alloc: Global) -> Arg<'a>
-    ensures rule { rule_of result ≡ connections_rule }
-    ensures local { result.global ≡ false }
-{
-    number(alloc, "connections", "C", 1, 1000)
-        .default_value("1")
-        .help("How many connections are served, one after another, 1 to 1000")
 }
 
 /// A command that is being built, unless a growth was refused on the way.
@@ -135,7 +109,6 @@ fn with_subcommand<'a>(draft: Draft<'a>, subcommand: Draft<'a>) -> Draft<'a>
 }
 
 /// `station replay [--lines N] [--roster FILE]`.
-#[tactic(auto, unfolding(crate::specs::CommandLine::replay_app))]
 fn replay<'a>(alloc: Global) -> Draft<'a>
     ensures app { HasApp result replay_app }
     ensures local { HasNoGlobals result }
@@ -146,11 +119,19 @@ fn replay<'a>(alloc: Global) -> Draft<'a>
         "Plays a script from standard input and prints replies, packets and decoders",
         "Example: station replay --roster layout.toml < session.script",
     );
-    with_arg(with_arg(command, lines(alloc)), roster(alloc))
+    let lines = number_or(
+        alloc,
+        "lines",
+        "N",
+        1,
+        8,
+        "1",
+        "The lines of the station, 1 to 8",
+    );
+    with_arg(with_arg(command, lines), roster(alloc))
 }
 
 /// `station monitor FILE`.
-#[tactic(auto, unfolding(crate::specs::CommandLine::monitor_app))]
 fn monitor<'a>(alloc: Global) -> Draft<'a>
     ensures app { HasApp result monitor_app }
     ensures local { HasNoGlobals result }
@@ -165,7 +146,6 @@ fn monitor<'a>(alloc: Global) -> Draft<'a>
 }
 
 /// Where throttles are served, and with what layout: `station serve --port P [--roster FILE]`.
-#[tactic(auto, unfolding(crate::specs::CommandLine::served_app))]
 fn served<'a>(alloc: Global) -> Draft<'a>
     ensures app { HasApp result served_app }
     ensures local { HasNoGlobals result }
@@ -180,13 +160,38 @@ fn served<'a>(alloc: Global) -> Draft<'a>
 }
 
 /// The same, with how much is served: `[--turns T] [--reads R] [--connections C]`.
-#[tactic(auto, unfolding(crate::specs::CommandLine::serve_app))]
 fn serve<'a>(alloc: Global) -> Draft<'a>
     ensures app { HasApp result serve_app }
     ensures local { HasNoGlobals result }
 {
-    let paced = with_arg(served(alloc), turns(alloc));
-    with_arg(with_arg(paced, reads(alloc)), connections(alloc))
+    let turns = number_or(
+        alloc,
+        "turns",
+        "T",
+        0,
+        255,
+        "1",
+        "Track turns after each byte, 0 to 255",
+    );
+    let reads = number_or(
+        alloc,
+        "reads",
+        "R",
+        1,
+        u32::MAX,
+        "100000",
+        "The most reads of one connection",
+    );
+    let connections = number_or(
+        alloc,
+        "connections",
+        "C",
+        1,
+        1000,
+        "1",
+        "How many connections are served, one after another, 1 to 1000",
+    );
+    with_arg(with_arg(with_arg(served(alloc), turns), reads), connections)
 }
 
 /// The program, which wants a command. Its words come without its name, so the usage is told the name.
