@@ -1,8 +1,8 @@
 -- The command line is of the kind whose matches clap tells exactly.
 use Rattle.std.proofs.Common.{◌≡◌, true, refl}
 use Rattle.clap.specs.Words.{is_simple}
-use Rattle.command_line.specs.CommandLine.{roster_rule, lines_rule, file_rule, port_rule, turns_rule, reads_rule, connections_rule, replay_on_lines_app, replay_app, monitor_app, served_at_app, served_app, serve_app, bare_app, with_replay_app, without_server_app, station_app}
+use Rattle.command_line.specs.CommandLine.{roster_rule, lines_rule, file_rule, port_rule, turns_rule, reads_rule, connections_rule, replay_app, monitor_app, served_app, serve_app, bare_app, station_app}
 
 pub is_simple_command : is_simple station_app ≡ true
-unfolding roster_rule lines_rule file_rule port_rule turns_rule reads_rule connections_rule replay_on_lines_app replay_app monitor_app served_at_app served_app serve_app bare_app with_replay_app without_server_app station_app
+unfolding roster_rule lines_rule file_rule port_rule turns_rule reads_rule connections_rule replay_app monitor_app served_app serve_app bare_app station_app
 is_simple_command = refl

@@ -1,6 +1,8 @@
 -- The command line, as clap reads it.
-use Rattle.std.specs.Prelude.{ℕ, [], ◌∷◌, codes, Some, true, pos}
-use Rattle.clap.specs.Words.{App, Rule, Text, new_app, new_rule, with_rule, with_subcommand}
+use Rattle.std.specs.Prelude.{◌≡◌, ℕ, [], ◌∷◌, codes, Some, true, false, pos, Result, IfOk}
+use Rattle.clap.specs.Words.{App, Rule, Text, app_of, new_app, new_rule, with_rule, with_subcommand}
+use Rattle.clap.specs.declared.builder.command.Command.{Command}
+use Rattle.clap.specs.declared.builder.Command.TheViews.{out-Command as fields_of}
 use Rattle.clap.specs.declared.builder.ArgAction.TheVariants.{Set}
 use Rattle.clap.specs.declared.builder.value_parser.ValueParser.TheVariants as vp
 
@@ -46,35 +48,31 @@ reads_rule = or_else (number (codes "reads") 1 4294967295) (codes "100000")
 unfoldable pub connections_rule : Rule
 connections_rule = or_else (number (codes "connections") 1 1000) (codes "1")
 
+-- What is said of a command that is being built: nothing, if memory gave out.
+
+abbrev pub HasApp : {E : Type 0} → Result Command E → App → Type 0
+HasApp draft app = IfOk draft (λ c. app_of c ≡ app)
+
+abbrev pub HasNoGlobals : {E : Type 0} → Result Command E → Type 0
+HasNoGlobals draft = IfOk draft (λ c. (fields_of c).has_globals ≡ false)
+
 -- The commands.
 
-unfoldable pub replay_on_lines_app : App
-replay_on_lines_app = with_rule (new_app (codes "replay")) lines_rule
-
 unfoldable pub replay_app : App
-replay_app = with_rule replay_on_lines_app roster_rule
+replay_app = with_rule (with_rule (new_app (codes "replay")) lines_rule) roster_rule
 
 unfoldable pub monitor_app : App
 monitor_app = with_rule (new_app (codes "monitor")) file_rule
 
-unfoldable pub served_at_app : App
-served_at_app = with_rule (new_app (codes "serve")) port_rule
-
 unfoldable pub served_app : App
-served_app = with_rule (with_rule served_at_app roster_rule) turns_rule
+served_app = with_rule (with_rule (new_app (codes "serve")) port_rule) roster_rule
 
 unfoldable pub serve_app : App
-serve_app = with_rule (with_rule served_app reads_rule) connections_rule
+serve_app = with_rule (with_rule (with_rule served_app turns_rule) reads_rule) connections_rule
 
 -- the program's own words come without its name, and a command is wanted
 unfoldable pub bare_app : App
 bare_app = record (new_app (codes "station")) { top = record (new_app (codes "station")).top { no_binary_name = true; subcommand_required = true } }
 
-unfoldable pub with_replay_app : App
-with_replay_app = with_subcommand bare_app replay_app.top
-
-unfoldable pub without_server_app : App
-without_server_app = with_subcommand with_replay_app monitor_app.top
-
 unfoldable pub station_app : App
-station_app = with_subcommand without_server_app serve_app.top
+station_app = with_subcommand (with_subcommand (with_subcommand bare_app replay_app.top) monitor_app.top) serve_app.top

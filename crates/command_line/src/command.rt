@@ -1,8 +1,7 @@
 //! The command line, as `clap` is told of it.
 ghost use Rattle.std.specs.Prelude.{◌≡◌, IfOk, false};
-ghost use Rattle.clap.specs.Words.{app_of, rule_of};
-ghost use Rattle.clap.specs.declared.builder.Command.TheViews.{out-Command as fields_of};
-ghost use Rattle.command_line.specs.CommandLine.{option, number, roster_rule, lines_rule, file_rule, port_rule, turns_rule, reads_rule, connections_rule, replay_on_lines_app, replay_app, monitor_app, served_at_app, served_app, serve_app, bare_app, with_replay_app, without_server_app, station_app};
+ghost use Rattle.clap.specs.Words.{App, new_app, rule_of, with_rule, with_subcommand};
+ghost use Rattle.command_line.specs.CommandLine.{option, number, or_else, roster_rule, lines_rule, file_rule, port_rule, turns_rule, reads_rule, connections_rule, replay_app, monitor_app, served_app, serve_app, bare_app, station_app, HasApp, HasNoGlobals};
 
 use clap::{Arg, ArgAction, Command};
 use std::alloc::{AllocError, Global};
@@ -27,6 +26,24 @@ fn number<'a>(alloc: Global, id: &'a str, value_name: &'a str, least: u32, most:
     option(alloc, id, value_name).value_parser(clap::value_parser!(u32).range(range))
 }
 
+/// The same, where this number stands for one that is not given.
+fn number_or<'a>(
+    alloc: Global,
+    id: &'a str,
+    value_name: &'a str,
+    least: u32,
+    most: u32,
+    default: &'a str,
+    help: &'a str,
+) -> Arg<'a>
+    ensures rule { rule_of result ≡ or_else (number id.entry.now least most) default.entry.now }
+    ensures local { result.global ≡ false }
+{
+    number(alloc, id, value_name, least, most)
+        .default_value(default)
+        .help(help)
+}
+
 /// `--roster FILE`.
 #[tactic(auto, unfolding(crate::specs::CommandLine::roster_rule))]
 fn roster<'a>(alloc: Global) -> Arg<'a>
@@ -36,17 +53,6 @@ fn roster<'a>(alloc: Global) -> Arg<'a>
     option(alloc, "roster", "FILE").help(
         "The decoders of the layout, as TOML; without it there are none",
     )
-}
-
-/// `--lines N`.
-#[tactic(auto, unfolding(crate::specs::CommandLine::lines_rule))]
-fn lines<'a>(alloc: Global) -> Arg<'a>
-    ensures rule { rule_of result ≡ lines_rule }
-    ensures local { result.global ≡ false }
-{
-    number(alloc, "lines", "N", 1, 8)
-        .default_value("1")
-        .help("The lines of the station, 1 to 8")
 }
 
 /// `FILE`.
@@ -73,107 +79,126 @@ fn port<'a>(alloc: Global) -> Arg<'a>
         .help("The TCP port on 127.0.0.1, 1 to 65535")
 }
 
-/// `--turns T`.
-#[tactic(auto, unfolding(crate::specs::CommandLine::turns_rule))]
-fn turns<'a>(alloc: Global) -> Arg<'a>
-    ensures rule { rule_of result ≡ turns_rule }
-    ensures local { result.global ≡ false }
+/// A command that is being built, unless a growth was refused on the way.
+type Draft<'a> = Result<Command<'a>, AllocError>;
+
+/// A command of this name, with no arguments yet, what it is about and an example of it.
+fn described<'a>(alloc: Global, name: &'a str, about: &'a str, example: &'a str) -> Draft<'a>
+    ensures app { HasApp result (new_app name.entry.now) }
+    ensures local { HasNoGlobals result }
 {
-    number(alloc, "turns", "T", 0, 255)
-        .default_value("1")
-        .help("Track turns after each byte, 0 to 255")
+    Ok(Command::new(alloc, name).about(about).after_help(example))
 }
 
-/// `--reads R`.
-#[tactic(auto, unfolding(crate::specs::CommandLine::reads_rule))]
-fn reads<'a>(alloc: Global) -> Arg<'a>
-    ensures rule { rule_of result ≡ reads_rule }
-    ensures local { result.global ≡ false }
+/// The same command, with this argument behind those that it has.
+fn with_arg<'a>(draft: Draft<'a>, arg: Arg<'a>) -> Draft<'a>
+    requires local { arg.global ≡ false }
+    ensures app { (app : App) → HasApp draft.entry app → HasApp result (with_rule app (rule_of arg.entry)) }
+    ensures local { HasNoGlobals draft.entry → HasNoGlobals result }
 {
-    number(alloc, "reads", "R", 1, u32::MAX)
-        .default_value("100000")
-        .help("The most reads of one connection")
+    draft?.arg(arg)
 }
 
-/// `--connections C`.
-#[tactic(auto, unfolding(crate::specs::CommandLine::connections_rule))]
-fn connections<'a>(alloc: Global) -> Arg<'a>
-    ensures rule { rule_of result ≡ connections_rule }
-    ensures local { result.global ≡ false }
+/// The same command, with this subcommand behind those that it has.
+fn with_subcommand<'a>(draft: Draft<'a>, subcommand: Draft<'a>) -> Draft<'a>
+    requires local { HasNoGlobals subcommand }
+    ensures app { (app sub : App) → HasApp draft.entry app → HasApp subcommand.entry sub → HasApp result (with_subcommand app sub.top) }
+    ensures local { HasNoGlobals draft.entry → HasNoGlobals result }
 {
-    number(alloc, "connections", "C", 1, 1000)
-        .default_value("1")
-        .help("How many connections are served, one after another, 1 to 1000")
+    draft?.subcommand(subcommand?)
 }
 
-/// The replay of a script: `station replay [--lines N]`.
-#[tactic(auto, unfolding(crate::specs::CommandLine::replay_on_lines_app))]
-fn replay_on_lines<'a>(alloc: Global) -> Result<Command<'a>, AllocError>
-    ensures app { IfOk result (λ c. app_of c ≡ replay_on_lines_app) }
-    ensures local { IfOk result (λ c. (fields_of c).has_globals ≡ false) }
+/// `station replay [--lines N] [--roster FILE]`.
+fn replay<'a>(alloc: Global) -> Draft<'a>
+    ensures app { HasApp result replay_app }
+    ensures local { HasNoGlobals result }
 {
-    Command::new(alloc, "replay")
-        .about("Plays a script from standard input and prints replies, packets and decoders")
-        .after_help("Example: station replay --roster layout.toml < session.script")
-        .arg(lines(alloc))
-}
-
-/// The same, with the layout that is played to: `[--roster FILE]`.
-#[tactic(auto, unfolding(crate::specs::CommandLine::replay_app))]
-fn replay<'a>(alloc: Global) -> Result<Command<'a>, AllocError>
-    ensures app { IfOk result (λ c. app_of c ≡ replay_app) }
-    ensures local { IfOk result (λ c. (fields_of c).has_globals ≡ false) }
-{
-    replay_on_lines(alloc)?.arg(roster(alloc))
+    let command = described(
+        alloc,
+        "replay",
+        "Plays a script from standard input and prints replies, packets and decoders",
+        "Example: station replay --roster layout.toml < session.script",
+    );
+    let lines = number_or(
+        alloc,
+        "lines",
+        "N",
+        1,
+        8,
+        "1",
+        "The lines of the station, 1 to 8",
+    );
+    with_arg(with_arg(command, lines), roster(alloc))
 }
 
 /// `station monitor FILE`.
-#[tactic(auto, unfolding(crate::specs::CommandLine::monitor_app))]
-fn monitor<'a>(alloc: Global) -> Result<Command<'a>, AllocError>
-    ensures app { IfOk result (λ c. app_of c ≡ monitor_app) }
-    ensures local { IfOk result (λ c. (fields_of c).has_globals ≡ false) }
+fn monitor<'a>(alloc: Global) -> Draft<'a>
+    ensures app { HasApp result monitor_app }
+    ensures local { HasNoGlobals result }
 {
-    Command::new(alloc, "monitor")
-        .about("Prints the messages in captured bytes")
-        .after_help("Example: station monitor capture.hex")
-        .arg(file(alloc))
+    let command = described(
+        alloc,
+        "monitor",
+        "Prints the messages in captured bytes",
+        "Example: station monitor capture.hex",
+    );
+    with_arg(command, file(alloc))
 }
 
-/// Where throttles are served: `station serve --port P`.
-#[tactic(auto, unfolding(crate::specs::CommandLine::served_at_app))]
-fn served_at<'a>(alloc: Global) -> Result<Command<'a>, AllocError>
-    ensures app { IfOk result (λ c. app_of c ≡ served_at_app) }
-    ensures local { IfOk result (λ c. (fields_of c).has_globals ≡ false) }
+/// Where throttles are served, and with what layout: `station serve --port P [--roster FILE]`.
+fn served<'a>(alloc: Global) -> Draft<'a>
+    ensures app { HasApp result served_app }
+    ensures local { HasNoGlobals result }
 {
-    Command::new(alloc, "serve")
-        .about("Serves throttles over TCP, one connection after another")
-        .after_help("Example: station serve --port 5550 --roster layout.toml --turns 4")
-        .arg(port(alloc))
+    let command = described(
+        alloc,
+        "serve",
+        "Serves throttles over TCP, one connection after another",
+        "Example: station serve --port 5550 --roster layout.toml --turns 4",
+    );
+    with_arg(with_arg(command, port(alloc)), roster(alloc))
 }
 
-/// The same, with the layout that is served: `[--roster FILE] [--turns T]`.
-#[tactic(auto, unfolding(crate::specs::CommandLine::served_app))]
-fn served<'a>(alloc: Global) -> Result<Command<'a>, AllocError>
-    ensures app { IfOk result (λ c. app_of c ≡ served_app) }
-    ensures local { IfOk result (λ c. (fields_of c).has_globals ≡ false) }
+/// The same, with how much is served: `[--turns T] [--reads R] [--connections C]`.
+fn serve<'a>(alloc: Global) -> Draft<'a>
+    ensures app { HasApp result serve_app }
+    ensures local { HasNoGlobals result }
 {
-    served_at(alloc)?.arg(roster(alloc))?.arg(turns(alloc))
-}
-
-/// The same, with how much is served: `[--reads R] [--connections C]`.
-#[tactic(auto, unfolding(crate::specs::CommandLine::serve_app))]
-fn serve<'a>(alloc: Global) -> Result<Command<'a>, AllocError>
-    ensures app { IfOk result (λ c. app_of c ≡ serve_app) }
-    ensures local { IfOk result (λ c. (fields_of c).has_globals ≡ false) }
-{
-    served(alloc)?.arg(reads(alloc))?.arg(connections(alloc))
+    let turns = number_or(
+        alloc,
+        "turns",
+        "T",
+        0,
+        255,
+        "1",
+        "Track turns after each byte, 0 to 255",
+    );
+    let reads = number_or(
+        alloc,
+        "reads",
+        "R",
+        1,
+        u32::MAX,
+        "100000",
+        "The most reads of one connection",
+    );
+    let connections = number_or(
+        alloc,
+        "connections",
+        "C",
+        1,
+        1000,
+        "1",
+        "How many connections are served, one after another, 1 to 1000",
+    );
+    with_arg(with_arg(with_arg(served(alloc), turns), reads), connections)
 }
 
 /// The program, which wants a command. Its words come without its name, so the usage is told the name.
 #[tactic(auto, unfolding(crate::specs::CommandLine::bare_app))]
-fn program<'a>(alloc: Global) -> Result<Command<'a>, AllocError>
-    ensures app { IfOk result (λ c. app_of c ≡ bare_app) }
-    ensures local { IfOk result (λ c. (fields_of c).has_globals ≡ false) }
+fn program<'a>(alloc: Global) -> Draft<'a>
+    ensures app { HasApp result bare_app }
+    ensures local { HasNoGlobals result }
 {
     Command::new(alloc, "station")
         .about("A LocoNet command station, with the DCC decoders on its track")
@@ -185,28 +210,13 @@ fn program<'a>(alloc: Global) -> Result<Command<'a>, AllocError>
         .bin_name("station")
 }
 
-/// The program with its first command.
-#[tactic(auto, unfolding(crate::specs::CommandLine::with_replay_app))]
-fn with_replay<'a>(alloc: Global) -> Result<Command<'a>, AllocError>
-    ensures app { IfOk result (λ c. app_of c ≡ with_replay_app) }
-    ensures local { IfOk result (λ c. (fields_of c).has_globals ≡ false) }
-{
-    program(alloc)?.subcommand(replay(alloc)?)
-}
-
-/// The program with the commands that come to an end by themselves.
-#[tactic(auto, unfolding(crate::specs::CommandLine::without_server_app))]
-fn without_server<'a>(alloc: Global) -> Result<Command<'a>, AllocError>
-    ensures app { IfOk result (λ c. app_of c ≡ without_server_app) }
-    ensures local { IfOk result (λ c. (fields_of c).has_globals ≡ false) }
-{
-    with_replay(alloc)?.subcommand(monitor(alloc)?)
-}
-
 /// The whole command line.
-#[tactic(auto, unfolding(crate::specs::CommandLine::station_app))]
-pub(crate) fn station_command<'a>(alloc: Global) -> Result<Command<'a>, AllocError>
-    ensures { IfOk result (λ c. app_of c ≡ station_app) }
+pub(crate) fn station_command<'a>(alloc: Global) -> Draft<'a>
+    ensures { HasApp result station_app }
 {
-    without_server(alloc)?.subcommand(serve(alloc)?)
+    let at_hand = with_subcommand(
+        with_subcommand(program(alloc), replay(alloc)),
+        monitor(alloc),
+    );
+    with_subcommand(at_hand, serve(alloc))
 }

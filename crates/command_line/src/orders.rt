@@ -162,7 +162,6 @@ fn matched(alloc: Global, matches: &ArgMatches<'_>) -> Result<Order, OrderFault>
 }
 
 /// What clap makes of the words.
-#[tactic(auto, using(crate::proofs::Simple::is_simple_command))]
 fn matches_of<'a>(alloc: Global, words: &'a [&'a str]) -> Result<ArgMatches<'a>, Error>
     ensures { IfOk result (λ m. subcommand_rows_of m ≡ subcommand_of station_app (map (λ word. word.now) words.entry.now)) }
 {

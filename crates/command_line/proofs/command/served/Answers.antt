@@ -1,0 +1,8 @@
+use Rattle.command_line.specs.CommandLine.{served_app}
+use Rattle.command_line.proofs.command.served.Goals as goal
+
+pub returns-clause-app : goal.returns-clause-app
+unfolding served_app
+returns-clause-app c =
+    let built = c.with_arg-2.ensures.app _ (c.with_arg.ensures.app _ c.described-command.ensures.app) in
+    rw (c.port.ensures.rule, c.roster.ensures.rule) at built
