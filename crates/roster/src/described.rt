@@ -116,7 +116,10 @@ fn read_accessory<'a>(table: &'a Table) -> Result<Described<'a>, Why>
 fn loco_of_four(cv1: i64, cv17: i64, cv18: i64, cv29: i64) -> Result<NodeSpec, Why>
     ensures { result ≡ decoder_of (Loco cv1 cv17 cv18 cv29) }
 {
-    loco(CvSet::new(byte(cv1)?, byte(cv17)?, byte(cv18)?, byte(cv29)?))
+    match (byte(cv1), byte(cv17), byte(cv18), byte(cv29)) {
+        (Ok(cv1), Ok(cv17), Ok(cv18), Ok(cv29)) => loco(CvSet::new(cv1, cv17, cv18, cv29)),
+        _ => Err(Why::BadCv),
+    }
 }
 
 /// The value of a configuration variable, or `BadCv` outside 0 to 255.

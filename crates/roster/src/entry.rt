@@ -43,7 +43,9 @@ impl Entry {
         ensures answer { result ≡ entry_of version earlier.now (view value.now) }
         ensures free { IfOk result (λ entry. IsTrue (is_free earlier.now entry.name)) }
     {
-        let table = value.as_table().ok_or(Why::BadShape)?;
+        let Some(table) = value.as_table() else {
+            return Err(Why::BadShape);
+        };
         let name = text_at(table, "name")?;
         let described = Described::read(version, text_at(table, "kind")?, table)?;
         Entry::of(earlier, name, described)

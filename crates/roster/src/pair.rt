@@ -18,7 +18,10 @@ impl Pair {
     pub(crate) fn read(value: &Value) -> Option<Pair>
         ensures { result ≡ pair_of (view value.now) }
     {
-        pair_in(value.as_array()?.as_slice())
+        match value.as_array() {
+            Some(values) => pair_in(values.as_slice()),
+            None => None,
+        }
     }
 
     /// Whether the value is a byte, 0 to 255.
@@ -47,10 +50,10 @@ fn pair_in(values: &[Value]) -> Option<Pair>
     ensures { result ≡ of_items (map view values.now) }
 {
     match values {
-        [number, value] => Some(Pair {
-            number: number.as_integer()?,
-            value: value.as_integer()?,
-        }),
+        [number, value] => match (number.as_integer(), value.as_integer()) {
+            (Some(number), Some(value)) => Some(Pair { number, value }),
+            _ => None,
+        },
         _ => None,
     }
 }

@@ -86,9 +86,14 @@ fn read_table(table: &Table) -> Result<Roster, RosterFault>
     ensures roster { IfOk result IsRoster }
     ensures memory { IfErr result (λ fault. fault.why ≢ NoMemory) }
 {
-    let version = read_version(table).map_err(of_all)?;
-    let values = read_nodes(table).map_err(of_all)?;
-    Ok(Roster::new(read_entries(version, values)?))
+    let version = match read_version(table) {
+        Ok(version) => version,
+        Err(why) => return Err(of_all(why)),
+    };
+    match read_nodes(table) {
+        Ok(values) => Ok(Roster::new(read_entries(version, values)?)),
+        Err(why) => Err(of_all(why)),
+    }
 }
 
 /// The version of the format, or `BadShape` of the top level.
