@@ -46,8 +46,10 @@ impl Entry {
         let Some(table) = value.as_table() else {
             return Err(Why::BadShape);
         };
-        let name = text_at(table, "name")?;
-        let described = Described::read(version, text_at(table, "kind")?, table)?;
+        let (Some(name), Some(kind)) = (text_at(table, "name"), text_at(table, "kind")) else {
+            return Err(Why::BadShape);
+        };
+        let described = Described::read(version, kind, table)?;
         Entry::of(earlier, name, described)
     }
 

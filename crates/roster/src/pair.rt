@@ -18,10 +18,7 @@ impl Pair {
     pub(crate) fn read(value: &Value) -> Option<Pair>
         ensures { result ≡ pair_of (view value.now) }
     {
-        match value.as_array() {
-            Some(values) => pair_in(values.as_slice()),
-            None => None,
-        }
+        pair_in(value.as_array()?.as_slice())
     }
 
     /// Whether the value is a byte, 0 to 255.

@@ -104,7 +104,10 @@ fn read_version(table: &Table) -> Result<Version, Why>
     if !knows_only(table, &["version", "node"]) {
         return Err(Why::BadShape);
     }
-    Version::of_number(integer_at(table, "version")?)
+    match integer_at(table, "version") {
+        Some(number) => Version::of_number(number),
+        None => Err(Why::BadShape),
+    }
 }
 
 /// The members of `node`, 1 to 64, or `BadShape`, `Empty` or `TooMany`.
