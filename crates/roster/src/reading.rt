@@ -86,13 +86,9 @@ fn read_table(table: &Table) -> Result<Roster, RosterFault>
     ensures roster { IfOk result IsRoster }
     ensures memory { IfErr result (λ fault. fault.why ≢ NoMemory) }
 {
-    let version = match read_version(table) {
-        Ok(version) => version,
-        Err(why) => return Err(of_all(why)),
-    };
-    match read_nodes(table) {
-        Ok(values) => Ok(Roster::new(read_entries(version, values)?)),
-        Err(why) => Err(of_all(why)),
+    match (read_version(table), read_nodes(table)) {
+        (Ok(version), Ok(values)) => Ok(Roster::new(read_entries(version, values)?)),
+        (Err(why), _) | (_, Err(why)) => Err(of_all(why)),
     }
 }
 

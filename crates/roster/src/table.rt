@@ -43,14 +43,14 @@ pub(crate) fn value_at<'a>(table: &'a Table, key: &str) -> Option<&'a Value>
 pub(crate) fn text_at<'a>(table: &'a Table, key: &str) -> Option<&'a str>
     ensures { or_fault (option_map (λ text. text.now) result) BadShape ≡ text_at key.now (table_view table.now) }
 {
-    value_at(table, key)?.as_str()
+    value_at(table, key).and_then(Value::as_str)
 }
 
 /// The integer at a key, if there is one.
 pub(crate) fn integer_at(table: &Table, key: &str) -> Option<i64>
     ensures { or_fault result BadShape ≡ integer_at key.now (table_view table.now) }
 {
-    value_at(table, key)?.as_integer()
+    value_at(table, key).and_then(Value::as_integer)
 }
 
 /// The integer at a key, if there is one, or `default` where the key is left out.

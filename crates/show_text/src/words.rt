@@ -54,7 +54,7 @@ fn hex_digit(digit: u8) -> Option<u8>
     ensures { result ≡ digit_of digit }
 {
     match digit {
-        _ if digit.is_ascii_digit() => Some(digit - b'0'),
+        b'0'..=b'9' => Some(digit - b'0'),
         b'A'..=b'F' => Some(digit - b'A' + 10),
         b'a'..=b'f' => Some(digit - b'a' + 10),
         _ => None,
@@ -65,7 +65,10 @@ fn hex_digit(digit: u8) -> Option<u8>
 pub(crate) fn hex_byte(high: u8, low: u8) -> Option<u8>
     ensures { result ≡ both (digit_of high) (digit_of low) }
 {
-    Some(16 * hex_digit(high)? + hex_digit(low)?)
+    match (hex_digit(high), hex_digit(low)) {
+        (Some(high), Some(low)) => Some(16 * high + low),
+        _ => None,
+    }
 }
 
 /// The byte that a word of two hexadecimal digits writes.
