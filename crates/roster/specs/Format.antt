@@ -26,7 +26,7 @@ use Rattle.roster.specs.Toml.{table_in, items_len, knows_only, text_at, integer_
 
 -- Node by node. First the shape of its table: which keys it has, and of which types their values are.
 
--- version 1: a key for each of the four variables
+-- version 1: the four variables, each at a key of its own; 17 and 18 may be left out, and are 192 and 0 then
 abbrev pub variables_in : Members → Result Described Why
 variables_in table = do
   cv1 ← integer_at (codes "cv1") table
@@ -35,6 +35,7 @@ variables_in table = do
   cv29 ← integer_at (codes "cv29") table
   Ok (Loco cv1 cv17 cv18 cv29)
 
+-- and no other keys
 abbrev pub loco_in_keys : Members → Result Described Why
 loco_in_keys table =
     if knows_only (codes "name" ∷ codes "kind" ∷ codes "cv1" ∷ codes "cv17" ∷ codes "cv18" ∷ codes "cv29" ∷ []) table

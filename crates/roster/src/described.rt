@@ -79,12 +79,21 @@ fn read_keys<'a>(table: &'a Table) -> Result<Described<'a>, Why>
 fn read_variables<'a>(table: &'a Table) -> Result<Described<'a>, Why>
     ensures { result ≡ variables_in (table_view table.now) }
 {
-    Ok(Described::Loco {
-        cv1: integer_at(table, "cv1")?,
-        cv17: integer_or(table, "cv17", 192)?,
-        cv18: integer_or(table, "cv18", 0)?,
-        cv29: integer_at(table, "cv29")?,
-    })
+    let values = (
+        integer_at(table, "cv1"),
+        integer_or(table, "cv17", 192),
+        integer_or(table, "cv18", 0),
+        integer_at(table, "cv29"),
+    );
+    match values {
+        (Some(cv1), Some(cv17), Some(cv18), Some(cv29)) => Ok(Described::Loco {
+            cv1,
+            cv17,
+            cv18,
+            cv29,
+        }),
+        _ => Err(Why::BadShape),
+    }
 }
 
 /// A locomotive of version 2, with a list of variables.
@@ -94,12 +103,11 @@ fn read_list<'a>(table: &'a Table) -> Result<Described<'a>, Why>
     if !knows_only(table, &["name", "kind", "cvs"]) {
         return Err(Why::BadShape);
     }
-    match value_at(table, "cvs") {
-        Some(value) => Ok(Described::Listed {
-            pairs: Pairs::read(value)?,
-        }),
-        None => Err(Why::BadShape),
-    }
+    let Some(value) = value_at(table, "cvs") else {
+        return Err(Why::BadShape);
+    };
+    let pairs = Pairs::read(value)?;
+    Ok(Described::Listed { pairs })
 }
 
 fn read_accessory<'a>(table: &'a Table) -> Result<Described<'a>, Why>
@@ -108,15 +116,20 @@ fn read_accessory<'a>(table: &'a Table) -> Result<Described<'a>, Why>
     if !knows_only(table, &["name", "kind", "module"]) {
         return Err(Why::BadShape);
     }
-    let module = integer_at(table, "module")?;
-    Ok(Described::Accessory { module })
+    match integer_at(table, "module") {
+        Some(module) => Ok(Described::Accessory { module }),
+        None => Err(Why::BadShape),
+    }
 }
 
 /// The locomotive decoder with these values of its four variables, or `BadCv`.
 fn loco_of_four(cv1: i64, cv17: i64, cv18: i64, cv29: i64) -> Result<NodeSpec, Why>
     ensures { result ≡ decoder_of (Loco cv1 cv17 cv18 cv29) }
 {
-    loco(CvSet::new(byte(cv1)?, byte(cv17)?, byte(cv18)?, byte(cv29)?))
+    match (byte(cv1), byte(cv17), byte(cv18), byte(cv29)) {
+        (Ok(cv1), Ok(cv17), Ok(cv18), Ok(cv29)) => loco(CvSet::new(cv1, cv17, cv18, cv29)),
+        _ => Err(Why::BadCv),
+    }
 }
 
 /// The value of a configuration variable, or `BadCv` outside 0 to 255.

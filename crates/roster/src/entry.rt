@@ -43,9 +43,13 @@ impl Entry {
         ensures answer { result ≡ entry_of version earlier.now (view value.now) }
         ensures free { IfOk result (λ entry. IsTrue (is_free earlier.now entry.name)) }
     {
-        let table = value.as_table().ok_or(Why::BadShape)?;
-        let name = text_at(table, "name")?;
-        let described = Described::read(version, text_at(table, "kind")?, table)?;
+        let Some(table) = value.as_table() else {
+            return Err(Why::BadShape);
+        };
+        let (Some(name), Some(kind)) = (text_at(table, "name"), text_at(table, "kind")) else {
+            return Err(Why::BadShape);
+        };
+        let described = Described::read(version, kind, table)?;
         Entry::of(earlier, name, described)
     }
 

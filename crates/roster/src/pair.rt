@@ -47,10 +47,10 @@ fn pair_in(values: &[Value]) -> Option<Pair>
     ensures { result ≡ of_items (map view values.now) }
 {
     match values {
-        [number, value] => Some(Pair {
-            number: number.as_integer()?,
-            value: value.as_integer()?,
-        }),
+        [number, value] => match (number.as_integer(), value.as_integer()) {
+            (Some(number), Some(value)) => Some(Pair { number, value }),
+            _ => None,
+        },
         _ => None,
     }
 }

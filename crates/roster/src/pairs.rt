@@ -112,7 +112,10 @@ fn cv_pairs(values: &[Value]) -> Option<CvPairs>
     let mut pairs = CvPairs::new();
     for value in values {
         if let Some(pair) = Pair::read(value) {
-            pairs.try_push(pair.cv_pair()?).ok()?;
+            let pair = pair.cv_pair()?;
+            if pairs.try_push(pair).is_err() {
+                return None;
+            }
         }
     }
     Some(pairs)

@@ -86,9 +86,10 @@ fn read_table(table: &Table) -> Result<Roster, RosterFault>
     ensures roster { IfOk result IsRoster }
     ensures memory { IfErr result (λ fault. fault.why ≢ NoMemory) }
 {
-    let version = read_version(table).map_err(of_all)?;
-    let values = read_nodes(table).map_err(of_all)?;
-    Ok(Roster::new(read_entries(version, values)?))
+    match (read_version(table), read_nodes(table)) {
+        (Ok(version), Ok(values)) => Ok(Roster::new(read_entries(version, values)?)),
+        (Err(why), _) | (_, Err(why)) => Err(of_all(why)),
+    }
 }
 
 /// The version of the format, or `BadShape` of the top level.
@@ -99,7 +100,10 @@ fn read_version(table: &Table) -> Result<Version, Why>
     if !knows_only(table, &["version", "node"]) {
         return Err(Why::BadShape);
     }
-    Version::of_number(integer_at(table, "version")?)
+    match integer_at(table, "version") {
+        Some(number) => Version::of_number(number),
+        None => Err(Why::BadShape),
+    }
 }
 
 /// The members of `node`, 1 to 64, or `BadShape`, `Empty` or `TooMany`.

@@ -1,13 +1,14 @@
 //! What a table of TOML holds at its keys.
-ghost use Rattle.std.specs.Prelude.{◌≡◌, MatchResult, Ok, Err, map, option_map, string_bytes};
+ghost use Rattle.std.specs.Prelude.{◌≡◌, map, option_map, string_bytes};
 ghost use Rattle.std.specs.BTreeMap.{keys};
 ghost use Rattle.std.specs.List.{list_all, list_any};
 ghost use Rattle.std.specs.Str.{bytes_eq};
 ghost use Rattle.toml.specs.Data.{get_member};
 ghost use Rattle.toml.specs.View.{table_view, view};
+ghost use Rattle.roster.specs.declared.fault.Why.TheVariants.{BadShape};
+ghost use Rattle.roster.specs.Steps.{or_fault};
 ghost use Rattle.roster.specs.Toml.{integer_at, integer_or, knows_only, text_at};
 
-use crate::fault::Why;
 use toml::{Table, Value};
 
 /// Whether the key is one of these.
@@ -38,32 +39,26 @@ pub(crate) fn value_at<'a>(table: &'a Table, key: &str) -> Option<&'a Value>
     table.get(key)
 }
 
-/// The text at a key, which has to be there.
-pub(crate) fn text_at<'a>(table: &'a Table, key: &str) -> Result<&'a str, Why>
-    ensures { MatchResult result (λ text. text_at key.now (table_view table.now) ≡ Ok text.now) (λ why. text_at key.now (table_view table.now) ≡ Err why) }
+/// The text at a key, if there is one.
+pub(crate) fn text_at<'a>(table: &'a Table, key: &str) -> Option<&'a str>
+    ensures { or_fault (option_map (λ text. text.now) result) BadShape ≡ text_at key.now (table_view table.now) }
 {
-    match value_at(table, key) {
-        Some(value) => value.as_str().ok_or(Why::BadShape),
-        None => Err(Why::BadShape),
-    }
+    value_at(table, key).and_then(Value::as_str)
 }
 
-/// The integer at a key, which has to be there.
-pub(crate) fn integer_at(table: &Table, key: &str) -> Result<i64, Why>
-    ensures { result ≡ integer_at key.now (table_view table.now) }
+/// The integer at a key, if there is one.
+pub(crate) fn integer_at(table: &Table, key: &str) -> Option<i64>
+    ensures { or_fault result BadShape ≡ integer_at key.now (table_view table.now) }
 {
-    match value_at(table, key) {
-        Some(value) => value.as_integer().ok_or(Why::BadShape),
-        None => Err(Why::BadShape),
-    }
+    value_at(table, key).and_then(Value::as_integer)
 }
 
-/// The integer at a key, or `default` where the key is left out.
-pub(crate) fn integer_or(table: &Table, key: &str, default: i64) -> Result<i64, Why>
-    ensures { result ≡ integer_or (get_member key.now (table_view table.now)) default }
+/// The integer at a key, if there is one, or `default` where the key is left out.
+pub(crate) fn integer_or(table: &Table, key: &str, default: i64) -> Option<i64>
+    ensures { or_fault result BadShape ≡ integer_or (get_member key.now (table_view table.now)) default }
 {
     match value_at(table, key) {
-        Some(value) => value.as_integer().ok_or(Why::BadShape),
-        None => Ok(default),
+        Some(value) => value.as_integer(),
+        None => Some(default),
     }
 }

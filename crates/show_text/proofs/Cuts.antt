@@ -111,14 +111,14 @@ pair_last high low n h =
 abbrev BeginsWith : ℕ → List ℕ → List ℕ → Type 0
 BeginsWith byte text rest = (word : List ℕ) × (words_of text ≡ word ∷ words_of rest) × (pair_of word ≡ Some byte)
 
-pub pair_before_blank : (text : List ℕ) (byte : ℕ) → 3 ≤ length text → both (digit_of (get_or text 0 0)) (digit_of (get_or text 1 0)) ≡ Some byte → is_blank (get_or text 2 0) ≡ true
-    → BeginsWith byte text (drop 3 text)
+pub pair_before_blank : (text : List ℕ) (byte : ℕ) → 3 ≤ length text → both (digit_of (get_or text 0 0)) (digit_of (get_or text 1 0)) ≡ Some byte → is_blank (get_or (drop 2 text) 0 0) ≡ true
+    → BeginsWith byte text (drop 1 (drop 2 text))
 pair_before_blank [] byte some h blank = absurd (omega arith)
 pair_before_blank (high ∷ []) byte some h blank = absurd (omega arith)
 pair_before_blank (high ∷ low ∷ []) byte some h blank = absurd (omega arith)
 pair_before_blank (high ∷ low ∷ b ∷ rest) byte some h blank = (high ∷ low ∷ [], pair_first high low b byte rest h blank, h)
 
-pub pair_alone : (text : List ℕ) (byte : ℕ) → length text ≡ 2 → both (digit_of (get_or text 0 0)) (digit_of (get_or text 1 0)) ≡ Some byte → BeginsWith byte text []
+pub pair_alone : (text : List ℕ) (byte : ℕ) → length text ≡ 2 → both (digit_of (get_or text 0 0)) (digit_of (get_or text 1 0)) ≡ Some byte → BeginsWith byte text (drop 2 text)
 pair_alone [] byte some h = absurd (omega arith)
 pair_alone (high ∷ []) byte some h = absurd (omega arith)
 pair_alone (high ∷ low ∷ []) byte some h = (high ∷ low ∷ [], pair_last high low byte h, h)

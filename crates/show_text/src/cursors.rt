@@ -101,9 +101,13 @@ fn cut_piece(text: &[u8]) -> (&[u8], &[u8])
 fn cut_byte(text: &[u8]) -> Option<(u8, &[u8])>
     ensures { IfSome result (λ cut. (word : List ℕ) × (words_of text.now ≡ word ∷ words_of cut.1.now) × (pair_of word ≡ Some cut.0)) }
 {
-    match text {
-        [high, low, blank, rest @ ..] if is_blank(*blank) => Some((hex_byte(*high, *low)?, rest)),
-        [high, low] => Some((hex_byte(*high, *low)?, &[])),
+    let [high, low, behind @ ..] = text else {
+        return None;
+    };
+    let byte = hex_byte(*high, *low)?;
+    match behind {
+        [] => Some((byte, behind)),
+        [blank, rest @ ..] if is_blank(*blank) => Some((byte, rest)),
         _ => None,
     }
 }
@@ -186,9 +190,12 @@ impl<'a> Words<'a> {
             self.0 = rest;
             return Ok(Some(byte));
         }
-        match self.next() {
-            None => Ok(None),
-            Some(word) => Ok(Some(hex_pair(word).ok_or(Why::BadHex)?)),
+        let Some(word) = self.next() else {
+            return Ok(None);
+        };
+        match hex_pair(word) {
+            Some(byte) => Ok(Some(byte)),
+            None => Err(Why::BadHex),
         }
     }
 }

@@ -88,11 +88,13 @@ pub fn read_hex(alloc: Global, text: &[u8]) -> Result<Vec<u8>, HexFault>
         let at = (text.len() - rest.len()) as u64;
         let (piece, after) = cut_piece(rest);
         if !piece.is_empty() {
-            let bad = HexFault {
-                why: HexWhy::BadHex,
-                at,
+            let Some(byte) = hex_pair(piece) else {
+                return Err(HexFault {
+                    why: HexWhy::BadHex,
+                    at,
+                });
             };
-            bytes.push(hex_pair(piece).ok_or(bad)?)?;
+            bytes.push(byte)?;
         }
         rest = after;
     }

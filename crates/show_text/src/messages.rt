@@ -2,11 +2,32 @@
 ghost use Rattle.std.specs.Prelude.{◌≡◌, ◌≤◌, ◌+◌, ◌++◌, length, true};
 ghost use Rattle.std.specs.Fmt.{decimal};
 ghost use Rattle.arrayvec.specs.ArrayString.{array_string_len};
+ghost use Rattle.ln_ops.specs.Slot.{address_with};
 ghost use Rattle.show_text.specs.Messages.{switch_text, fields_text, packet_text, pair_text, is_pair, op_text, message_text};
 
 use crate::line::{Line, push_bytes, push_field};
 use ln_frame::Msg;
 use ln_ops::{Op, SlotFields, read};
+
+/// A label with a byte behind it.
+fn push_byte_field(line: &mut Line, label: &str, n: u8)
+    requires label { length label.now ≤ 20 }
+    requires room { array_string_len line.old ≤ 615 }
+    ensures text { line.new.bytes ≡ line.old.bytes ++ (label.now ++ decimal n) }
+    ensures len { array_string_len line.new ≤ array_string_len line.old + length label.now + 5 }
+{
+    push_field(line, label, u16::from(n));
+}
+
+/// A label with an address behind it, of which a message has two halves.
+fn push_address(line: &mut Line, label: &str, high: u8, low: u8)
+    requires label { length label.now ≤ 20 }
+    requires room { array_string_len line.old ≤ 615 }
+    ensures text { line.new.bytes ≡ line.old.bytes ++ (label.now ++ decimal (address_with high low)) }
+    ensures len { array_string_len line.new ≤ array_string_len line.old + length label.now + 5 }
+{
+    push_field(line, label, u16::from(high) * 128 + u16::from(low));
+}
 
 /// Two labels, each with a byte behind it.
 fn push_pair(line: &mut Line, first: &str, n: u8, second: &str, m: u8)
@@ -16,8 +37,8 @@ fn push_pair(line: &mut Line, first: &str, n: u8, second: &str, m: u8)
     ensures text { line.new.bytes ≡ line.old.bytes ++ pair_text first.now n second.now m }
     ensures len { array_string_len line.new ≤ array_string_len line.old + length first.now + length second.now + 10 }
 {
-    push_field(line, first, u16::from(n));
-    push_field(line, second, u16::from(m));
+    push_byte_field(line, first, n);
+    push_byte_field(line, second, m);
 }
 
 /// `switch N closed on`, by either label.
@@ -36,12 +57,11 @@ fn push_fields(line: &mut Line, fields: &SlotFields)
     requires { array_string_len line.old ≤ 400 }
     ensures { line.new.bytes ≡ line.old.bytes ++ fields_text fields.now }
 {
-    let address = u16::from(fields.adr2) * 128 + u16::from(fields.adr);
     push_pair(line, "slot ", fields.slot, " stat ", fields.stat);
-    push_field(line, " address ", address);
+    push_address(line, " address ", fields.adr2, fields.adr);
     push_pair(line, " spd ", fields.spd, " dirf ", fields.dirf);
     push_pair(line, " trk ", fields.trk, " ss2 ", fields.ss2);
-    push_field(line, " snd ", u16::from(fields.snd));
+    push_byte_field(line, " snd ", fields.snd);
     push_pair(line, " ids ", fields.id1, " ", fields.id2);
 }
 
@@ -50,49 +70,47 @@ fn push_packet(line: &mut Line, count: u8, bytes: [u8; 5])
     requires { array_string_len line.old ≤ 590 }
     ensures { line.new.bytes ≡ line.old.bytes ++ packet_text count bytes }
 {
-    push_field(line, "imm ", u16::from(count));
+    push_byte_field(line, "imm ", count);
     push_bytes(line, &bytes);
 }
 
 /// What an operation of two numbers asks or tells.
-fn push_pair_op(line: &mut Line, op: &Op)
-    requires pair { is_pair op.now ≡ true }
+fn push_pair_op(line: &mut Line, op: Op)
+    requires pair { is_pair op ≡ true }
     requires room { array_string_len line.old ≤ 590 }
-    ensures { line.new.bytes ≡ line.old.bytes ++ op_text op.now }
+    ensures { line.new.bytes ≡ line.old.bytes ++ op_text op }
 {
     match op {
-        Op::Speed { slot, spd } => push_pair(line, "speed slot ", *slot, " spd ", *spd),
-        Op::Dirf { slot, dirf } => push_pair(line, "dirf slot ", *slot, " dirf ", *dirf),
-        Op::Snd { slot, snd } => push_pair(line, "snd slot ", *slot, " snd ", *snd),
-        Op::LongAck { opc, ack } => push_pair(line, "ack opc ", *opc, " code ", *ack),
-        Op::SlotStat { slot, stat } => push_pair(line, "status slot ", *slot, " stat ", *stat),
-        Op::Move { src, dest } => push_pair(line, "move ", *src, " ", *dest),
+        Op::Speed { slot, spd } => push_pair(line, "speed slot ", slot, " spd ", spd),
+        Op::Dirf { slot, dirf } => push_pair(line, "dirf slot ", slot, " dirf ", dirf),
+        Op::Snd { slot, snd } => push_pair(line, "snd slot ", slot, " snd ", snd),
+        Op::LongAck { opc, ack } => push_pair(line, "ack opc ", opc, " code ", ack),
+        Op::SlotStat { slot, stat } => push_pair(line, "status slot ", slot, " stat ", stat),
+        Op::Move { src, dest } => push_pair(line, "move ", src, " ", dest),
         _ => {}
     }
 }
 
 /// What the message asks or tells.
-fn push_op(line: &mut Line, op: &Op)
+fn push_op(line: &mut Line, op: Op)
     requires { array_string_len line.old ≤ 385 }
-    ensures { line.new.bytes ≡ line.old.bytes ++ op_text op.now }
+    ensures { line.new.bytes ≡ line.old.bytes ++ op_text op }
 {
     match op {
         Op::PowerOff => line.push_str("power off"),
         Op::PowerOn => line.push_str("power on"),
         Op::ForceIdle => line.push_str("force idle"),
-        Op::SwReq { number, closed, on } => push_switch(line, "switch ", *number, *closed, *on),
-        Op::SwAck { number, closed, on } => push_switch(line, "switch-ack ", *number, *closed, *on),
-        Op::SlotRead { slot } => push_field(line, "read slot ", u16::from(*slot)),
-        Op::LocoAddr { high, low } => {
-            push_field(line, "address ", u16::from(*high) * 128 + u16::from(*low));
-        }
+        Op::SwReq { number, closed, on } => push_switch(line, "switch ", number, closed, on),
+        Op::SwAck { number, closed, on } => push_switch(line, "switch-ack ", number, closed, on),
+        Op::SlotRead { slot } => push_byte_field(line, "read slot ", slot),
+        Op::LocoAddr { high, low } => push_address(line, "address ", high, low),
         Op::SlotData(fields) => {
             line.push_str("slot-data ");
-            push_fields(line, fields);
+            push_fields(line, &fields);
         }
         Op::SlotWrite(fields) => {
             line.push_str("slot-write ");
-            push_fields(line, fields);
+            push_fields(line, &fields);
         }
         Op::Imm {
             count,
@@ -101,7 +119,7 @@ fn push_op(line: &mut Line, op: &Op)
             im3,
             im4,
             im5,
-        } => push_packet(line, *count, [*im1, *im2, *im3, *im4, *im5]),
+        } => push_packet(line, count, [im1, im2, im3, im4, im5]),
         Op::Other => line.push_str("other"),
         _ => push_pair_op(line, op),
     }
@@ -116,6 +134,6 @@ pub fn message_line(message: &Msg) -> Line
     line.push_str("msg");
     push_bytes(&mut line, message.bytes());
     line.push_str(" ");
-    push_op(&mut line, &read(message));
+    push_op(&mut line, read(message));
     line
 }

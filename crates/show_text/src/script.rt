@@ -1,12 +1,12 @@
 //! Scripts, line by line.
-ghost use Rattle.std.specs.Prelude.{◌≡◌, ◌≢◌, ◌≤◌, IfOk, IfErr, Ok, Err};
+ghost use Rattle.std.specs.Prelude.{◌≡◌, ◌≢◌, ◌≤◌, ◌∷◌, [], IfOk, IfErr, Ok, Err};
 ghost use Rattle.show_text.specs.declared.command.Why.TheVariants.{NoMemory};
 ghost use Rattle.show_text.specs.Words.{words_of};
-ghost use Rattle.show_text.specs.Script.{Adds, AreCounted, AreOnLines, number_of, count_of, below, bytes_of, some_bytes, line_of, nodes_of, set_with, missed_of, turn_of, show_of, command_of, line_commands, fault_at, script_of};
+ghost use Rattle.show_text.specs.Script.{Adds, AreCounted, AreOnLines, count_of, below, bytes_of, some_bytes, line_of, nodes_of, set_with, missed_of, turn_of, show_of, command_of, line_commands, fault_at, script_of};
 
 use crate::command::{Command, ScriptFault, Why};
 use crate::cursors::{Lines, Words};
-use crate::words::decimal;
+use crate::words::{decimal, is_word};
 use std::alloc::Global;
 
 /// The longest script or hex text, in bytes.
@@ -15,18 +15,12 @@ pub const LONGEST_TEXT: usize = 1_048_576;
 /// The most turns that one line may ask for.
 const MOST_TURNS: u32 = 1_000_000;
 
-fn number(word: &[u8]) -> Result<u32, Why>
-    ensures { result ≡ number_of word.now }
-{
-    decimal(word).ok_or(Why::BadNumber)
-}
-
 /// A number of turns.
 fn count(word: &[u8]) -> Result<u32, Why>
     ensures { result ≡ count_of word.now }
 {
-    match number(word)? {
-        count @ 1..=MOST_TURNS => Ok(count),
+    match decimal(word) {
+        Some(count @ 1..=MOST_TURNS) => Ok(count),
         _ => Err(Why::BadNumber),
     }
 }
@@ -35,12 +29,18 @@ fn count(word: &[u8]) -> Result<u32, Why>
 fn number_below(word: &[u8], limit: u8, why: Why) -> Result<u8, Why>
     ensures { result ≡ below limit why word.now }
 {
-    let number = number(word)?;
-    if number < u32::from(limit) {
-        Ok(number as u8)
-    } else {
-        Err(why)
+    match decimal(word) {
+        None => Err(Why::BadNumber),
+        Some(number) if number < u32::from(limit) => Ok(number as u8),
+        Some(_) => Err(why),
     }
+}
+
+/// Puts a command after the others.
+fn push_command(commands: &mut Vec<Command>, command: Command) -> Result<(), Why>
+    ensures { Adds commands.old.items commands.new.items result (Ok (command ∷ [])) }
+{
+    commands.push(command).map_err(Why::from)
 }
 
 /// The bytes that the words write.
@@ -49,7 +49,7 @@ fn push_bytes(line: u8, mut words: Words<'_>, commands: &mut Vec<Command>) -> Re
     ensures { Adds commands.old.items commands.new.items result (bytes_of line (words_of words.entry.0.now)) }
 {
     while let Some(byte) = words.next_byte()? {
-        commands.push(Command::Byte { line, byte })?;
+        push_command(commands, Command::Byte { line, byte })?;
     }
     Ok(())
 }
@@ -68,7 +68,9 @@ fn push_some_bytes(line: u8, words: Words<'_>, commands: &mut Vec<Command>) -> R
 fn push_line(mut words: Words<'_>, lines: u8, commands: &mut Vec<Command>) -> Result<(), Why>
     ensures { Adds commands.old.items commands.new.items result (line_of lines (words_of words.entry.0.now)) }
 {
-    let word = words.next().ok_or(Why::BadWord)?;
+    let Some(word) = words.next() else {
+        return Err(Why::BadWord);
+    };
     let line = number_below(word, lines, Why::BadLine)?;
     push_some_bytes(line, words, commands)
 }
@@ -92,10 +94,13 @@ fn missing_nodes(mut words: Words<'_>, nodes: u8) -> Result<u64, Why>
     requires { nodes ≤ 64 }
     ensures { result ≡ missed_of nodes (words_of words.entry.0.now) }
 {
-    match words.next() {
-        None => Ok(0),
-        Some(word) if word != b"miss".as_slice() || words.is_empty() => Err(Why::BadWord),
-        Some(_) => named_nodes(words, nodes),
+    let Some(word) = words.next() else {
+        return Ok(0);
+    };
+    if is_word(word, "miss") && !words.is_empty() {
+        named_nodes(words, nodes)
+    } else {
+        Err(Why::BadWord)
     }
 }
 
@@ -104,11 +109,12 @@ fn push_turns(mut words: Words<'_>, nodes: u8, commands: &mut Vec<Command>) -> R
     requires { nodes ≤ 64 }
     ensures { Adds commands.old.items commands.new.items result (turn_of nodes (words_of words.entry.0.now)) }
 {
-    let word = words.next().ok_or(Why::BadWord)?;
+    let Some(word) = words.next() else {
+        return Err(Why::BadWord);
+    };
     let count = count(word)?;
     let missed = missing_nodes(words, nodes)?;
-    commands.push(Command::Turns { count, missed })?;
-    Ok(())
+    push_command(commands, Command::Turns { count, missed })
 }
 
 /// Nothing more.
@@ -118,8 +124,7 @@ fn push_show(words: Words<'_>, commands: &mut Vec<Command>) -> Result<(), Why>
     if !words.is_empty() {
         return Err(Why::BadWord);
     }
-    commands.push(Command::Show)?;
-    Ok(())
+    push_command(commands, Command::Show)
 }
 
 /// Puts what a line says after the commands, by its first word.
@@ -132,12 +137,17 @@ fn push_commands(
     requires { nodes ≤ 64 }
     ensures { Adds commands.old.items commands.new.items result (command_of lines nodes (words_of words.entry.0.now)) }
 {
-    match words.next() {
-        None => Ok(()),
-        Some(word) if word == b"line".as_slice() => push_line(words, lines, commands),
-        Some(word) if word == b"turn".as_slice() => push_turns(words, nodes, commands),
-        Some(word) if word == b"show".as_slice() => push_show(words, commands),
-        Some(_) => Err(Why::BadWord),
+    let Some(word) = words.next() else {
+        return Ok(());
+    };
+    if is_word(word, "line") {
+        push_line(words, lines, commands)
+    } else if is_word(word, "turn") {
+        push_turns(words, nodes, commands)
+    } else if is_word(word, "show") {
+        push_show(words, commands)
+    } else {
+        Err(Why::BadWord)
     }
 }
 
@@ -153,10 +163,7 @@ fn push_turns_or_other(
     ensures { Adds commands.old.items commands.new.items result (command_of lines nodes (words_of words.entry.0.now)) }
 {
     match words.number_of_turns() {
-        Some(count @ 1..=MOST_TURNS) => {
-            commands.push(Command::Turns { count, missed: 0 })?;
-            Ok(())
-        }
+        Some(count @ 1..=MOST_TURNS) => push_command(commands, Command::Turns { count, missed: 0 }),
         _ => push_commands(words, lines, nodes, commands),
     }
 }

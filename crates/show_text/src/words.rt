@@ -2,10 +2,18 @@
 ghost use Rattle.std.specs.Prelude.{◌≡◌, true};
 ghost use Rattle.std.specs.Char.{is_ascii_digit};
 ghost use Rattle.std.specs.List.{list_all};
+ghost use Rattle.std.specs.Str.{bytes_eq};
 ghost use Rattle.std.specs.Str.Parse.{digits_value};
 ghost use Rattle.show_text.specs.Words.{is_decimal, decimal_of, digit_of, both, pair_of};
 
 const MOST_DIGITS: usize = 7;
+
+/// Whether a word is the one of that name.
+pub(crate) fn is_word(word: &[u8], name: &str) -> bool
+    ensures { result ≡ bytes_eq word.now name.now }
+{
+    word == name.as_bytes()
+}
 
 fn are_digits(word: &[u8]) -> bool
     ensures { result ≡ list_all is_ascii_digit word.now }
@@ -46,7 +54,7 @@ fn hex_digit(digit: u8) -> Option<u8>
     ensures { result ≡ digit_of digit }
 {
     match digit {
-        _ if digit.is_ascii_digit() => Some(digit - b'0'),
+        b'0'..=b'9' => Some(digit - b'0'),
         b'A'..=b'F' => Some(digit - b'A' + 10),
         b'a'..=b'f' => Some(digit - b'a' + 10),
         _ => None,
@@ -57,7 +65,10 @@ fn hex_digit(digit: u8) -> Option<u8>
 pub(crate) fn hex_byte(high: u8, low: u8) -> Option<u8>
     ensures { result ≡ both (digit_of high) (digit_of low) }
 {
-    Some(16 * hex_digit(high)? + hex_digit(low)?)
+    match (hex_digit(high), hex_digit(low)) {
+        (Some(high), Some(low)) => Some(16 * high + low),
+        _ => None,
+    }
 }
 
 /// The byte that a word of two hexadecimal digits writes.
