@@ -65,10 +65,7 @@ fn hex_digit(digit: u8) -> Option<u8>
 pub(crate) fn hex_byte(high: u8, low: u8) -> Option<u8>
     ensures { result ≡ both (digit_of high) (digit_of low) }
 {
-    match (hex_digit(high), hex_digit(low)) {
-        (Some(high), Some(low)) => Some(16 * high + low),
-        _ => None,
-    }
+    Some(16 * hex_digit(high)? + hex_digit(low)?)
 }
 
 /// The byte that a word of two hexadecimal digits writes.
