@@ -333,7 +333,6 @@ impl Station {
         ensures taken { result ≡ is_taken number (requests_in self.old.jobs) }
         ensures state { self.new ≡ after_op self.old (Op.SwReq number closed on) }
     {
-        let _ = &self.power;
         number <= LAST_SWITCH && self.schedule.switch(number, closed, on).is_ok()
     }
 

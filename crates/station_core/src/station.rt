@@ -2,9 +2,11 @@
 ghost use Rattle.std.specs.Prelude.{◌≡◌, ℕ, ◌<◌, ◌∷◌, ◌++◌, [], List, Some, IfOk, IfErr, IfSome, length, true, false, IsTrue};
 ghost use Rattle.std.specs.Option.{option_to_list};
 ghost use Rattle.ln_frame.specs.Stream.{messages_of};
+ghost use Rattle.ln_frame.specs.Unfinished.{unfinished_of};
 ghost use Rattle.ln_ops.specs.Message.{op_of};
 ghost use Rattle.ln_ops.specs.Reply.{IsSendable};
 ghost use Rattle.refresh_ring.specs.Jobs.{requests_in, sends_ahead};
+ghost use Rattle.refresh_ring.specs.Scheduled.{IsScheduled};
 ghost use Rattle.slot_table.specs.Desk.{IsDesk};
 ghost use Rattle.slot_table.specs.Entry.{IsRow, IsSlot};
 ghost use Rattle.slot_table.specs.Reading.{row_of};
@@ -16,7 +18,7 @@ ghost use Rattle.station_core.specs.Neighbours.{NeighboursApart};
 ghost use Rattle.station_core.specs.Powered.{HasDesk};
 ghost use Rattle.station_core.specs.Promises.{ChangesFirst, ChangesWait, SwitchesAreSent, SwitchesInOrder};
 ghost use Rattle.station_core.specs.Runs.{AreCalls, Covers, answer_of, answers, is_call, state_after, state_of};
-ghost use Rattle.station_core.specs.Seen.{first_seen, is_line_count, known_of, line_of};
+ghost use Rattle.station_core.specs.Seen.{first_seen, is_line_count, known_of, line_of, scheduled};
 ghost use Rattle.station_core.specs.Sent.{IsPacketOfDesk};
 ghost use Rattle.station_core.specs.Moved.{after_byte, after_turn, answer_to_byte, message_ended, packet_of, packet_of_turn};
 
@@ -102,12 +104,23 @@ impl Station {
         }
     }
 
+    /// What every station keeps of itself: a law, and no code.
+    pub fn always_legal(&self)
+        ensures lines { is_line_count (length self.now.lines) ≡ true }
+        // No address has two slots, and each slot that is not free has its entry.
+        ensures desk { IsDesk self.now.powered.desk }
+        ensures schedule { IsScheduled (scheduled self.now) }
+        // What a line holds is the beginning of a message.
+        ensures unfinished { (line : ℕ) → unfinished_of (line_of self.now line) ≡ line_of self.now line }
+    {
+        // A proof learns what a type keeps where a field is used.
+        let _ = &self.schedule;
+    }
+
     /// How many lines there are, 1 to 8.
     pub fn lines(&self) -> u8
         ensures lines { result ≡ length self.now.lines }
         ensures count { is_line_count result ≡ true }
-        // No address has two slots, and each slot that is not free has its entry.
-        ensures desk { IsDesk self.now.powered.desk }
     {
         self.framers.len() as u8
     }
@@ -213,8 +226,7 @@ impl Station {
         ensures switches_in_order { SwitchesInOrder self.old calls.now }
         ensures switches_are_sent { SwitchesAreSent self.old calls.now }
     {
-        // What the type keeps of itself, the laws of a start that a station can have ask for.
-        let _ = &self.schedule;
+        self.always_legal();
         desk_of_messages();
         messages_of_a_line();
         stays_a_desk();
