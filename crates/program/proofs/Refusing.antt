@@ -10,10 +10,10 @@ use Rattle.show_text.specs.declared.command.ScriptFault.{ScriptFault}
 use Rattle.show_text.specs.declared.command.Why.{Why as ScriptWhy}
 use Rattle.show_text.specs.declared.command.Why.TheVariants as script
 use Rattle.show_text.specs.Script.{commands_of, fault_at, script_of}
-use Rattle.program.specs.declared.fault.RunFault.{RunFault}
-use Rattle.program.specs.declared.fault.RunFault.TheVariants.{NoMemory}
-use Rattle.program.specs.Fault.{of_script, script_fault}
-use Rattle.program.specs.Input.{ReadsMost}
+use Rattle.console.specs.declared.fault.RunFault.{RunFault}
+use Rattle.console.specs.declared.fault.RunFault.TheVariants.{NoMemory}
+use Rattle.console.specs.Fault.{of_script, script_fault}
+use Rattle.console.specs.Input.{ReadsMost}
 use Rattle.program.specs.Scripts.{FailsInput, IsBroken, IsRefusal, RefusesInput}
 
 too_long : (count nodes : ℕ) (text : List ℕ) → 1048576 < length text → script_of count nodes text ≡ Err (fault_at script.TooLong 0)
