@@ -7,8 +7,8 @@ ghost use Rattle.layout_core.specs.Played.{answer_to, answers_to, is_event};
 ghost use Rattle.layout_core.specs.Served.{IsSendableAnswer, line_of_answer, traced_from};
 ghost use Rattle.show_text.specs.Lines.{off_text, reply_text, track_text};
 ghost use Rattle.show_text.specs.Script.{AreOnLines, is_on_line};
-ghost use Rattle.program.specs.Layout.{AreBetween, IsWorldOf, entries_in, roster_value};
 ghost use Rattle.console.specs.Printed.{ended};
+ghost use Rattle.program.specs.Layout.{AreBetween, IsWorldOf, entries_in, roster_value};
 ghost use Rattle.program.specs.Replayed.{HasDone, command_text, events_in, events_of, scene_of, turns_among};
 ghost use Rattle.program.specs.Scripts.{FailsInput, RefusesInput, Replays, ReplaysInput};
 

@@ -1,9 +1,9 @@
 //! `station serve`: throttles over TCP.
 ghost use Rattle.std.specs.Prelude.{◌≡◌, [], IfErr, OnErr, OnOk, false, map};
 ghost use Rattle.std.specs.Io.KnownBytes.{Appends};
+ghost use Rattle.console.specs.Fault.{status_of};
 ghost use Rattle.layout_core.specs.Nodes.{spec_of};
 ghost use Rattle.program.specs.Connections.{GivesUp, HasGivenUp, HasServed, Serves, ServesPart, listening_text};
-ghost use Rattle.console.specs.Fault.{status_of};
 ghost use Rattle.program.specs.Fault.{of_serve};
 ghost use Rattle.program.specs.Layout.{IsWorldOf, entries_in, roster_value};
 
