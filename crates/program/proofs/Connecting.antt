@@ -1,6 +1,6 @@
 -- Connections that are served one after another add up.
 use Rattle.std.proofs.Common.{◌≡◌, inl, inr, ◌<◌, ◌≤◌, ℕ, ◌+◌, List, [], ◌∷◌, ◌++◌, Option, length, length-append, take, refl, ap, sym, subst, ◌∙◌, append_assoc, arith}
-use Rattle.std.specs.Prelude.{Result, Ok, Err, IfErr, OnErr, OnOk}
+use Rattle.std.specs.Prelude.{Result, Ok, Err, IfErr, OnOk}
 use Rattle.std.proofs.lemmas.List.{append-nil}
 use Rattle.std.specs.Io.KnownBytes.{Appends}
 use Rattle.layout_core.specs.declared.engine.Limits.{Limits}
@@ -12,17 +12,18 @@ use Rattle.layout_core.specs.declared.world.World.{World}
 use Rattle.layout_core.specs.Faults.{HasFaulted, Leaves, StopsAfter}
 use Rattle.layout_core.specs.Played.{answers_to}
 use Rattle.layout_core.specs.Served.{HasServed as EngineHasServed, Input, Moment, Serves as EngineServes, moment_of, served_events, traced_from}
-use Rattle.program.specs.declared.fault.RunFault.{RunFault}
+use Rattle.console.specs.declared.fault.RunFault.{RunFault}
 use Rattle.program.specs.Connections.{AreServed, GivesUp, HasGivenUp, HasServed, IsServed, Serves, ServesPart, StopsPrinting, events_of_all, next_line, nodes_text, trace_text}
 use Rattle.layout_core.specs.declared.node.Node.{Node}
 use Rattle.layout_core.specs.Cycle.{RunsAsWanted}
 use Rattle.layout_core.specs.World.{HaveHeard}
 use Rattle.station_core.specs.Powered.{HasDesk}
 use Rattle.station_core.specs.Seen.{Seen, known_of}
-use Rattle.program.specs.Fault.{of_serve, status_of}
+use Rattle.console.specs.Fault.{status_of}
+use Rattle.program.specs.Fault.{of_serve}
 use Rattle.program.specs.Replayed.{HasDone}
 use Rattle.roster.specs.Entry.{Entry}
-use Rattle.program.proofs.Printing.{appends_more, appends_none}
+use Rattle.console.proofs.Printing.{appends_more, appends_none}
 use Rattle.program.proofs.Replaying.{HeardMore, HeardNone, done_more, done_none}
 
 pub done_whole : (events : List Event) (old new : Moment) → EngineServes 0 events old new → HasDone events old.world new.world
@@ -182,18 +183,12 @@ stopped Trace limits bytes done old new written written' traced traced' replies 
       front.2,
     )
 
-pub gives_up : (r : Result (Unit {0}) RunFault) (fault : ServeFault) (limits : Limits) (input input' : Input) (old new : World) (written written' traced traced' : Option (List ℕ)) → IfErr r (λ e. e ≡ of_serve fault)
-    → HasFaulted fault 0 limits.turns input input' (moment_of old written traced 0 0) new written' traced' → IfErr r (λ e. GivesUp e limits old new traced traced')
-gives_up (Ok x) fault limits input input' old new written written' traced traced' is has = tt
-gives_up (Err e) fault limits input input' old new written written' traced traced' is has =
+pub gives_up : (e : RunFault) (fault : ServeFault) (limits : Limits) (input input' : Input) (old new : World) (written written' traced traced' : Option (List ℕ)) → e ≡ of_serve fault
+    → HasFaulted fault 0 limits.turns input input' (moment_of old written traced 0 0) new written' traced' → GivesUp e limits old new traced traced'
+gives_up e fault limits input input' old new written written' traced traced' is has =
     subst (λ (e : RunFault). GivesUp e limits old new traced traced') (sym is) (stopped fault limits has.3 has.4 old new written written' traced traced' has.1 has.2 has.6)
 
--- what holds at an error
-pub on_err : {A E : Type 0} (r : Result A E) (P : Type 0) → P → OnErr r P
-on_err (Ok a) P p = tt
-on_err (Err e) P p = p
-
--- and of a fault that is passed on
+-- what holds of a fault that is passed on
 pub passed_up : {A E : Type 0} (r : Result A E) (told : E) (P : E → Type 0) → IfErr r (λ e. e ≡ told) → P told → IfErr r P
 passed_up (Ok a) told P is p = tt
 passed_up (Err e) told P is p = subst P (sym is) p

@@ -1,5 +1,4 @@
 pub mod Connecting
-pub mod Known
 pub mod Told
 pub mod Printing
 pub mod Replaying

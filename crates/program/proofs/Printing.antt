@@ -1,22 +1,10 @@
 -- What is printed, line after line.
-use Rattle.std.proofs.Common.{◌≡◌, ◌<◌, ℕ, ◌+◌, List, [], ◌∷◌, ◌++◌, length, take, get_or, Option, Some, None, refl, ap, sym, subst, ◌∙◌, append_assoc}
+use Rattle.std.proofs.Common.{◌≡◌, ◌<◌, ℕ, ◌+◌, List, [], ◌∷◌, ◌++◌, length, take, get_or, Option, refl, ap, sym, subst, ◌∙◌, append_assoc}
 use Rattle.std.proofs.lemmas.List.{append-nil, take_more}
 use Rattle.std.specs.Io.KnownBytes.{Appends}
-use Rattle.std.specs.Option.{option_to_list}
-use Rattle.ln_frame.specs.Stream.{message_at_end, messages_of}
-use Rattle.ln_frame.specs.Unfinished.{messages_along, unfinished_of}
-use Rattle.show_text.specs.Messages.{message_text}
-use Rattle.program.specs.Printed.{ended, lines_text, messages_text}
-
-pub appends_none : (a : Option (List ℕ)) → Appends a a []
-appends_none None = tt
-appends_none (Some xs) = sym (append-nil xs)
-
-pub appends_more : (a b c : Option (List ℕ)) (xs ys : List ℕ) → Appends a b xs → Appends b c ys → Appends a c (xs ++ ys)
-appends_more None b c xs ys h k = tt
-appends_more (Some s) None c xs ys h k = absurd h
-appends_more (Some s) (Some t) None xs ys h k = absurd k
-appends_more (Some s) (Some t) (Some u) xs ys h k = k ∙ ap (λ z. z ++ ys) h ∙ append_assoc s xs ys
+use Rattle.console.specs.Printed.{ended}
+use Rattle.console.proofs.Printing.{appends_more}
+use Rattle.program.specs.Printed.{lines_text}
 
 pub lines-append : (lines more : List (List ℕ)) → lines_text (lines ++ more) ≡ lines_text lines ++ lines_text more
 lines-append [] more = refl
@@ -32,47 +20,3 @@ one_line_more lines i line old now new below is so_far more =
     ∙ ap (λ (l : List ℕ). lines_text (take i lines) ++ (ended l ++ [])) is
     ∙ ap (λ (bs : List ℕ). lines_text (take i lines) ++ bs) (append-nil (ended line)) in
     subst (λ (bs : List ℕ). Appends old new bs) (sym all) (appends_more old now new (lines_text (take i lines)) (ended line) so_far more)
-
-pub messages-append : (ms more : List (List ℕ)) → messages_text (ms ++ more) ≡ messages_text ms ++ messages_text more
-messages-append [] more = refl
-messages-append (m ∷ ms) more = ap (λ bs. ended (message_text m) ++ bs) (messages-append ms more) ∙ sym (append_assoc (ended (message_text m)) (messages_text ms) (messages_text more))
-
--- The messages so far were printed, and those that the rest of the bytes bring are the rest.
-pub record HasPrinted (all : List ℕ) (left : List ℕ) (rest : List ℕ) (old now : Option (List ℕ)) : Type 0 where
-  pub so_far : List (List ℕ)
-  pub printed : Appends old now (messages_text so_far)
-  pub all_are : so_far ++ messages_along left rest ≡ messages_along [] all
-
-pub printed_none : (all : List ℕ) (old : Option (List ℕ)) → HasPrinted all [] all old old
-printed_none all old = record { so_far = []; printed = appends_none old; all_are = refl }
-
--- one byte more
-pub printed_more : (all left : List ℕ) (byte : ℕ) (rest : List ℕ) (old now new : Option (List ℕ)) (given : Option (List ℕ)) (kept : List ℕ) → HasPrinted all left (byte ∷ rest) old now
-    → given ≡ message_at_end (left ++ byte ∷ []) → kept ≡ unfinished_of (left ++ byte ∷ []) → Appends now new (messages_text (option_to_list given)) → HasPrinted all kept rest old new
-printed_more all left byte rest old now new given kept has is left_is more = record {
-  so_far = has.so_far ++ option_to_list given;
-  printed = subst (λ bs. Appends old new bs) (sym (messages-append has.so_far (option_to_list given))) (appends_more old now new (messages_text has.so_far) (messages_text (option_to_list given)) has.printed more);
-  all_are =
-      append_assoc has.so_far (option_to_list given) (messages_along kept rest)
-      ∙ ap (λ (o : Option (List ℕ)). has.so_far ++ (option_to_list o ++ messages_along kept rest)) is
-      ∙ ap (λ (k : List ℕ). has.so_far ++ (option_to_list (message_at_end (left ++ byte ∷ [])) ++ messages_along k rest)) left_is
-      ∙ has.all_are;
-}
-
-pub printed_all : ((bytes : List ℕ) → messages_along [] bytes ≡ messages_of bytes) → (all left : List ℕ) (old new : Option (List ℕ)) → HasPrinted all left [] old new → Appends old new (messages_text (messages_of all))
-printed_all whole all left old new has =
-    subst (λ (ms : List (List ℕ)). Appends old new (messages_text ms)) (sym (append-nil has.so_far) ∙ has.all_are ∙ whole all) has.printed
-
--- a message that was given, and its line
-pub printed_one : (now new printed : Option (List ℕ)) (given : Option (List ℕ)) (message text : List ℕ) → given ≡ Some message → text ≡ message_text message → new ≡ printed → Appends now printed (text ++ 10 ∷ []) → Appends now new (messages_text (option_to_list given))
-printed_one now new printed given message text is line same h =
-    let one : Appends now new (text ++ 10 ∷ []) = subst (λ (o : Option (List ℕ)). Appends now o (text ++ 10 ∷ [])) (sym same) h in
-    let told : Appends now new (ended (message_text message)) = subst (λ (bs : List ℕ). Appends now new (bs ++ 10 ∷ [])) line one in
-    subst (λ (o : Option (List ℕ)). Appends now new (messages_text (option_to_list o))) (sym is)
-    (subst (λ (bs : List ℕ). Appends now new bs) (sym (append-nil (ended (message_text message)))) told)
-
--- and none
-pub printed_nothing : (now new : Option (List ℕ)) (given : Option (List ℕ)) → given ≡ None → new ≡ now → Appends now new (messages_text (option_to_list given))
-printed_nothing now new given is same =
-    subst (λ (o : Option (List ℕ)). Appends now new (messages_text (option_to_list o))) (sym is)
-    (subst (λ (o : Option (List ℕ)). Appends now o []) (sym same) (appends_none now))

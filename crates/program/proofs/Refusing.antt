@@ -1,5 +1,5 @@
 -- What is known of an input whose text has a fault, or is a script.
-use Rattle.std.proofs.Common.{◌≡◌, ℕ, ◌+◌, ◌<◌, ◌⊎◌, inl, inr, List, ◌++◌, length, length-append, nat_lt, Bool, if◌then◌else◌, Option, Some, None, refl, ap, sym, subst, ◌∙◌, arith}
+use Rattle.std.proofs.Common.{◌≡◌, ℕ, ◌+◌, ◌<◌, inl, inr, List, ◌++◌, length, length-append, Bool, if◌then◌else◌, Option, Some, None, refl, ap, sym, subst, ◌∙◌, arith}
 use Rattle.std.proofs.lemmas.Bool.{lt-ltb}
 use Rattle.std.proofs.lemmas.List.{append-nil}
 use Rattle.std.specs.Prelude.{◌≢◌, Result, Ok, Err, IfErr, IsErrAnd}
@@ -10,10 +10,10 @@ use Rattle.show_text.specs.declared.command.ScriptFault.{ScriptFault}
 use Rattle.show_text.specs.declared.command.Why.{Why as ScriptWhy}
 use Rattle.show_text.specs.declared.command.Why.TheVariants as script
 use Rattle.show_text.specs.Script.{commands_of, fault_at, script_of}
-use Rattle.program.specs.declared.fault.RunFault.{RunFault}
-use Rattle.program.specs.declared.fault.RunFault.TheVariants.{NoMemory}
-use Rattle.program.specs.Fault.{of_script, script_fault}
-use Rattle.program.specs.Input.{ReadsMost}
+use Rattle.console.specs.declared.fault.RunFault.{RunFault}
+use Rattle.console.specs.declared.fault.RunFault.TheVariants.{NoMemory}
+use Rattle.console.specs.Fault.{of_script, script_fault}
+use Rattle.console.specs.Input.{ReadsMost}
 use Rattle.program.specs.Scripts.{FailsInput, IsBroken, IsRefusal, RefusesInput}
 
 too_long : (count nodes : ℕ) (text : List ℕ) → 1048576 < length text → script_of count nodes text ≡ Err (fault_at script.TooLong 0)

@@ -21,7 +21,7 @@ use Rattle.layout_core.specs.World.{AfterEvent, HaveHeard}
 use Rattle.roster.specs.Entry.{Entry}
 use Rattle.show_text.specs.declared.command.Command.{Command}
 use Rattle.program.specs.Replayed.{HasDone, command_text, commands_text, events_in, events_of, scene_after, turns_among}
-use Rattle.program.proofs.Printing.{appends_more, appends_none}
+use Rattle.console.proofs.Printing.{appends_more, appends_none}
 
 state-append : (seen : Seen) (events later : List Event) → after_events seen (events ++ later) ≡ after_events (after_events seen events) later
 state-append seen [] later = refl

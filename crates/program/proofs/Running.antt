@@ -7,7 +7,8 @@ use Rattle.layout_core.specs.declared.world.World.{World}
 use Rattle.roster.specs.Entry.{Entry}
 use Rattle.program.specs.Connections.{HasServed, listening_text}
 use Rattle.program.specs.Layout.{entries_in}
-use Rattle.program.specs.Runs.{IsNew, IsRosterOf, ReplaysNew, ServesNew}
+use Rattle.console.specs.Files.{IsRosterOf}
+use Rattle.program.specs.Runs.{IsNew, ReplaysNew, ServesNew}
 use Rattle.program.specs.Scripts.{ReplaysInput}
 
 -- the roster that was lent twice is the one that was read

@@ -6,7 +6,7 @@ use Rattle.std.specs.Io.KnownBytes.{Consumes, IsAtEnd}
 use Rattle.layout_core.specs.declared.world.World.{World}
 use Rattle.roster.specs.Entry.{Entry}
 use Rattle.show_text.specs.Script.{script_of}
-use Rattle.program.specs.declared.fault.RunFault.{RunFault}
+use Rattle.console.specs.declared.fault.RunFault.{RunFault}
 use Rattle.program.specs.Scripts.{IsRefusal, RefusesInput, ReplaysInput}
 
 -- a text that was read to its end is all of it

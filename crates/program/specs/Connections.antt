@@ -13,8 +13,8 @@ use Rattle.layout_core.specs.Played.{after_events, answer_to, answers_to}
 use Rattle.layout_core.specs.Served.{line_of_answer, served_events, traced_from, turns_in}
 use Rattle.roster.specs.Entry.{Entry}
 use Rattle.station_core.specs.Seen.{Seen, known_of}
-use Rattle.program.specs.declared.fault.RunFault.{RunFault}
-use Rattle.program.specs.declared.fault.RunFault.TheVariants.{Network, Output}
+use Rattle.console.specs.declared.fault.RunFault.{RunFault}
+use Rattle.console.specs.declared.fault.RunFault.TheVariants.{Network, Output}
 use Rattle.program.specs.Fault.{of_serve}
 use Rattle.program.specs.Printed.{decoder_lines, lines_text, standing_of}
 use Rattle.program.specs.Replayed.{HasDone}

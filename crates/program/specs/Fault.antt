@@ -1,86 +1,14 @@
--- The exit status of a fault, and the numbers of faults.
-use Rattle.std.specs.Prelude.{ℕ}
-use Rattle.show_text.specs.declared.command.Why.{Why as ScriptWhy}
-use Rattle.show_text.specs.declared.command.Why.TheVariants as script
-use Rattle.show_text.specs.declared.command.ScriptFault.{ScriptFault}
-use Rattle.show_text.specs.declared.hex.HexWhy.{HexWhy}
-use Rattle.show_text.specs.declared.hex.HexWhy.TheVariants as hex
-use Rattle.show_text.specs.declared.hex.HexFault.{HexFault}
-use Rattle.roster.specs.declared.fault.Why.{Why as RosterWhy}
-use Rattle.roster.specs.declared.fault.Why.TheVariants as roster
-use Rattle.roster.specs.declared.fault.RosterFault.{RosterFault}
+-- The faults of a layout and of its engine, as those of a run.
 use Rattle.layout_core.specs.declared.engine.ServeFault.{ServeFault}
 use Rattle.layout_core.specs.declared.engine.ServeFault.TheVariants as serve
 use Rattle.station_core.specs.declared.station.StationFault.{StationFault}
 use Rattle.station_core.specs.declared.station.StationFault.TheVariants as station
-use Rattle.program.specs.declared.input.ReadFault.{ReadFault}
-use Rattle.program.specs.declared.input.ReadFault.TheVariants as read
-use Rattle.command_line.specs.declared.orders.OrderFault.{OrderFault}
-use Rattle.command_line.specs.declared.orders.OrderFault.TheVariants as order
-use Rattle.program.specs.declared.fault.RunFault.{RunFault}
-use Rattle.program.specs.declared.fault.RunFault.TheVariants.{Usage, Lines, Unreadable, UnreadableInput, TooLong, Roster, Network, Output, Serve, Script, Hex, NoMemory}
-
--- usage, files, roster, network and output, script and hex text, memory
-abbrev pub status_of : RunFault → ℕ
-status_of (Usage error) = 1
-status_of Lines = 1
-status_of (Unreadable file) = 2
-status_of UnreadableInput = 2
-status_of (TooLong file) = 2
-status_of (Roster number node) = 3
-status_of Network = 4
-status_of Output = 4
-status_of (Serve number) = 4
-status_of (Script number line) = 5
-status_of (Hex number at) = 5
-status_of NoMemory = 6
-
--- of standard input
-abbrev pub of_read : ReadFault → RunFault
-of_read read.Failed = UnreadableInput
-of_read read.NoMemory = NoMemory
-
-abbrev pub of_order : OrderFault → RunFault
-of_order (order.Usage error) = Usage error
-of_order order.NoMemory = NoMemory
+use Rattle.console.specs.declared.fault.RunFault.{RunFault}
+use Rattle.console.specs.declared.fault.RunFault.TheVariants.{Lines, NoMemory, Serve}
 
 abbrev pub of_station : StationFault → RunFault
 of_station station.BadLines = Lines
 of_station station.NoMemory = NoMemory
-
-abbrev pub roster_fault : RosterWhy → ℕ → RunFault
-roster_fault roster.NotToml node = Roster 1 node
-roster_fault roster.BadShape node = Roster 2 node
-roster_fault roster.TooMany node = Roster 3 node
-roster_fault roster.BadName node = Roster 4 node
-roster_fault roster.BadCv node = Roster 5 node
-roster_fault roster.BadModule node = Roster 6 node
-roster_fault roster.Empty node = Roster 7 node
-roster_fault roster.NoMemory node = NoMemory
-roster_fault roster.BadCvList node = Roster 9 node
-
-abbrev pub of_roster : RosterFault → RunFault
-of_roster fault = roster_fault fault.why fault.node
-
-abbrev pub script_fault : ScriptWhy → ℕ → RunFault
-script_fault script.BadWord line = Script 1 line
-script_fault script.BadHex line = Script 2 line
-script_fault script.BadNumber line = Script 3 line
-script_fault script.BadLine line = Script 4 line
-script_fault script.BadNode line = Script 5 line
-script_fault script.TooLong line = Script 6 line
-script_fault script.NoMemory line = NoMemory
-
-abbrev pub of_script : ScriptFault → RunFault
-of_script fault = script_fault fault.why fault.line
-
-abbrev pub hex_fault : HexWhy → ℕ → RunFault
-hex_fault hex.BadHex at = Hex 1 at
-hex_fault hex.TooLong at = Hex 2 at
-hex_fault hex.NoMemory at = NoMemory
-
-abbrev pub of_hex : HexFault → RunFault
-of_hex fault = hex_fault fault.why fault.at
 
 abbrev pub of_serve : ServeFault → RunFault
 of_serve serve.Read = Serve 1

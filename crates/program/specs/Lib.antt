@@ -1,9 +1,7 @@
 pub mod Connections
 pub mod Fault
 pub mod Headline
-pub mod Input
 pub mod Layout
-pub mod Lent
 pub mod Printed
 pub mod Replayed
 pub mod Runs

@@ -1,25 +1,19 @@
 -- What a run of the program does and prints, where it ends with status 0.
-use Rattle.std.specs.Prelude.{ℕ, ◌≡◌, ◌≤◌, List, Option, Some, None, Ok, length, map}
+use Rattle.std.specs.Prelude.{ℕ, ◌≡◌, List, Option, map}
 use Rattle.clap.specs.Words.{Text}
+use Rattle.console.specs.Files.{IsRosterOf}
+use Rattle.console.specs.Printed.{PrintsMessages}
 use Rattle.layout_core.specs.declared.engine.Limits.{Limits}
 use Rattle.layout_core.specs.declared.world.World.{World}
 use Rattle.layout_core.specs.Nodes.{node_of}
 use Rattle.roster.specs.Entry.{Entry}
-use Rattle.roster.specs.Format.{roster_in}
 use Rattle.station_core.specs.Seen.{first_seen}
 use Rattle.command_line.specs.declared.words.Order.{Order}
 use Rattle.command_line.specs.declared.words.Order.TheVariants.{Replay, Monitor, Serve}
 use Rattle.program.specs.Connections.{HasServed, listening_text}
 use Rattle.program.specs.Layout.{entries_in, specs_in}
 use Rattle.command_line.specs.Order.{IsOrderOf}
-use Rattle.program.specs.Printed.{PrintsMessages}
 use Rattle.program.specs.Scripts.{ReplaysInput}
-
--- None without a file. What a file holds is not known, but that there is a text that is this roster.
-abbrev pub IsRosterOf : (file : Option Text) → Option (List Entry) → Type 0
-IsRosterOf None roster = roster ≡ None
-IsRosterOf (Some file) None = ⊥
-IsRosterOf (Some file) (Some entries) = (text : List ℕ) × (length text ≤ 65536) × (roster_in text ≡ Ok entries)
 
 -- a new layout: a new station with so many lines, and the decoders of the roster, each in its first state
 pub record IsNew (lines : ℕ) (roster : Option (List Entry)) (world : World) : Type 0 where

@@ -6,9 +6,9 @@ use Rattle.roster.specs.Entry.{Entry}
 use Rattle.show_text.specs.declared.command.Command.{Command}
 use Rattle.show_text.specs.declared.command.ScriptFault.{ScriptFault}
 use Rattle.show_text.specs.Script.{script_of}
-use Rattle.program.specs.declared.fault.RunFault.{RunFault}
-use Rattle.program.specs.declared.fault.RunFault.TheVariants.{NoMemory, Output, UnreadableInput}
-use Rattle.program.specs.Fault.{of_script}
+use Rattle.console.specs.declared.fault.RunFault.{RunFault}
+use Rattle.console.specs.declared.fault.RunFault.TheVariants.{NoMemory, Output, UnreadableInput}
+use Rattle.console.specs.Fault.{of_script}
 use Rattle.program.specs.Headline.{ShowsAsWanted}
 use Rattle.program.specs.Replayed.{HasDone, commands_text, events_in}
 

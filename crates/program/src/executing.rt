@@ -1,14 +1,13 @@
 //! The program on its words and streams.
 ghost use Rattle.std.specs.Prelude.{◌≡◌, ◌≢◌, ◌≤◌, IfErr, OnOk, map};
-ghost use Rattle.program.specs.Fault.{status_of};
+ghost use Rattle.console.specs.Fault.{status_of};
 ghost use Rattle.program.specs.Runs.{CarriesOut, ReplaysNew, Runs, ServesNew};
 
-use crate::fault::RunFault;
-use crate::layout::{new_world, read_roster};
-use crate::monitor::monitor;
+use crate::layout::new_world;
 use crate::replay::replay;
 use crate::serving::serve_at;
 use command_line::{FileName, Order, order};
+use console::{RunFault, monitor, read_roster, tell};
 use layout_core::Limits;
 use std::io::{Read, Write};
 use std::net::{Net, TcpListener, TcpStream};
@@ -40,17 +39,6 @@ where
         Ok(()) => 0,
         Err(fault) => tell(&fault, faults),
     }
-}
-
-/// Tells a fault, and answers its status. Where it cannot be told, nobody can be told that.
-pub fn tell<E: Write>(fault: &RunFault, faults: &mut E) -> u8
-    ensures { result ≡ status_of fault.now }
-{
-    let _ = match fault {
-        RunFault::Usage(error) => write!(faults, "{error}"),
-        _ => writeln!(faults, "station: {fault}"),
-    };
-    fault.status()
 }
 
 /// Does what the words ask for.

@@ -1,45 +1,20 @@
 //! The layout that a run works on, and the lines of its decoders.
-ghost use Rattle.std.specs.Prelude.{◌≡◌, IfErr, IfOk, OnOk, Some, length, map, true};
+ghost use Rattle.std.specs.Prelude.{◌≡◌, IfOk, OnOk, Some, length, map, true};
 ghost use Rattle.std.specs.Io.KnownBytes.{Appends};
 ghost use Rattle.station_core.specs.Seen.{is_line_count};
+ghost use Rattle.program.specs.Fault.{of_station};
 ghost use Rattle.program.specs.Layout.{AreBetween, IsWorldOf, entries_in, roster_value};
-ghost use Rattle.program.specs.Runs.{IsNew, IsRosterOf};
+ghost use Rattle.program.specs.Runs.{IsNew};
 ghost use Rattle.program.specs.Printed.{decoder_lines, lines_text, standing_of};
 
-use crate::fault::RunFault;
-use crate::input::read_file;
-use crate::output::{Unwritten, print};
-use command_line::FileName;
+use console::{RunFault, Unwritten, print};
 use decoder_node::NodeList;
 use layout_core::World;
 use roster::Roster;
 use show_text::node_line;
+use station_core::StationFault;
 use std::alloc::Global;
 use std::io::Write;
-use std::rt::Files;
-
-/// The longest roster, in bytes.
-const LONGEST_ROSTER: usize = 65_536;
-
-/// The roster of this file, if there is one.
-pub(crate) fn read_roster<R: Files + AllocGlobal>(
-    rt: &R,
-    file: Option<FileName>,
-) -> Result<Option<Roster>, RunFault>
-    ensures { IfOk result (λ roster. IsRosterOf file roster) }
-{
-    let Some(file) = file else {
-        return Ok(None);
-    };
-    let text = match read_file(rt, &file, LONGEST_ROSTER + 1) {
-        Ok(text) => text,
-        Err(fault) => return Err(fault.of_file(file)),
-    };
-    if text.len() > LONGEST_ROSTER {
-        return Err(RunFault::TooLong(file));
-    }
-    Ok(Some(roster::read(rt.alloc(), text.as_slice())?))
-}
 
 /// A new station with so many lines, and the decoders of the roster; without one there are none.
 pub fn new_world(alloc: Global, lines: u8, roster: Option<&Roster>) -> Result<World, RunFault>
@@ -52,7 +27,20 @@ pub fn new_world(alloc: Global, lines: u8, roster: Option<&Roster>) -> Result<Wo
         Some(roster) => roster.nodes(),
         None => NodeList::new(),
     };
-    Ok(World::new(alloc, lines, nodes)?)
+    match World::new(alloc, lines, nodes) {
+        Ok(world) => Ok(world),
+        Err(fault) => Err(no_station(fault)),
+    }
+}
+
+/// The fault of a run that has no station.
+fn no_station(fault: StationFault) -> RunFault
+    ensures { result ≡ of_station fault }
+{
+    match fault {
+        StationFault::BadLines => RunFault::Lines,
+        StationFault::NoMemory => RunFault::NoMemory,
+    }
 }
 
 /// Prints how each decoder stands, in order.

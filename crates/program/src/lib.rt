@@ -3,15 +3,13 @@
 #![tactic(auto)]
 
 mod executing;
-mod fault;
-mod input;
 mod layout;
-mod monitor;
-mod output;
 mod replay;
 mod serving;
 
-pub use executing::{execute, tell};
-pub use fault::RunFault;
+pub use executing::execute;
 pub use layout::new_world;
 pub use serving::serve_on;
+
+// What the contracts of these speak of, and what tells it.
+pub use console::{RunFault, tell};

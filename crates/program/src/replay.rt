@@ -7,15 +7,13 @@ ghost use Rattle.layout_core.specs.Played.{answer_to, answers_to, is_event};
 ghost use Rattle.layout_core.specs.Served.{IsSendableAnswer, line_of_answer, traced_from};
 ghost use Rattle.show_text.specs.Lines.{off_text, reply_text, track_text};
 ghost use Rattle.show_text.specs.Script.{AreOnLines, is_on_line};
+ghost use Rattle.console.specs.Printed.{ended};
 ghost use Rattle.program.specs.Layout.{AreBetween, IsWorldOf, entries_in, roster_value};
-ghost use Rattle.program.specs.Printed.{ended};
 ghost use Rattle.program.specs.Replayed.{HasDone, command_text, events_in, events_of, scene_of, turns_among};
 ghost use Rattle.program.specs.Scripts.{FailsInput, RefusesInput, Replays, ReplaysInput};
 
-use crate::fault::RunFault;
-use crate::input::read_most;
 use crate::layout::print_nodes;
-use crate::output::{Lent, Unwritten, flush_after, print, print_ended};
+use console::{Lent, RunFault, Unwritten, flush_after, print, print_ended, read_most};
 use dcc_packet::Packet;
 use layout_core::{Event, World, events_add_up, headline};
 use ln_ops::Reply;

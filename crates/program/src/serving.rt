@@ -1,15 +1,15 @@
 //! `station serve`: throttles over TCP.
 ghost use Rattle.std.specs.Prelude.{◌≡◌, [], IfErr, OnErr, OnOk, false, map};
 ghost use Rattle.std.specs.Io.KnownBytes.{Appends};
+ghost use Rattle.console.specs.Fault.{status_of};
 ghost use Rattle.layout_core.specs.Nodes.{spec_of};
 ghost use Rattle.program.specs.Connections.{GivesUp, HasGivenUp, HasServed, Serves, ServesPart, listening_text};
-ghost use Rattle.program.specs.Fault.{status_of};
+ghost use Rattle.program.specs.Fault.{of_serve};
 ghost use Rattle.program.specs.Layout.{IsWorldOf, entries_in, roster_value};
 
-use crate::fault::RunFault;
 use crate::layout::print_nodes;
-use crate::output::Lent;
-use layout_core::{Limits, Port, Sink, World, events_add_up, headline, serve};
+use console::{Lent, RunFault};
+use layout_core::{Limits, Port, ServeFault, Sink, World, events_add_up, headline, serve};
 use roster::Roster;
 use std::io::Write;
 use std::net::{Net, TcpListener, TcpStream};
@@ -116,6 +116,20 @@ fn serve_traced<T: Sink>(
     let _ = world.station().lines();
     let mut source = Port::new(stream);
     let mut sink = Port::new(stream);
-    serve(world, 0, &mut source, &mut sink, trace, limits)?;
-    Ok(())
+    match serve(world, 0, &mut source, &mut sink, trace, limits) {
+        Ok(_summary) => Ok(()),
+        Err(fault) => Err(given_up(fault)),
+    }
+}
+
+/// The fault of a run whose connection was given up.
+fn given_up(fault: ServeFault) -> RunFault
+    ensures { result ≡ of_serve fault }
+{
+    RunFault::Serve(match fault {
+        ServeFault::Read => 1,
+        ServeFault::Write => 2,
+        ServeFault::Trace => 3,
+        ServeFault::TooManyReads => 4,
+    })
 }

@@ -2,7 +2,7 @@ use Rattle.std.proofs.Common.{rules, ◌≡◌, ◌≢◌, ◌+◌, ◌<◌, ◌
 use Rattle.show_text.specs.declared.command.Command.{Command}
 use Rattle.show_text.specs.declared.command.Why.TheVariants.{NoMemory}
 use Rattle.show_text.specs.Script.{script_of}
-use Rattle.program.specs.Input.{ReadsMost}
+use Rattle.console.specs.Input.{ReadsMost}
 use Rattle.program.specs.Replayed.{events_in, turns_among}
 use Rattle.program.proofs.Few.{can_be_numbered}
 use Rattle.program.proofs.Refusing.{fails, refuses}

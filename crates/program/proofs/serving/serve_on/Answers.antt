@@ -1,8 +1,8 @@
 use Rattle.std.proofs.Common.{◌≡◌, ◌∙◌, refl, subst, inl, inr, arith, rules}
 use Rattle.program.proofs.Connecting.{given_up, part_none, part_whole, passed_up, served_all, served_more, served_none}
 use Rattle.program.proofs.Replaying.{done_none}
-use Rattle.program.specs.declared.fault.RunFault.{RunFault}
-use Rattle.program.specs.declared.fault.RunFault.TheVariants.{Network, Output}
+use Rattle.console.specs.declared.fault.RunFault.{RunFault}
+use Rattle.console.specs.declared.fault.RunFault.TheVariants.{Network, Output}
 use Rattle.program.specs.Layout.{entries_in, roster_value}
 use Rattle.station_core.specs.Powered.{HasDesk}
 use Rattle.station_core.specs.Seen.{Seen}

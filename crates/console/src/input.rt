@@ -1,7 +1,7 @@
 //! Reading no further than a limit.
-ghost use Rattle.std.specs.Prelude.{◌≡◌, ◌<◌, ◌^◌, IfOk};
-ghost use Rattle.program.specs.Fault.{of_read};
-ghost use Rattle.program.specs.Input.{ReadsMost};
+ghost use Rattle.std.specs.Prelude.{◌≡◌, ◌<◌, ◌≤◌, ◌^◌, IfOk, length};
+ghost use Rattle.console.specs.Fault.{of_read};
+ghost use Rattle.console.specs.Input.{ReadsMost};
 
 use crate::fault::RunFault;
 use command_line::FileName;
@@ -15,7 +15,7 @@ const CHUNK: usize = 4096;
 
 /// Why bytes were not read.
 #[derive(Clone, Copy)]
-pub(crate) enum ReadFault {
+pub enum ReadFault {
     /// The file was not opened, or a read failed.
     Failed,
     /// A growth was refused.
@@ -32,7 +32,7 @@ impl ReadFault {
     }
 
     /// The fault of a run that wanted standard input.
-    pub(crate) fn of_input(self) -> RunFault
+    pub fn of_input(self) -> RunFault
         ensures { result ≡ of_read self }
     {
         match self {
@@ -42,21 +42,21 @@ impl ReadFault {
     }
 }
 
-impl From<io::Error> for ReadFault {
-    fn from(error: io::Error) -> ReadFault {
-        match error.kind() {
-            ErrorKind::OutOfMemory => ReadFault::NoMemory,
-            _ => ReadFault::Failed,
-        }
+/// The fault of an open or a read that failed.
+fn read_fault(error: &io::Error) -> ReadFault {
+    match error.kind() {
+        ErrorKind::OutOfMemory => ReadFault::NoMemory,
+        _ => ReadFault::Failed,
     }
 }
 
-/// What the reader gives, to its end or to so many bytes, and no byte more is taken of it.
-pub(crate) fn read_most<I: Read>(
-    alloc: Global,
-    input: &mut I,
-    limit: usize,
-) -> Result<Vec<u8>, ReadFault>
+/// What the reader gives, to its end or to so many bytes, below 2^32, and no byte more is taken of it. A read that was
+/// only interrupted is tried again.
+///
+/// # Errors
+///
+/// `Failed` where a read fails, and `NoMemory`. How much was taken of the reader then is not known.
+pub fn read_most<I: Read>(alloc: Global, input: &mut I, limit: usize) -> Result<Vec<u8>, ReadFault>
     requires { limit < 2 ^ 32 }
     ensures { IfOk result (λ v. ReadsMost (I.remaining input.old) (I.remaining input.new) limit v.items) }
 {
@@ -76,7 +76,7 @@ pub(crate) fn read_most<I: Read>(
             }
             Err(error) => {
                 if error.kind() != ErrorKind::Interrupted {
-                    return Err(ReadFault::from(error));
+                    return Err(read_fault(&error));
                 }
             }
         }
@@ -91,7 +91,10 @@ pub(crate) fn read_file<R: Files + AllocGlobal>(
     limit: usize,
 ) -> Result<Vec<u8>, ReadFault>
     requires { limit < 2 ^ 32 }
+    ensures most { IfOk result (λ v. length v.items ≤ limit) }
 {
-    let mut opened = fs::open(rt, file.as_str())?;
-    read_most(rt.alloc(), &mut opened, limit)
+    match fs::open(rt, file.as_str()) {
+        Ok(mut opened) => read_most(rt.alloc(), &mut opened, limit),
+        Err(error) => Err(read_fault(&error)),
+    }
 }

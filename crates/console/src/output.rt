@@ -2,7 +2,7 @@
 ghost use Rattle.std.specs.Prelude.{◌≡◌, IfErr, OnOk, ◌<◌, ◌++◌, ◌∷◌, [], Err, is_ok, length, true};
 ghost use Rattle.std.specs.Io.Buffered.{writer_buffer};
 ghost use Rattle.std.specs.Io.KnownBytes.{Appends, Keeps};
-ghost use Rattle.program.specs.Lent.{buffered_contents, lent_contents};
+ghost use Rattle.console.specs.Lent.{buffered_contents, lent_contents};
 
 use crate::fault::RunFault;
 use show_text::Line;
@@ -13,19 +13,21 @@ use std::io::{BufWriter, Write};
 ///
 /// It is small, and a `RunFault` is not: what each event of a script makes is passed on through calls that answer one.
 #[derive(Clone, Copy)]
-pub(crate) struct Unwritten;
+pub struct Unwritten;
 
 /// A writer that is lent, as a value of its own.
 ///
 /// What proofs see in it begins with the name of the loan, and the writer's bytes follow. So where bytes were appended
 /// to it, whoever did that, they were appended to this writer and to no other.
 #[derive(Drop)]
-pub(crate) struct Lent<'a, W> {
-    pub(crate) writer: &'a mut W,
+pub struct Lent<'a, W> {
+    /// The writer that is lent.
+    pub writer: &'a mut W,
 }
 
 impl<'a, W: Write> Lent<'a, W> {
-    pub(crate) fn new(writer: &'a mut W) -> Lent<'a, W>
+    /// Lends a writer.
+    pub fn new(writer: &'a mut W) -> Lent<'a, W>
         ensures same_reference { result.writer.ghost_name ≡ writer.entry.ghost_name }
         ensures value { result.writer.now ≡ writer.old }
     {
@@ -50,7 +52,11 @@ impl<W: Write> Write for Lent<'_, W> {
 }
 
 /// Lets the bytes of a buffer go to its writer, where a run that printed to it came to its end. Its fault stays as it is.
-pub(crate) fn flush_after<O: Write>(
+///
+/// # Errors
+///
+/// That of the run, and then the buffer is as it was; `Output` where the bytes could not be written.
+pub fn flush_after<O: Write>(
     done: Result<(), RunFault>,
     buffered: &mut BufWriter<Lent<'_, O>>,
 ) -> Result<(), RunFault>
@@ -64,16 +70,24 @@ pub(crate) fn flush_after<O: Write>(
     buffered.flush().map_err(|_| RunFault::Output)
 }
 
-/// Prints a line, and a line feed.
-pub(crate) fn print<O: Write>(output: &mut O, line: &Line) -> Result<(), Unwritten>
+/// Prints a line, and a line feed, by two writes.
+///
+/// # Errors
+///
+/// `Unwritten` where a write fails. How much of the line was written is not known.
+pub fn print<O: Write>(output: &mut O, line: &Line) -> Result<(), Unwritten>
     ensures printed { OnOk result (Appends (O.contents output.old) (O.contents output.new) (line.now.bytes ++ 10 ∷ [])) }
 {
     print_all(output, line.as_str().as_bytes())?;
     print_all(output, b"\n")
 }
 
-/// Ends a line with a line feed, and prints it by one write.
-pub(crate) fn print_ended<O: Write>(output: &mut O, line: &mut Line) -> Result<(), Unwritten>
+/// Ends a line of less than 640 bytes with a line feed, and prints it by one write.
+///
+/// # Errors
+///
+/// `Unwritten` where the write fails. How much of the line was written is not known.
+pub fn print_ended<O: Write>(output: &mut O, line: &mut Line) -> Result<(), Unwritten>
     requires { length line.old.bytes < 640 }
     ensures printed { OnOk result (Appends (O.contents output.old) (O.contents output.new) (line.old.bytes ++ 10 ∷ [])) }
 {

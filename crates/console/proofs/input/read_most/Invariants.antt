@@ -1,6 +1,6 @@
 use Rattle.std.proofs.Common.{◌≤◌, vec_len}
 use Rattle.std.specs.Io.KnownBytes.{Consumes}
-use Rattle.program.proofs.input.read_most.Given as goal
+use Rattle.console.proofs.input.read_most.Given as goal
 
 -- what was taken so far
 abbrev pub invariant-loop : goal.invariant-loop

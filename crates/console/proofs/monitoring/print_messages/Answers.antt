@@ -1,9 +1,9 @@
 use Rattle.std.proofs.Common.{◌≡◌, ◌∷◌, ◌+◌, ℕ, List, Option, drop, ap, subst}
 use Rattle.std.proofs.lemmas.List.{drop_more}
 use Rattle.std.specs.List.{slice_index_or}
-use Rattle.program.proofs.Printing.{HasPrinted, printed_more, printed_nothing, printed_one}
-use Rattle.program.proofs.monitor.print_messages.Goals as goal
-use Rattle.program.proofs.monitor.print_messages.Goals.{in-Some+in_ok-print, in_default}
+use Rattle.console.proofs.Printing.{HasPrinted, printed_more, printed_nothing, printed_one}
+use Rattle.console.proofs.monitoring.print_messages.Goals as goal
+use Rattle.console.proofs.monitoring.print_messages.Goals.{in-Some+in_ok-print, in_default}
 
 pub loop-byte-preserved : goal.loop-byte-preserved
 loop-byte-preserved g c =

@@ -2,7 +2,7 @@
 use Rattle.std.specs.Prelude.{ℕ, List, ◌∷◌, Option, option_map}
 use Rattle.std.specs.Io.Buffered.{writer_contents}
 use Rattle.std.specs.declared.io.buffered.BufWriter.{BufWriter}
-use Rattle.program.specs.declared.output.Lent.{Lent}
+use Rattle.console.specs.declared.output.Lent.{Lent}
 
 -- the name of the loan, and then the writer's bytes, where those are known
 abbrev pub lent_contents : {W : Type 0} → (W → Option (List ℕ)) → Lent W → Option (List ℕ)

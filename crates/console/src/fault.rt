@@ -1,14 +1,12 @@
 //! Why a run ends with a status other than 0.
 ghost use Rattle.std.specs.Prelude.{◌≡◌};
-ghost use Rattle.program.specs.declared.fault.RunFault.TheVariants.{NoMemory, Output};
-ghost use Rattle.program.specs.Fault.{of_hex, of_order, of_roster, of_script, of_serve, of_station, status_of};
+ghost use Rattle.console.specs.declared.fault.RunFault.TheVariants.{NoMemory, Output};
+ghost use Rattle.console.specs.Fault.{of_hex, of_order, of_roster, of_script, status_of};
 
 use crate::output::Unwritten;
 use command_line::{FileName, OrderFault};
-use layout_core::ServeFault;
 use roster::RosterFault;
 use show_text::{HexFault, HexWhy, ScriptFault};
-use station_core::StationFault;
 use std::alloc::AllocError;
 use thiserror::Error;
 
@@ -97,17 +95,6 @@ impl From<Unwritten> for RunFault {
     }
 }
 
-impl From<StationFault> for RunFault {
-    ghost from_gives = { λ station run. run ≡ of_station station };
-
-    fn from(fault: StationFault) -> RunFault {
-        match fault {
-            StationFault::BadLines => RunFault::Lines,
-            StationFault::NoMemory => RunFault::NoMemory,
-        }
-    }
-}
-
 impl From<RosterFault> for RunFault {
     ghost from_gives = { λ roster run. run ≡ of_roster roster };
 
@@ -163,18 +150,5 @@ impl From<HexFault> for RunFault {
             number,
             at: fault.at,
         }
-    }
-}
-
-impl From<ServeFault> for RunFault {
-    ghost from_gives = { λ serve run. run ≡ of_serve serve };
-
-    fn from(fault: ServeFault) -> RunFault {
-        RunFault::Serve(match fault {
-            ServeFault::Read => 1,
-            ServeFault::Write => 2,
-            ServeFault::Trace => 3,
-            ServeFault::TooManyReads => 4,
-        })
     }
 }

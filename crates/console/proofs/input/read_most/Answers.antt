@@ -1,9 +1,9 @@
 use Rattle.std.proofs.Common.{arith, if◌then◌else◌, ◌≡◌, ◌≤◌, ◌+◌, ◌++◌, ℕ, List, Vec, vec_len, Global, Bool, true, length, length-take, drop, sym, subst, ap, ◌∙◌, take}
 use Rattle.std.proofs.lemmas.List.{take-append-le}
 use Rattle.std.specs.Io.KnownBytes.{Consumes}
-use Rattle.program.proofs.Known.{consumes_kept, consumes_more}
-use Rattle.program.proofs.input.read_most.Goals.{in-Ok+else-is_err, in-Err+else-ne}
-use Rattle.program.proofs.input.read_most.Goals as goal
+use Rattle.console.proofs.Known.{consumes_kept, consumes_more}
+use Rattle.console.proofs.input.read_most.Goals.{in-Ok+else-is_err, in-Err+else-ne}
+use Rattle.console.proofs.input.read_most.Goals as goal
 
 -- what a test that succeeded chose
 chosen : {A : Type 0} (b : Bool) (first other x : A) → x ≡ (if b then first else other) → b ≡ true → x ≡ first

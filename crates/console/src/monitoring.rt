@@ -4,8 +4,8 @@ ghost use Rattle.std.specs.Io.KnownBytes.{Appends};
 ghost use Rattle.ln_frame.specs.Stream.{messages_of};
 ghost use Rattle.show_text.specs.Hex.{hex_of};
 ghost use Rattle.show_text.specs.declared.hex.HexFault.{HexFault};
-ghost use Rattle.program.specs.Fault.{of_hex};
-ghost use Rattle.program.specs.Printed.{PrintsMessages, messages_text};
+ghost use Rattle.console.specs.Fault.{of_hex};
+ghost use Rattle.console.specs.Printed.{PrintsMessages, messages_text};
 
 use crate::fault::RunFault;
 use crate::input::read_file;
@@ -17,8 +17,14 @@ use std::alloc::Global;
 use std::io::{BufWriter, Write};
 use std::rt::Files;
 
-/// Reads hex text from a file, whole, and then prints each message in its bytes.
-pub(crate) fn monitor<R: Files + AllocGlobal, O: Write>(
+/// Reads hex text from a file, whole, and then prints each message in its bytes. A file of more than 1,048,576 bytes is
+/// read to one byte past them, and is no hex text.
+///
+/// # Errors
+///
+/// `Unreadable` where the file is not opened or a read fails, `Hex` with the first fault of its text, `Output` where a
+/// write fails, and `NoMemory`.
+pub fn monitor<R: Files + AllocGlobal, O: Write>(
     rt: &R,
     file: FileName,
     output: &mut O,

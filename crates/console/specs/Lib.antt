@@ -1,0 +1,5 @@
+pub mod Fault
+pub mod Files
+pub mod Input
+pub mod Lent
+pub mod Printed
