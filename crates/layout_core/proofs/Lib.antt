@@ -13,3 +13,4 @@ pub mod Known
 pub mod Moments
 pub mod Serving
 pub mod Stopping
+pub mod Putting
