@@ -1,5 +1,5 @@
 -- Events that are served one after another add up.
-use Rattle.std.proofs.Common.{zero, suc, ◌*◌, replicate, Option, Some, None, ◌≡◌, ℕ, ◌+◌, ◌<◌, ◌≤◌, List, [], ◌∷◌, ◌++◌, length, length-append, take, get_or, refl, ap, ap₂, sym, subst, ◌∙◌, append_assoc, arith}
+use Rattle.std.proofs.Common.{zero, suc, ◌*◌, ◌^◌, replicate, Option, Some, None, ◌≡◌, ℕ, ◌+◌, ◌<◌, ◌≤◌, List, [], ◌∷◌, ◌++◌, length, length-append, take, get_or, refl, ap, ap₂, sym, subst, ◌∙◌, append_assoc, arith}
 use Rattle.std.proofs.lemmas.List.{append-nil, replicate_more, take_more}
 use Rattle.std.specs.Io.KnownBytes.{Appends, Consumes, Keeps}
 use Rattle.station_core.specs.declared.call.Step.{Step}
@@ -152,6 +152,35 @@ reads_failed made bytes old mid new so_far kept counted = record {
   counted = omega (arith, so_far.counted, counted);
   few = omega (arith, so_far.few);
 }
+
+-- how many reads, bytes and answers there are, of at most 64 bytes at each read
+
+pub room_at : (made limit : ℕ) → made < limit → (old mid new : ℕ) → mid ≡ old + made → new ≡ mid + 1 → new ≤ old + limit
+room_at made limit below old mid new so_far counted = omega arith
+
+pub all_made : (made limit : ℕ) → made ≤ limit → limit ≤ made → (old new : ℕ) → new ≡ old + made → new ≡ old + limit
+all_made made limit below past old new so_far = omega arith
+
+pub at_most : (made limit : ℕ) → made ≤ limit → (old new : ℕ) → new ≡ old + made → new ≤ old + limit
+at_most made limit below old new so_far = omega arith
+
+pub few_more : (made n size : ℕ) → n ≤ size → size ≡ 64 → (count : ℕ) → count ≤ 64 * made → count + n ≤ 64 * (made + 1)
+few_more made n size bound whole count few = omega arith
+
+pub not_empty : (size : ℕ) → size ≡ 64 → 0 < size
+not_empty size whole = omega arith
+
+pub few_of : (n size : ℕ) → n ≤ size → size ≡ 64 → (chunk : ℕ) → chunk ≡ n → chunk ≤ 64
+few_of n size bound whole chunk same = omega arith
+
+pub grown_more : (made n size : ℕ) → n ≤ size → size ≡ 64 → (chunk count new : ℕ) → chunk ≡ n → new ≤ count + 256 * chunk → count ≤ 16384 * made → new ≤ 16384 * (made + 1)
+grown_more made n size bound whole chunk count new same grows few = omega arith
+
+pub room_more : (made : ℕ) → made < 4294967296 → (n size : ℕ) → n ≤ size → size ≡ 64 → (chunk : ℕ) → chunk ≡ n → (count : ℕ) → count ≤ 16384 * made → count + 256 * chunk < 2 ^ 64
+room_more made below n size bound whole chunk same count few = omega arith
+
+pub counted_more : (so_far n : ℕ) (before more : List ℕ) → so_far ≡ length before → length more ≡ n → so_far + n ≡ length (before ++ more)
+counted_more so_far n before more counted size = omega (arith, length-append before more)
 
 -- a byte is answered by no packet, and a turn by one or by none
 by_reply : (reply : Option ReplyValue) → turns_of_answer (replied reply) ≡ 0
