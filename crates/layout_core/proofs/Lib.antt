@@ -14,3 +14,4 @@ pub mod Moments
 pub mod Serving
 pub mod Stopping
 pub mod Putting
+pub mod Counting

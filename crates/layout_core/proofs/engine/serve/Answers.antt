@@ -9,7 +9,8 @@ use Rattle.layout_core.specs.declared.event.Event.{Event}
 use Rattle.layout_core.specs.Faults.{HasFaulted, StopsWithin, is_read, is_trace, is_write}
 use Rattle.layout_core.specs.Served.{Input, Moment, input_of, moment_of, served_events, turns_in}
 use Rattle.layout_core.specs.Played.{answers_to}
-use Rattle.layout_core.proofs.Serving.{all_made, at_most, counted_more, few_more, few_of, grown_more, not_empty, reads_end, reads_failed, reads_more, reads_none, room_at, room_more, served-append, serves_none, serves_then, turns_served}
+use Rattle.layout_core.proofs.Counting.{all_made, at_most, counted_more, few_more, few_of, grown_more, not_empty, room_at, room_more}
+use Rattle.layout_core.proofs.Serving.{reads_end, reads_failed, reads_more, reads_none, served-append, serves_none, serves_then, turns_served}
 use Rattle.layout_core.proofs.Stopping.{ended_passed_up, no_limit_stops, no_ok_passed_up, no_read_stops, passed_up, same_passed_up, stop_heard, stops_leave, stops_then}
 use Rattle.layout_core.proofs.engine.serve.Goals as goal
 
@@ -48,9 +49,9 @@ loop-reads-preserved g c =
         serves_then c.args.line (served_events c.args.line c.args.limits.turns (so_far.0 ++ chunk)) (served_events c.args.line c.args.limits.turns so_far.0) (served_events c.args.line c.args.limits.turns chunk) old mid new
             (served-append c.args.line c.args.limits.turns so_far.0 chunk) so_far.3 c.in_ok-serve_bytes.ensures.serves,
       );
-      few_bytes = few_more c.loop-reads.reads c.in-Ok.n (length c.get.new.buf) c.in-Ok.ensures.bound whole c.loop-reads.bytes c.loop-reads.invariant.few_bytes;
-      few_replies = grown_more c.loop-reads.reads c.in-Ok.n (length c.get.new.buf) c.in-Ok.ensures.bound whole (length chunk) c.loop-reads.counts.replies c.serve_bytes.new.counts.replies size c.serve_bytes.ensures.room.replies c.loop-reads.invariant.few_replies;
-      few_turns = grown_more c.loop-reads.reads c.in-Ok.n (length c.get.new.buf) c.in-Ok.ensures.bound whole (length chunk) c.loop-reads.counts.turns c.serve_bytes.new.counts.turns size c.serve_bytes.ensures.room.turns c.loop-reads.invariant.few_turns;
+      few_bytes = few_more c.in-Ok.n (length c.get.new.buf) c.in-Ok.ensures.bound whole c.loop-reads.reads c.loop-reads.bytes c.loop-reads.invariant.few_bytes;
+      few_replies = grown_more c.in-Ok.n (length c.get.new.buf) c.in-Ok.ensures.bound whole c.loop-reads.reads (length chunk) c.loop-reads.counts.replies c.serve_bytes.new.counts.replies size c.serve_bytes.ensures.room.replies c.loop-reads.invariant.few_replies;
+      few_turns = grown_more c.in-Ok.n (length c.get.new.buf) c.in-Ok.ensures.bound whole c.loop-reads.reads (length chunk) c.loop-reads.counts.turns c.serve_bytes.new.counts.turns size c.serve_bytes.ensures.room.turns c.loop-reads.invariant.few_turns;
       whole = whole;
       open_still = c.in-Ok.ensures.end ∙ ne_eqb _ _ c.if-n-eq0.false;
       source_works = c.in-Ok.ensures.failed_ok ∙ c.loop-reads.invariant.source_works;
@@ -266,6 +267,6 @@ serve_bytes-requires-clause-room g c =
     let size : length (take c.in-Ok.n c.get.new.buf) ≡ c.in-Ok.n = length-take-le c.in-Ok.n c.get.new.buf c.in-Ok.ensures.bound in
     let few : c.loop-reads.reads < 4294967296 = omega (arith, c.loop-reads-test.true) in
     record {
-      replies = room_more c.loop-reads.reads few c.in-Ok.n (length c.get.new.buf) c.in-Ok.ensures.bound whole (length (take c.in-Ok.n c.get.new.buf)) size c.loop-reads.counts.replies c.loop-reads.invariant.few_replies;
-      turns = room_more c.loop-reads.reads few c.in-Ok.n (length c.get.new.buf) c.in-Ok.ensures.bound whole (length (take c.in-Ok.n c.get.new.buf)) size c.loop-reads.counts.turns c.loop-reads.invariant.few_turns;
+      replies = room_more c.in-Ok.n (length c.get.new.buf) c.in-Ok.ensures.bound whole c.loop-reads.reads (length (take c.in-Ok.n c.get.new.buf)) c.loop-reads.counts.replies few size c.loop-reads.invariant.few_replies;
+      turns = room_more c.in-Ok.n (length c.get.new.buf) c.in-Ok.ensures.bound whole c.loop-reads.reads (length (take c.in-Ok.n c.get.new.buf)) c.loop-reads.counts.turns few size c.loop-reads.invariant.few_turns;
     }
