@@ -13,3 +13,5 @@ pub mod Known
 pub mod Moments
 pub mod Serving
 pub mod Stopping
+pub mod Putting
+pub mod Counting

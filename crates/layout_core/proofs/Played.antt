@@ -1,5 +1,6 @@
 -- What nodes hear of events, one after another.
-use Rattle.std.proofs.Common.{◌≡◌, ℕ, ◌<◌, Bool, true, false, if◌then◌else◌, nat_eq, List, [], ◌∷◌, ◌++◌, length, zero, suc, refl, ap, sym, subst, ◌∙◌, arith}
+use Rattle.std.proofs.Common.{◌≡◌, ℕ, ◌<◌, ◌≤◌, Bool, true, false, if◌then◌else◌, nat_eq, List, [], ◌∷◌, ◌++◌, length, take, drop, drop_of_length-le, zero, suc, refl, ap, sym, subst, ◌∙◌, arith}
+use Rattle.std.proofs.lemmas.List.{append-nil, take_all}
 use Rattle.std.proofs.lemmas.Bool.{and_parts}
 use Rattle.std.specs.List.{slice_index_or}
 use Rattle.std.specs.Prelude.{IsTrue}
@@ -14,7 +15,7 @@ use Rattle.layout_core.specs.declared.node.Node.{Node}
 use Rattle.layout_core.specs.Heard.{HearsAll, Single, sounds_at, sounds_in, sounds_of_turn}
 use Rattle.layout_core.specs.Hearing.{AfterPacket}
 use Rattle.layout_core.specs.Nodes.{is_missed}
-use Rattle.layout_core.specs.Played.{AreEvents, after_event, after_events, answer_to, is_event}
+use Rattle.layout_core.specs.Played.{AreEvents, after_event, after_events, answer_to, answers_to, is_event}
 use Rattle.layout_core.specs.World.{AfterEvent, AfterHalf, AfterTurn, HaveHeard, HaveObeyed}
 use Rattle.layout_core.proofs.Heard.{all_more, sounds-append, sounds_are_whole, whole_obeyed}
 
@@ -90,3 +91,15 @@ pub event_at : (lines nodes : ℕ) (events : List Event) (i : ℕ) (d : Event) �
 event_at lines nodes [] i d below are = absurd (omega arith)
 event_at lines nodes (event ∷ events) zero d below are = (and_parts _ _ are).0
 event_at lines nodes (event ∷ events) (suc i) d below are = event_at lines nodes events i d (omega arith) (and_parts _ _ are).1
+
+-- where no events are left, all are played and answered
+module _ (start now : Seen) (events : List Event) (i : ℕ) (past : length events ≤ i) where
+  pub all_played : after_events now (drop i events) ≡ after_events start events → now ≡ after_events start events
+  all_played rest = sym (ap (after_events now) (drop_of_length-le events past)) ∙ rest
+
+  pub all_answered : (steps : List Step) → length events ≡ length steps → take i steps ++ answers_to now (drop i events) ≡ answers_to start events → steps ≡ answers_to start events
+  all_answered steps places written =
+      sym (take_all i steps (omega (arith, past, places)))
+      ∙ sym (append-nil (take i steps))
+      ∙ sym (ap (λ (es : List Event). take i steps ++ answers_to now es) (drop_of_length-le events past))
+      ∙ written

@@ -1,6 +1,6 @@
 -- Events that are served one after another add up.
 use Rattle.std.proofs.Common.{zero, suc, ◌*◌, replicate, Option, Some, None, ◌≡◌, ℕ, ◌+◌, ◌<◌, ◌≤◌, List, [], ◌∷◌, ◌++◌, length, length-append, take, get_or, refl, ap, ap₂, sym, subst, ◌∙◌, append_assoc, arith}
-use Rattle.std.proofs.lemmas.List.{append-nil, replicate_more, take_more}
+use Rattle.std.proofs.lemmas.List.{append-nil, replicate_more, take_all, take_more}
 use Rattle.std.specs.Io.KnownBytes.{Appends, Consumes, Keeps}
 use Rattle.station_core.specs.declared.call.Step.{Step}
 use Rattle.ln_ops.specs.declared.reply.Reply.{Reply as ReplyValue}
@@ -10,11 +10,11 @@ use Rattle.station_core.specs.Runs.{answer_of, state_of}
 use Rattle.station_core.specs.Seen.{Seen}
 use Rattle.layout_core.specs.declared.event.Event.{Event}
 use Rattle.layout_core.specs.declared.event.Event.TheVariants.{Byte, Turn}
-use Rattle.layout_core.specs.Served.{HasRead, Input, Moment, Serves, byte_events, bytes_of_answer, line_of_answer, replies_in, served_events, traced_from, turns_in, turns_of_answer, written_for}
+use Rattle.layout_core.specs.Served.{HasRead, Input, Moment, Serves, byte_events, bytes_of_answer, line_of_answer, replies_in, replies_of_answer, served_events, traced_from, turns_in, turns_of_answer, written_for}
 use Rattle.layout_core.specs.Played.{after_event, after_events, answer_to, answers_to}
-use Rattle.layout_core.specs.World.{HaveHeard}
+use Rattle.layout_core.specs.World.{AfterEvent, HaveHeard}
 use Rattle.layout_core.proofs.Known.{appends_more, appends_none, consumes_end, consumes_kept, consumes_more, consumes_none}
-use Rattle.layout_core.proofs.Played.{both_heard, nothing_heard}
+use Rattle.layout_core.proofs.Played.{both_heard, next_heard, nothing_heard}
 
 pub state-append : (seen : Seen) (events later : List Event) → after_events seen (events ++ later) ≡ after_events (after_events seen events) later
 state-append seen [] later = refl
@@ -59,6 +59,27 @@ serves_none line moment = record {
   turns = omega arith;
   lines = refl;
 }
+
+-- one event, whose answer is put out and counted
+pub serves_event : (line : ℕ) (event : Event) (step : Step) (old new : Moment) → new.world.station ≡ after_event old.world.station event → step ≡ answer_to old.world.station event
+    → AfterEvent event step old.world.nodes new.world.nodes → Appends old.written new.written (bytes_of_answer step) → Appends old.traced new.traced (line_of_answer line (old.turns + 1) step)
+    → new.replies ≡ old.replies + replies_of_answer step → new.turns ≡ old.turns + turns_of_answer step → length new.world.station.lines ≡ length old.world.station.lines → Serves line (event ∷ []) old new
+serves_event line event step old new moves answers after written traced replies turns lines =
+    let seen : Seen = old.world.station in
+    let turned : AfterEvent event (answer_to seen event) old.world.nodes new.world.nodes = subst (λ (s : Step). AfterEvent event s old.world.nodes new.world.nodes) answers after in
+    let one : replies_of_answer step ≡ replies_of_answer (answer_to seen event) = ap replies_of_answer answers in
+    let turn : turns_of_answer step ≡ turns_of_answer (answer_to seen event) = ap turns_of_answer answers in
+    record {
+      station = moves;
+      nodes = next_heard seen event [] old.world.nodes new.world.nodes new.world.nodes turned (nothing_heard (after_event seen event) new.world.nodes);
+      written = subst (λ (bs : List ℕ). Appends old.written new.written bs) (ap bytes_of_answer answers ∙ sym (append-nil (bytes_of_answer (answer_to seen event)))) written;
+      traced =
+          subst (λ (bs : List ℕ). Appends old.traced new.traced bs)
+          (ap (line_of_answer line (old.turns + 1)) answers ∙ sym (append-nil (line_of_answer line (old.turns + 1) (answer_to seen event)))) traced;
+      replies = omega (arith, replies, one);
+      turns = omega (arith, turns, turn);
+      lines = lines;
+    }
 
 -- events, and then more
 pub serves_more : (line : ℕ) (events later : List Event) (old mid new : Moment) → Serves line events old mid → Serves line later mid new → Serves line (events ++ later) old new
@@ -116,9 +137,20 @@ served_more line turns i bytes below =
     ∙ served-append line turns (take i bytes) (get_or bytes i 0 ∷ [])
     ∙ ap (λ (events : List Event). served_events line turns (take i bytes) ++ events) (append-nil (byte_events line turns (get_or bytes i 0)))
 
+-- all of the bytes
+pub all_served : (line turns i : ℕ) (bytes : List ℕ) → length bytes ≤ i → (old new : Moment) → Serves line (served_events line turns (take i bytes)) old new → Serves line (served_events line turns bytes) old new
+all_served line turns i bytes past old new serves =
+    subst (λ (bs : List ℕ). Serves line (served_events line turns bs) old new) (take_all i bytes past) serves
+
 -- a turn more behind a byte
 pub byte_more : (line turns byte : ℕ) → byte_events line (turns + 1) byte ≡ byte_events line turns byte ++ Turn 0 ∷ []
 byte_more line turns byte = ap (λ (events : List Event). Byte line byte ∷ events) (sym (replicate_more turns (Turn 0)))
+
+-- the byte and all of its turns
+pub all_turned : (line byte turn turns : ℕ) → turn ≤ turns → turns ≤ turn → (old new : Moment) → Serves line (byte_events line turn byte) old new → Serves line (byte_events line turns byte) old new
+all_turned line byte turn turns most least old new serves =
+    let all : turn ≡ turns = omega arith in
+    subst (λ (n : ℕ). Serves line (byte_events line n byte) old new) all serves
 
 -- these bytes were read so far, and they were served
 abbrev pub IsServedSoFar : (line turns reads count : ℕ) → (input input' : Input) → (old new : Moment) → Type 0

@@ -1,7 +1,7 @@
 -- Events that are served, and then one that stops.
 use Rattle.std.proofs.Common.{◌≡◌, ℕ, ◌+◌, ◌-◌, ◌<◌, List, [], ◌∷◌, ◌++◌, length, replicate, take, drop, get_or, refl, ap, sym, subst, ◌∙◌, append_assoc, arith, Option}
 use Rattle.std.proofs.lemmas.List.{drop_more, replicate-append-replicate, take-append-drop}
-use Rattle.std.specs.Prelude.{Result, Ok, Err, IfErr}
+use Rattle.std.specs.Prelude.{Bool, false, Result, Ok, Err, IfErr, IfOk}
 use Rattle.std.specs.Result.{IsErrAnd}
 use Rattle.std.specs.Io.KnownBytes.{Appends}
 use Rattle.station_core.specs.declared.call.Step.{Step}
@@ -10,7 +10,7 @@ use Rattle.layout_core.specs.declared.engine.ServeFault.{ServeFault}
 use Rattle.layout_core.specs.declared.engine.ServeFault.TheVariants.{Read, Write, Trace, TooManyReads}
 use Rattle.layout_core.specs.declared.event.Event.{Event}
 use Rattle.layout_core.specs.declared.event.Event.TheVariants.{Byte, Turn}
-use Rattle.layout_core.specs.Faults.{AppendsFront, Leaves, PutsOut, StopsAt, StopsWithin}
+use Rattle.layout_core.specs.Faults.{AppendsFront, Leaves, PutsOut, StopsAt, StopsWithin, ended_by, is_read}
 use Rattle.layout_core.specs.Served.{Moment, Serves, byte_events, bytes_of_answer, line_of_answer, served_events, traced_from, turns_in, written_for}
 use Rattle.layout_core.specs.Played.{after_event, after_events, answer_to, answers_to}
 use Rattle.layout_core.specs.World.{AfterEvent, HaveHeard}
@@ -107,6 +107,31 @@ stop_heard fault line events old new stop =
 pub passed_up : {T : Type 0} (result : Result T ServeFault) (fault : ServeFault) (P : ServeFault → Type 0) → IsErrAnd result (λ e. e ≡ fault) → P fault → IfErr result P
 passed_up (Ok x) fault P is holds = tt
 passed_up (Err e) fault P is holds = subst P (sym is) holds
+
+pub no_ok_passed_up : {T : Type 0} (result : Result T ServeFault) (fault : ServeFault) (P : T → Type 0) → IsErrAnd result (λ e. e ≡ fault) → IfOk result P
+no_ok_passed_up (Ok x) fault P is = absurd is
+no_ok_passed_up (Err e) fault P is = tt
+
+pub ended_passed_up : {T : Type 0} (result : Result T ServeFault) (fault : ServeFault) (ends : ServeFault → Bool) → IsErrAnd result (λ e. e ≡ fault) → ended_by ends result ≡ ends fault
+ended_passed_up (Ok x) fault ends is = absurd is
+ended_passed_up (Err e) fault ends is = ap ends is
+
+pub same_passed_up : {T : Type 0} (result : Result T ServeFault) (fault other : ServeFault) → IsErrAnd result (λ e. e ≡ fault) → result ≡ Err other → fault ≡ other
+same_passed_up (Ok x) fault other is same = absurd is
+same_passed_up (Err e) fault other is same = cc
+
+-- what stops at an event is a fault of a sink
+pub no_read_stops : (fault : ServeFault) (line : ℕ) (events : List Event) (old new : Moment) → StopsWithin fault line events old new → is_read fault ≡ false
+no_read_stops Read line events old new stop = absurd stop.1.5.puts_out
+no_read_stops TooManyReads line events old new stop = refl
+no_read_stops Write line events old new stop = refl
+no_read_stops Trace line events old new stop = refl
+
+pub no_limit_stops : (fault : ServeFault) (line : ℕ) (events : List Event) (old new : Moment) → StopsWithin fault line events old new → fault ≡ TooManyReads → ⊥
+no_limit_stops Read line events old new stop is = absurd stop.1.5.puts_out
+no_limit_stops TooManyReads line events old new stop is = absurd stop.1.5.puts_out
+no_limit_stops Write line events old new stop is = cc
+no_limit_stops Trace line events old new stop is = cc
 
 -- the bytes before the next one, that one, and those behind it
 pub served_parts : (line turns i : ℕ) (bytes : List ℕ) → i < length bytes → served_events line turns bytes ≡ served_events line turns (take i bytes) ++ (byte_events line turns (get_or bytes i 0) ++ served_events line turns (drop (i + 1) bytes))

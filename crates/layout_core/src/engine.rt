@@ -94,13 +94,15 @@ fn put_out<K: Sink, T: Sink>(
     let text = match answer {
         Step::Quiet => return Ok(()),
         Step::Reply(reply) => {
-            put_all(sink, to_msg(reply).bytes()).map_err(|_| ServeFault::Write)?;
+            let Ok(()) = put_all(sink, to_msg(reply).bytes()) else {
+                return Err(ServeFault::Write);
+            };
             reply_line(line, reply)
         }
         Step::Packet(packet) => track_line(turn, packet),
         Step::Off => off_line(turn),
     };
-    put_line(trace, &text).map_err(|_| ServeFault::Trace)
+    put_line(trace, &text).or(Err(ServeFault::Trace))
 }
 
 /// Does one event, and puts out what it answers.

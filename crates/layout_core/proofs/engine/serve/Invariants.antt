@@ -1,4 +1,4 @@
-use Rattle.std.proofs.Common.{◌≡◌, ◌≤◌, ◌*◌, false, map}
+use Rattle.std.proofs.Common.{◌≡◌, ◌≤◌, ◌*◌, false, length, map}
 use Rattle.layout_core.specs.Served.{input_of, moment_of}
 use Rattle.layout_core.proofs.Serving.{IsServedSoFar}
 use Rattle.layout_core.specs.Nodes.{spec_of}
@@ -13,6 +13,7 @@ invariant-loop-reads g l = record {
   few_bytes : l.bytes ≤ 64 * l.reads;
   few_replies : l.counts.replies ≤ 16384 * l.reads;
   few_turns : l.counts.turns ≤ 16384 * l.reads;
+  whole : length l.buf ≡ 64;
   open_still : g.S.Source.ended l.source ≡ false;
   source_works : g.S.Source.failed l.source ≡ false;
   sink_works : g.K.Sink.failed l.sink ≡ false;
