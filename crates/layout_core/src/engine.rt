@@ -246,8 +246,7 @@ pub fn serve<S: Source, K: Sink, T: Sink>(
 {
     headline();
     calls_are_moves();
-    // The station promises there that it has a desk.
-    let _ = world.station.lines();
+    world.station.always_legal();
     let mut counts = Counts {
         replies: 0,
         turns: 0,

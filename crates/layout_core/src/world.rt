@@ -117,8 +117,7 @@ impl World {
     {
         headline();
         stays_a_desk();
-        // The station promises there that it has a desk.
-        let _ = self.station.lines();
+        self.station.always_legal();
         for (i, event) in events.iter().enumerate() {
             steps[i] = self.step(*event);
         }
@@ -176,8 +175,7 @@ impl World {
         ensures specs { map spec_of self.new.nodes ≡ map spec_of self.old.nodes }
         ensures desk { IsDesk self.old.station.powered.desk }
     {
-        // The station promises there that it has a desk.
-        let _ = self.station.lines();
+        self.station.always_legal();
         self.nodes.noise(usize::from(node), half);
         Step::Quiet
     }

@@ -88,8 +88,7 @@ fn play<O: Write>(
 {
     events_add_up();
     headline();
-    // The station promises there that it has a desk.
-    let _ = world.station().lines();
+    world.station().always_legal();
     let mut turn = 1;
     let mut text = Line::new();
     for command in commands {
@@ -173,24 +172,24 @@ fn play_event<O: Write>(
 {
     events_add_up();
     let answer = world.step(event);
-    print_answer(&answer, line, turn, text, output)
+    print_answer(answer, line, turn, text, output)
 }
 
 /// Prints the line of an answer, where a turn has this number. A byte without a reply has none.
 fn print_answer<O: Write>(
-    answer: &Step,
+    answer: Step,
     line: u8,
     turn: u64,
     text: &mut Line,
     output: &mut O,
 ) -> Result<(), Unwritten>
-    requires { IsSendableAnswer answer.now }
-    ensures printed { OnOk result (Appends (O.contents output.old) (O.contents output.new) (line_of_answer line turn answer.now)) }
+    requires { IsSendableAnswer answer }
+    ensures printed { OnOk result (Appends (O.contents output.old) (O.contents output.new) (line_of_answer line turn answer)) }
 {
     match answer {
         Step::Quiet => Ok(()),
-        Step::Reply(reply) => print_reply(line, reply, output),
-        Step::Packet(packet) => print_packet(turn, packet, text, output),
+        Step::Reply(reply) => print_reply(line, &reply, output),
+        Step::Packet(packet) => print_packet(turn, &packet, text, output),
         Step::Off => print_off(turn, text, output),
     }
 }

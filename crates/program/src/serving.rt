@@ -71,8 +71,7 @@ pub fn serve_on<O: Write>(
 {
     events_add_up();
     headline();
-    // A station promises there that it has a desk.
-    let _ = world.station().lines();
+    world.station().always_legal();
     for _served in 0..connections {
         let Ok((stream, _)) = listener.accept() else {
             return Err(RunFault::Network);
@@ -112,8 +111,7 @@ fn serve_traced<T: Sink>(
     ensures part { OnErr result (ServesPart limits.turns world.old world.new) }
     ensures given_up { IfErr result (λ e. GivesUp e limits world.old world.new (T.held trace.old) (T.held trace.new)) }
 {
-    // A station promises there that it has a line.
-    let _ = world.station().lines();
+    world.station().always_legal();
     let mut source = Port::new(stream);
     let mut sink = Port::new(stream);
     match serve(world, 0, &mut source, &mut sink, trace, limits) {

@@ -68,7 +68,7 @@ returns-then-n-eq0-clause-served g c =
     let after : Input = input_of (g.S.Source.left c.get.new.self) (g.S.Source.reads c.get.new.self) in
     let end : Consumes (g.S.Source.left c.loop-reads.source) (g.S.Source.left c.get.new.self) [] =
     subst (λ (n : ℕ). Consumes (g.S.Source.left c.loop-reads.source) (g.S.Source.left c.get.new.self) (take n c.get.new.buf)) c.if-n-eq0.true c.in-Ok.ensures.bytes.0 in
-    (so_far.0, reads_end c.loop-reads.reads so_far.0 first here after so_far.1 end c.get.ensures.counted, so_far.2, so_far.3, c.headline.ensures.headline c.args.world.now.station (served_events c.args.line c.args.limits.turns so_far.0) c.args.world.now.nodes c.loop-reads.world.nodes c.lines.ensures.desk so_far.3.nodes)
+    (so_far.0, reads_end c.loop-reads.reads so_far.0 first here after so_far.1 end c.get.ensures.counted, so_far.2, so_far.3, c.headline.ensures.headline c.args.world.now.station (served_events c.args.line c.args.limits.turns so_far.0) c.args.world.now.nodes c.loop-reads.world.nodes c.always_legal.ensures.desk so_far.3.nodes)
 
 pub returns-then-n-eq0-clause-turns : goal.returns-then-n-eq0-clause-turns
 returns-then-n-eq0-clause-turns g c =
@@ -92,7 +92,7 @@ returns-in_default-clause-faulted g c =
       served_events c.args.line c.args.limits.turns so_far.0,
       reads_failed c.loop-reads.reads so_far.0 first here after so_far.1 c.in_default.ensures.bytes c.get.ensures.counted,
       (refl, so_far.3),
-      c.headline.ensures.headline c.args.world.now.station (served_events c.args.line c.args.limits.turns so_far.0) c.args.world.now.nodes c.loop-reads.world.nodes c.lines.ensures.desk so_far.3.nodes,
+      c.headline.ensures.headline c.args.world.now.station (served_events c.args.line c.args.limits.turns so_far.0) c.args.world.now.nodes c.loop-reads.world.nodes c.always_legal.ensures.desk so_far.3.nodes,
     )
 
 pub returns-in_err-serve_bytes-clause-faulted : goal.returns-in_err-serve_bytes-clause-faulted
@@ -124,7 +124,7 @@ returns-in_err-serve_bytes-clause-faulted g c =
       stop.0,
       reads_more c.loop-reads.reads so_far.0 chunk first here after so_far.1 c.in-Ok.ensures.bytes.0 c.get.ensures.counted few,
       stops_leave fault c.args.line all old new stop,
-      c.headline.ensures.headline c.args.world.now.station stop.0 c.args.world.now.nodes c.serve_bytes.new.world.nodes c.lines.ensures.desk (stop_heard fault c.args.line all old new stop),
+      c.headline.ensures.headline c.args.world.now.station stop.0 c.args.world.now.nodes c.serve_bytes.new.world.nodes c.always_legal.ensures.desk (stop_heard fault c.args.line all old new stop),
     )
 
 pub returns-clause-faulted : goal.returns-clause-faulted
@@ -138,7 +138,7 @@ returns-clause-faulted g c =
       done,
       so_far.1,
       (refl, so_far.3),
-      c.headline.ensures.headline c.args.world.now.station done c.args.world.now.nodes c.loop-reads.world.nodes c.lines.ensures.desk so_far.3.nodes,
+      c.headline.ensures.headline c.args.world.now.station done c.args.world.now.nodes c.loop-reads.world.nodes c.always_legal.ensures.desk so_far.3.nodes,
     )
 
 pub serve_bytes-requires-clause-line : goal.serve_bytes-requires-clause-line

@@ -53,7 +53,7 @@ returns g c =
             c.loop-command.invariant.replayed.printed;
         wanted =
             shows_as_wanted c.events_add_up.ensures.obeyed c.headline.ensures.headline c.args.world.now entries commands
-            (subst (λ (seen : Seen). HasDesk seen.powered) c.station.ensures c.lines.ensures.desk)
+            (subst (λ (seen : Seen). HasDesk seen.powered) c.station.ensures c.always_legal.ensures.desk)
             (as_many (roster_value c.args.roster) c.args.world.now.nodes c.requires.nodes) c.requires.between
             (subst (λ (done : List Command). HasPassed done c.args.world.now) all c.loop-command.invariant.replayed.passed);
       };

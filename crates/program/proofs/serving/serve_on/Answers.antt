@@ -42,7 +42,7 @@ returns-in_err-print_nodes-clause-given_up g c =
 pub returns-clause-served : goal.returns-clause-served
 returns-clause-served g c =
     let all : c.loop-served._served ≡ c.args.connections = omega (arith, c.loop-served-test.false) in
-    let desk : HasDesk c.args.world.now.station.powered = subst (λ (seen : Seen). HasDesk seen.powered) c.station.ensures c.lines.ensures.desk in
+    let desk : HasDesk c.args.world.now.station.powered = subst (λ (seen : Seen). HasDesk seen.powered) c.station.ensures c.always_legal.ensures.desk in
     served_all c.headline.ensures.headline c.args.limits c.loop-served._served c.args.connections (entries_in (roster_value c.args.roster)) c.args.world.now c.loop-served.world
     (g.O.Write.contents c.args.output.now) (g.O.Write.contents c.loop-served.output) desk all c.loop-served.invariant.served
 

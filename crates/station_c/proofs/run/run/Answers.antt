@@ -72,7 +72,7 @@ returns-clause-nodes c =
     (c.events_add_up.ensures.none c.loop-i.world.station c.loop-i.world.nodes))
 
 has_desk : (c : goal.After-loop-i) → HasDesk c.args.world.now.station.powered
-has_desk c = subst (λ (s : Seen). HasDesk s.powered) c.station.ensures c.lines.ensures.desk
+has_desk c = subst (λ (s : Seen). HasDesk s.powered) c.station.ensures c.always_legal.ensures.desk
 
 pub returns-clause-headline : goal.returns-clause-headline
 returns-clause-headline c =

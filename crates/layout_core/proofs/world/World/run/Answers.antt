@@ -58,15 +58,15 @@ returns-clause-nodes c =
     (subst (λ (events : List Event). HaveHeard c.loop-i.self.station events c.loop-i.self.nodes c.loop-i.self.nodes) (sym done) (nothing_heard c.loop-i.self.station c.loop-i.self.nodes))
 
 pub returns-clause-desks : goal.returns-clause-desks
-returns-clause-desks c = c.stays_a_desk.ensures (known_of c.args.self.now.station) (calls_in c.args.events.now) c.lines.ensures.desk
+returns-clause-desks c = c.stays_a_desk.ensures (known_of c.args.self.now.station) (calls_in c.args.events.now) c.always_legal.ensures.desk
 
 pub returns-clause-headline : goal.returns-clause-headline
 returns-clause-headline c =
-    c.headline.ensures.headline c.args.self.now.station c.args.events.now c.args.self.now.nodes c.loop-i.self.nodes c.lines.ensures.desk (returns-clause-nodes c)
+    c.headline.ensures.headline c.args.self.now.station c.args.events.now c.args.self.now.nodes c.loop-i.self.nodes c.always_legal.ensures.desk (returns-clause-nodes c)
 
 pub returns-clause-after_noise : goal.returns-clause-after_noise
 returns-clause-after_noise c =
-    c.headline.ensures.after_noise c.args.self.now.station c.args.events.now c.args.self.now.nodes c.loop-i.self.nodes c.lines.ensures.desk (returns-clause-nodes c)
+    c.headline.ensures.after_noise c.args.self.now.station c.args.events.now c.args.self.now.nodes c.loop-i.self.nodes c.always_legal.ensures.desk (returns-clause-nodes c)
 
 pub returns-clause-obeyed : goal.returns-clause-obeyed
 returns-clause-obeyed c = heard_obeyed c.args.self.now.station c.args.events.now c.args.self.now.nodes c.loop-i.self.nodes (returns-clause-nodes c)
