@@ -112,9 +112,10 @@ fn push_turns(mut words: Words<'_>, nodes: u8, commands: &mut Vec<Command>) -> R
     let Some(word) = words.next() else {
         return Err(Why::BadWord);
     };
-    let count = count(word)?;
-    let missed = missing_nodes(words, nodes)?;
-    push_command(commands, Command::Turns { count, missed })
+    match (count(word), missing_nodes(words, nodes)) {
+        (Ok(count), Ok(missed)) => push_command(commands, Command::Turns { count, missed }),
+        (Err(why), _) | (_, Err(why)) => Err(why),
+    }
 }
 
 /// Nothing more.
