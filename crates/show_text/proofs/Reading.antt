@@ -6,6 +6,7 @@ use Rattle.std.proofs.lemmas.Bool.Decides.{nat_tests}
 use Rattle.show_text.specs.declared.command.Command.{Command}
 use Rattle.show_text.specs.declared.command.Command.TheVariants.{Byte, Turns}
 use Rattle.show_text.specs.declared.command.Why.{Why}
+use Rattle.show_text.specs.declared.command.Why.TheVariants.{TooLong}
 use Rattle.show_text.specs.declared.command.ScriptFault.{ScriptFault}
 use Rattle.show_text.specs.Sequence.{before, followed_by}
 use Rattle.show_text.proofs.Cuts.{few_lines}
@@ -82,6 +83,9 @@ line_stops lines nodes n old line more all why total split fault so_far =
 pub script_within : (count nodes : ℕ) (text : List ℕ) → length text ≤ 1048576 → script_of count nodes text ≡ commands_of count nodes 1 (lines text)
 script_within count nodes text h = grind (arith, nat_tests)
 
+pub script_too_long : (count nodes : ℕ) (text : List ℕ) → 1048576 < length text → script_of count nodes text ≡ Err (fault_at TooLong 0)
+script_too_long count nodes text h = rw (lt-ltb 1048576 (length text) h) refl
+
 -- the script is read to its end
 pub no_more : (lines nodes n : ℕ) (commands : List Command) (all : List (List ℕ)) (total : Result (List Command) ScriptFault)
     → all ≡ [] → before commands (commands_of lines nodes n all) ≡ total → total ≡ Ok commands
@@ -89,8 +93,6 @@ unfolding commands_of
 no_more lines nodes n commands all total none so_far =
     let now : before commands (commands_of lines nodes n all) ≡ Ok commands = rw none (ends commands) in
     sym so_far ∙ now
-
-pub ruleset script_steps = (few_lines, script_within, line_goes_on, no_more)
 
 -- a line that begins with `line L`, where L is one of the lines
 pub on_a_line : (lines nodes n : ℕ) (word : List ℕ) (words all : List (List ℕ)) → all ≡ codes "line" ∷ word ∷ words → number_of word ≡ Ok n → n < lines

@@ -217,7 +217,6 @@ fn fault_at(why: Why, line: u64) -> ScriptFault
 /// turns that the named nodes miss, one or more, or `show`. Lines without words and lines that begin with `#` say
 /// nothing. The first fault decides: a text longer than [`LONGEST_TEXT`], then each word from left to right, where a
 /// missing word counts at the end of its line.
-#[tactic(auto, using(crate::proofs::Reading::script_steps))]
 pub fn read_script(
     alloc: Global,
     text: &[u8],
