@@ -1,6 +1,5 @@
 use Rattle.std.proofs.Common.{arith}
 use Rattle.std.proofs.lemmas.Grind.{common_steps}
-use Rattle.std.proofs.lemmas.Bool.Decides.{nat_tests}
 use Rattle.show_text.proofs.line.hex_digit.Goals as goal
 
 pub returns-clause-digit : goal.returns-clause-digit

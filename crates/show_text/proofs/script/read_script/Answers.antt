@@ -1,13 +1,10 @@
 use Rattle.std.proofs.Common.{◌≡◌, ◌≢◌, ◌+◌, ap, arith, length, ◌∙◌}
-use Rattle.std.proofs.lemmas.Grind.{common_steps}
 use Rattle.std.specs.Str.Lines.{lines}
 use Rattle.show_text.specs.declared.command.ScriptFault.{ScriptFault}
 use Rattle.show_text.specs.declared.command.Why.TheVariants.{NoMemory}
 use Rattle.show_text.proofs.OnLines.{on_lines, are_counted}
 use Rattle.show_text.specs.declared.cursors.Lines.{Lines}
-use Rattle.show_text.proofs.Cuts.{few_lines}
-use Rattle.show_text.proofs.Sequences.{after_none}
-use Rattle.show_text.proofs.Reading.{line_goes_on, line_stops, no_more, script_too_long, script_within}
+use Rattle.show_text.proofs.Reading.{counts_on, few_counted, line_goes_on, line_stops, reads_all, no_more, script_too_long, script_within}
 use Rattle.show_text.proofs.script.read_script.Goals as goal
 
 pub returns-in-Err-clause-fault : goal.returns-in-Err-clause-fault
@@ -34,10 +31,10 @@ returns-then-text-gt-LONGEST_TEXT-clause-fault c known =
 pub loop-line-init : goal.loop-line-init
 loop-line-init c =
     let all : lines c.into_iter-line-iterator.result.0.now ≡ lines c.args.text.now = ap (λ (l : Lines). lines l.0.now) c.into_iter-line-iterator.ensures.into_iter_gives in
-    record { counted = omega (arith, ap length all); read = rw (c.new-commands.ensures.items, all) (after_none _) }
+    record { counted = omega (arith, ap length all); read = reads_all c.args.lines c.args.nodes c.new-commands.result.items _ _ c.new-commands.ensures.items all }
 
 pub overflow_add-number : goal.overflow_add-number
-overflow_add-number c = omega (arith, few_lines c.args.text.now, c.loop-line.invariant.counted, c.if-text-gt-LONGEST_TEXT.false)
+overflow_add-number c = few_counted c.loop-line.number c.args.text.now (lines c.loop-line.line-iterator.0.now) c.if-text-gt-LONGEST_TEXT.false c.loop-line.invariant.counted
 
 pub loop-line-smaller : goal.loop-line-smaller
 loop-line-smaller c = omega (arith, ap length c.in-Some.ensures.steps)
@@ -46,6 +43,6 @@ pub loop-line-preserved : goal.loop-line-preserved
 loop-line-preserved c =
     let step = c.in-Some.ensures.steps in
     record {
-      counted = omega (arith, ap length step, c.loop-line.invariant.counted);
+      counted = counts_on c.loop-line.number _ c.in-Some.line.now _ (lines c.next.new.self.0.now) step c.loop-line.invariant.counted;
       read = line_goes_on c.args.lines c.args.nodes (c.loop-line.number + 1) c.loop-line.commands.items c.push_line_commands.new.commands.items c.in-Some.line.now (lines c.next.new.self.0.now) _ _ step c.in_default.ensures c.loop-line.invariant.read;
     }
