@@ -27,7 +27,6 @@ fn is_decimal(word: &[u8]) -> bool
     !word.is_empty() && word.len() <= MOST_DIGITS && are_digits(word)
 }
 
-#[tactic(auto, using(crate::proofs::Decimals::decimal_steps))]
 fn decimal_value(word: &[u8]) -> u32
     requires { is_decimal word.now ≡ true }
     ensures { result ≡ digits_value 10 word.now }
