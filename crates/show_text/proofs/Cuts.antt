@@ -1,8 +1,9 @@
 -- The first line of a text, and the first piece of a line.
-use Rattle.std.proofs.Common.{◌≡◌, ℕ, zero, suc, ◌+◌, ◌<◌, ◌≤◌, Bool, true, false, List, [], ◌∷◌, length, length-drop, get_or, take, drop, drop-drop, Option, Some, None, position, ◌&&◌, ◌||◌, fold, filter, ◌==◌, Ok, codes, ◌++◌, ◌-◌, cond, refl, sym, ap, ap₂, ◌∙◌, take-append-drop, arith}
+use Rattle.std.proofs.Common.{◌≡◌, ℕ, zero, suc, ◌+◌, ◌<◌, ◌≤◌, Bool, true, false, List, [], ◌∷◌, length, length-drop, get_or, take, drop, drop-drop, Option, Some, None, position, ◌&&◌, ◌||◌, fold, filter, ◌==◌, Ok, codes, ◌++◌, ◌-◌, cond, refl, sym, ap, ap₂, ◌∙◌, take-append-drop, arith, not, nat_lt}
 use Rattle.std.specs.List.{list_all, list_any, slice_split, onto_first, position_or_len}
 use Rattle.std.specs.Str.Lines.{lines, lines_of_parts, strip_carriage_return}
 use Rattle.std.proofs.lemmas.Grind.{common_steps}
+use Rattle.std.proofs.lemmas.Bool.{ltb-true, ltb-false}
 use Rattle.std.proofs.lemmas.Bool.Decides.{nat_tests}
 use Rattle.std.proofs.lemmas.List.Splits.{slice_split_first, length-slice_split}
 use Rattle.std.proofs.lemmas.List.{take_rest}
@@ -16,13 +17,24 @@ use Rattle.show_text.specs.Words.{is_blank, is_word, is_empty, words_of, with_pi
 
 split_whole : {X : Type 0} (p : X → Bool) (xs : List X) → length xs ≤ position_or_len p xs → slice_split p xs ≡ xs ∷ []
 split_whole p [] h = refl
-split_whole p (x ∷ xs) h = grind (arith, common_steps, split_whole p xs)
+split_whole p (x ∷ xs) h = elim (p x) as (λ passes. length (x ∷ xs) ≤ cond (not passes) (1 + position_or_len p xs) 0 → cond passes ([] ∷ slice_split p xs) (onto_first x (slice_split p xs)) ≡ (x ∷ xs) ∷ [])
+    [ true ↦ λ long. absurd (omega (arith, long)) | false ↦ λ long. ap (onto_first x) (split_whole p xs (omega (arith, long))) ] h
+
+not_found : (within : Bool) (place : ℕ) → cond within (Some place) None ≡ None → within ≡ false
+not_found true place h = cc
+not_found false place h = refl
+
+found_at : (within : Bool) (place at : ℕ) → cond within (Some place) None ≡ Some at → (within ≡ true) × (place ≡ at)
+found_at true place at h = (refl, cc)
+found_at false place at h = cc
 
 pub whole : {X : Type 0} (p : X → Bool) (xs : List X) → position p xs ≡ None → slice_split p xs ≡ xs ∷ []
-whole p xs h = split_whole p xs (grind (arith, nat_tests))
+whole p xs h = split_whole p xs (ltb-false (position_or_len p xs) (length xs) (not_found (nat_lt (position_or_len p xs) (length xs)) (position_or_len p xs) h))
 
 pub first_place : {X : Type 0} (p : X → Bool) (xs : List X) (at : ℕ) → position p xs ≡ Some at → (position_or_len p xs ≡ at) × (at < length xs)
-first_place p xs at h = grind (arith, nat_tests)
+first_place p xs at h =
+    let found = found_at (nat_lt (position_or_len p xs) (length xs)) (position_or_len p xs) at h in
+    (found.1, rw (← found.1) (ltb-true (position_or_len p xs) (length xs) found.0))
 
 -- the list is cut at the first element that passes
 pub split_first : {X : Type 0} (p : X → Bool) (xs : List X) (at : ℕ) → X → position p xs ≡ Some at → slice_split p xs ≡ take at xs ∷ slice_split p (drop (at + 1) xs)

@@ -1,15 +1,16 @@
 -- Reading from left to right, one command after the other.
-use Rattle.std.proofs.Common.{◌≡◌, ℕ, ◌+◌, ◌<◌, ◌≤◌, ◌++◌, length, drop, arith, List, [], ◌∷◌, Some, None, Result, Ok, Err, true, codes, refl, sym, ◌∙◌}
+use Rattle.std.proofs.Common.{◌≡◌, ℕ, ◌+◌, ◌<◌, ◌≤◌, ◌++◌, Fits, w64, length, drop, arith, List, [], ◌∷◌, Some, None, Result, Ok, Err, true, codes, refl, sym, ap, ◌∙◌}
 use Rattle.std.specs.Str.Lines.{lines}
 use Rattle.std.proofs.lemmas.Bool.{lt-ltb}
 use Rattle.std.proofs.lemmas.Bool.Decides.{nat_tests}
 use Rattle.show_text.specs.declared.command.Command.{Command}
 use Rattle.show_text.specs.declared.command.Command.TheVariants.{Byte, Turns}
 use Rattle.show_text.specs.declared.command.Why.{Why}
+use Rattle.show_text.specs.declared.command.Why.TheVariants.{TooLong}
 use Rattle.show_text.specs.declared.command.ScriptFault.{ScriptFault}
 use Rattle.show_text.specs.Sequence.{before, followed_by}
 use Rattle.show_text.proofs.Cuts.{few_lines}
-use Rattle.show_text.proofs.Sequences.{goes_on, stops, ends}
+use Rattle.show_text.proofs.Sequences.{after_none, goes_on, stops, ends}
 use Rattle.show_text.specs.Script.{◌>>=◌, number_of, byte_of, first_byte_of, bytes_of, some_bytes, is_count, command_of, line_commands, at_line, fault_at, commands_of, script_of}
 
 told : (line byte : ℕ) (old : List Command) (r : Result ℕ Why) (more : Result (List Command) Why) → (r >>= (λ b. Ok (Some b))) ≡ Ok (Some byte)
@@ -82,6 +83,19 @@ line_stops lines nodes n old line more all why total split fault so_far =
 pub script_within : (count nodes : ℕ) (text : List ℕ) → length text ≤ 1048576 → script_of count nodes text ≡ commands_of count nodes 1 (lines text)
 script_within count nodes text h = grind (arith, nat_tests)
 
+-- before the first line
+pub reads_all : (lines nodes : ℕ) (old : List Command) (all texts : List (List ℕ)) → old ≡ [] → all ≡ texts → before old (commands_of lines nodes 1 all) ≡ commands_of lines nodes 1 texts
+reads_all lines nodes old all texts none same = rw (none, same) (after_none _)
+
+pub counts_on : (n count : ℕ) (line : List ℕ) (all more : List (List ℕ)) → all ≡ line ∷ more → n + length all ≡ count → n + 1 + length more ≡ count
+counts_on n count line all more split so_far = omega (arith, ap length split, so_far)
+
+pub few_counted : (n : ℕ) (text : List ℕ) (rest : List (List ℕ)) → length text ≤ 1048576 → n + length rest ≡ length (lines text) → Fits w64 (n + 1)
+few_counted n text rest within so_far = omega (arith, few_lines text, within, so_far)
+
+pub script_too_long : (count nodes : ℕ) (text : List ℕ) → 1048576 < length text → script_of count nodes text ≡ Err (fault_at TooLong 0)
+script_too_long count nodes text h = rw (lt-ltb 1048576 (length text) h) refl
+
 -- the script is read to its end
 pub no_more : (lines nodes n : ℕ) (commands : List Command) (all : List (List ℕ)) (total : Result (List Command) ScriptFault)
     → all ≡ [] → before commands (commands_of lines nodes n all) ≡ total → total ≡ Ok commands
@@ -89,8 +103,6 @@ unfolding commands_of
 no_more lines nodes n commands all total none so_far =
     let now : before commands (commands_of lines nodes n all) ≡ Ok commands = rw none (ends commands) in
     sym so_far ∙ now
-
-pub ruleset script_steps = (few_lines, script_within, line_goes_on, no_more)
 
 -- a line that begins with `line L`, where L is one of the lines
 pub on_a_line : (lines nodes n : ℕ) (word : List ℕ) (words all : List (List ℕ)) → all ≡ codes "line" ∷ word ∷ words → number_of word ≡ Ok n → n < lines

@@ -18,3 +18,7 @@ stops old (Err e) more why h = h
 
 pub ends : {A E : Type 0} (old : List A) → before {A = A} {E = E} old (Ok []) ≡ Ok old
 ends old = ap Ok (append-nil old)
+
+pub after_none : {A E : Type 0} (r : Result (List A) E) → before [] r ≡ r
+after_none (Ok read) = refl
+after_none (Err e) = refl

@@ -112,25 +112,6 @@ fn cut_byte(text: &[u8]) -> Option<(u8, &[u8])>
     }
 }
 
-/// Line L and what follows it, where the text begins with `line L ` and L is one digit.
-fn cut_line_number(text: &[u8]) -> Option<(u8, &[u8])>
-    ensures { IfSome result (λ cut. (word : List ℕ) × (words_of text.now ≡ codes "line" ∷ word ∷ words_of cut.1.now) × (number_of word ≡ Ok cut.0)) }
-{
-    match text.strip_prefix(b"line ".as_slice())? {
-        [digit, blank, rest @ ..] if digit.is_ascii_digit() && is_blank(*blank) => {
-            Some((*digit - b'0', rest))
-        }
-        _ => None,
-    }
-}
-
-/// The number N, where the text is `turn N` with one space between them.
-fn number_of_turns(text: &[u8]) -> Option<u32>
-    ensures { IfSome result (λ n. (word : List ℕ) × (words_of text.now ≡ codes "turn" ∷ word ∷ []) × (number_of word ≡ Ok n)) }
-{
-    decimal(text.strip_prefix(b"turn ".as_slice())?)
-}
-
 /// The lines still to come. Each ends with a line feed, but for the last, which may lack it.
 #[derive(Drop)]
 pub(crate) struct Lines<'a>(pub(crate) &'a [u8]);
@@ -162,15 +143,19 @@ impl<'a> Words<'a> {
     pub(crate) fn line_number(&self) -> Option<(u8, Words<'a>)>
         ensures { IfSome result (λ cut. (word : List ℕ) × (words_of self.now.0.now ≡ codes "line" ∷ word ∷ words_of cut.1.0.now) × (number_of word ≡ Ok cut.0)) }
     {
-        let (line, rest) = cut_line_number(self.0)?;
-        Some((line, Words(rest)))
+        match self.0.strip_prefix(b"line ".as_slice())? {
+            [digit, blank, rest @ ..] if digit.is_ascii_digit() && is_blank(*blank) => {
+                Some((*digit - b'0', Words(rest)))
+            }
+            _ => None,
+        }
     }
 
     /// The number N, where the words are `turn N`, as nearly all other lines of a script are, with one space between them.
     pub(crate) fn number_of_turns(&self) -> Option<u32>
         ensures { IfSome result (λ n. (word : List ℕ) × (words_of self.now.0.now ≡ codes "turn" ∷ word ∷ []) × (number_of word ≡ Ok n)) }
     {
-        number_of_turns(self.0)
+        decimal(self.0.strip_prefix(b"turn ".as_slice())?)
     }
 
     #[tactic(auto, using(crate::proofs::Cuts::only_blanks))]

@@ -68,7 +68,6 @@ fn cut_piece(text: &[u8]) -> (&[u8], &[u8])
 ///
 /// The first fault decides: a text longer than [`LONGEST_TEXT`], and then the first word that is no pair, with the
 /// offset from 0 of its first byte.
-#[tactic(auto, using(crate::proofs::HexPieces::hex_steps))]
 pub fn read_hex(alloc: Global, text: &[u8]) -> Result<Vec<u8>, HexFault>
     // The bytes are those that the text says.
     ensures bytes { IfOk result (λ v. hex_of text.now ≡ Ok v.items) }

@@ -112,9 +112,10 @@ fn push_turns(mut words: Words<'_>, nodes: u8, commands: &mut Vec<Command>) -> R
     let Some(word) = words.next() else {
         return Err(Why::BadWord);
     };
-    let count = count(word)?;
-    let missed = missing_nodes(words, nodes)?;
-    push_command(commands, Command::Turns { count, missed })
+    match (count(word), missing_nodes(words, nodes)) {
+        (Ok(count), Ok(missed)) => push_command(commands, Command::Turns { count, missed }),
+        (Err(why), _) | (_, Err(why)) => Err(why),
+    }
 }
 
 /// Nothing more.
@@ -216,7 +217,6 @@ fn fault_at(why: Why, line: u64) -> ScriptFault
 /// turns that the named nodes miss, one or more, or `show`. Lines without words and lines that begin with `#` say
 /// nothing. The first fault decides: a text longer than [`LONGEST_TEXT`], then each word from left to right, where a
 /// missing word counts at the end of its line.
-#[tactic(auto, using(crate::proofs::Reading::script_steps))]
 pub fn read_script(
     alloc: Global,
     text: &[u8],

@@ -18,7 +18,7 @@ pub(crate) fn is_word(word: &[u8], name: &str) -> bool
 fn are_digits(word: &[u8]) -> bool
     ensures { result ≡ list_all is_ascii_digit word.now }
 {
-    word.iter().all(|digit| digit.is_ascii_digit())
+    word.iter().all(u8::is_ascii_digit)
 }
 
 fn is_decimal(word: &[u8]) -> bool
@@ -27,7 +27,6 @@ fn is_decimal(word: &[u8]) -> bool
     !word.is_empty() && word.len() <= MOST_DIGITS && are_digits(word)
 }
 
-#[tactic(auto, using(crate::proofs::Decimals::decimal_steps))]
 fn decimal_value(word: &[u8]) -> u32
     requires { is_decimal word.now ≡ true }
     ensures { result ≡ digits_value 10 word.now }
