@@ -1,17 +1,17 @@
 -- Reading from left to right, one command after the other.
-use Rattle.std.proofs.Common.{◌≡◌, ℕ, ◌+◌, ◌<◌, ◌≤◌, ◌++◌, Fits, w64, length, drop, arith, List, [], ◌∷◌, Some, None, Result, Ok, Err, true, codes, refl, sym, ap, ◌∙◌}
+use Rattle.std.proofs.Common.{◌≡◌, ℕ, ◌+◌, ◌<◌, ◌≤◌, ◌++◌, Fits, w64, length, drop, arith, List, [], ◌∷◌, Some, None, Result, Ok, Err, refl, sym, ap, ◌∙◌}
 use Rattle.std.specs.Str.Lines.{lines}
 use Rattle.std.proofs.lemmas.Bool.{lt-ltb}
 use Rattle.std.proofs.lemmas.Bool.Decides.{nat_tests}
 use Rattle.show_text.specs.declared.command.Command.{Command}
-use Rattle.show_text.specs.declared.command.Command.TheVariants.{Byte, Turns}
+use Rattle.show_text.specs.declared.command.Command.TheVariants.{Byte}
 use Rattle.show_text.specs.declared.command.Why.{Why}
 use Rattle.show_text.specs.declared.command.Why.TheVariants.{TooLong}
 use Rattle.show_text.specs.declared.command.ScriptFault.{ScriptFault}
 use Rattle.show_text.specs.Sequence.{before, followed_by}
 use Rattle.show_text.proofs.Cuts.{few_lines}
 use Rattle.show_text.proofs.Sequences.{after_none, goes_on, stops, ends}
-use Rattle.show_text.specs.Script.{◌>>=◌, number_of, byte_of, first_byte_of, bytes_of, some_bytes, is_count, command_of, line_commands, at_line, fault_at, commands_of, script_of}
+use Rattle.show_text.specs.Script.{◌>>=◌, byte_of, first_byte_of, bytes_of, line_commands, at_line, fault_at, commands_of, script_of}
 
 told : (line byte : ℕ) (old : List Command) (r : Result ℕ Why) (more : Result (List Command) Why) → (r >>= (λ b. Ok (Some b))) ≡ Ok (Some byte)
     → before old (followed_by (r >>= (λ b. Ok (Byte line b ∷ []))) more) ≡ before (old ++ Byte line byte ∷ []) more
@@ -103,15 +103,3 @@ unfolding commands_of
 no_more lines nodes n commands all total none so_far =
     let now : before commands (commands_of lines nodes n all) ≡ Ok commands = rw none (ends commands) in
     sym so_far ∙ now
-
--- a line that begins with `line L`, where L is one of the lines
-pub on_a_line : (lines nodes n : ℕ) (word : List ℕ) (words all : List (List ℕ)) → all ≡ codes "line" ∷ word ∷ words → number_of word ≡ Ok n → n < lines
-    → command_of lines nodes all ≡ some_bytes n words
-on_a_line lines nodes n word words all split number within = rw (split, number, lt-ltb n lines within) refl
-
--- a line that is `turn N`
-pub turns_alone : (lines nodes n : ℕ) (word : List ℕ) (all : List (List ℕ)) → all ≡ codes "turn" ∷ word ∷ [] → number_of word ≡ Ok n → 1 ≤ n → n ≤ 1000000
-    → command_of lines nodes all ≡ Ok (Turns n 0 ∷ [])
-turns_alone lines nodes n word all split number some few =
-    let counts : is_count n ≡ true = grind (arith, nat_tests) in
-    rw (split, number, counts) refl

@@ -1,13 +1,13 @@
 //! The lines of a text, and the words of a line.
-ghost use Rattle.std.specs.Prelude.{◌≡◌, ◌<◌, ◌==◌, ◌+◌, ◌≤◌, ◌∷◌, [], ℕ, List, position, length, drop, fold, false, ◌||◌, Some, Ok, IfSome, codes};
+ghost use Rattle.std.specs.Prelude.{◌≡◌, ◌<◌, ◌==◌, ◌+◌, ◌≤◌, ◌∷◌, [], ℕ, List, position, length, drop, fold, false, ◌||◌, Some, Ok, IfSome};
 ghost use Rattle.std.specs.Iterator.{YieldsFirstRef, item_count};
 ghost use Rattle.std.specs.List.{list_all, position_or_len};
 ghost use Rattle.std.specs.Str.Lines.{lines, strip_carriage_return};
 ghost use Rattle.show_text.specs.Words.{is_blank, is_empty, pair_of, words_of, with_piece};
-ghost use Rattle.show_text.specs.Script.{first_byte_of, number_of};
+ghost use Rattle.show_text.specs.Script.{first_byte_of};
 
 use crate::command::Why;
-use crate::words::{decimal, hex_byte, hex_pair};
+use crate::words::{hex_byte, hex_pair};
 
 /// How many bytes are tested for a line feed at a time.
 const CHUNK: usize = 16;
@@ -138,26 +138,6 @@ impl<'a> Iterator for Lines<'a> {
 pub(crate) struct Words<'a>(pub(crate) &'a [u8]);
 
 impl<'a> Words<'a> {
-    /// Line L and the words behind it, where the words begin as nearly all lines of a script do: `line L`, L one digit, with
-    /// one blank behind each.
-    pub(crate) fn line_number(&self) -> Option<(u8, Words<'a>)>
-        ensures { IfSome result (λ cut. (word : List ℕ) × (words_of self.now.0.now ≡ codes "line" ∷ word ∷ words_of cut.1.0.now) × (number_of word ≡ Ok cut.0)) }
-    {
-        match self.0.strip_prefix(b"line ".as_slice())? {
-            [digit, blank, rest @ ..] if digit.is_ascii_digit() && is_blank(*blank) => {
-                Some((*digit - b'0', Words(rest)))
-            }
-            _ => None,
-        }
-    }
-
-    /// The number N, where the words are `turn N`, as nearly all other lines of a script are, with one space between them.
-    pub(crate) fn number_of_turns(&self) -> Option<u32>
-        ensures { IfSome result (λ n. (word : List ℕ) × (words_of self.now.0.now ≡ codes "turn" ∷ word ∷ []) × (number_of word ≡ Ok n)) }
-    {
-        decimal(self.0.strip_prefix(b"turn ".as_slice())?)
-    }
-
     #[tactic(auto, using(crate::proofs::Cuts::only_blanks))]
     pub(crate) fn is_empty(&self) -> bool
         ensures { result ≡ is_empty (words_of self.now.0.now) }

@@ -152,40 +152,6 @@ fn push_commands(
     }
 }
 
-/// Puts what a line says after the commands. Lines that are `turn N` need no search for words either.
-#[tactic(auto, using(crate::proofs::Reading::turns_alone))]
-fn push_turns_or_other(
-    words: Words<'_>,
-    lines: u8,
-    nodes: u8,
-    commands: &mut Vec<Command>,
-) -> Result<(), Why>
-    requires { nodes ≤ 64 }
-    ensures { Adds commands.old.items commands.new.items result (command_of lines nodes (words_of words.entry.0.now)) }
-{
-    match words.number_of_turns() {
-        Some(count @ 1..=MOST_TURNS) => push_command(commands, Command::Turns { count, missed: 0 }),
-        _ => push_commands(words, lines, nodes, commands),
-    }
-}
-
-/// Puts what a line says after the commands. Lines that begin with `line L ` need no search for words.
-#[tactic(auto, using(crate::proofs::Reading::on_a_line))]
-fn push_words(
-    words: Words<'_>,
-    lines: u8,
-    nodes: u8,
-    commands: &mut Vec<Command>,
-) -> Result<(), Why>
-    requires { nodes ≤ 64 }
-    ensures { Adds commands.old.items commands.new.items result (command_of lines nodes (words_of words.entry.0.now)) }
-{
-    match words.line_number() {
-        Some((line, rest)) if line < lines => push_some_bytes(line, rest, commands),
-        _ => push_turns_or_other(words, lines, nodes, commands),
-    }
-}
-
 fn push_line_commands(
     line: &[u8],
     lines: u8,
@@ -198,7 +164,7 @@ fn push_line_commands(
     if line.starts_with(b"#".as_slice()) {
         return Ok(());
     }
-    push_words(Words(line), lines, nodes, commands)
+    push_commands(Words(line), lines, nodes, commands)
 }
 
 fn fault_at(why: Why, line: u64) -> ScriptFault
