@@ -53,7 +53,7 @@ pub enum RunFault {
 }
 
 impl RunFault {
-    /// The exit status.
+    /// The exit status, 1 to 6.
     pub fn status(&self) -> u8
         ensures { result ≡ status_of self.now }
     {
