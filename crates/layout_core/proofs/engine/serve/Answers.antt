@@ -270,3 +270,12 @@ serve_bytes-requires-clause-room g c =
       replies = room_more c.in-Ok.n (length c.get.new.buf) c.in-Ok.ensures.bound whole c.loop-reads.reads (length (take c.in-Ok.n c.get.new.buf)) c.loop-reads.counts.replies few size c.loop-reads.invariant.few_replies;
       turns = room_more c.in-Ok.n (length c.get.new.buf) c.in-Ok.ensures.bound whole c.loop-reads.reads (length (take c.in-Ok.n c.get.new.buf)) c.loop-reads.counts.turns few size c.loop-reads.invariant.few_turns;
     }
+
+pub returns-clause-served : goal.returns-clause-served
+returns-clause-served g c = tt
+
+pub returns-clause-turns : goal.returns-clause-turns
+returns-clause-turns g c = tt
+
+pub returns-clause-end : goal.returns-clause-end
+returns-clause-end g c = tt
