@@ -1,12 +1,12 @@
 -- Reading from left to right, one command after the other.
-use Rattle.std.proofs.Common.{◌≡◌, ℕ, ◌+◌, ◌<◌, ◌≤◌, ◌++◌, Fits, w64, length, drop, arith, List, [], ◌∷◌, Some, None, Result, Ok, Err, refl, sym, ap, ◌∙◌}
+use Rattle.std.proofs.Common.{◌≡◌, ◌≢◌, ℕ, ◌+◌, ◌<◌, ◌≤◌, ◌++◌, Fits, w64, length, drop, arith, List, [], ◌∷◌, Some, None, Result, Ok, Err, refl, sym, ap, ◌∙◌}
 use Rattle.std.specs.Str.Lines.{lines}
 use Rattle.std.proofs.lemmas.Bool.{lt-ltb}
 use Rattle.std.proofs.lemmas.Bool.Decides.{nat_tests}
 use Rattle.show_text.specs.declared.command.Command.{Command}
 use Rattle.show_text.specs.declared.command.Command.TheVariants.{Byte}
 use Rattle.show_text.specs.declared.command.Why.{Why}
-use Rattle.show_text.specs.declared.command.Why.TheVariants.{TooLong}
+use Rattle.show_text.specs.declared.command.Why.TheVariants.{NoMemory, TooLong}
 use Rattle.show_text.specs.declared.command.ScriptFault.{ScriptFault}
 use Rattle.show_text.specs.Sequence.{before, followed_by}
 use Rattle.show_text.proofs.Cuts.{few_lines}
@@ -93,8 +93,8 @@ counts_on n count line all more split so_far = omega (arith, ap length split, so
 pub few_counted : (n : ℕ) (text : List ℕ) (rest : List (List ℕ)) → length text ≤ 1048576 → n + length rest ≡ length (lines text) → Fits w64 (n + 1)
 few_counted n text rest within so_far = omega (arith, few_lines text, within, so_far)
 
-pub script_too_long : (count nodes : ℕ) (text : List ℕ) → 1048576 < length text → script_of count nodes text ≡ Err (fault_at TooLong 0)
-script_too_long count nodes text h = rw (lt-ltb 1048576 (length text) h) refl
+pub script_too_long : (count nodes : ℕ) (text : List ℕ) (fault : ScriptFault) → 1048576 < length text → (TooLong ≢ NoMemory → fault ≡ fault_at TooLong 0) → script_of count nodes text ≡ Err fault
+script_too_long count nodes text fault h is = rw (is (λ e. cc), lt-ltb 1048576 (length text) h) refl
 
 -- the script is read to its end
 pub no_more : (lines nodes n : ℕ) (commands : List Command) (all : List (List ℕ)) (total : Result (List Command) ScriptFault)

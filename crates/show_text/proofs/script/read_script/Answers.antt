@@ -25,8 +25,7 @@ pub returns-clause-counts : goal.returns-clause-counts
 returns-clause-counts c = are_counted c.args.lines c.args.nodes c.args.text.now c.loop-line.commands.items (returns-clause-commands c)
 
 pub returns-then-text-gt-LONGEST_TEXT-clause-fault : goal.returns-then-text-gt-LONGEST_TEXT-clause-fault
-returns-then-text-gt-LONGEST_TEXT-clause-fault c known =
-    rw (c.fault_at.ensures.known (λ e. cc)) (script_too_long c.args.lines c.args.nodes c.args.text.now c.if-text-gt-LONGEST_TEXT.true)
+returns-then-text-gt-LONGEST_TEXT-clause-fault c known = script_too_long c.args.lines c.args.nodes c.args.text.now c.fault_at.result c.if-text-gt-LONGEST_TEXT.true c.fault_at.ensures.known
 
 pub loop-line-init : goal.loop-line-init
 loop-line-init c =
