@@ -92,3 +92,25 @@ module _ (all now : List Node) (i half : ℕ) (node new : Node) (same : now ≡ 
       ∙ map-set spec_of all i new
       ∙ ap (λ (s : NodeSpec). slice_set (map spec_of all) i s) was
       ∙ set-get_or (map spec_of all) i (spec_of node)
+
+-- the nodes where the list of them was lent, and each heard a packet
+module _ (all now new : List Node) (same : now ≡ all) (kept : length new ≡ length now) where
+  all_refilled : refill (length all) all new ≡ new
+  all_refilled =
+      let size : length new ≡ length all = kept ∙ ap length same in
+      ap (λ (rest : List Node). take (length all) (new ++ rest)) (drop_of_length-le all (omega (arith, size)))
+      ∙ ap (take (length all)) (append-nil new)
+      ∙ take_all (length all) new (omega (arith, size))
+
+  pub each_count : length (refill (length all) all new) ≡ length all
+  each_count = ap length all_refilled ∙ kept ∙ ap length same
+
+  pub each_specs : map spec_of new ≡ map spec_of now → map spec_of (refill (length all) all new) ≡ map spec_of all
+  each_specs specs = ap (map spec_of) all_refilled ∙ specs ∙ ap (map spec_of) same
+
+  pub each_heard : (missed : ℕ) (packet : List ℕ) → ((i : ℕ) (none : Node) → i < length now → AfterPacket (is_missed missed i) packet (slice_index_or now i none) (slice_index_or new i none))
+      → (i : ℕ) (none : Node) → i < length all → AfterPacket (is_missed missed i) packet (slice_index_or all i none) (slice_index_or (refill (length all) all new) i none)
+  each_heard missed packet each i none below =
+      subst (λ (ns : List Node). AfterPacket (is_missed missed i) packet (slice_index_or ns i none) (slice_index_or (refill (length all) all new) i none)) same
+      (subst (λ (ns : List Node). AfterPacket (is_missed missed i) packet (slice_index_or now i none) (slice_index_or ns i none)) (sym all_refilled)
+      (each i none (subst (λ (ns : List Node). i < length ns) (sym same) below)))

@@ -31,7 +31,6 @@ impl World {
     /// A new station with so many lines, and these decoders, each in its first state.
     ///
     /// Refused as the station is: `BadLines` unless the lines are 1 to 8, and else where there is no memory.
-    #[tactic(auto, using(crate::proofs::Hearing::all_made_from))]
     pub fn new(alloc: Global, lines: u8, nodes: NodeList) -> Result<World, StationFault>
         ensures lines { is_line_count lines ≡ false → result ≡ Err StationFault.BadLines }
         ensures station { IfOk result (λ w. (is_line_count lines ≡ true) × (w.station ≡ first_seen lines)) }
