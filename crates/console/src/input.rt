@@ -14,7 +14,7 @@ use std::{fs, io};
 const CHUNK: usize = 4096;
 
 /// Why bytes were not read.
-#[derive(Clone, Copy)]
+#[derive(Clone, Copy, Debug, PartialEq, Eq)]
 pub enum ReadFault {
     /// The file was not opened, or a read failed.
     Failed,

@@ -12,7 +12,7 @@ use std::io::{BufWriter, Write};
 /// The output could not be written.
 ///
 /// It is small, and a `RunFault` is not: what each event of a script makes is passed on through calls that answer one.
-#[derive(Clone, Copy)]
+#[derive(Clone, Copy, Debug, PartialEq, Eq)]
 pub struct Unwritten;
 
 /// A writer that is lent, as a value of its own.

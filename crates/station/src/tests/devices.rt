@@ -25,6 +25,20 @@ impl Write for Broken {
     }
 }
 
+// A device that takes all bytes, and then cannot let them go.
+#[derive(Drop)]
+struct Unflushed;
+
+impl Write for Unflushed {
+    fn write(&mut self, buf: &[u8]) -> io::Result<usize> {
+        Ok(buf.len())
+    }
+
+    fn flush(&mut self) -> io::Result<()> {
+        Err(io::Error::from(ErrorKind::Other))
+    }
+}
+
 // A text whose first read is interrupted, so that it is tried again.
 #[derive(Drop)]
 struct Interrupted {
@@ -97,6 +111,17 @@ fn standard_output_cannot_be_written(rt: HostRuntime) {
         assert_eq!(rt; execute(&rt, &[], &mut input, &mut Broken, &mut faults), 4);
         assert_eq!(rt; faults.as_slice(), b"station: output\n".as_slice());
     }
+}
+
+#[test]
+fn standard_output_cannot_be_flushed(rt: HostRuntime) {
+    let mut input: &[u8] = b"turn 1";
+    let mut faults = Vec::new(rt.alloc());
+    assert_eq!(rt;
+        execute(&rt, &[], &mut input, &mut Unflushed, &mut faults),
+        4
+    );
+    assert_eq!(rt; faults.as_slice(), b"station: output\n".as_slice());
 }
 
 #[test]
