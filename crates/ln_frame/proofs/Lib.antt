@@ -4,3 +4,4 @@ pub mod Framing
 pub mod Overlaps
 pub mod Positions
 pub mod Rest
+pub mod Wholes

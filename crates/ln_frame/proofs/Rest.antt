@@ -7,7 +7,7 @@ use Rattle.ln_frame.specs.Stream.{message_at_end}
 use Rattle.ln_frame.specs.Unfinished.{is_longer, is_unfinished, unfinished_of}
 use Rattle.ln_frame.proofs.Framing.{whole-data, unfinished-data, is_unfinished-unfinished_of}
 
-len-longer : (o : Option ℕ) (n k : ℕ) → is_len o n ≡ true → k < n → is_longer o k ≡ true
+pub len-longer : (o : Option ℕ) (n k : ℕ) → is_len o n ≡ true → k < n → is_longer o k ≡ true
 len-longer None n k h l = cc
 len-longer (Some len) n k h l = lt-ltb k len (omega (arith, eqb-true len n h))
 
@@ -18,7 +18,7 @@ longer-longer (Some len) n k h l = lt-ltb k len (omega (arith, ltb-true n len h)
 data-front : (xs : List ℕ) (b : ℕ) → are_data (xs ++ b ∷ []) ≡ true → are_data xs ≡ true
 data-front xs b h = (and_parts (are_data xs) (are_data (b ∷ [])) (sym (list_all-append (λ x. nat_lt x 128) xs (b ∷ [])) ∙ h)).0
 
-opcode : (x : ℕ) (ys : List ℕ) → is_whole (x ∷ ys) ≡ true → 128 ≤ x
+pub opcode : (x : ℕ) (ys : List ℕ) → is_whole (x ∷ ys) ≡ true → 128 ≤ x
 opcode x ys h = elim (cases_lt x 128) [
   | inl low ↦ absurd (both_ways (is_whole (x ∷ ys)) (whole-data x ys low) h)
   | inr high ↦ high
@@ -51,7 +51,7 @@ not-from false q f e = refl
 at_end-skip : (x : ℕ) (xs : List ℕ) → is_whole (x ∷ xs) ≡ false → message_at_end (x ∷ xs) ≡ message_at_end xs
 at_end-skip x xs h = rw h refl
 
-unfinished-skip : (x : ℕ) (xs : List ℕ) → is_unfinished (x ∷ xs) ≡ false → unfinished_of (x ∷ xs) ≡ unfinished_of xs
+pub unfinished-skip : (x : ℕ) (xs : List ℕ) → is_unfinished (x ∷ xs) ≡ false → unfinished_of (x ∷ xs) ≡ unfinished_of xs
 unfinished-skip x xs h = rw h refl
 
 unfinished-here : (x : ℕ) (xs : List ℕ) → is_unfinished (x ∷ xs) ≡ true → unfinished_of (x ∷ xs) ≡ x ∷ xs
@@ -77,7 +77,7 @@ unfinished-rest (x ∷ xs) b = elim (cases_Bool (is_unfinished (x ∷ xs))) [
       ∙ ap (λ (w : List ℕ). unfinished_of (w ++ b ∷ [])) (sym (unfinished-skip x xs past))
 ]
 
-unfinished-whole : (w : List ℕ) → is_unfinished w ≡ true → unfinished_of w ≡ w
+pub unfinished-whole : (w : List ℕ) → is_unfinished w ≡ true → unfinished_of w ≡ w
 unfinished-whole [] h = refl
 unfinished-whole (x ∷ xs) h = unfinished-here x xs h
 

@@ -1,6 +1,7 @@
 //! The framer.
-ghost use Rattle.std.specs.Prelude.{◌≡◌, ℕ, List, [], ◌∷◌, ◌++◌, IsTrue};
+ghost use Rattle.std.specs.Prelude.{◌≡◌, ℕ, List, [], ◌∷◌, ◌++◌, IsTrue, Some, None};
 ghost use Rattle.std.specs.Option.{option_to_list};
+ghost use Rattle.ln_frame.specs.Message.{IsWhole};
 ghost use Rattle.ln_frame.specs.Stream.{message_at_end, messages_of, NeverOverlap};
 ghost use Rattle.ln_frame.specs.Unfinished.{is_unfinished, unfinished_of, messages_along};
 
@@ -89,4 +90,13 @@ pub fn left_is_enough()
 /// Two whole messages of the same bytes never overlap.
 pub fn never_overlap()
     ensures { (bytes : List ℕ) → NeverOverlap bytes }
+{}
+
+/// A whole message ends in itself and leaves nothing unfinished, and each front of it is all unfinished and gives nothing.
+pub fn whole_message()
+    ensures ends { (message : List ℕ) → IsWhole message → message_at_end message ≡ Some message }
+    ensures leaves { (message : List ℕ) → IsWhole message → unfinished_of message ≡ [] }
+    ensures fronts { (front rest : List ℕ) (byte : ℕ) → IsWhole (front ++ byte ∷ rest) → unfinished_of front ≡ front }
+    ensures none { (front rest : List ℕ) (byte next : ℕ) → IsWhole (front ++ byte ∷ next ∷ rest)
+        → message_at_end (front ++ byte ∷ []) ≡ None }
 {}

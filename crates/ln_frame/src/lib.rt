@@ -4,5 +4,5 @@
 mod framer;
 mod msg;
 
-pub use framer::{Framer, any_cut, left_is_enough, never_overlap};
+pub use framer::{Framer, any_cut, left_is_enough, never_overlap, whole_message};
 pub use msg::{MAX_LEN, Msg};

@@ -50,6 +50,32 @@ impl Msg {
         self.bytes.as_slice()
     }
 
+    /// Whether the bytes are a message but for their check: an opcode, and as many bytes of data behind it as it wants.
+    pub fn has_form(bytes: &[u8]) -> bool
+        ensures { result ≡ has_form bytes.now }
+    {
+        match bytes {
+            [opcode, second, ..] => {
+                message_len(*opcode, *second) == Some(bytes.len()) && are_data(&bytes[1..])
+            }
+            _ => false,
+        }
+    }
+
+    /// The message that the bytes are, or `None` where they have not its form or where their check is wrong.
+    pub fn whole(bytes: &[u8]) -> Option<Self>
+        ensures { result ≡ (if is_whole bytes.now then Some bytes.now else None) }
+    {
+        if !Self::has_form(bytes) || xor_of(bytes) != CHECKED {
+            return None;
+        }
+        let mut message = ArrayVec::new();
+        for byte in bytes {
+            message.push(*byte);
+        }
+        Some(Msg { bytes: message })
+    }
+
     /// Whether one more byte makes a whole message of these.
     pub fn is_body(body: &[u8]) -> bool
         ensures form { result ≡ is_body body.now }
