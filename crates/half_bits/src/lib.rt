@@ -7,9 +7,11 @@ ghost use Rattle.dcc_packet.specs.Packet.{IsPacket};
 ghost use Rattle.dcc_packet.specs.Wave.{IsWave};
 ghost use Rattle.half_bits.specs.Halves.{halves_of};
 
+mod duration;
 mod wave;
 
 use dcc_packet::Packet;
+pub use duration::{duration_in_micros, durations_are_bounded};
 pub use wave::Halves;
 
 /// The half-bits of `packet` from its preamble of 14 ones to the one that closes it, in microseconds.
