@@ -1,0 +1,12 @@
+//! LocoNet over TCP, in lines of ASCII text: what a client's text asks, and the lines that a client is told.
+#![tactic(auto)]
+
+mod ask;
+mod asked;
+mod reader;
+mod telling;
+
+pub use ask::{Ask, Reason};
+pub use asked::KEPT;
+pub use reader::{Reader, any_cut};
+pub use telling::{Text, push_no_place, push_receive, push_sent_error, push_sent_ok, push_version};
