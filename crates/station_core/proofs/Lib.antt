@@ -8,6 +8,7 @@ pub mod Framed
 pub mod Picks
 pub mod Rounds
 pub mod Sent
+pub mod Short
 pub mod Steps
 pub mod Switches
 pub mod Waits

@@ -1,5 +1,6 @@
 //! What holds of every list of calls.
-ghost use Rattle.std.specs.Prelude.{◌≡◌, ◌<◌, ◌++◌, ℕ, List, length};
+ghost use Rattle.std.specs.Prelude.{◌≡◌, ◌<◌, ◌≤◌, ◌++◌, ℕ, List, length, IfSome, IsTrue};
+ghost use Rattle.dcc_packet.specs.Packet.{is_checked};
 ghost use Rattle.ln_frame.specs.Stream.{messages_of};
 ghost use Rattle.ln_frame.specs.Unfinished.{unfinished_of};
 ghost use Rattle.station_core.specs.Known.{Known, bytes_of, told_all};
@@ -46,6 +47,13 @@ pub fn packets_of_the_desk()
 {
     picks_are_due();
 }
+
+/// What a turn sends has 3 to 5 bytes, the last of them a right check.
+pub fn packets_are_short()
+    ensures some { (seen : Seen) → IfSome (packet_of_turn seen) (λ packet. 3 ≤ length packet) }
+    ensures few { (seen : Seen) → IfSome (packet_of_turn seen) (λ packet. length packet ≤ 5) }
+    ensures checked { (seen : Seen) → IfSome (packet_of_turn seen) (λ packet. IsTrue (is_checked packet)) }
+{}
 
 /// From any start, a packet of a slot that waits is sent within four turns for each send ahead of it and four more, for
 /// what stands in the slot at that turn.

@@ -13,7 +13,8 @@ mod station;
 pub use call::{Call, Step};
 pub use laws::{
     calls_are_moves, changes_first, changes_wait, coverage, desk_of_messages, messages_of_a_line,
-    neighbours, packets_of_the_desk, stays_a_desk, switches_are_sent, switches_in_order,
+    neighbours, packets_are_short, packets_of_the_desk, stays_a_desk, switches_are_sent,
+    switches_in_order,
 };
 pub use refresh_ring::{Kind, Power};
 pub use station::{Station, StationFault};
