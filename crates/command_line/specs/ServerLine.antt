@@ -1,5 +1,6 @@
 -- The command line of `lbserver`, as clap reads it, and what its words ask for: what clap's matches of them hold.
-use Rattle.std.specs.Prelude.{◌≡◌, ℕ, List, codes, Bool, if◌then◌else◌, Option, Some, None, true}
+use Rattle.std.specs.Prelude.{◌≡◌, ℕ, List, codes, Bool, if◌then◌else◌, Option, Some, None, true, false, [], ◌∷◌}
+use Rattle.std.specs.Net.Addr.{ipv4_octets}
 use Rattle.std.specs.Net.Grammar.{IsIpv4Text}
 use Rattle.std.specs.declared.net.ipv4_addr.Ipv4Addr.{Ipv4Addr}
 use Rattle.clap.specs.Words.{App, Row, Rule, Text, first_of, matches_of, new_app, new_rule, one_of, with_rule}
@@ -75,3 +76,14 @@ pub record IsServerOrder (rows : List Row) (order : ServerOrder) : Type 0 where
 
 abbrev pub IsServerOrderOf : List Text → ServerOrder → Type 0
 IsServerOrderOf words order = IsServerOrder (matches_of server_app words) order
+
+-- what stands for the options where none is given: this machine alone can reach it, in real time and for ever
+pub record IsDefaultOrder (order : ServerOrder) : Type 0 where
+  pub at_address : ipv4_octets order.address ≡ 127 ∷ 0 ∷ 0 ∷ 1 ∷ []
+  pub at_port : order.port ≡ 1234
+  pub without_roster : order.roster ≡ None
+  pub in_real_time : order.turns ≡ None
+  pub for_ever : order.clients ≡ None
+  pub shows_no_track : order.track ≡ false
+  pub loses_none : order.lose ≡ 0
+  pub with_seed : order.seed ≡ 0

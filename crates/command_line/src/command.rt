@@ -18,7 +18,13 @@ pub(crate) fn option<'a>(alloc: Global, id: &'a str, value_name: &'a str) -> Arg
 }
 
 /// `--ID VALUE`, where the value is a number in this range.
-pub(crate) fn number<'a>(alloc: Global, id: &'a str, value_name: &'a str, least: u32, most: u32) -> Arg<'a>
+pub(crate) fn number<'a>(
+    alloc: Global,
+    id: &'a str,
+    value_name: &'a str,
+    least: u32,
+    most: u32,
+) -> Arg<'a>
     ensures rule { rule_of result ≡ number id.entry.now least most }
     ensures local { result.global ≡ false }
 {

@@ -1,7 +1,7 @@
 //! Reading the command line of `lbserver`.
-ghost use Rattle.std.specs.Prelude.{◌≡◌, IfOk, IfSome, map};
+ghost use Rattle.std.specs.Prelude.{◌≡◌, [], IfOk, IfSome, map};
 ghost use Rattle.clap.specs.Words.{found_of, matches_of, one_of, rows_of};
-ghost use Rattle.command_line.specs.ServerLine.{IsAddress, IsFlag, IsNumberIfGiven, IsServerOrder, IsServerOrderOf, server_app};
+ghost use Rattle.command_line.specs.ServerLine.{IsAddress, IsDefaultOrder, IsFlag, IsNumberIfGiven, IsServerOrder, IsServerOrderOf, server_app};
 
 use crate::orders::{OrderFault, file_name, number, text, usage};
 use crate::server_command::server_command;
@@ -112,6 +112,7 @@ fn matches_of<'a>(alloc: Global, words: &'a [&'a str]) -> Result<ArgMatches<'a>,
 pub fn server_order<'a>(alloc: Global, words: &'a [&'a str]) -> Result<ServerOrder, OrderFault>
     // An order holds what clap's matches of the words hold, each number in its range.
     ensures order { IfOk result (λ order. IsServerOrderOf (map (λ word. word.now) words.entry.now) order) }
+    ensures no_words { words.entry.now ≡ [] → IfOk result IsDefaultOrder }
 {
     let matches = matches_of(alloc, words)?;
     matched(alloc, &matches)

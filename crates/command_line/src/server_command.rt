@@ -42,8 +42,9 @@ fn turns<'a>(alloc: Global) -> Arg<'a>
     ensures rule { rule_of result ≡ turns_rule }
     ensures local { result.global ≡ false }
 {
-    number(alloc, "turns", "T", 0, 255)
-        .help("Track turns after each message, 0 to 255; without it the track runs in real time")
+    number(alloc, "turns", "T", 0, 255).help(
+        "Track turns after each message, 0 to 255; without it the track runs in real time",
+    )
 }
 
 /// `--clients C`.
@@ -52,8 +53,9 @@ fn clients<'a>(alloc: Global) -> Arg<'a>
     ensures rule { rule_of result ≡ clients_rule }
     ensures local { result.global ≡ false }
 {
-    number(alloc, "clients", "C", 1, u32::MAX)
-        .help("How many clients are served before it ends; without it there is no end")
+    number(alloc, "clients", "C", 1, u32::MAX).help(
+        "How many clients are served before it ends; without it there is no end",
+    )
 }
 
 /// `--track`.
