@@ -1,8 +1,8 @@
 -- What clap's getters read, as what its matches hold.
-use Rattle.std.specs.Prelude.{◌≡◌, ◌==◌, false, List, [], ◌∷◌, length, map}
+use Rattle.std.specs.Prelude.{◌≡◌, ◌==◌, ℕ, false, List, [], ◌∷◌, length, map, refl, IfSome, Option, None, Some, Result, Ok}
 use Rattle.std.specs.Borrow.{Bor}
 use Rattle.clap.specs.declared.parser.matches.Found.{Found}
-use Rattle.clap.specs.Words.{Text, first_of, first_value, rows_of, subcommand_of}
+use Rattle.clap.specs.Words.{ReadsOne, Text, first_of, first_value, rows_of, subcommand_of}
 use Rattle.clap.proofs.WalkLemmas.{first_value-rows}
 use Rattle.command_line.specs.declared.words.Order.{Order}
 use Rattle.command_line.specs.CommandLine.{station_app}
@@ -15,3 +15,11 @@ pub of_some_words : (words : List (Bor Text)) (order : Order) → (length words 
     → IsMatched (subcommand_of station_app (map (λ word. word.now) words)) order → IsOrderOf (map (λ word. word.now) words) order
 of_some_words [] order some matched = cc
 of_some_words (word ∷ words) order some matched = matched
+
+-- what a getter reads of a text, by cases on what it answers
+pub read_one : {T E : Type 0} (gives : List ℕ → Result T E → Type 0) (Holds : Option Text → T → Type 0) (o : Option Text) (r : Option T)
+    → (o ≡ None → r ≡ None) → ((t : Text) → o ≡ Some t → ReadsOne gives t r) → ((t : Text) (v : T) → gives t (Ok v) → Holds (Some t) v)
+    → IfSome r (λ v. Holds o v)
+read_one gives Holds o None none some reads = tt
+read_one gives Holds None (Some v) none some reads = let bad : Some v ≡ None = none refl in cc
+read_one gives Holds (Some t) (Some v) none some reads = reads t v (some t refl)

@@ -7,7 +7,7 @@ use clap::{Arg, ArgAction, Command};
 use std::alloc::{AllocError, Global};
 
 /// `--ID VALUE`, with this id and this name of the value.
-fn option<'a>(alloc: Global, id: &'a str, value_name: &'a str) -> Arg<'a>
+pub(crate) fn option<'a>(alloc: Global, id: &'a str, value_name: &'a str) -> Arg<'a>
     ensures rule { rule_of result ≡ option id.entry.now }
     ensures local { result.global ≡ false }
 {
@@ -18,7 +18,13 @@ fn option<'a>(alloc: Global, id: &'a str, value_name: &'a str) -> Arg<'a>
 }
 
 /// `--ID VALUE`, where the value is a number in this range.
-fn number<'a>(alloc: Global, id: &'a str, value_name: &'a str, least: u32, most: u32) -> Arg<'a>
+pub(crate) fn number<'a>(
+    alloc: Global,
+    id: &'a str,
+    value_name: &'a str,
+    least: u32,
+    most: u32,
+) -> Arg<'a>
     ensures rule { rule_of result ≡ number id.entry.now least most }
     ensures local { result.global ≡ false }
 {
@@ -27,7 +33,7 @@ fn number<'a>(alloc: Global, id: &'a str, value_name: &'a str, least: u32, most:
 }
 
 /// The same, where this number stands for one that is not given.
-fn number_or<'a>(
+pub(crate) fn number_or<'a>(
     alloc: Global,
     id: &'a str,
     value_name: &'a str,
@@ -46,7 +52,7 @@ fn number_or<'a>(
 
 /// `--roster FILE`.
 #[tactic(auto, unfolding(crate::specs::CommandLine::roster_rule))]
-fn roster<'a>(alloc: Global) -> Arg<'a>
+pub(crate) fn roster<'a>(alloc: Global) -> Arg<'a>
     ensures rule { rule_of result ≡ roster_rule }
     ensures local { result.global ≡ false }
 {
@@ -80,7 +86,7 @@ fn port<'a>(alloc: Global) -> Arg<'a>
 }
 
 /// A command that is being built, unless a growth was refused on the way.
-type Draft<'a> = Result<Command<'a>, AllocError>;
+pub(crate) type Draft<'a> = Result<Command<'a>, AllocError>;
 
 /// A command of this name, with no arguments yet, what it is about and an example of it.
 fn described<'a>(alloc: Global, name: &'a str, about: &'a str, example: &'a str) -> Draft<'a>
@@ -91,7 +97,7 @@ fn described<'a>(alloc: Global, name: &'a str, about: &'a str, example: &'a str)
 }
 
 /// The same command, with this argument behind those that it has.
-fn with_arg<'a>(draft: Draft<'a>, arg: Arg<'a>) -> Draft<'a>
+pub(crate) fn with_arg<'a>(draft: Draft<'a>, arg: Arg<'a>) -> Draft<'a>
     requires local { arg.global ≡ false }
     ensures app { (app : App) → HasApp draft.entry app → HasApp result (with_rule app (rule_of arg.entry)) }
     ensures local { HasNoGlobals draft.entry → HasNoGlobals result }

@@ -3,7 +3,10 @@
 
 mod command;
 mod orders;
+mod server;
+mod server_command;
 mod words;
 
 pub use orders::{OrderFault, no_text, order};
-pub use words::{FileName, Order};
+pub use server::{no_server_text, server_order};
+pub use words::{FileName, Order, ServerOrder};

@@ -4,7 +4,7 @@ ghost use Rattle.clap.specs.Words.{first_of, found_of, one_of, rows_of, subcomma
 ghost use Rattle.command_line.specs.CommandLine.{station_app};
 ghost use Rattle.command_line.specs.Order.{IsMatched, IsNumber, IsOrder, IsOrderOf, Writes};
 
-use crate::command::station_command;
+use crate::command::{Draft, station_command};
 use crate::words::{FileName, Order};
 use clap::error::ErrorKind;
 use clap::{ArgMatches, Error};
@@ -38,7 +38,7 @@ impl From<Error> for OrderFault {
 }
 
 /// The number of an option, if it is in this range.
-fn number(found: &ArgMatches<'_>, id: &str, least: u32, most: u32) -> Option<u32>
+pub(crate) fn number(found: &ArgMatches<'_>, id: &str, least: u32, most: u32) -> Option<u32>
     ensures { IfSome result (λ n. IsNumber (one_of id.now (rows_of (found_of found.now))) least most n) }
 {
     match any_number(found, id) {
@@ -54,13 +54,13 @@ fn any_number(found: &ArgMatches<'_>, id: &str) -> Option<u32>
 }
 
 #[tactic(auto, using(crate::proofs::Found::first_in_rows))]
-fn text<'a>(found: &ArgMatches<'a>, id: &str) -> Option<&'a str>
+pub(crate) fn text<'a>(found: &ArgMatches<'a>, id: &str) -> Option<&'a str>
     ensures { option_map (λ text. text.now) result ≡ first_of id.now (rows_of (found_of found.now)) }
 {
     found.get_str(id)
 }
 
-fn file_name(
+pub(crate) fn file_name(
     alloc: Global,
     found: &ArgMatches<'_>,
     id: &str,
@@ -76,7 +76,7 @@ fn file_name(
 // Clap has checked each value that is read here, so no words come to this.
 fn out_of_range(alloc: Global) -> OrderFault {
     usage(
-        alloc,
+        station_command(alloc),
         ErrorKind::ValueValidation,
         "a value is out of its range",
     )
@@ -84,12 +84,16 @@ fn out_of_range(alloc: Global) -> OrderFault {
 
 /// What to tell of a word that is no text: it is not UTF-8. The usage stands behind it.
 pub fn no_text(alloc: Global) -> OrderFault {
-    usage(alloc, ErrorKind::InvalidValue, "a word is not UTF-8")
+    usage(
+        station_command(alloc),
+        ErrorKind::InvalidValue,
+        "a word is not UTF-8",
+    )
 }
 
-/// Tells the usage, behind this message.
-fn usage(alloc: Global, kind: ErrorKind, message: &str) -> OrderFault {
-    let error = match station_command(alloc) {
+/// Tells the usage of a command, behind this message.
+pub(crate) fn usage(draft: Draft<'_>, kind: ErrorKind, message: &str) -> OrderFault {
+    let error = match draft {
         Ok(mut command) => command.error(kind, message),
         Err(error) => Err(error),
     };

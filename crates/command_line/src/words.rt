@@ -4,6 +4,7 @@ ghost use Rattle.std.specs.Prelude.{◌≡◌, IfOk};
 use std::alloc::{AllocError, Global};
 use std::fmt;
 use std::marker::Model;
+use std::net::Ipv4Addr;
 
 /// The name of a file, as it was given.
 ///
@@ -71,4 +72,25 @@ pub enum Order {
         /// How many connections are served, one after another, 1 to 1000.
         connections: u32,
     },
+}
+
+/// What `lbserver` is asked to do.
+#[derive(Debug, Drop)]
+pub struct ServerOrder {
+    /// The address that is listened on. Anybody who can reach it can drive.
+    pub address: Ipv4Addr,
+    /// The port, 1 to 65535.
+    pub port: u16,
+    /// Where the decoders of the layout stand. Without it there are none.
+    pub roster: Option<FileName>,
+    /// Track turns after each message, 0 to 255. Without it the track runs in real time.
+    pub turns: Option<u8>,
+    /// How many clients are served before it ends, at least 1. Without it there is no end.
+    pub clients: Option<u32>,
+    /// Whether the packets on the track are printed.
+    pub track: bool,
+    /// How many of 100 packets each decoder misses, 0 to 99.
+    pub lose: u8,
+    /// What the draw of the missed packets begins with, any number of 32 bits.
+    pub seed: u32,
 }

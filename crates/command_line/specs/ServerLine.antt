@@ -1,0 +1,89 @@
+-- The command line of `lbserver`, as clap reads it, and what its words ask for: what clap's matches of them hold.
+use Rattle.std.specs.Prelude.{◌≡◌, ℕ, List, codes, Bool, if◌then◌else◌, Option, Some, None, true, false, [], ◌∷◌}
+use Rattle.std.specs.Net.Addr.{ipv4_octets}
+use Rattle.std.specs.Net.Grammar.{IsIpv4Text}
+use Rattle.std.specs.declared.net.ipv4_addr.Ipv4Addr.{Ipv4Addr}
+use Rattle.clap.specs.Words.{App, Row, Rule, Text, first_of, matches_of, new_app, new_rule, one_of, with_rule}
+use Rattle.clap.specs.declared.builder.ArgAction.TheVariants.{SetTrue}
+use Rattle.command_line.specs.declared.words.ServerOrder.{ServerOrder}
+use Rattle.command_line.specs.CommandLine.{number, option, or_else, roster_rule}
+use Rattle.command_line.specs.Order.{IsNumber}
+
+-- The options. An option that is not given has what stands for it, if something does.
+
+unfoldable pub address_rule : Rule
+address_rule = or_else (option (codes "address")) (codes "127.0.0.1")
+
+unfoldable pub port_rule : Rule
+port_rule = or_else (number (codes "port") 1 65535) (codes "1234")
+
+unfoldable pub turns_rule : Rule
+turns_rule = number (codes "turns") 0 255
+
+unfoldable pub clients_rule : Rule
+clients_rule = number (codes "clients") 1 4294967295
+
+-- `--track`, a flag without a value
+unfoldable pub track_rule : Rule
+track_rule = record (new_rule (codes "track")) { long = Some (codes "track"); action = Some SetTrue }
+
+unfoldable pub lose_rule : Rule
+lose_rule = or_else (number (codes "lose") 0 99) (codes "0")
+
+unfoldable pub seed_rule : Rule
+seed_rule = or_else (number (codes "seed") 0 4294967295) (codes "0")
+
+-- The program, whose own words come without its name.
+
+unfoldable pub bare_server_app : App
+bare_server_app = record (new_app (codes "lbserver")) { top = record (new_app (codes "lbserver")).top { no_binary_name = true } }
+
+unfoldable pub listening_app : App
+listening_app = with_rule (with_rule (with_rule bare_server_app address_rule) port_rule) roster_rule
+
+unfoldable pub paced_app : App
+paced_app = with_rule (with_rule listening_app turns_rule) clients_rule
+
+unfoldable pub server_app : App
+server_app = with_rule (with_rule (with_rule paced_app track_rule) lose_rule) seed_rule
+
+-- What the words ask for.
+
+-- the address that the value of an option writes
+abbrev pub IsAddress : Option Text → Ipv4Addr → Type 0
+IsAddress (Some text) address = IsIpv4Text text address
+IsAddress None address = ⊥
+
+-- the number of an option that may be left out
+abbrev pub IsNumberIfGiven : Option Text → (least most : ℕ) → Option ℕ → Type 0
+IsNumberIfGiven None least most given = given ≡ None
+IsNumberIfGiven (Some text) least most None = ⊥
+IsNumberIfGiven (Some text) least most (Some n) = IsNumber (Some text) least most n
+
+-- whether a flag is set
+abbrev pub IsFlag : Option Text → Bool → Type 0
+IsFlag text flag = text ≡ Some (if flag then codes "true" else codes "false")
+
+pub record IsServerOrder (rows : List Row) (order : ServerOrder) : Type 0 where
+  pub at_address : IsAddress (one_of (codes "address") rows) order.address
+  pub at_port : IsNumber (one_of (codes "port") rows) 1 65535 order.port
+  pub with_roster : order.roster ≡ first_of (codes "roster") rows
+  pub each_turns : IsNumberIfGiven (one_of (codes "turns") rows) 0 255 order.turns
+  pub most_clients : IsNumberIfGiven (one_of (codes "clients") rows) 1 4294967295 order.clients
+  pub shows_track : IsFlag (one_of (codes "track") rows) order.track
+  pub share_lost : IsNumber (one_of (codes "lose") rows) 0 99 order.lose
+  pub with_seed : IsNumber (one_of (codes "seed") rows) 0 4294967295 order.seed
+
+abbrev pub IsServerOrderOf : List Text → ServerOrder → Type 0
+IsServerOrderOf words order = IsServerOrder (matches_of server_app words) order
+
+-- what stands for the options where none is given: this machine alone can reach it, in real time and for ever
+pub record IsDefaultOrder (order : ServerOrder) : Type 0 where
+  pub at_address : ipv4_octets order.address ≡ 127 ∷ 0 ∷ 0 ∷ 1 ∷ []
+  pub at_port : order.port ≡ 1234
+  pub without_roster : order.roster ≡ None
+  pub in_real_time : order.turns ≡ None
+  pub for_ever : order.clients ≡ None
+  pub shows_no_track : order.track ≡ false
+  pub loses_none : order.lose ≡ 0
+  pub with_seed : order.seed ≡ 0

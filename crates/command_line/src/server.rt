@@ -1,0 +1,119 @@
+//! Reading the command line of `lbserver`.
+ghost use Rattle.std.specs.Prelude.{◌≡◌, [], IfOk, IfSome, map};
+ghost use Rattle.clap.specs.Words.{found_of, matches_of, one_of, rows_of};
+ghost use Rattle.command_line.specs.ServerLine.{IsAddress, IsDefaultOrder, IsFlag, IsNumberIfGiven, IsServerOrder, IsServerOrderOf, server_app};
+
+use crate::orders::{OrderFault, file_name, number, text, usage};
+use crate::server_command::server_command;
+use crate::words::ServerOrder;
+use clap::error::ErrorKind;
+use clap::{ArgMatches, Error};
+use std::alloc::Global;
+use std::net::Ipv4Addr;
+
+/// The address of an option, if it is one.
+fn address(found: &ArgMatches<'_>, id: &str) -> Option<Ipv4Addr>
+    ensures { IfSome result (λ a. IsAddress (one_of id.now (rows_of (found_of found.now))) a) }
+{
+    found.get_one::<Ipv4Addr>(id)
+}
+
+/// Whether a flag is set, if that is said.
+fn flag(found: &ArgMatches<'_>, id: &str) -> Option<bool>
+    ensures { IfSome result (λ flag. IsFlag (one_of id.now (rows_of (found_of found.now))) flag) }
+{
+    found.get_one::<bool>(id)
+}
+
+/// The number of an option that may be left out. One that is not in this range is a fault.
+fn number_if_given(
+    alloc: Global,
+    found: &ArgMatches<'_>,
+    id: &str,
+    least: u32,
+    most: u32,
+) -> Result<Option<u32>, OrderFault>
+    ensures { IfOk result (λ n. IsNumberIfGiven (one_of id.now (rows_of (found_of found.now))) least most n) }
+{
+    if text(found, id).is_none() {
+        return Ok(None);
+    }
+    match number(found, id, least, most) {
+        Some(number) => Ok(Some(number)),
+        None => Err(out_of_range(alloc)),
+    }
+}
+
+// Clap has checked each value that is read so, so no words come to this.
+fn out_of_range(alloc: Global) -> OrderFault {
+    usage(
+        server_command(alloc),
+        ErrorKind::ValueValidation,
+        "a value is out of its range",
+    )
+}
+
+// What clap takes for an address is any text.
+fn no_address(alloc: Global) -> OrderFault {
+    usage(
+        server_command(alloc),
+        ErrorKind::ValueValidation,
+        "the address is no IPv4 address, as 127.0.0.1 is",
+    )
+}
+
+/// What to tell of a word that is no text: it is not UTF-8. The usage of `lbserver` stands behind it.
+pub fn no_server_text(alloc: Global) -> OrderFault {
+    usage(
+        server_command(alloc),
+        ErrorKind::InvalidValue,
+        "a word is not UTF-8",
+    )
+}
+
+fn matched(alloc: Global, found: &ArgMatches<'_>) -> Result<ServerOrder, OrderFault>
+    ensures { IfOk result (λ order. IsServerOrder (rows_of (found_of found.now)) order) }
+{
+    let Some(address) = address(found, "address") else {
+        return Err(no_address(alloc));
+    };
+    let (Some(port), Some(track), Some(lose), Some(seed)) = (
+        number(found, "port", 1, 65_535),
+        flag(found, "track"),
+        number(found, "lose", 0, 99),
+        number(found, "seed", 0, u32::MAX),
+    ) else {
+        return Err(out_of_range(alloc));
+    };
+    Ok(ServerOrder {
+        address,
+        port: port as u16,
+        roster: file_name(alloc, found, "roster")?,
+        turns: number_if_given(alloc, found, "turns", 0, 255)?.map(|turns| turns as u8),
+        clients: number_if_given(alloc, found, "clients", 1, u32::MAX)?,
+        track,
+        lose: lose as u8,
+        seed,
+    })
+}
+
+/// What clap makes of the words.
+fn matches_of<'a>(alloc: Global, words: &'a [&'a str]) -> Result<ArgMatches<'a>, Error>
+    ensures { IfOk result (λ m. rows_of (found_of m) ≡ matches_of server_app (map (λ word. word.now) words.entry.now)) }
+{
+    server_command(alloc)?.try_get_matches_from(words)
+}
+
+/// What the words behind the name of `lbserver` ask for. No words ask for what stands for each option.
+///
+/// # Errors
+///
+/// `Usage` where the program does not know the words, where the address is none, or where they ask for help; `NoMemory`.
+pub fn server_order<'a>(alloc: Global, words: &'a [&'a str]) -> Result<ServerOrder, OrderFault>
+    // An order holds what clap's matches of the words hold, each number in its range.
+    ensures order { IfOk result (λ order. IsServerOrderOf (map (λ word. word.now) words.entry.now) order) }
+    ensures no_words { words.entry.now ≡ [] → IfOk result IsDefaultOrder }
+{
+    let matches = matches_of(alloc, words)?;
+    matched(alloc, &matches)
+}

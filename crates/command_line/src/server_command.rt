@@ -1,0 +1,143 @@
+//! The command line of `lbserver`, as `clap` is told of it.
+ghost use Rattle.std.specs.Prelude.{◌≡◌, false};
+ghost use Rattle.clap.specs.Words.{rule_of};
+ghost use Rattle.command_line.specs.CommandLine.{HasApp, HasNoGlobals};
+ghost use Rattle.command_line.specs.ServerLine.{address_rule, port_rule, turns_rule, clients_rule, track_rule, lose_rule, seed_rule, bare_server_app, listening_app, paced_app, server_app};
+
+use crate::command::{Draft, number, number_or, option, roster, with_arg};
+use clap::{Arg, ArgAction, Command};
+use std::alloc::Global;
+
+/// `--address A`.
+#[tactic(auto, unfolding(crate::specs::ServerLine::address_rule))]
+fn address<'a>(alloc: Global) -> Arg<'a>
+    ensures rule { rule_of result ≡ address_rule }
+    ensures local { result.global ≡ false }
+{
+    option(alloc, "address", "A")
+        .default_value("127.0.0.1")
+        .help("The IPv4 address to listen on: anybody who can reach it can drive")
+}
+
+/// `--port P`.
+#[tactic(auto, unfolding(crate::specs::ServerLine::port_rule))]
+fn port<'a>(alloc: Global) -> Arg<'a>
+    ensures rule { rule_of result ≡ port_rule }
+    ensures local { result.global ≡ false }
+{
+    number_or(
+        alloc,
+        "port",
+        "P",
+        1,
+        65_535,
+        "1234",
+        "The TCP port, 1 to 65535",
+    )
+}
+
+/// `--turns T`.
+#[tactic(auto, unfolding(crate::specs::ServerLine::turns_rule))]
+fn turns<'a>(alloc: Global) -> Arg<'a>
+    ensures rule { rule_of result ≡ turns_rule }
+    ensures local { result.global ≡ false }
+{
+    number(alloc, "turns", "T", 0, 255).help(
+        "Track turns after each message, 0 to 255; without it the track runs in real time",
+    )
+}
+
+/// `--clients C`.
+#[tactic(auto, unfolding(crate::specs::ServerLine::clients_rule))]
+fn clients<'a>(alloc: Global) -> Arg<'a>
+    ensures rule { rule_of result ≡ clients_rule }
+    ensures local { result.global ≡ false }
+{
+    number(alloc, "clients", "C", 1, u32::MAX).help(
+        "How many clients are served before it ends; without it there is no end",
+    )
+}
+
+/// `--track`.
+#[tactic(auto, unfolding(crate::specs::ServerLine::track_rule))]
+fn track<'a>(alloc: Global) -> Arg<'a>
+    ensures rule { rule_of result ≡ track_rule }
+    ensures local { result.global ≡ false }
+{
+    Arg::new(alloc, "track")
+        .long("track")
+        .action(ArgAction::SetTrue)
+        .help("Prints the packets on the track")
+}
+
+/// `--lose N`.
+#[tactic(auto, unfolding(crate::specs::ServerLine::lose_rule))]
+fn lose<'a>(alloc: Global) -> Arg<'a>
+    ensures rule { rule_of result ≡ lose_rule }
+    ensures local { result.global ≡ false }
+{
+    number_or(
+        alloc,
+        "lose",
+        "N",
+        0,
+        99,
+        "0",
+        "How many of 100 packets each decoder misses, 0 to 99",
+    )
+}
+
+/// `--seed S`.
+#[tactic(auto, unfolding(crate::specs::ServerLine::seed_rule))]
+fn seed<'a>(alloc: Global) -> Arg<'a>
+    ensures rule { rule_of result ≡ seed_rule }
+    ensures local { result.global ≡ false }
+{
+    number_or(
+        alloc,
+        "seed",
+        "S",
+        0,
+        u32::MAX,
+        "0",
+        "What the draw of the missed packets begins with, 0 to 4294967295",
+    )
+}
+
+/// The program, with no options yet. Its words come without its name, so the usage is told the name.
+#[tactic(auto, unfolding(crate::specs::ServerLine::bare_server_app))]
+fn program<'a>(alloc: Global) -> Draft<'a>
+    ensures app { HasApp result bare_server_app }
+    ensures local { HasNoGlobals result }
+{
+    Command::new(alloc, "lbserver")
+        .about("A LocoNet command station for clients of LocoNet over TCP, up to eight at once")
+        .after_help("Example: lbserver --roster layout.toml --port 1234 --track")
+        .no_binary_name(true)
+        .bin_name("lbserver")
+}
+
+/// Where clients are served, and with what layout.
+fn listening<'a>(alloc: Global) -> Draft<'a>
+    ensures app { HasApp result listening_app }
+    ensures local { HasNoGlobals result }
+{
+    let addressed = with_arg(program(alloc), address(alloc));
+    with_arg(with_arg(addressed, port(alloc)), roster(alloc))
+}
+
+/// The same, with how fast and how long.
+fn paced<'a>(alloc: Global) -> Draft<'a>
+    ensures app { HasApp result paced_app }
+    ensures local { HasNoGlobals result }
+{
+    with_arg(with_arg(listening(alloc), turns(alloc)), clients(alloc))
+}
+
+/// The whole command line.
+pub(crate) fn server_command<'a>(alloc: Global) -> Draft<'a>
+    ensures { HasApp result server_app }
+{
+    let shown = with_arg(paced(alloc), track(alloc));
+    with_arg(with_arg(shown, lose(alloc)), seed(alloc))
+}
