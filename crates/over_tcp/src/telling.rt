@@ -7,12 +7,12 @@ use crate::ask::Reason;
 use arrayvec::ArrayVec;
 use ln_frame::Msg;
 
-/// Lines for a client, of at most 512 bytes together.
-pub type Text = ArrayVec<u8, 512>;
+/// Lines for a client, of at most 800 bytes together.
+pub type Text = ArrayVec<u8, 800>;
 
 /// Appends `RECEIVE` and the bytes of a message that was on the line, at most 390 bytes in all.
 pub fn push_receive(text: &mut Text, message: &Msg)
-    requires { array_vec_len text.old + 390 ≤ 512 }
+    requires { array_vec_len text.old + 390 ≤ 800 }
     ensures text { text.new.items ≡ text.old.items ++ receive_text message.now }
     ensures len { array_vec_len text.new ≡ array_vec_len text.old + 9 + 3 * length message.now }
     ensures most { array_vec_len text.new ≤ array_vec_len text.old + 390 }
@@ -24,7 +24,7 @@ pub fn push_receive(text: &mut Text, message: &Msg)
 
 /// Appends `SENT OK`: the message that a client asked to send was sent.
 pub fn push_sent_ok(text: &mut Text)
-    requires { array_vec_len text.old + 9 ≤ 512 }
+    requires { array_vec_len text.old + 9 ≤ 800 }
     ensures text { text.new.items ≡ text.old.items ++ sent_ok_text }
     ensures len { array_vec_len text.new ≡ array_vec_len text.old + 9 }
 {
@@ -33,7 +33,7 @@ pub fn push_sent_ok(text: &mut Text)
 
 /// Appends `SENT ERROR` and the reason in plain words, at most 43 bytes in all: nothing was sent.
 pub fn push_sent_error(text: &mut Text, reason: Reason)
-    requires { array_vec_len text.old + 43 ≤ 512 }
+    requires { array_vec_len text.old + 43 ≤ 800 }
     ensures text { text.new.items ≡ text.old.items ++ sent_error_text reason }
     ensures len { array_vec_len text.new ≡ array_vec_len text.old + length (sent_error_text reason) }
     ensures most { array_vec_len text.new ≤ array_vec_len text.old + 43 }
@@ -45,7 +45,7 @@ pub fn push_sent_error(text: &mut Text, reason: Reason)
 
 /// Appends the line that greets a client: `VERSION` and who speaks.
 pub fn push_version(text: &mut Text)
-    requires { array_vec_len text.old + 26 ≤ 512 }
+    requires { array_vec_len text.old + 26 ≤ 800 }
     ensures text { text.new.items ≡ text.old.items ++ version_text }
     ensures len { array_vec_len text.new ≡ array_vec_len text.old + 26 }
 {
@@ -54,7 +54,7 @@ pub fn push_version(text: &mut Text)
 
 /// Appends `ERROR no place`: there are as many clients as can be.
 pub fn push_no_place(text: &mut Text)
-    requires { array_vec_len text.old + 16 ≤ 512 }
+    requires { array_vec_len text.old + 16 ≤ 800 }
     ensures text { text.new.items ≡ text.old.items ++ no_place_text }
     ensures len { array_vec_len text.new ≡ array_vec_len text.old + 16 }
 {
@@ -75,7 +75,7 @@ fn words_of(reason: Reason) -> &'static [u8]
 }
 
 fn push_all(text: &mut Text, bytes: &[u8])
-    requires { array_vec_len text.old + length bytes.now ≤ 512 }
+    requires { array_vec_len text.old + length bytes.now ≤ 800 }
     ensures text { text.new.items ≡ text.old.items ++ bytes.now }
     ensures len { array_vec_len text.new ≡ array_vec_len text.old + length bytes.now }
 {
@@ -86,7 +86,7 @@ fn push_all(text: &mut Text, bytes: &[u8])
 
 /// Appends each byte as a space and two digits.
 fn push_words(text: &mut Text, bytes: &[u8])
-    requires { array_vec_len text.old + 3 * length bytes.now ≤ 512 }
+    requires { array_vec_len text.old + 3 * length bytes.now ≤ 800 }
     ensures text { text.new.items ≡ text.old.items ++ hex_words bytes.now }
     ensures len { array_vec_len text.new ≡ array_vec_len text.old + 3 * length bytes.now }
 {
@@ -96,7 +96,7 @@ fn push_words(text: &mut Text, bytes: &[u8])
 }
 
 fn push_word(text: &mut Text, byte: u8)
-    requires { array_vec_len text.old + 3 ≤ 512 }
+    requires { array_vec_len text.old + 3 ≤ 800 }
     ensures text { text.new.items ≡ text.old.items ++ hex_word byte }
     ensures len { array_vec_len text.new ≡ array_vec_len text.old + 3 }
 {

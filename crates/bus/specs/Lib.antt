@@ -1,0 +1,3 @@
+pub mod Bus
+pub mod Layout
+pub mod Seen

@@ -1,0 +1,11 @@
+//! A layout whose lines are clients of LocoNet over TCP: what each client's text asks, what every client is told of it,
+//! and turns of the track in the time that passes. A pure machine: one event in, and out what is told of it.
+#![tactic(auto)]
+
+mod bus;
+mod event;
+mod sending;
+mod turning;
+
+pub use bus::Bus;
+pub use event::{Event, Told};

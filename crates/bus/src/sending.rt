@@ -1,0 +1,48 @@
+//! A whole message on a line of the layout.
+ghost use Rattle.std.specs.Prelude.{◌≡◌, ◌<◌, [], length, map, replicate, Some};
+ghost use Rattle.layout_core.specs.Nodes.{spec_of};
+ghost use Rattle.layout_core.specs.Played.{after_event, answer_to};
+ghost use Rattle.layout_core.specs.World.{HaveHeard};
+ghost use Rattle.station_core.specs.Moved.{after_message};
+ghost use Rattle.bus.specs.Bus.{message_in, reply_to};
+ghost use Rattle.bus.specs.Layout.{bytes_on};
+
+use layout_core::{Event, World};
+use ln_frame::{Msg, whole_message};
+use ln_ops::to_msg;
+use station_core::{Step, calls_are_moves};
+
+/// Lets a message come on a line on which nothing is unfinished, byte by byte, and answers what the station answers to it.
+///
+/// No decoder moves, and nothing is left unfinished.
+pub(crate) fn send(world: &mut World, line: u8, message: &Msg) -> Option<Msg>
+    requires line { line < 8 }
+    requires idle { world.old.station.lines ≡ replicate 8 [] }
+    ensures station { world.new.station ≡ after_message world.old.station (Some message.now) }
+    ensures reply { result ≡ reply_to world.old.station message.now }
+    ensures nodes { HaveHeard world.old.station (bytes_on line message.now) world.old.nodes world.new.nodes }
+    ensures specs { map spec_of world.new.nodes ≡ map spec_of world.old.nodes }
+    ensures idle { world.new.station.lines ≡ replicate 8 [] }
+{
+    calls_are_moves();
+    whole_message();
+    let mut reply = None;
+    for byte in message.bytes() {
+        reply = hear(world, line, *byte);
+    }
+    reply
+}
+
+/// One byte on a line, and the message that is answered to it.
+fn hear(world: &mut World, line: u8, byte: u8) -> Option<Msg>
+    requires { line < length world.old.station.lines }
+    ensures station { world.new.station ≡ after_event world.old.station (Event.Byte line byte) }
+    ensures reply { result ≡ message_in (answer_to world.old.station (Event.Byte line byte)) }
+    ensures nodes { world.new.nodes ≡ world.old.nodes }
+    ensures lines { length world.new.station.lines ≡ length world.old.station.lines }
+{
+    match world.step(Event::Byte { line, byte }) {
+        Step::Reply(reply) => Some(to_msg(&reply)),
+        _ => None,
+    }
+}

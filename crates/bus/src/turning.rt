@@ -1,0 +1,45 @@
+//! A turn of the track, and what it lasts.
+ghost use Rattle.std.specs.Prelude.{◌≡◌, ◌≤◌, map, option_map};
+ghost use Rattle.layout_core.specs.Nodes.{spec_of};
+ghost use Rattle.layout_core.specs.World.{HaveHeard};
+ghost use Rattle.station_core.specs.Moved.{after_turn, packet_of_turn};
+ghost use Rattle.bus.specs.Bus.{lasts};
+ghost use Rattle.bus.specs.Layout.{turn_of};
+
+use dcc_packet::Packet;
+use half_bits::{duration_in_micros, durations_are_bounded};
+use layout_core::{Event, World, events_add_up};
+use station_core::{Step, calls_are_moves, packets_are_short};
+
+/// The microseconds of a turn without power: those of an idle packet.
+const IDLE: u32 = 5_796;
+
+/// A turn that these decoders miss, and the packet that it sends: none exactly while the power is off.
+pub(crate) fn turn(world: &mut World, missed: u64) -> Option<Packet>
+    ensures station { world.new.station ≡ after_turn world.old.station }
+    ensures packet { result ≡ packet_of_turn world.old.station }
+    ensures nodes { HaveHeard world.old.station (turn_of missed) world.old.nodes world.new.nodes }
+    ensures specs { map spec_of world.new.nodes ≡ map spec_of world.old.nodes }
+    ensures shortest { 5796 ≤ lasts result }
+    ensures longest { lasts result ≤ 10740 }
+{
+    calls_are_moves();
+    events_add_up();
+    packets_are_short();
+    durations_are_bounded();
+    match world.step(Event::Turn { missed }) {
+        Step::Packet(packet) => Some(packet),
+        _ => None,
+    }
+}
+
+/// What a turn lasts that sends this packet, or none, in microseconds.
+pub(crate) fn lasts(packet: Option<&Packet>) -> u32
+    ensures { result ≡ lasts (option_map (λ p. p.now) packet.entry) }
+{
+    durations_are_bounded();
+    match packet {
+        Some(packet) => duration_in_micros(packet),
+        None => IDLE,
+    }
+}
