@@ -1,3 +1,4 @@
 pub mod Bus
 pub mod Layout
 pub mod Seen
+pub mod Time

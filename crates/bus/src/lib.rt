@@ -5,7 +5,9 @@
 mod bus;
 mod event;
 mod sending;
+mod time;
 mod turning;
 
 pub use bus::Bus;
 pub use event::{Event, Told};
+pub use time::time_adds_up;

@@ -1,7 +1,5 @@
 //! How long a packet lasts.
-ghost use Rattle.std.specs.Prelude.{ℕ, ◌≡◌, ◌≤◌, List, length, IsTrue};
-ghost use Rattle.dcc_packet.specs.Packet.{is_checked};
-ghost use Rattle.dcc_packet.specs.Sent.{idle_bytes};
+ghost use Rattle.std.specs.Prelude.{◌≡◌, ◌≤◌};
 ghost use Rattle.half_bits.specs.Halves.{duration_of};
 
 use crate::halves;
@@ -21,12 +19,3 @@ pub fn duration_in_micros(packet: &Packet) -> u32
     }
     micros
 }
-
-/// No packet with a right check is shorter than an idle one, and none of at most 5 bytes is longer than 15 ones, those of its
-/// preamble and the one that closes it, and 45 zeros.
-pub fn durations_are_bounded()
-    ensures shortest { (packet : List ℕ) → 3 ≤ length packet → IsTrue (is_checked packet) → 5796 ≤ duration_of packet }
-    ensures shortest_unchecked { (packet : List ℕ) → 3 ≤ length packet → 5124 ≤ duration_of packet }
-    ensures longest { (packet : List ℕ) → length packet ≤ 5 → duration_of packet ≤ 10740 }
-    ensures idle { duration_of idle_bytes ≡ 5796 }
-{}

@@ -8,10 +8,12 @@ ghost use Rattle.dcc_packet.specs.Wave.{IsWave};
 ghost use Rattle.half_bits.specs.Halves.{halves_of};
 
 mod duration;
+mod laws;
 mod wave;
 
 use dcc_packet::Packet;
-pub use duration::{duration_in_micros, durations_are_bounded};
+pub use duration::duration_in_micros;
+pub use laws::durations_are_bounded;
 pub use wave::Halves;
 
 /// The half-bits of `packet` from its preamble of 14 ones to the one that closes it, in microseconds.
