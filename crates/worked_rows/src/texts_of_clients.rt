@@ -14,7 +14,10 @@ const SENT: [(&[u8], &[u8]); 5] = [
     (b"SEND  83\t7c \r", &POWER_ON),
     (b"SEND\t83 7C\n\r", &POWER_ON),
     // Another line before it, and an empty one.
-    (b"HELLO 83 7C\n\r\nSEND A0 01 40 1E\n", &[0xA0, 0x01, 0x40, 0x1E]),
+    (
+        b"HELLO 83 7C\n\r\nSEND A0 01 40 1E\n",
+        &[0xA0, 0x01, 0x40, 0x1E],
+    ),
 ];
 
 // Lines that ask to send what cannot be sent.
@@ -59,10 +62,18 @@ fn asked(rt: &impl Abort, reader: &mut Reader, text: &[u8]) -> Option<Ask> {
 fn reads_lines(rt: HostRuntime) -> Result<(), Fail> {
     for (text, bytes) in SENT {
         let message = Msg::whole(bytes).ok_or("a message")?;
-        assert_eq!(rt; asked(&rt, &mut Reader::default(), text), Some(Ask::Send(message)), "{text:?}");
+        assert_eq!(rt;
+            asked(&rt, &mut Reader::default(), text),
+            Some(Ask::Send(message)),
+            "{text:?}"
+        );
     }
     for (text, reason) in REFUSED {
-        assert_eq!(rt; asked(&rt, &mut Reader::default(), text), Some(Ask::Refused(reason)), "{text:?}");
+        assert_eq!(rt;
+            asked(&rt, &mut Reader::default(), text),
+            Some(Ask::Refused(reason)),
+            "{text:?}"
+        );
     }
     for text in IDLE {
         assert_eq!(rt; asked(&rt, &mut Reader::default(), text), None, "{text:?}");
@@ -89,7 +100,11 @@ fn refuses_long_lines(rt: HostRuntime) -> Result<(), Fail> {
         } else {
             Ask::Refused(Reason::TooLong)
         };
-        assert_eq!(rt; asked_behind(&rt, &mut reader, blanks), Some(wanted), "{blanks}");
+        assert_eq!(rt;
+            asked_behind(&rt, &mut reader, blanks),
+            Some(wanted),
+            "{blanks}"
+        );
     }
     // A long line that is none to send.
     for _ in 0..500 {
@@ -102,7 +117,10 @@ fn refuses_long_lines(rt: HostRuntime) -> Result<(), Fail> {
 #[test]
 fn tells_exact_lines(rt: HostRuntime) -> Result<(), Fail> {
     let mut text = Text::new();
-    push_receive(&mut text, &Msg::whole(&[0xBF, 0x00, 0x03, 0x43]).ok_or("a message")?);
+    push_receive(
+        &mut text,
+        &Msg::whole(&[0xBF, 0x00, 0x03, 0x43]).ok_or("a message")?,
+    );
     assert_eq!(rt; text.as_slice(), b"RECEIVE BF 00 03 43\r\n".as_slice());
     let mut text = Text::new();
     push_version(&mut text);
@@ -112,7 +130,8 @@ fn tells_exact_lines(rt: HostRuntime) -> Result<(), Fail> {
     push_sent_error(&mut text, Reason::NotHex);
     push_sent_error(&mut text, Reason::NoMessage);
     push_sent_error(&mut text, Reason::WrongCheck);
-    let wanted = b"VERSION lbserver station\r\nERROR no place\r\nSENT OK\r\nSENT ERROR line too long\r\nSENT ERROR no pairs of hexadecimal digits\r\nSENT ERROR no whole message\r\nSENT ERROR wrong check byte\r\n";
+    let wanted =
+        b"VERSION lbserver station\r\nERROR no place\r\nSENT OK\r\nSENT ERROR line too long\r\nSENT ERROR no pairs of hexadecimal digits\r\nSENT ERROR no whole message\r\nSENT ERROR wrong check byte\r\n";
     assert_eq!(rt; text.as_slice(), wanted.as_slice());
     Ok(())
 }
