@@ -1,4 +1,4 @@
--- What a text asks, and what a reader keeps of it.
+-- What a client's text asks in LocoNet over TCP, and what a reader keeps of it.
 use Rattle.std.specs.Prelude.{ℕ, if◌then◌else◌, nat_lt, List, [], ◌∷◌, ◌++◌, length, Option, None}
 use Rattle.std.specs.Option.{option_to_list}
 use Rattle.over_tcp.specs.declared.ask.Ask.{Ask}

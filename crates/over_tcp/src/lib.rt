@@ -3,10 +3,12 @@
 
 mod ask;
 mod asked;
+mod laws;
 mod reader;
 mod telling;
 
 pub use ask::{Ask, Reason};
 pub use asked::KEPT;
-pub use reader::{Reader, any_cut};
+pub use laws::{any_cut, told_is_asked};
+pub use reader::Reader;
 pub use telling::{Text, push_no_place, push_receive, push_sent_error, push_sent_ok, push_version};

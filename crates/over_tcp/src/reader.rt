@@ -2,7 +2,7 @@
 ghost use Rattle.std.specs.Prelude.{◌≡◌, ℕ, ◌≤◌, List, [], ◌∷◌, ◌++◌, IsTrue, length};
 ghost use Rattle.std.specs.Option.{option_to_list};
 ghost use Rattle.over_tcp.specs.Text.{is_end, is_open};
-ghost use Rattle.over_tcp.specs.Reading.{asks_of, asks_along, ask_of_byte, kept_after};
+ghost use Rattle.over_tcp.specs.Reading.{asks_of, ask_of_byte, kept_after};
 
 use crate::ask::Ask;
 use crate::asked::{KEPT, asked};
@@ -78,8 +78,3 @@ fn is_end(byte: u8) -> bool
 {
     byte == b'\n' || byte == b'\r'
 }
-
-/// Byte by byte, and so in whatever pieces, a text asks what its lines ask, and nothing else.
-pub fn any_cut()
-    ensures { (text : List ℕ) → asks_along [] text ≡ asks_of text }
-{}

@@ -1,6 +1,6 @@
 //! What the standards give as examples, and rows worked out by hand after them, as tests of the libraries below: bytes
-//! and messages, replies, slots, what is sent next, packets and their durations, decoders, texts, and whole
-//! conversations with a station. There is no other code here.
+//! and messages, replies, slots, what is sent next, packets and their durations, decoders, texts, clients over
+//! TCP, and whole conversations with a station. There is no other code here.
 #![tactic(auto)]
 
 #[cfg(test)]
@@ -23,5 +23,7 @@ mod slots;
 mod stations;
 #[cfg(test)]
 mod texts;
+#[cfg(test)]
+mod texts_of_clients;
 #[cfg(test)]
 mod variables;

@@ -1,0 +1,91 @@
+-- What a message is told as asks to send it.
+use Rattle.std.proofs.Common.{◌≡◌, ℕ, ◌+◌, ◌*◌, ◌/◌, ◌%◌, ◌<◌, ◌≤◌, Bool, true, false, List, [], ◌∷◌, ◌++◌, suc, length, get_or, map, filter, Option, Some, refl, ap, ap₂, ◌∙◌, arith, if◌then◌else◌}
+use Rattle.std.specs.Prelude.{codes}
+use Rattle.std.specs.List.{slice_split, onto_first}
+use Rattle.std.proofs.lemmas.Bool.{and_parts, le-ltb}
+use Rattle.std.proofs.lemmas.Bool.Decides.{nat_tests}
+use Rattle.std.proofs.lemmas.List.Splits.{slice_split-cons_no}
+use Rattle.ln_frame.specs.Message.{message_len, are_data, is_len, has_form, IsWhole}
+use Rattle.over_tcp.specs.declared.ask.Ask.{Ask}
+use Rattle.over_tcp.specs.declared.ask.Ask.TheVariants.{Send, Refused}
+use Rattle.over_tcp.specs.declared.ask.Reason.TheVariants.{TooLong}
+use Rattle.over_tcp.specs.Asked.{is_blank, is_word, words_of, with_byte, digit_of, both, pair_of, bytes_of, ask_to_send, asked_of}
+use Rattle.over_tcp.specs.Told.{hex_char, hex_words}
+
+-- A digit is read as what it was written for, and is no blank.
+
+digit-back : (d : ℕ) → d < 16 → digit_of (hex_char d) ≡ Some d
+digit-back d h = grind (arith, nat_tests)
+
+digit-not_blank : (d : ℕ) → d < 16 → is_blank (hex_char d) ≡ false
+digit-not_blank d h = grind (arith, nat_tests)
+
+abbrev two : ℕ → List ℕ
+two b = hex_char (b / 16) ∷ hex_char (b % 16) ∷ []
+
+pair-back : (b : ℕ) → b < 256 → pair_of (two b) ≡ Some b
+pair-back b h =
+    let high : b / 16 < 16 = omega arith in
+    let low : b % 16 < 16 = omega arith in
+    let whole : 16 * (b / 16) + b % 16 ≡ b = omega arith in
+    ap₂ both (digit-back (b / 16) high) (digit-back (b % 16) low) ∙ ap Some whole
+
+bytes-back : (bytes : List ℕ) → ((i : ℕ) → get_or bytes i 0 < 256) → bytes_of (map two bytes) ≡ Some bytes
+unfolding bytes_of
+bytes-back [] h = refl
+bytes-back (b ∷ bytes) h = ap₂ with_byte (pair-back b (h 0)) (bytes-back bytes (λ i. h (suc i)))
+
+-- The words of what is written are its pairs.
+
+part : (b : ℕ) (rest : List ℕ) (parts : List (List ℕ)) → b < 256 → slice_split is_blank rest ≡ [] ∷ parts → slice_split is_blank (hex_char (b / 16) ∷ hex_char (b % 16) ∷ rest) ≡ two b ∷ parts
+part b rest parts h e =
+    let high : b / 16 < 16 = omega arith in
+    let low : b % 16 < 16 = omega arith in
+    slice_split-cons_no is_blank (hex_char (b / 16)) (hex_char (b % 16) ∷ rest) (digit-not_blank (b / 16) high)
+    ∙ ap (onto_first (hex_char (b / 16))) (slice_split-cons_no is_blank (hex_char (b % 16)) rest (digit-not_blank (b % 16) low) ∙ ap (onto_first (hex_char (b % 16))) e)
+
+parts-of_words : (bytes : List ℕ) → ((i : ℕ) → get_or bytes i 0 < 256) → slice_split is_blank (hex_words bytes) ≡ [] ∷ map two bytes
+parts-of_words [] h = refl
+parts-of_words (b ∷ bytes) h = ap (λ (parts : List (List ℕ)). [] ∷ parts) (part b (hex_words bytes) (map two bytes) (h 0) (parts-of_words bytes (λ i. h (suc i))))
+
+all_words : (bytes : List ℕ) → filter is_word (map two bytes) ≡ map two bytes
+all_words [] = refl
+all_words (b ∷ bytes) = ap (λ (words : List (List ℕ)). two b ∷ words) (all_words bytes)
+
+words-back : (b : ℕ) (bytes : List ℕ) → ((i : ℕ) → get_or (b ∷ bytes) i 0 < 256) → words_of (hex_char (b / 16) ∷ hex_char (b % 16) ∷ hex_words bytes) ≡ map two (b ∷ bytes)
+unfolding words_of
+words-back b bytes h =
+    ap (filter is_word) (part b (hex_words bytes) (map two bytes) (h 0) (parts-of_words bytes (λ i. h (suc i)))) ∙ all_words (b ∷ bytes)
+
+-- It is short enough.
+
+length-hex_words : (bytes : List ℕ) → length (hex_words bytes) ≡ 3 * length bytes
+length-hex_words [] = refl
+length-hex_words (b ∷ bytes) = let more = length-hex_words bytes in omega arith
+
+most : (op s n : ℕ) → is_len (message_len op s) n ≡ true → n ≤ 127
+most op s n h = grind (arith, nat_tests)
+
+length-whole : (message : List ℕ) → IsWhole message → length message ≤ 127
+length-whole [] w = cc
+length-whole (op ∷ []) w = cc
+length-whole (op ∷ s ∷ m) w =
+    let form = and_parts (has_form (op ∷ s ∷ m)) _ w in
+    most op s (length (op ∷ s ∷ m)) (and_parts (is_len (message_len op s) (length (op ∷ s ∷ m))) (are_data (s ∷ m)) form.0).0
+
+sends : (message : List ℕ) → IsWhole message → ask_to_send (Some message) ≡ Send message
+sends message w = rw w refl
+
+abbrev asked_when : Bool → Ask → Option Ask
+asked_when long ask = Some (if long then Refused TooLong else ask)
+
+pub asked-back : (message : List ℕ) → IsWhole message → ((i : ℕ) → get_or message i 0 < 256) → asked_of (codes "SEND" ++ hex_words message) ≡ Some (Send message)
+asked-back [] w h = cc
+asked-back (b ∷ bytes) w h =
+    let line = codes "SEND" ++ hex_words (b ∷ bytes) in
+    let text = hex_char (b / 16) ∷ hex_char (b % 16) ∷ hex_words bytes in
+    let size : length (codes "SEND" ++ hex_words (b ∷ bytes)) ≤ 400 = omega (arith, length-hex_words (b ∷ bytes), length-whole (b ∷ bytes) w) in
+    ap (λ (long : Bool). asked_when long (ask_to_send (bytes_of (words_of text)))) (le-ltb 400 (length line) size)
+    ∙ ap (λ (words : List (List ℕ)). Some (ask_to_send (bytes_of words))) (words-back b bytes h)
+    ∙ ap (λ (written : Option (List ℕ)). Some (ask_to_send written)) (bytes-back (b ∷ bytes) h)
+    ∙ ap Some (sends (b ∷ bytes) w)
