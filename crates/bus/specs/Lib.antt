@@ -1,4 +1,6 @@
 pub mod Bus
+pub mod Course
+pub mod Kept
 pub mod Layout
 pub mod Seen
 pub mod Time

@@ -4,10 +4,12 @@
 
 mod bus;
 mod event;
+mod laws;
 mod sending;
 mod time;
 mod turning;
 
 pub use bus::Bus;
 pub use event::{Event, Told};
+pub use laws::events_are_the_layout;
 pub use time::time_adds_up;

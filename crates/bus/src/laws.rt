@@ -1,0 +1,27 @@
+//! The laws of a bus, each as a function that does nothing and ensures it: a call hands the law to a proof.
+ghost use Rattle.std.specs.Prelude.{◌≡◌, ℕ, List};
+ghost use Rattle.layout_core.specs.Played.{after_events as played};
+ghost use Rattle.bus.specs.declared.event.Event.{Event};
+ghost use Rattle.bus.specs.Bus.{AreEvents, SeenBus, after_events, told_of};
+ghost use Rattle.bus.specs.Course.{micros_in, turns_lasting};
+ghost use Rattle.bus.specs.Kept.{IsKept};
+ghost use Rattle.bus.specs.Layout.{layout_events};
+ghost use Rattle.bus.specs.Time.{HasPassed};
+
+use half_bits::durations_are_bounded;
+use ln_frame::whole_message;
+use station_core::{calls_are_moves, packets_are_short};
+
+/// What events make of a bus: it keeps what a bus keeps, its station is that of the layout's events, and the turns are those
+/// of the time that passed.
+pub fn events_are_the_layout()
+    ensures kept { (bus : SeenBus) (events : List Event) → IsKept bus → AreEvents events → IsKept (after_events bus events) }
+    ensures station { (bus : SeenBus) (events : List Event) → IsKept bus → AreEvents events → played bus.station (layout_events bus events) ≡ (after_events bus events).station }
+    ensures turns { (bus : SeenBus) (events : List Event) → IsKept bus → AreEvents events
+        → HasPassed bus.left (micros_in bus events) (turns_lasting (told_of bus events)) (after_events bus events).left }
+{
+    calls_are_moves();
+    whole_message();
+    packets_are_short();
+    durations_are_bounded();
+}
