@@ -1,8 +1,8 @@
 -- What each event keeps of a bus, and what it is to the layout and to time.
-use Rattle.std.proofs.Common.{◌≡◌, ℕ, ◌+◌, ◌-◌, ◌<◌, ◌≤◌, Bool, true, false, List, [], ◌∷◌, ◌++◌, length, Option, Some, None, refl, ap, ap₂, sym, subst, ◌∙◌, arith, inl, inr, if◌then◌else◌, nat_le, nat_lt, zero, suc, All}
+use Rattle.std.proofs.Common.{◌≡◌, ℕ, ◌+◌, ◌-◌, ◌<◌, ◌≤◌, Bool, true, false, List, [], ◌∷◌, ◌++◌, length, Option, Some, None, refl, ap, ap₂, sym, subst, ◌∙◌, arith, inl, inr, if◌then◌else◌, nat_le, nat_lt, replicate, zero, suc, All}
 use Rattle.std.specs.Prelude.{IfSome, IsTrue, slice_set}
-use Rattle.std.specs.List.{list_all}
-use Rattle.std.proofs.lemmas.Bool.{and_parts, cases_Bool, ltb-true, leb-true}
+use Rattle.std.specs.List.{after_first, list_all}
+use Rattle.std.proofs.lemmas.Bool.{and_parts, cases_Bool, cases_lt, ltb-true, leb-true, le-leb, lt-leb}
 use Rattle.std.proofs.lemmas.List.{length-set}
 use Rattle.dcc_packet.specs.Packet.{is_checked}
 use Rattle.dcc_packet.specs.Sent.{idle_bytes}
@@ -11,7 +11,7 @@ use Rattle.ln_frame.specs.Message.{IsWhole, has_form, is_whole}
 use Rattle.over_tcp.specs.declared.ask.Ask.{Ask}
 use Rattle.over_tcp.specs.declared.ask.Ask.TheVariants.{Send, Refused}
 use Rattle.over_tcp.specs.declared.ask.Reason.TheVariants.{TooLong, NotHex, NoMessage, WrongCheck}
-use Rattle.over_tcp.specs.Asked.{ask_to_send, asked_of, bytes_of, is_send, words_of}
+use Rattle.over_tcp.specs.Asked.{ask_to_send, asked_of, bytes_of, is_blank, is_send, words_of}
 use Rattle.over_tcp.specs.Reading.{ask_of_byte}
 use Rattle.over_tcp.specs.Text.{is_end}
 use Rattle.station_core.specs.declared.call.Call.TheVariants.{Turn as TurnCall}
@@ -23,6 +23,7 @@ use Rattle.layout_core.specs.Played.{after_events as played}
 use Rattle.bus.specs.declared.event.Event.{Event}
 use Rattle.bus.specs.declared.event.Event.TheVariants.{Joins, Hears, Leaves, Passes, Turn}
 use Rattle.bus.specs.declared.event.Told.{Told}
+use Rattle.bus.specs.declared.event.Told.TheVariants.{Nothing, Turned}
 use Rattle.bus.specs.Bus.{SeenBus, after_event, ask_at, client_of, is_event, kept_at, lasts, station_asked, told_asked, told_by, turned}
 use Rattle.bus.specs.Course.{lasting, micros_of}
 use Rattle.bus.specs.Kept.{IsKept}
@@ -82,4 +83,118 @@ whole_at_end false ask whole = tt
 
 pub whole_ask : (kept : Option (List ℕ)) (byte : ℕ) → IsWholeAsk (ask_at kept byte)
 whole_ask None byte = tt
-whole_ask (Some kept) byte = whole_at_end (is_end byte) (asked_of kept) (whole_when _ _ _)
+whole_ask (Some kept) byte = whole_at_end (is_end byte) (asked_of kept) (whole_when (is_send kept) (nat_lt 400 (length kept)) (bytes_of (words_of (after_first is_blank kept))))
+
+-- A time in which the turn under way ends, and one in which it does not.
+
+passes_on : (bus : SeenBus) (micros missed : ℕ) → micros < bus.left → after_event bus (Passes micros missed) ≡ record bus { left = bus.left - micros }
+passes_on bus micros missed less = rw (lt-leb bus.left micros less) refl
+
+passes_over : (bus : SeenBus) (micros missed : ℕ) → bus.left ≤ micros → after_event bus (Passes micros missed) ≡ turned bus micros
+passes_over bus micros missed ends = rw (le-leb bus.left micros ends) refl
+
+waits_for : (bus : SeenBus) (micros missed : ℕ) → micros < bus.left → layout_event bus (Passes micros missed) ≡ []
+waits_for bus micros missed less = rw (lt-leb bus.left micros less) refl
+
+turns_in_it : (bus : SeenBus) (micros missed : ℕ) → bus.left ≤ micros → layout_event bus (Passes micros missed) ≡ turn_of missed
+turns_in_it bus micros missed ends = rw (le-leb bus.left micros ends) refl
+
+told_on : (bus : SeenBus) (micros missed : ℕ) → micros < bus.left → told_by bus (Passes micros missed) ≡ Nothing
+told_on bus micros missed less = rw (lt-leb bus.left micros less) refl
+
+told_over : (bus : SeenBus) (micros missed : ℕ) → bus.left ≤ micros → told_by bus (Passes micros missed) ≡ Turned (packet_of_turn bus.station)
+told_over bus micros missed ends = rw (le-leb bus.left micros ends) refl
+
+-- What an event keeps.
+
+kept_clients : (bus : SeenBus) (station : Seen) (client : ℕ) (kept : Option (List ℕ)) → IsKept bus → station.lines ≡ bus.station.lines
+    → IsKept (record bus { station = station; clients = slice_set bus.clients client kept })
+kept_clients bus station client kept h lines = record {
+  idle = lines ∙ h.idle;
+  places = length-set bus.clients client kept ∙ h.places;
+  under_way = h.under_way;
+  longest = h.longest;
+}
+
+asked_lines : (station : Seen) (ask : Option Ask) → (station_asked station ask).lines ≡ station.lines
+asked_lines station None = refl
+asked_lines station (Some (Refused reason)) = refl
+asked_lines station (Some (Send message)) = refl
+
+kept_turned : Bounded → (bus : SeenBus) (micros : ℕ) → IsKept bus → bus.left ≤ micros → micros ≤ bus.left + 5795 → IsKept (turned bus micros)
+kept_turned laws bus micros h ends soon = record {
+  idle = h.idle;
+  places = h.places;
+  under_way = omega (arith, at_least laws bus.station, ends, soon);
+  longest = omega (arith, at_most laws bus.station, ends);
+}
+
+kept_waiting : (bus : SeenBus) (micros : ℕ) → IsKept bus → micros < bus.left → IsKept (record bus { left = bus.left - micros })
+kept_waiting bus micros h less = record { idle = h.idle; places = h.places; under_way = omega (arith, less); longest = omega (arith, h.longest) }
+
+pub keeps : Bounded → (bus : SeenBus) (event : Event) → IsKept bus → is_event event ≡ true → IsKept (after_event bus event)
+keeps laws bus (Joins client) h legal = kept_clients bus bus.station client (Some []) h refl
+keeps laws bus (Leaves client) h legal = kept_clients bus bus.station client None h refl
+keeps laws bus (Hears client byte) h legal =
+    let ask : Option Ask = ask_at (client_of bus client) byte in
+    kept_clients bus (station_asked bus.station ask) client (kept_at (client_of bus client) byte) h (asked_lines bus.station ask)
+keeps laws bus (Turn missed) h legal = kept_turned laws bus bus.left h (omega arith) (omega arith)
+keeps laws bus (Passes micros missed) h legal = elim (cases_lt micros bus.left) [
+  | inl less ↦ subst IsKept (sym (passes_on bus micros missed less)) (kept_waiting bus micros h less)
+  | inr ends ↦ subst IsKept (sym (passes_over bus micros missed ends)) (kept_turned laws bus micros h ends (omega (arith, leb-true micros 5796 legal, h.under_way)))
+]
+
+-- What it is to the layout.
+
+pub record Played : Type 0 where
+  pub promised : Promised
+  pub turn : (seen : Seen) → state_of seen TurnCall ≡ after_turn seen
+
+asked_station : Played → (station : Seen) (client : ℕ) (ask : Option Ask) → station.lines ≡ replicate 8 [] → client < 8 → IsWholeAsk ask
+    → played station (layout_asked client ask) ≡ station_asked station ask
+asked_station laws station client None idle below whole = refl
+asked_station laws station client (Some (Refused reason)) idle below whole = refl
+asked_station laws station client (Some (Send message)) idle below whole = whole_after laws.promised station client message idle below whole
+
+pub plays : Played → (bus : SeenBus) (event : Event) → IsKept bus → is_event event ≡ true → played bus.station (layout_event bus event) ≡ (after_event bus event).station
+plays laws bus (Joins client) h legal = refl
+plays laws bus (Leaves client) h legal = refl
+plays laws bus (Hears client byte) h legal =
+    asked_station laws bus.station client (ask_at (client_of bus client) byte) h.idle (ltb-true client 8 legal) (whole_ask (client_of bus client) byte)
+plays laws bus (Turn missed) h legal = laws.turn bus.station
+plays laws bus (Passes micros missed) h legal = elim (cases_lt micros bus.left) [
+  | inl less ↦ ap (λ (events : List LayoutEvent). played bus.station events) (waits_for bus micros missed less) ∙ sym (ap (λ (b : SeenBus). b.station) (passes_on bus micros missed less))
+  | inr ends ↦ ap (λ (events : List LayoutEvent). played bus.station events) (turns_in_it bus micros missed ends) ∙ laws.turn bus.station ∙ sym (ap (λ (b : SeenBus). b.station) (passes_over bus micros missed ends))
+]
+
+-- What it is to time.
+
+asked_lasting : (station : Seen) (client : ℕ) (ask : Option Ask) → lasting (told_asked station client ask) ≡ []
+asked_lasting station client None = refl
+asked_lasting station client (Some (Refused reason)) = refl
+asked_lasting station client (Some (Send message)) = refl
+
+no_time : (left left' : ℕ) (turns : List ℕ) → 0 < left → turns ≡ [] → HasPassed left 0 turns left
+no_time left left' turns some none = subst (λ (t : List ℕ). HasPassed left 0 t left) (sym none) (nothing left some)
+
+turn_passed : Bounded → (bus : SeenBus) (micros : ℕ) → bus.left ≤ micros → micros ≤ bus.left + 5795 → HasPassed bus.left micros (lasts (packet_of_turn bus.station) ∷ []) (turned bus micros).left
+turn_passed laws bus micros ends soon = begins bus.left micros (lasts (packet_of_turn bus.station)) ends (omega (arith, at_least laws bus.station, soon))
+
+agrees : (bus : SeenBus) (event : Event) (micros : ℕ) (told : Told) (later : SeenBus) → told_by bus event ≡ told → after_event bus event ≡ later
+    → HasPassed bus.left micros (lasting told) later.left → HasPassed bus.left micros (lasting (told_by bus event)) (after_event bus event).left
+agrees bus event micros told later e f passed =
+    subst (λ (t : Told). HasPassed bus.left micros (lasting t) (after_event bus event).left) (sym e)
+    (subst (λ (b : SeenBus). HasPassed bus.left micros (lasting told) b.left) (sym f) passed)
+
+pub passed_by : Bounded → (bus : SeenBus) (event : Event) → IsKept bus → is_event event ≡ true
+    → HasPassed bus.left (micros_of bus event) (lasting (told_by bus event)) (after_event bus event).left
+passed_by laws bus (Joins client) h legal = nothing bus.left h.under_way
+passed_by laws bus (Leaves client) h legal = nothing bus.left h.under_way
+passed_by laws bus (Hears client byte) h legal = no_time bus.left bus.left _ h.under_way (asked_lasting bus.station client (ask_at (client_of bus client) byte))
+passed_by laws bus (Turn missed) h legal = turn_passed laws bus bus.left (omega arith) (omega arith)
+passed_by laws bus (Passes micros missed) h legal = elim (cases_lt micros bus.left) [
+  | inl less ↦ agrees bus (Passes micros missed) micros Nothing (record bus { left = bus.left - micros }) (told_on bus micros missed less) (passes_on bus micros missed less)
+    (passes bus.left micros less)
+  | inr ends ↦ agrees bus (Passes micros missed) micros (Turned (packet_of_turn bus.station)) (turned bus micros) (told_over bus micros missed ends) (passes_over bus micros missed ends)
+    (turn_passed laws bus micros ends (omega (arith, leb-true micros 5796 legal, h.under_way)))
+]

@@ -1,5 +1,6 @@
 pub mod Bus
 pub mod Course
+pub mod Cycle
 pub mod Kept
 pub mod Layout
 pub mod Seen

@@ -1,9 +1,15 @@
 //! The laws of a bus, each as a function that does nothing and ensures it: a call hands the law to a proof.
-ghost use Rattle.std.specs.Prelude.{◌≡◌, ℕ, List};
+ghost use Rattle.std.specs.Prelude.{◌≡◌, ℕ, List, ◌++◌};
+ghost use Rattle.station_core.specs.Powered.{HasDesk};
+ghost use Rattle.station_core.specs.Seen.{known_of};
+ghost use Rattle.layout_core.specs.declared.node.Node.{Node};
+ghost use Rattle.layout_core.specs.Cycle.{RunsAsWanted};
+ghost use Rattle.layout_core.specs.World.{HaveHeard};
 ghost use Rattle.layout_core.specs.Played.{after_events as played};
 ghost use Rattle.bus.specs.declared.event.Event.{Event};
 ghost use Rattle.bus.specs.Bus.{AreEvents, SeenBus, after_events, told_of};
 ghost use Rattle.bus.specs.Course.{micros_in, turns_lasting};
+ghost use Rattle.bus.specs.Cycle.{RunsInTime};
 ghost use Rattle.bus.specs.Kept.{IsKept};
 ghost use Rattle.bus.specs.Layout.{layout_events};
 ghost use Rattle.bus.specs.Time.{HasPassed};
@@ -24,4 +30,24 @@ pub fn events_are_the_layout()
     whole_message();
     packets_are_short();
     durations_are_bounded();
+}
+
+/// What the decoders of a bus heard of its events, however the list is cut, and so the headline, by turns and by time.
+pub fn headline()
+    ensures more { (bus : SeenBus) (events later : List Event) (old mid new : List Node) → IsKept bus → AreEvents events
+        → HaveHeard bus.station (layout_events bus events) old mid
+        → HaveHeard (after_events bus events).station (layout_events (after_events bus events) later) mid new
+        → HaveHeard bus.station (layout_events bus (events ++ later)) old new }
+    // A locomotive that hears a full refresh cycle of its address runs as its slot says.
+    ensures headline { (start : SeenBus) (events : List Event) (old new : List Node) → HasDesk start.station.powered
+        → HaveHeard start.station (layout_events start events) old new → RunsAsWanted (known_of start.station) (layout_events start events) old new }
+    // So does one that hears everything for 171,840 microseconds for each slot that is refreshed.
+    ensures in_time { (start : SeenBus) (events : List Event) (old new : List Node) → IsKept start → AreEvents events → HasDesk start.station.powered
+        → HaveHeard start.station (layout_events start events) old new → RunsInTime start events old new }
+{
+    events_are_the_layout();
+    packets_are_short();
+    durations_are_bounded();
+    layout_core::events_add_up();
+    layout_core::headline();
 }

@@ -1,0 +1,40 @@
+-- The headline in time: a locomotive whose decoder hears everything for so much track time runs as its slot says.
+use Rattle.std.specs.Prelude.{ℕ, ◌≡◌, ◌*◌, ◌<◌, ◌≤◌, List, ◌++◌, Some, length}
+use Rattle.std.specs.List.{slice_index_or}
+use Rattle.slot_table.specs.Entry.{Entry, IsSlot}
+use Rattle.station_core.specs.Known.{Known, told_all}
+use Rattle.station_core.specs.Moments.{AtEveryMoment, IsLive, slots_refreshed}
+use Rattle.station_core.specs.Seen.{known_of}
+use Rattle.decoder_node.specs.LocoDecoder.{LocoDecoder, IsBetween as IsBetweenLoco}
+use Rattle.layout_core.specs.declared.node.Node.{Node}
+use Rattle.layout_core.specs.declared.node.Node.TheVariants.{Loco}
+use Rattle.layout_core.specs.Cycle.{HearsCycle, StandsIn}
+use Rattle.layout_core.specs.Events.{calls_in}
+use Rattle.layout_core.specs.Nodes.{running_of}
+use Rattle.layout_core.specs.Wanted.{wanted}
+use Rattle.bus.specs.declared.event.Event.{Event}
+use Rattle.bus.specs.Bus.{SeenBus, after_events}
+use Rattle.bus.specs.Course.{micros_in}
+use Rattle.bus.specs.Layout.{layout_events}
+
+-- A full refresh cycle of an address, told by time: power runs, the slot is refreshed, and it stands for the same address
+-- and the same entry at every moment; and of track time there are 171,840 microseconds for each slot that is refreshed at
+-- some moment, in which 16 of the longest packets of 10,740 microseconds have room.
+pub record IsTimedCycleOf (slot a : ℕ) (e : Entry) (known : Known) (bus : SeenBus) (cycle : List Event) : Type 0 where
+  pub is_slot : IsSlot slot
+  pub live : AtEveryMoment (IsLive slot) known (calls_in (layout_events bus cycle))
+  pub stands : AtEveryMoment (StandsIn slot a e) known (calls_in (layout_events bus cycle))
+  pub enough : 171840 * slots_refreshed known (calls_in (layout_events bus cycle)) ≤ micros_in bus cycle
+
+-- The headline in time. Where no packet was under way at the start, the locomotive, node i, that answers to the address,
+-- agrees in steps and misses no turn of the cycle runs as the entry wants it after the cycle, whatever came before.
+abbrev pub RunsInTime : SeenBus → List Event → (old new : List Node) → Type 0
+RunsInTime start events old new =
+    (before cycle : List Event) (i slot a : ℕ) (e : Entry) (loco : LocoDecoder) (none : Node)
+    → events ≡ before ++ cycle
+    → i < length old
+    → slice_index_or old i none ≡ Loco loco
+    → IsBetweenLoco loco
+    → HearsCycle i a e loco (layout_events (after_events start before) cycle)
+    → IsTimedCycleOf slot a e (told_all (known_of start.station) (calls_in (layout_events start before))) (after_events start before) cycle
+    → running_of (slice_index_or new i none) ≡ Some (wanted e loco.cv.reversed)
