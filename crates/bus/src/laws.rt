@@ -1,5 +1,5 @@
 //! The laws of a bus, each as a function that does nothing and ensures it: a call hands the law to a proof.
-ghost use Rattle.std.specs.Prelude.{◌≡◌, ℕ, List, ◌++◌};
+ghost use Rattle.std.specs.Prelude.{◌≡◌, ℕ, List, ◌++◌, IsTrue};
 ghost use Rattle.station_core.specs.Powered.{HasDesk};
 ghost use Rattle.station_core.specs.Seen.{known_of};
 ghost use Rattle.layout_core.specs.declared.node.Node.{Node};
@@ -7,11 +7,11 @@ ghost use Rattle.layout_core.specs.Cycle.{RunsAsWanted};
 ghost use Rattle.layout_core.specs.World.{HaveHeard};
 ghost use Rattle.layout_core.specs.Played.{after_events as played};
 ghost use Rattle.bus.specs.declared.event.Event.{Event};
-ghost use Rattle.bus.specs.Bus.{AreEvents, SeenBus, after_events, told_of};
+ghost use Rattle.bus.specs.Bus.{AreEvents, SeenBus, after_event, after_events, is_event, told_of};
 ghost use Rattle.bus.specs.Course.{micros_in, turns_lasting};
 ghost use Rattle.bus.specs.Cycle.{RunsInTime};
 ghost use Rattle.bus.specs.Kept.{IsKept};
-ghost use Rattle.bus.specs.Layout.{layout_events};
+ghost use Rattle.bus.specs.Layout.{layout_event, layout_events};
 ghost use Rattle.bus.specs.Time.{HasPassed};
 
 use half_bits::durations_are_bounded;
@@ -22,6 +22,7 @@ use station_core::{calls_are_moves, packets_are_short};
 /// of the time that passed.
 pub fn events_are_the_layout()
     ensures kept { (bus : SeenBus) (events : List Event) → IsKept bus → AreEvents events → IsKept (after_events bus events) }
+    ensures one { (bus : SeenBus) (event : Event) → IsKept bus → IsTrue (is_event event) → played bus.station (layout_event bus event) ≡ (after_event bus event).station }
     ensures station { (bus : SeenBus) (events : List Event) → IsKept bus → AreEvents events → played bus.station (layout_events bus events) ≡ (after_events bus events).station }
     ensures turns { (bus : SeenBus) (events : List Event) → IsKept bus → AreEvents events
         → HasPassed bus.left (micros_in bus events) (turns_lasting (told_of bus events)) (after_events bus events).left }
