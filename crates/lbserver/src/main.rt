@@ -1,6 +1,7 @@
 //! `lbserver`: a LocoNet command station that serves clients of LocoNet over TCP.
 #![tactic(auto)]
 
+mod losses;
 mod room;
 
 use std::process::ExitCode;
