@@ -4,4 +4,5 @@ pub mod Cycle
 pub mod Kept
 pub mod Layout
 pub mod Seen
+pub mod Texts
 pub mod Time

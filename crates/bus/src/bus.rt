@@ -1,5 +1,5 @@
 //! The bus.
-ghost use Rattle.std.specs.Prelude.{◌≡◌, ◌<◌, ◌≤◌, ◌+◌, [], IfErr, IfOk, IsTrue, length, map, replicate};
+ghost use Rattle.std.specs.Prelude.{◌≡◌, ◌<◌, ◌≤◌, ◌+◌, [], IfErr, IfOk, IsTrue, is_some, length, map, replicate};
 
 use crate::event::{Event, Told};
 use crate::laws::{events_are_the_layout, headline};
@@ -39,7 +39,7 @@ impl Bus {
     ghost use Rattle.station_core.specs.Seen.{known_of};
     ghost use Rattle.layout_core.specs.Cycle.{RunsAsWanted};
     ghost use Rattle.layout_core.specs.Played.{after_events as played};
-    ghost use Rattle.bus.specs.Bus.{AreEvents, after_event, after_events, first_bus, is_event, told_by, told_of, turned};
+    ghost use Rattle.bus.specs.Bus.{AreEvents, after_event, after_events, client_of, first_bus, is_event, told_by, told_of, turned};
     ghost use Rattle.bus.specs.Course.{micros_in, turns_lasting};
     ghost use Rattle.bus.specs.Cycle.{RunsInTime};
     ghost use Rattle.bus.specs.Kept.{IsKept};
@@ -78,6 +78,14 @@ impl Bus {
         ensures longest { result ≤ 10740 }
     {
         self.left
+    }
+
+    /// Whether a client, 0 to 7, has its place.
+    pub fn has(&self, client: u8) -> bool
+        requires { client < 8 }
+        ensures { result ≡ is_some (client_of (seen_of self.now) client) }
+    {
+        self.clients[usize::from(client)].is_some()
     }
 
     /// One event, and what is told of it.

@@ -1,17 +1,22 @@
 //! The laws of a bus, each as a function that does nothing and ensures it: a call hands the law to a proof.
-ghost use Rattle.std.specs.Prelude.{◌≡◌, ℕ, List, ◌++◌, IsTrue};
+ghost use Rattle.std.specs.Prelude.{◌≡◌, ℕ, if◌then◌else◌, List, [], ◌∷◌, ◌++◌, IsFalse, IsTrue};
+ghost use Rattle.std.specs.List.{flat_map};
 ghost use Rattle.station_core.specs.Powered.{HasDesk};
 ghost use Rattle.station_core.specs.Seen.{known_of};
 ghost use Rattle.layout_core.specs.declared.node.Node.{Node};
 ghost use Rattle.layout_core.specs.Cycle.{RunsAsWanted};
 ghost use Rattle.layout_core.specs.World.{HaveHeard};
 ghost use Rattle.layout_core.specs.Played.{after_events as played};
+ghost use Rattle.over_tcp.specs.Told.{receive_text, version_text};
 ghost use Rattle.bus.specs.declared.event.Event.{Event};
+ghost use Rattle.bus.specs.declared.event.Told.{Told};
+ghost use Rattle.bus.specs.declared.event.Told.TheVariants.{Joined, Left};
 ghost use Rattle.bus.specs.Bus.{AreEvents, SeenBus, after_event, after_events, is_event, told_of};
 ghost use Rattle.bus.specs.Course.{micros_in, turns_lasting};
 ghost use Rattle.bus.specs.Cycle.{RunsInTime};
 ghost use Rattle.bus.specs.Kept.{IsKept};
 ghost use Rattle.bus.specs.Layout.{layout_event, layout_events};
+ghost use Rattle.bus.specs.Texts.{heard_since, is_quiet, is_there, moves, stays, text_for, traffic};
 ghost use Rattle.bus.specs.Time.{HasPassed};
 
 use half_bits::durations_are_bounded;
@@ -52,3 +57,17 @@ pub fn headline()
     layout_core::events_add_up();
     layout_core::headline();
 }
+
+/// What each client was told since it joined, event by event, and what one is told that only listens.
+pub fn told_since_joining()
+    ensures joins { (i : ℕ) (tolds : List Told) → heard_since i (tolds ++ Joined i ∷ []) ≡ version_text }
+    ensures leaves { (i : ℕ) (tolds : List Told) → heard_since i (tolds ++ Left i ∷ []) ≡ [] }
+    ensures goes_on { (i : ℕ) (tolds : List Told) (told : Told) → IsFalse (moves i told) →
+        heard_since i (tolds ++ told ∷ []) ≡ (if is_there i tolds then heard_since i tolds ++ text_for i told else []) }
+    ensures came { (i : ℕ) (tolds : List Told) → IsTrue (is_there i (tolds ++ Joined i ∷ [])) }
+    ensures gone { (i : ℕ) (tolds : List Told) → IsFalse (is_there i (tolds ++ Left i ∷ [])) }
+    ensures stayed { (i : ℕ) (tolds : List Told) (told : Told) → IsFalse (moves i told) → is_there i (tolds ++ told ∷ []) ≡ is_there i tolds }
+    // A client that asks nothing is told all messages of the bus, in order, and nothing else.
+    ensures bystander { (i : ℕ) (tolds : List Told) → IsTrue (stays i tolds) → IsTrue (is_quiet i tolds) →
+        flat_map (text_for i) tolds ≡ flat_map receive_text (traffic tolds) }
+{}

@@ -6,10 +6,11 @@ mod bus;
 mod event;
 mod laws;
 mod sending;
+mod texts;
 mod time;
 mod turning;
 
 pub use bus::Bus;
 pub use event::{Event, Told};
-pub use laws::events_are_the_layout;
+pub use laws::{events_are_the_layout, told_since_joining};
 pub use time::time_adds_up;

@@ -4,6 +4,7 @@
 mod executing;
 mod losses;
 mod room;
+mod waiting;
 
 use command_line::no_server_text;
 use console::{RunFault, read_words, tell_as, texts};

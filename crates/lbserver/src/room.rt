@@ -93,7 +93,7 @@ impl Room {
     }
 
     /// The first bytes that wait, as many as lie side by side: some where any wait.
-    fn piece(&self) -> &[u8]
+    pub(crate) fn piece(&self) -> &[u8]
         ensures front { result.now ≡ take (length result.now) self.now }
         ensures some { 0 < length self.now → 0 < length result.now }
     {
@@ -102,7 +102,7 @@ impl Room {
     }
 
     /// The first bytes that wait were written, so many.
-    fn written(&mut self, count: usize)
+    pub(crate) fn written(&mut self, count: usize)
         requires { count ≤ length self.old }
         ensures { self.new ≡ drop count self.old }
     {

@@ -1,0 +1,5 @@
+use Rattle.bus.proofs.Telling.{bystander, came, goes_on, gone, joins, leaves, stayed}
+use Rattle.bus.proofs.laws.told_since_joining.Goals as goal
+
+pub returns : goal.returns
+returns c = record { joins = joins; leaves = leaves; goes_on = goes_on; came = came; gone = gone; stayed = stayed; bystander = bystander }
