@@ -1,5 +1,5 @@
 -- What waits for the clients of a bus, and what an event adds to it.
-use Rattle.std.specs.Prelude.{ℕ, ◌+◌, if◌then◌else◌, nat_le, List, [], ◌∷◌, ◌++◌, length, Option, Some, None, slice_set}
+use Rattle.std.specs.Prelude.{ℕ, ◌+◌, Bool, true, if◌then◌else◌, nat_le, nat_lt, List, [], ◌∷◌, ◌++◌, length, Option, Some, None, slice_set}
 use Rattle.bus.specs.declared.event.Told.{Told}
 use Rattle.bus.specs.declared.event.Told.TheVariants.{Nothing, Joined, Left, Refused, Sent, Turned}
 use Rattle.bus.specs.Texts.{text_for}
@@ -18,20 +18,29 @@ told_one text (Some waiting) = if nat_le (length waiting + length text) 65536 th
 abbrev pub Places : Type 0
 Places = List (Option (List ℕ))
 
--- for one that joins nothing waits, and one that leaves is told nothing more
-abbrev pub placed : Told → Places → Places
-placed Nothing places = places
-placed (Joined client) places = slice_set places client (Some [])
-placed (Left client) places = slice_set places client None
-placed (Refused client reason) places = places
-placed (Sent client message reply) places = places
-placed (Turned packet) places = places
-
 -- each place, from this one on, is told its own text
 abbrev pub told_from : (place : ℕ) → Told → Places → Places
 told_from place told [] = []
 told_from place told (waiting ∷ places) = told_one (text_for place told) waiting ∷ told_from (place + 1) told places
 
--- what waits in each place once all were told of an event
+abbrev pub told_all : Told → Places → Places
+told_all told places = told_from 0 told places
+
+-- What waits in each place once all were told of an event. For one that joins nothing waits before, and one that leaves is
+-- told nothing more.
 abbrev pub waiting_after : Told → Places → Places
-waiting_after told places = told_from 0 told (placed told places)
+waiting_after Nothing places = places
+waiting_after (Turned packet) places = places
+waiting_after (Left client) places = slice_set places client None
+waiting_after (Joined client) places = told_all (Joined client) (slice_set places client (Some []))
+waiting_after (Refused client reason) places = told_all (Refused client reason) places
+waiting_after (Sent client message reply) places = told_all (Sent client message reply) places
+
+-- it is told of one of the eight places
+abbrev pub is_placed : Told → Bool
+is_placed Nothing = true
+is_placed (Turned packet) = true
+is_placed (Left client) = nat_lt client 8
+is_placed (Joined client) = nat_lt client 8
+is_placed (Refused client reason) = nat_lt client 8
+is_placed (Sent client message reply) = nat_lt client 8

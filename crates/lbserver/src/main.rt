@@ -2,6 +2,7 @@
 #![tactic(auto)]
 
 mod executing;
+mod hub;
 mod losses;
 mod room;
 mod waiting;

@@ -1,5 +1,5 @@
 //! What waits for the client of a place, where one is.
-ghost use Rattle.std.specs.Prelude.{◌≡◌, ◌<◌, ◌≤◌, IfOk, Some, None, drop, is_some, length, take};
+ghost use Rattle.std.specs.Prelude.{◌≡◌, ◌<◌, ◌≤◌, IfOk, Some, None, [], true, drop, is_some, length, take};
 ghost use Rattle.lbserver.specs.Waiting.{told_one, waits};
 
 use crate::room::Room;
