@@ -1,8 +1,9 @@
 //! The bus, and what waits for its clients.
-ghost use Rattle.std.specs.Prelude.{◌≡◌, ◌<◌, IfErr, IfOk, IsTrue, length, map, replicate, None};
+ghost use Rattle.std.specs.Prelude.{◌≡◌, ◌<◌, ◌&&◌, IfOk, IsTrue, is_some, length, not, slice_index_or, map, replicate, None};
 ghost use Rattle.lbserver.specs.Waiting.{is_placed, told_all, waiting_after};
 
 use crate::waiting::Waiting;
+use crate::wire::{Wire, Wrote};
 use bus::{Bus, Event, Told};
 use layout_core::NodeList;
 use over_tcp::Text;
@@ -25,9 +26,10 @@ pub(crate) struct Hub {
 impl Hub {
     ghost use Rattle.layout_core.specs.Nodes.{node_of, spec_of};
     ghost use Rattle.layout_core.specs.World.{HaveHeard};
-    ghost use Rattle.bus.specs.Bus.{after_event, first_bus, is_event, told_by};
+    ghost use Rattle.bus.specs.Bus.{after_event, client_of, first_bus, is_event, told_by};
     ghost use Rattle.bus.specs.Layout.{layout_event};
     ghost use Rattle.bus.specs.Seen.{seen_of};
+    ghost use Rattle.lbserver.specs.Hubs.{WritesTo, serving};
 
     /// A new layout with these decoders, without clients. It is refused where there is no memory; nothing after it takes
     /// any.
@@ -59,9 +61,27 @@ impl Hub {
         told
     }
 
+    /// Writes the first piece of what waits for a client, if anything waits.
+    pub(crate) fn write<W: Wire>(&mut self, client: u8, wire: &mut W) -> Wrote
+        requires { client < 8 }
+        ensures { WritesTo client result (W.passed wire.old) (W.passed wire.new) (serving self.old) (serving self.new) }
+    {
+        let waiting = &mut self.places[usize::from(client)];
+        let piece = waiting.piece();
+        if piece.is_empty() {
+            return Wrote::Later;
+        }
+        let wrote = wire.write(client, piece);
+        if let Wrote::Taken(count) = wrote {
+            waiting.written(count);
+        }
+        wrote
+    }
+
     /// Whether a client, 0 to 7, has its place, but too much waits for it, so that it is told nothing more.
     pub(crate) fn is_late(&self, client: u8) -> bool
         requires { client < 8 }
+        ensures { result ≡ (is_some (client_of (seen_of self.now.bus) client) && not (is_some (slice_index_or self.now.places client None))) }
     {
         self.bus.has(client) && !self.places[usize::from(client)].is_open()
     }

@@ -5,7 +5,9 @@ mod executing;
 mod hub;
 mod losses;
 mod room;
+mod server;
 mod waiting;
+mod wire;
 
 use command_line::no_server_text;
 use console::{RunFault, read_words, tell_as, texts};
