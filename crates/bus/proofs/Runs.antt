@@ -1,6 +1,7 @@
 -- Lists of events.
-use Rattle.std.proofs.Common.{◌≡◌, ℕ, true, List, [], ◌∷◌, ◌++◌, refl, ap, subst, ◌∙◌, sym, append_assoc}
-use Rattle.std.specs.List.{list_all}
+use Rattle.std.proofs.Common.{◌≡◌, ℕ, zero, suc, ◌<◌, true, List, [], ◌∷◌, ◌++◌, refl, ap, subst, ◌∙◌, sym, append_assoc, length, arith}
+use Rattle.std.specs.Prelude.{IsTrue}
+use Rattle.std.specs.List.{list_all, slice_index_or}
 use Rattle.std.proofs.lemmas.Bool.{and_parts}
 use Rattle.station_core.specs.Seen.{Seen}
 use Rattle.layout_core.specs.declared.event.Event.{Event as LayoutEvent}
@@ -16,6 +17,11 @@ use Rattle.bus.proofs.Steps.{Bounded, Played, keeps, passed_by, plays}
 
 pub first_legal : (event : Event) (events : List Event) → AreEvents (event ∷ events) → is_event event ≡ true
 first_legal event events legal = (and_parts (is_event event) (list_all is_event events) legal).0
+
+pub legal_at : (events : List Event) (i : ℕ) (d : Event) → i < length events → AreEvents events → IsTrue (is_event (slice_index_or events i d))
+legal_at [] i d below legal = absurd (omega arith)
+legal_at (event ∷ events) zero d below legal = first_legal event events legal
+legal_at (event ∷ events) (suc i) d below legal = legal_at events i d (omega arith) ((and_parts (is_event event) (list_all is_event events) legal).1)
 
 pub rest_legal : (event : Event) (events : List Event) → AreEvents (event ∷ events) → AreEvents events
 rest_legal event events legal = (and_parts (is_event event) (list_all is_event events) legal).1

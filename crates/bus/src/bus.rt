@@ -1,10 +1,11 @@
 //! The bus.
-ghost use Rattle.std.specs.Prelude.{◌≡◌, ◌<◌, ◌≤◌, ◌+◌, [], IfErr, IfOk, IsTrue, map, replicate};
+ghost use Rattle.std.specs.Prelude.{◌≡◌, ◌<◌, ◌≤◌, ◌+◌, [], IfErr, IfOk, IsTrue, is_some, length, map, replicate};
 
 use crate::event::{Event, Told};
+use crate::laws::{events_are_the_layout, headline};
 use crate::sending::send;
 use crate::turning::{lasts, turn};
-use layout_core::{NodeList, World};
+use layout_core::{NodeList, World, events_add_up};
 use over_tcp::{Ask, Reader};
 use station_core::StationFault;
 use std::alloc::Global;
@@ -24,6 +25,7 @@ pub struct Bus {
     pub(crate) clients: [Option<Reader>; PLACES],
     /// The microseconds that are left of the turn under way.
     pub(crate) left: u32,
+    ghost places: { length clients ≡ 8 },
     ghost idle: { world.station.lines ≡ replicate 8 [] },
     ghost under_way: { 0 < left },
     ghost longest: { left ≤ 10740 },
@@ -33,9 +35,17 @@ impl Bus {
     ghost use Rattle.layout_core.specs.Nodes.{node_of, spec_of};
     ghost use Rattle.layout_core.specs.World.{HaveHeard};
     ghost use Rattle.station_core.specs.Moved.{packet_of_turn};
-    ghost use Rattle.bus.specs.Bus.{after_event, first_bus, is_event, told_by, turned};
-    ghost use Rattle.bus.specs.Layout.{layout_event, turn_of};
+    ghost use Rattle.station_core.specs.Powered.{HasDesk};
+    ghost use Rattle.station_core.specs.Seen.{known_of};
+    ghost use Rattle.layout_core.specs.Cycle.{RunsAsWanted};
+    ghost use Rattle.layout_core.specs.Played.{after_events as played};
+    ghost use Rattle.bus.specs.Bus.{AreEvents, after_event, after_events, client_of, first_bus, is_event, told_by, told_of, turned};
+    ghost use Rattle.bus.specs.Course.{micros_in, turns_lasting};
+    ghost use Rattle.bus.specs.Cycle.{RunsInTime};
+    ghost use Rattle.bus.specs.Kept.{IsKept};
+    ghost use Rattle.bus.specs.Layout.{layout_event, layout_events, turn_of};
     ghost use Rattle.bus.specs.Seen.{seen_of};
+    ghost use Rattle.bus.specs.Time.{HasPassed};
 
     /// A new layout of eight lines with these decoders, without clients.
     ///
@@ -70,6 +80,14 @@ impl Bus {
         self.left
     }
 
+    /// Whether a client, 0 to 7, has its place.
+    pub fn has(&self, client: u8) -> bool
+        requires { client < 8 }
+        ensures { result ≡ is_some (client_of (seen_of self.now) client) }
+    {
+        self.clients[usize::from(client)].is_some()
+    }
+
     /// One event, and what is told of it.
     pub fn step(&mut self, event: Event) -> Told
         requires { IsTrue (is_event event) }
@@ -92,6 +110,40 @@ impl Bus {
             Event::Passes { micros, missed } => self.pass(micros, missed),
             Event::Turn { missed } => self.begin(self.left, missed),
         }
+    }
+
+    /// Each event in order, what is told of it written at its place. A list of events may be cut anywhere.
+    pub fn run(&mut self, events: &[Event], told: &mut [Told])
+        requires places { length events.now ≡ length told.old }
+        requires events { AreEvents events.now }
+        ensures bus { seen_of self.new ≡ after_events (seen_of self.old) events.now }
+        ensures told { told.new ≡ told_of (seen_of self.old) events.now }
+        ensures nodes { HaveHeard self.old.world.station (layout_events (seen_of self.old) events.now) self.old.world.nodes self.new.world.nodes }
+        ensures specs { map spec_of self.new.world.nodes ≡ map spec_of self.old.world.nodes }
+        // The layout is that of the events of its own that these are.
+        ensures layout { self.new.world.station ≡ played self.old.world.station (layout_events (seen_of self.old) events.now) }
+        // The turns are those of the time that passed.
+        ensures turns { HasPassed self.old.left (micros_in (seen_of self.old) events.now) (turns_lasting told.new) self.new.left }
+        // A locomotive that hears a full refresh cycle runs as its slot says.
+        ensures headline { RunsAsWanted (known_of self.old.world.station) (layout_events (seen_of self.old) events.now) self.old.world.nodes self.new.world.nodes }
+        // So does one that hears everything for 171,840 microseconds for each slot that is refreshed.
+        ensures in_time { RunsInTime (seen_of self.old) events.now self.old.world.nodes self.new.world.nodes }
+    {
+        events_are_the_layout();
+        headline();
+        events_add_up();
+        self.world.station().always_legal();
+        for (i, event) in events.iter().enumerate() {
+            told[i] = self.step(*event);
+        }
+    }
+
+    /// What every bus keeps: a law, and no code.
+    pub fn always_kept(&self)
+        ensures kept { IsKept (seen_of self.now) }
+        ensures desk { HasDesk self.now.world.station.powered }
+    {
+        self.world.station().always_legal();
     }
 
     /// A byte of a client's text. A line that asks to send is carried out at once.

@@ -13,11 +13,11 @@ ghost use Rattle.bus.specs.declared.event.Event.{Event};
 ghost use Rattle.bus.specs.declared.event.Event.TheVariants.{Joins, Leaves};
 ghost use Rattle.bus.specs.declared.event.Told.{Told};
 ghost use Rattle.bus.specs.declared.event.Told.TheVariants.{Joined, Left};
-ghost use Rattle.bus.specs.Bus.{AreEvents, SeenBus, after_events, client_of, first_bus, told_of};
+ghost use Rattle.bus.specs.Bus.{AreEvents, SeenBus, after_event, after_events, client_of, first_bus, is_event, told_of};
 ghost use Rattle.bus.specs.Course.{micros_in, turns_lasting};
 ghost use Rattle.bus.specs.Cycle.{RunsInTime};
 ghost use Rattle.bus.specs.Kept.{IsKept};
-ghost use Rattle.bus.specs.Layout.{layout_events};
+ghost use Rattle.bus.specs.Layout.{layout_event, layout_events};
 ghost use Rattle.bus.specs.Own.{keeps_place, messages_on, own_asks, sends_in, text_from};
 ghost use Rattle.bus.specs.Texts.{heard_since, is_quiet, is_there, moves, stays, text_for, traffic};
 ghost use Rattle.bus.specs.Time.{HasPassed};
@@ -30,6 +30,7 @@ use station_core::{calls_are_moves, packets_are_short};
 /// of the time that passed.
 pub fn events_are_the_layout()
     ensures kept { (bus : SeenBus) (events : List Event) → IsKept bus → AreEvents events → IsKept (after_events bus events) }
+    ensures one { (bus : SeenBus) (event : Event) → IsKept bus → IsTrue (is_event event) → played bus.station (layout_event bus event) ≡ (after_event bus event).station }
     ensures station { (bus : SeenBus) (events : List Event) → IsKept bus → AreEvents events → played bus.station (layout_events bus events) ≡ (after_events bus events).station }
     ensures turns { (bus : SeenBus) (events : List Event) → IsKept bus → AreEvents events
         → HasPassed bus.left (micros_in bus events) (turns_lasting (told_of bus events)) (after_events bus events).left }

@@ -3,3 +3,4 @@ pub mod Files
 pub mod Input
 pub mod Lent
 pub mod Printed
+pub mod Words

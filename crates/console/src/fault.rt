@@ -10,8 +10,8 @@ use show_text::{HexFault, HexWhy, ScriptFault};
 use std::alloc::AllocError;
 use thiserror::Error;
 
-/// Why a run ends with a status other than 0. Its text is what follows `station: ` on standard error, but for `Usage`,
-/// whose text stands there alone.
+/// Why a run ends with a status other than 0. Its text is what follows the program's name and a colon on standard
+/// error, but for `Usage`, whose text stands there alone.
 #[derive(Debug, Drop, Error)]
 pub enum RunFault {
     /// Status 1: the words of the command line are none that the program knows, or ask for help.

@@ -1,5 +1,5 @@
-//! The files and streams of a run: what is read, to a limit; lines that are printed; why a run ends with a status other
-//! than 0, and how that is told; and `station monitor`, which needs no layout.
+//! The words, files and streams of a run: what is read, to a limit; lines that are printed; why a run ends with a status
+//! other than 0, and how that is told; and `station monitor`, which needs no layout.
 #![tactic(auto)]
 
 mod fault;
@@ -8,10 +8,12 @@ mod monitoring;
 mod output;
 mod roster_file;
 mod telling;
+mod words;
 
 pub use fault::RunFault;
 pub use input::{ReadFault, read_most};
 pub use monitoring::monitor;
 pub use output::{Lent, Unwritten, flush_after, print, print_ended};
 pub use roster_file::read_roster;
-pub use telling::tell;
+pub use telling::{tell, tell_as};
+pub use words::{read_words, texts};

@@ -2,12 +2,11 @@
 //! messages, and serves throttles over TCP.
 #![tactic(auto)]
 
-mod reading;
-
+use command_line::no_text;
 pub use command_line::{FileName, Order, OrderFault, order};
+use console::{read_words, texts};
 use program::tell;
 pub use program::{RunFault, execute, serve_on};
-use reading::{read_words, texts};
 use std::io;
 use std::process::ExitCode;
 
@@ -28,7 +27,7 @@ fn run(rt: &HostRuntime) -> u8 {
 
 /// The same, where the words can be had.
 fn run_words(rt: &HostRuntime) -> Result<u8, RunFault> {
-    let words = read_words(rt.alloc(), rt)?;
+    let words = read_words(rt.alloc(), rt, no_text)?;
     let texts = texts(rt.alloc(), words.as_slice())?;
     Ok(execute(
         rt,

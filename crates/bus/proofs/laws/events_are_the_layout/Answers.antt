@@ -1,5 +1,5 @@
 use Rattle.bus.proofs.Runs.{all_kept, all_passed, all_played}
-use Rattle.bus.proofs.Steps.{Bounded, Played}
+use Rattle.bus.proofs.Steps.{Bounded, Played, plays as played_by}
 use Rattle.bus.proofs.laws.events_are_the_layout.Goals as goal
 
 abbrev bounded : goal.After-durations_are_bounded → Bounded
@@ -33,3 +33,6 @@ returns-clause-station c bus events h legal = all_played (bounded c) (plays c) e
 
 pub returns-clause-turns : goal.returns-clause-turns
 returns-clause-turns c bus events h legal = all_passed (bounded c) events bus h legal
+
+pub returns-clause-one : goal.returns-clause-one
+returns-clause-one c bus event h legal = played_by (plays c) bus event h legal

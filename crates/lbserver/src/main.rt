@@ -1,0 +1,35 @@
+//! `lbserver`: a LocoNet command station that serves clients of LocoNet over TCP.
+#![tactic(auto)]
+
+mod executing;
+mod hub;
+mod losses;
+mod room;
+mod waiting;
+
+use command_line::no_server_text;
+use console::{RunFault, read_words, tell_as, texts};
+use executing::{NAME, execute};
+use std::process::ExitCode;
+
+#[cfg(test)]
+mod tests;
+
+fn main(rt: HostRuntime) -> ExitCode {
+    ExitCode::from(run(&rt))
+}
+
+/// Runs the program on its words, and answers its exit status.
+fn run(rt: &HostRuntime) -> u8 {
+    match run_words(rt) {
+        Ok(status) => status,
+        Err(fault) => tell_as(NAME, &fault, &mut rt.stderr()),
+    }
+}
+
+/// The same, where the words can be had.
+fn run_words(rt: &HostRuntime) -> Result<u8, RunFault> {
+    let words = read_words(rt.alloc(), rt, no_server_text)?;
+    let texts = texts(rt.alloc(), words.as_slice())?;
+    Ok(execute(rt, texts.as_slice(), &mut rt.stderr()))
+}

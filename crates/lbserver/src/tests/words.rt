@@ -1,0 +1,221 @@
+//! The words of the command line.
+
+use crate::executing::execute;
+use command_line::{OrderFault, ServerOrder, no_server_text, server_order};
+use console::{read_words, tell_as};
+use std::env::{Env, FillError};
+use std::net::Ipv4Addr;
+use std::test::Fail;
+
+/// The values of an order that stand beside its roster.
+#[derive(Clone, Copy, Debug, PartialEq, Eq)]
+struct Held {
+    octets: [u8; 4],
+    port: u16,
+    turns: Option<u8>,
+    clients: Option<u32>,
+    track: bool,
+    lose: u8,
+    seed: u32,
+}
+
+/// What stands for the options.
+const DEFAULTS: Held = Held {
+    octets: [127, 0, 0, 1],
+    port: 1234,
+    turns: None,
+    clients: None,
+    track: false,
+    lose: 0,
+    seed: 0,
+};
+
+/// Words, the roster that they name, and what else they hold.
+const ORDERS: [(&'static [&'static str], Option<&'static str>, Held); 4] = [
+    (&[], None, DEFAULTS),
+    (
+        &["--roster", "a b.toml", "--port", "1", "--turns", "0"],
+        Some("a b.toml"),
+        Held {
+            port: 1,
+            turns: Some(0),
+            ..DEFAULTS
+        },
+    ),
+    (
+        &["--seed=7", "--track", "--clients=1", "--lose=99"],
+        None,
+        Held {
+            clients: Some(1),
+            track: true,
+            lose: 99,
+            seed: 7,
+            ..DEFAULTS
+        },
+    ),
+    (
+        &[
+            "--address=0.0.0.0",
+            "--port=65535",
+            "--turns=255",
+            "--clients=4294967295",
+            "--seed=4294967295",
+        ],
+        None,
+        Held {
+            octets: [0, 0, 0, 0],
+            port: 65_535,
+            turns: Some(255),
+            clients: Some(4_294_967_295),
+            seed: 4_294_967_295,
+            ..DEFAULTS
+        },
+    ),
+];
+
+fn values_of(order: &ServerOrder) -> Held {
+    Held {
+        octets: order.address.octets(),
+        port: order.port,
+        turns: order.turns,
+        clients: order.clients,
+        track: order.track,
+        lose: order.lose,
+        seed: order.seed,
+    }
+}
+
+#[test]
+fn orders(rt: HostRuntime) -> Result<(), Fail> {
+    for (words, file, wanted) in ORDERS {
+        let order = server_order(rt.alloc(), words)?;
+        assert!(rt; values_of(&order) == wanted, "of {words:?}");
+        let roster = order.roster.as_ref().map(|roster| roster.as_str());
+        assert!(rt; roster == file, "of {words:?}");
+    }
+    Ok(())
+}
+
+#[test]
+fn words_that_are_no_order(rt: HostRuntime) {
+    let rows: [&[&str]; 17] = [
+        &["--help"],
+        &["help"],
+        &["1234"],
+        &["--address", "localhost"],
+        &["--address", "127.0.0.256"],
+        &["--address", "::1"],
+        &["--address", ""],
+        &["--port", "0"],
+        &["--port", "65536"],
+        &["--turns", "256"],
+        &["--clients", "0"],
+        &["--clients", "4294967296"],
+        &["--track", "on"],
+        &["--lose", "100"],
+        &["--seed", "4294967296"],
+        &["--seed", "-1"],
+        &["--roster"],
+    ];
+    for words in rows {
+        assert!(rt;
+            matches!(server_order(rt.alloc(), words), Err(OrderFault::Usage(_))),
+            "of {words:?}"
+        );
+    }
+}
+
+/// Words, and parts of what standard error is told.
+const TOLD: [(&'static [&'static str], &'static [&'static str]); 4] = [
+    (
+        &["--help"],
+        &[
+            "Usage: lbserver",
+            "anybody who can reach it can drive",
+            "--port <P>",
+            "--clients <C>",
+            "--track",
+            "--lose <N>",
+            "--seed <S>",
+            "lbserver --roster layout.toml",
+        ],
+    ),
+    (&["--port", "0"], &["'0'", "--port <P>", "1..=65535"]),
+    (
+        &["--address", "localhost"],
+        &["the address is no IPv4 address", "Usage: lbserver"],
+    ),
+    (
+        &["--roster", "no such folder/layout.toml"],
+        &["lbserver: cannot read no such folder/layout.toml\n"],
+    ),
+];
+
+/// Whether the text has each of these parts.
+fn has_all(text: &[u8], parts: &[&str]) -> bool {
+    let Ok(text) = std::str::from_utf8(text) else {
+        return false;
+    };
+    for part in parts {
+        if !text.contains(*part) {
+            return false;
+        }
+    }
+    true
+}
+
+#[test]
+fn faults_are_told(rt: HostRuntime) {
+    for (words, parts) in TOLD {
+        let mut faults = Vec::new(rt.alloc());
+        let status = execute(&rt, words, &mut faults);
+        assert!(rt; status == 1 || status == 2, "of {words:?}");
+        assert!(rt; has_all(faults.as_slice(), parts), "of {words:?}");
+    }
+}
+
+/// The words that a system gives, the program's name first.
+#[derive(Drop)]
+struct Given<'a> {
+    words: &'a [&'a [u8]],
+}
+
+impl Env for Given<'_> {
+    fn arg(&self, i: usize, buf: &mut [u8]) -> Result<usize, FillError> {
+        let Some(word) = self.words.get(i) else {
+            return Err(FillError::NotPresent);
+        };
+        if word.len() > buf.len() {
+            return Err(FillError::TooLong);
+        }
+        buf[..word.len()].copy_from_slice(word);
+        Ok(word.len())
+    }
+
+    fn var(&self, _name: &str, _buf: &mut [u8]) -> Result<usize, FillError> {
+        Err(FillError::NotPresent)
+    }
+
+    fn var_at(&self, _i: usize, _buf: &mut [u8]) -> Result<usize, FillError> {
+        Err(FillError::NotPresent)
+    }
+}
+
+#[test]
+fn a_word_that_is_not_utf_8(rt: HostRuntime) -> Result<(), Fail> {
+    let given = Given {
+        words: &[b"lbserver", b"--roster", b"caf\xE9.toml"],
+    };
+    let fault = read_words(rt.alloc(), &given, no_server_text)
+        .err()
+        .ok_or("a fault")?;
+    let mut faults = Vec::new(rt.alloc());
+    assert_eq!(rt; tell_as("lbserver", &fault, &mut faults), 1);
+    assert!(rt;
+        has_all(
+            faults.as_slice(),
+            &["a word is not UTF-8", "Usage: lbserver"]
+        )
+    );
+    Ok(())
+}
