@@ -1,7 +1,7 @@
 -- What each client was told since it joined.
 use Rattle.std.proofs.Common.{◌≡◌, ℕ, Bool, true, false, List, [], ◌∷◌, ◌++◌, Option, Some, None, refl, ap, ap₂, sym, ◌∙◌, if◌then◌else◌, ◌&&◌, ◌||◌, not, append-nil, eq-eqb}
 use Rattle.std.specs.Prelude.{◌==◌}
-use Rattle.std.specs.List.{flat_map, list_all}
+use Rattle.std.specs.List.{flat_map}
 use Rattle.std.specs.Option.{option_to_list}
 use Rattle.std.proofs.lemmas.Bool.{and_parts}
 use Rattle.std.proofs.lemmas.Grind.{flat_map-append}

@@ -1,5 +1,5 @@
 //! The laws of a bus, each as a function that does nothing and ensures it: a call hands the law to a proof.
-ghost use Rattle.std.specs.Prelude.{◌≡◌, ℕ, if◌then◌else◌, List, [], ◌∷◌, ◌++◌, IsFalse, IsTrue};
+ghost use Rattle.std.specs.Prelude.{◌≡◌, ℕ, if◌then◌else◌, List, [], ◌∷◌, ◌++◌, Option, None, IsFalse, IsTrue, is_some, length};
 ghost use Rattle.std.specs.List.{flat_map};
 ghost use Rattle.station_core.specs.Powered.{HasDesk};
 ghost use Rattle.station_core.specs.Seen.{known_of};
@@ -7,15 +7,18 @@ ghost use Rattle.layout_core.specs.declared.node.Node.{Node};
 ghost use Rattle.layout_core.specs.Cycle.{RunsAsWanted};
 ghost use Rattle.layout_core.specs.World.{HaveHeard};
 ghost use Rattle.layout_core.specs.Played.{after_events as played};
+ghost use Rattle.over_tcp.specs.Reading.{asks_of};
 ghost use Rattle.over_tcp.specs.Told.{receive_text, version_text};
 ghost use Rattle.bus.specs.declared.event.Event.{Event};
+ghost use Rattle.bus.specs.declared.event.Event.TheVariants.{Joins, Leaves};
 ghost use Rattle.bus.specs.declared.event.Told.{Told};
 ghost use Rattle.bus.specs.declared.event.Told.TheVariants.{Joined, Left};
-ghost use Rattle.bus.specs.Bus.{AreEvents, SeenBus, after_event, after_events, is_event, told_of};
+ghost use Rattle.bus.specs.Bus.{AreEvents, SeenBus, after_event, after_events, client_of, first_bus, is_event, told_of};
 ghost use Rattle.bus.specs.Course.{micros_in, turns_lasting};
 ghost use Rattle.bus.specs.Cycle.{RunsInTime};
 ghost use Rattle.bus.specs.Kept.{IsKept};
 ghost use Rattle.bus.specs.Layout.{layout_event, layout_events};
+ghost use Rattle.bus.specs.Own.{keeps_place, messages_on, own_asks, sends_in, text_from};
 ghost use Rattle.bus.specs.Texts.{heard_since, is_quiet, is_there, moves, stays, text_for, traffic};
 ghost use Rattle.bus.specs.Time.{HasPassed};
 
@@ -67,7 +70,24 @@ pub fn told_since_joining()
     ensures came { (i : ℕ) (tolds : List Told) → IsTrue (is_there i (tolds ++ Joined i ∷ [])) }
     ensures gone { (i : ℕ) (tolds : List Told) → IsFalse (is_there i (tolds ++ Left i ∷ [])) }
     ensures stayed { (i : ℕ) (tolds : List Told) (told : Told) → IsFalse (moves i told) → is_there i (tolds ++ told ∷ []) ≡ is_there i tolds }
+    // So they are those that the bus holds a reader for.
+    ensures there { (i : ℕ) (events : List Event) → AreEvents events → is_there i (told_of first_bus events) ≡ is_some (client_of (after_events first_bus events) i) }
     // A client that asks nothing is told all messages of the bus, in order, and nothing else.
     ensures bystander { (i : ℕ) (tolds : List Told) → IsTrue (stays i tolds) → IsTrue (is_quiet i tolds) →
         flat_map (text_for i) tolds ≡ flat_map receive_text (traffic tolds) }
 {}
+
+/// A line hears its own client alone: the messages that are put on it are those that its client's own text asks to send, in
+/// order, and no others.
+pub fn own_lines()
+    ensures lines { (bus : SeenBus) (i : ℕ) (events : List Event) → AreEvents events → length bus.clients ≡ 8 →
+        messages_on i (told_of bus events) ≡ sends_in (own_asks i (client_of bus i) events) }
+    // From its joining on a client asks what the lines of its text ask, whatever was kept of the one before it.
+    ensures so_far { (i : ℕ) (kept : Option (List ℕ)) (events : List Event) → IsTrue (keeps_place i events) →
+        own_asks i kept (Joins i ∷ events) ≡ asks_of (text_from i events) }
+    // When it leaves, what was still open of a line asks nothing.
+    ensures visit { (i : ℕ) (kept : Option (List ℕ)) (events rest : List Event) → IsTrue (keeps_place i events) →
+        own_asks i kept (Joins i ∷ (events ++ Leaves i ∷ rest)) ≡ asks_of (text_from i events) ++ own_asks i None rest }
+{
+    over_tcp::any_cut();
+}
