@@ -1,5 +1,5 @@
 -- Bytes that are written one piece after another.
-use Rattle.std.proofs.Common.{◌≡◌, ℕ, Option, Some, None, List, [], ◌++◌, take, drop, refl, ap, sym, ◌∙◌, length, ◌≤◌}
+use Rattle.std.proofs.Common.{arith, length-append, ◌≡◌, ℕ, Option, Some, None, List, [], ◌++◌, take, drop, refl, ap, sym, ◌∙◌, length, ◌≤◌}
 use Rattle.std.specs.Io.KnownBytes.{Appends, Keeps}
 use Rattle.std.proofs.lemmas.List.{append_assoc, append-nil, take-append-drop, take-append-le}
 use Rattle.lbserver.specs.Moves.{Moves}
@@ -44,3 +44,10 @@ pub front_of_piece : (piece waiting : List ℕ) (count : ℕ) → piece ≡ take
 front_of_piece piece waiting count is fits =
     let rest : List ℕ = drop (length piece) waiting in
     sym (take-append-le count piece rest fits) ∙ ap (λ (l : List ℕ). take count l) (ap (λ (l : List ℕ). l ++ rest) is ∙ take-append-drop (length piece) waiting)
+
+-- where nothing waited, nothing waits
+pub nothing_left : (held held' : Option (List ℕ)) (waiting waiting' : List ℕ) → Moves held held' waiting waiting' → waiting ≡ [] → length waiting' ≡ 0
+nothing_left held held' waiting waiting' moved none =
+    let same : length waiting ≡ length (moved.0 ++ waiting') = ap (λ (l : List ℕ). length l) moved.1.waits in
+    let empty : length waiting ≡ 0 = ap (λ (l : List ℕ). length l) none in
+    omega (arith, length-append moved.0 waiting')

@@ -73,14 +73,16 @@ impl Room {
         Ok(())
     }
 
-    /// Writes what waits, until all is written or the writer would block.
+    /// Writes what waits, until all is written or the writer would block. Where nothing waits, nothing is asked of it.
     ///
     /// # Errors
     ///
     /// `Gone` where a write takes nothing, or fails but to be tried again later. What was not written waits still.
+    #[tactic(auto, using(crate::proofs::Moving::nothing_left))]
     pub(crate) fn drain<W: Write>(&mut self, writer: &mut W) -> Result<(), Gone>
         // What is written and what still waits is what waited.
         ensures moved { Moves (W.contents writer.old) (W.contents writer.new) self.old self.new }
+        ensures none { self.old ≡ [] → IsOk result }
     {
         while !self.is_empty() {
             match writer.write(self.piece()) {

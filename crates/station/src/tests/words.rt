@@ -63,7 +63,9 @@ fn has_all(text: &[u8], parts: &[&str]) -> bool {
 /// What is answered and told where the words cannot be read.
 fn told_of(rt: &HostRuntime, words: &[&[u8]]) -> Result<(u8, Vec<u8>), Fail> {
     let given = Given { words };
-    let fault = read_words(rt.alloc(), &given, no_text).err().ok_or("a fault")?;
+    let fault = read_words(rt.alloc(), &given, no_text)
+        .err()
+        .ok_or("a fault")?;
     let mut faults = Vec::new(rt.alloc());
     Ok((tell(&fault, &mut faults), faults))
 }
