@@ -1,0 +1,64 @@
+#!/usr/bin/env python3
+"""A client of `lbserver`: takes locomotive 3, turns the power on and drives it, and prints all that it hears.
+
+Start the station first:  ./lbserver --roster examples/layout.toml
+then:                     examples/lbserver.py 127.0.0.1 1234
+"""
+import socket
+import sys
+
+
+class Client:
+    """A client of LocoNet over TCP: it sends messages, and hears every message on the bus."""
+
+    def __init__(self, host, port):
+        self.stream = socket.create_connection((host, port), timeout=5)
+        # A line is sent at once, and does not wait for the next.
+        self.stream.setsockopt(socket.IPPROTO_TCP, socket.TCP_NODELAY, 1)
+        self.lines = self.stream.makefile("r", encoding="ascii", newline="\n")
+
+    def hear(self):
+        """The next line, as its words."""
+        line = self.lines.readline()
+        if not line:
+            raise ConnectionError("the station has closed the connection")
+        print(line.rstrip())
+        return line.split()
+
+    def send(self, *body):
+        """Sends a message, its check byte behind it, and waits until it is sent."""
+        check = 0xFF
+        for byte in body:
+            check ^= byte
+        words = " ".join(f"{byte:02X}" for byte in (*body, check))
+        self.stream.sendall(f"SEND {words}\r\n".encode("ascii"))
+        while (line := self.hear())[0] != "SENT":
+            pass
+        if line != ["SENT", "OK"]:
+            raise ValueError(" ".join(line))
+
+    def ask(self, *body):
+        """Sends a message, and answers the bytes of the slot data (E7) or of the acknowledge (B4) that come back."""
+        self.send(*body)
+        while (line := self.hear())[:1] != ["RECEIVE"] or line[1] not in ("E7", "B4"):
+            pass
+        return bytes.fromhex("".join(line[1:]))
+
+
+def drive(client, address):
+    """Takes a locomotive into use and lets it run at half its speed, with its light on."""
+    reply = client.ask(0xBF, address // 128, address % 128)  # OPC_LOCO_ADR
+    if reply[0] != 0xE7:
+        raise ValueError("no slot is free")
+    slot = reply[2]
+    client.send(0x83)  # OPC_GPON: power on
+    client.ask(0xBA, slot, slot)  # OPC_MOVE_SLOTS, a null move: the slot is in use now
+    client.send(0xA1, slot, 0x10)  # OPC_LOCO_DIRF: forward, F0 on
+    client.send(0xA0, slot, 0x40)  # OPC_LOCO_SPD: step 63 of 128
+    # The slot stays in use, so the station goes on telling the locomotive what was asked.
+
+
+if __name__ == "__main__":
+    station = Client(sys.argv[1], int(sys.argv[2]))
+    station.hear()  # VERSION
+    drive(station, 3)
