@@ -32,7 +32,7 @@ class Client:
             check ^= byte
         words = " ".join(f"{byte:02X}" for byte in (*body, check))
         self.stream.sendall(f"SEND {words}\r\n".encode("ascii"))
-        while (line := self.hear())[0] != "SENT":
+        while (line := self.hear())[:1] != ["SENT"]:
             pass
         if line != ["SENT", "OK"]:
             raise ValueError(" ".join(line))
