@@ -6,6 +6,7 @@ mod hub;
 mod losses;
 mod room;
 mod server;
+mod sockets;
 mod waiting;
 mod wire;
 
