@@ -75,28 +75,34 @@ impl Server {
         ensures served { OnOk result (GoesOn self.old.turns (W.passed wire.old) (W.passed wire.new) self.old.hub self.new.hub) }
     {
         for client in 0..8u8 {
-            self.seat(client, wire, witness)?;
+            if !self.seat(client, wire, witness)? {
+                return Ok(());
+            }
         }
         turn_away(wire);
         Ok(())
     }
 
-    /// Lets in who waits, if somebody does and the place is free.
+    /// Lets in who waits, if the place is free. False where it is, and nobody waits.
     fn seat<W: Wire, P: Witness>(
         &mut self,
         client: u8,
         wire: &mut W,
         witness: &mut P,
-    ) -> Result<(), Unwritten>
+    ) -> Result<bool, Unwritten>
         requires { client < 8 }
         ensures turns { self.new.turns ≡ self.old.turns }
         ensures served { OnOk result (GoesOn self.old.turns (W.passed wire.old) (W.passed wire.new) self.old.hub self.new.hub) }
     {
-        if self.hub.bus.has(client) || !wire.let_in(client) {
-            return Ok(());
+        if self.hub.bus.has(client) {
+            return Ok(true);
+        }
+        if !wire.let_in(client) {
+            return Ok(false);
         }
         self.is_behind = true;
-        self.happen(Event::Joins { client }, witness)
+        self.happen(Event::Joins { client }, witness)?;
+        Ok(true)
     }
 
     /// Hears what a client sent.
