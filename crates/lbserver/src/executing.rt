@@ -1,32 +1,165 @@
-//! The program on its words.
+//! The program on its words, its port and its clock.
 ghost use Rattle.std.specs.Prelude.{◌≤◌};
 
-use command_line::server_order;
-use console::{RunFault, read_roster, tell_as};
-use std::io::Write;
-use std::rt::Files;
+use crate::hub::Hub;
+use crate::losses::Losses;
+use crate::printing::Printer;
+use crate::server::Server;
+use crate::sockets::Sockets;
+use command_line::{ServerOrder, server_order};
+use console::{RunFault, Unwritten, read_roster, tell_as};
+use decoder_node::NodeList;
+use roster::Roster;
+use std::io::{BufWriter, Write};
+use std::net::SocketAddr;
+use std::time::{Duration, Instant};
 
 /// What the program is called where it tells a fault.
 pub(crate) const NAME: &'static str = "lbserver";
 
+/// The most time that one round lets pass, in microseconds. What the machine slept through beyond it is left out.
+const MOST_MICROS: u64 = 1_000_000;
+
 /// Runs the program on the words behind its name, and answers its exit status, 0 to 6.
 ///
 /// Where the status is not 0, `faults` gets one line `lbserver: ..`, or what `clap` tells of the command line.
-pub(crate) fn execute<R, E>(rt: &R, words: &[&str], faults: &mut E) -> u8
-where
-    R: Files + AllocGlobal,
-    E: Write,
+pub(crate) fn execute<O: Write, E: Write>(
+    rt: &HostRuntime,
+    words: &[&str],
+    output: &mut O,
+    faults: &mut E,
+) -> u8
     ensures most { result ≤ 6 }
 {
-    match run(rt, words) {
+    match run(rt, words, output) {
         Ok(()) => 0,
         Err(fault) => tell_as(NAME, &fault, faults),
     }
 }
 
 /// Does what the words ask for.
-fn run<R: Files + AllocGlobal>(rt: &R, words: &[&str]) -> Result<(), RunFault> {
-    let order = server_order(rt.alloc(), words)?;
-    let _roster = read_roster(rt, order.roster)?;
+fn run<O: Write>(rt: &HostRuntime, words: &[&str], output: &mut O) -> Result<(), RunFault> {
+    let ServerOrder {
+        address,
+        port,
+        roster,
+        turns,
+        clients,
+        track,
+        lose,
+        seed,
+    } = server_order(rt.alloc(), words)?;
+    let roster = read_roster(rt, roster)?;
+    let mut server = Server {
+        hub: Hub::new(rt.alloc(), decoders(roster.as_ref()))?,
+        turns,
+        losses: Losses::new(lose, u64::from(seed)),
+        is_behind: false,
+    };
+    let Ok(mut sockets) = Sockets::bind(rt, SocketAddr::from((address, port))) else {
+        return Err(RunFault::Network);
+    };
+    let Ok(mut lines) = BufWriter::new(rt.alloc(), output) else {
+        return Err(RunFault::NoMemory);
+    };
+    print_listening(&sockets, &mut lines)?;
+    let mut printer = Printer::new(&mut lines, roster.as_ref(), track, server.hub.bus.world());
+    serve(rt, &mut server, &mut sockets, &mut printer, clients)
+}
+
+/// The decoders of a roster; none without one.
+fn decoders(roster: Option<&Roster>) -> NodeList {
+    match roster {
+        Some(roster) => roster.nodes(),
+        None => NodeList::new(),
+    }
+}
+
+/// Tells the address and the port that are bound, at once.
+fn print_listening<O: Write>(sockets: &Sockets, output: &mut O) -> Result<(), RunFault> {
+    let Ok(address) = sockets.address() else {
+        return Err(RunFault::Network);
+    };
+    writeln!(output, "listening {address}").map_err(|_| RunFault::Output)?;
+    output.flush().map_err(|_| RunFault::Output)
+}
+
+/// Serves until so many clients have come and gone, or for ever: 2 ^ 64 rounds.
+fn serve<O: Write>(
+    rt: &HostRuntime,
+    server: &mut Server,
+    sockets: &mut Sockets,
+    printer: &mut Printer<'_, O>,
+    clients: Option<u32>,
+) -> Result<(), RunFault> {
+    let Ok(mut clock) = Clock::new(rt) else {
+        return Err(RunFault::Network);
+    };
+    for _round in 0..u64::MAX {
+        if sockets.wait(longest_wait(server)).is_err() {
+            return Err(RunFault::Network);
+        }
+        server.round(sockets, printer)?;
+        if server.turns.is_none() {
+            pass(rt, server, printer, &mut clock)?;
+        }
+        printer.flush()?;
+        if clients.is_some_and(|clients| printer.gone() >= clients) {
+            break;
+        }
+    }
     Ok(())
+}
+
+/// How long a round may wait: not where somebody may have more to say, in real time until the turn under way ends, and
+/// else until something comes.
+fn longest_wait(server: &Server) -> Option<Duration> {
+    if server.is_behind {
+        return Some(Duration::ZERO);
+    }
+    match server.turns {
+        Some(_) => None,
+        None => Some(Duration::from_micros(u64::from(server.hub.bus.left()))),
+    }
+}
+
+/// Lets the time pass that went by since it was last asked for.
+fn pass<O: Write>(
+    rt: &HostRuntime,
+    server: &mut Server,
+    printer: &mut Printer<'_, O>,
+    clock: &mut Clock,
+) -> Result<(), RunFault> {
+    let Ok(micros) = clock.passed(rt) else {
+        return Err(RunFault::Network);
+    };
+    let slept = micros.saturating_sub(MOST_MICROS);
+    if slept > 0 {
+        printer.print_slept(u128::from(slept / 1000))?;
+    }
+    Ok(server.pass(micros.min(MOST_MICROS) as u32, printer)?)
+}
+
+/// A clock that tells the whole microseconds that went by, so that none is lost where time is cut.
+#[derive(Drop)]
+struct Clock {
+    start: Instant,
+    told: u64,
+}
+
+impl Clock {
+    fn new(rt: &HostRuntime) -> std::io::Result<Clock> {
+        Ok(Clock {
+            start: Instant::now(rt)?,
+            told: 0,
+        })
+    }
+
+    /// The microseconds since this was last asked.
+    fn passed(&mut self, rt: &HostRuntime) -> std::io::Result<u64> {
+        let now = u64::try_from(self.start.elapsed(rt)?.as_micros()).unwrap_or(u64::MAX);
+        let passed = now.saturating_sub(self.told);
+        self.told = now;
+        Ok(passed)
+    }
 }

@@ -1,6 +1,6 @@
 //! The bus, and what waits for its clients.
-ghost use Rattle.std.specs.Prelude.{◌≡◌, ◌<◌, ◌&&◌, IfOk, IsTrue, is_some, length, not, slice_index_or, map, replicate, None};
-ghost use Rattle.lbserver.specs.Waiting.{is_placed, told_all, waiting_after};
+ghost use Rattle.std.specs.Prelude.{◌≡◌, ◌<◌, ◌≤◌, ◌&&◌, ◌∷◌, [], IfOk, IsTrue, is_some, length, not, slice_index_or, slice_set, drop, take, map, replicate, None, Some, true};
+ghost use Rattle.lbserver.specs.Waiting.{is_placed, told_all, waiting_after, waits};
 
 use crate::waiting::Waiting;
 use crate::wire::{Wire, Wrote};
@@ -30,6 +30,7 @@ impl Hub {
     ghost use Rattle.bus.specs.Layout.{layout_event};
     ghost use Rattle.bus.specs.Seen.{seen_of};
     ghost use Rattle.lbserver.specs.Hubs.{WritesTo, serving};
+    ghost use Rattle.lbserver.specs.Served.{HaveHappened};
 
     /// A new layout with these decoders, without clients. It is refused where there is no memory; nothing after it takes
     /// any.
@@ -55,6 +56,7 @@ impl Hub {
         ensures nodes { HaveHeard self.old.bus.world.station (layout_event (seen_of self.old.bus) event) self.old.bus.world.nodes self.new.bus.world.nodes }
         ensures specs { map spec_of self.new.bus.world.nodes ≡ map spec_of self.old.bus.world.nodes }
         ensures places { self.new.places ≡ waiting_after result self.old.places }
+        ensures happened { HaveHappened (event ∷ []) (serving self.old) (serving self.new) }
     {
         let told = self.bus.step(event);
         tell(&mut self.places, &told);
@@ -66,14 +68,13 @@ impl Hub {
         requires { client < 8 }
         ensures { WritesTo client result (W.passed wire.old) (W.passed wire.new) (serving self.old) (serving self.new) }
     {
-        let waiting = &mut self.places[usize::from(client)];
-        let piece = waiting.piece();
+        let piece = piece(&self.places, client);
         if piece.is_empty() {
             return Wrote::Later;
         }
         let wrote = wire.write(client, piece);
         if let Wrote::Taken(count) = wrote {
-            waiting.written(count);
+            written(&mut self.places, client, count);
         }
         wrote
     }
@@ -101,6 +102,25 @@ fn no_clients(alloc: Global) -> Result<Places, AllocError>
         Waiting::new(alloc)?,
         Waiting::new(alloc)?,
     ])
+}
+
+/// The first bytes that wait for a client, some where any wait.
+fn piece(places: &Places, client: u8) -> &[u8]
+    requires { client < 8 }
+    ensures front { result.now ≡ take (length result.now) (waits (slice_index_or places.now client None)) }
+    ensures some { 0 < length (waits (slice_index_or places.now client None)) → 0 < length result.now }
+{
+    places[usize::from(client)].piece()
+}
+
+/// So many of the first bytes that wait for a client were written.
+fn written(places: &mut Places, client: u8, count: usize)
+    requires client { client < 8 }
+    requires open { is_some (slice_index_or places.old client None) ≡ true }
+    requires some { count ≤ length (waits (slice_index_or places.old client None)) }
+    ensures { places.new ≡ slice_set places.old client (Some (drop count (waits (slice_index_or places.old client None)))) }
+{
+    places[usize::from(client)].written(count);
 }
 
 /// Puts what is told behind what waits for each client.

@@ -4,14 +4,17 @@
 mod executing;
 mod hub;
 mod losses;
+mod printing;
 mod room;
 mod server;
+mod sockets;
 mod waiting;
 mod wire;
 
 use command_line::no_server_text;
 use console::{RunFault, read_words, tell_as, texts};
 use executing::{NAME, execute};
+use std::io;
 use std::process::ExitCode;
 
 #[cfg(test)]
@@ -33,5 +36,10 @@ fn run(rt: &HostRuntime) -> u8 {
 fn run_words(rt: &HostRuntime) -> Result<u8, RunFault> {
     let words = read_words(rt.alloc(), rt, no_server_text)?;
     let texts = texts(rt.alloc(), words.as_slice())?;
-    Ok(execute(rt, texts.as_slice(), &mut rt.stderr()))
+    Ok(execute(
+        rt,
+        texts.as_slice(),
+        &mut io::writer(rt),
+        &mut rt.stderr(),
+    ))
 }

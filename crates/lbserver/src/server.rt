@@ -4,15 +4,15 @@ ghost use Rattle.bus.specs.declared.event.Event.{Event as BusEvent};
 ghost use Rattle.bus.specs.declared.event.Event.TheVariants.{Hears};
 ghost use Rattle.bus.specs.Bus.{is_event};
 ghost use Rattle.lbserver.specs.Wire.{Brought, Grows};
-ghost use Rattle.lbserver.specs.Served.{AreTurns, Does, HaveHappened, Serves};
+ghost use Rattle.lbserver.specs.Served.{AreTurns, Does, HaveHappened, Serves, turns_behind};
 ghost use Rattle.lbserver.specs.Hubs.{GoesOn, serving};
 
 use crate::hub::Hub;
 use crate::losses::Losses;
 use crate::wire::{Heard, Wire, Wrote};
-use bus::{Event, Told};
+use bus::{Event, Told, headline};
 use console::Unwritten;
-use layout_core::World;
+use layout_core::{World, events_add_up};
 
 /// The most bytes that are read of a client before all are written to.
 ///
@@ -75,31 +75,34 @@ impl Server {
         ensures served { OnOk result (GoesOn self.old.turns (W.passed wire.old) (W.passed wire.new) self.old.hub self.new.hub) }
     {
         for client in 0..8u8 {
-            if !self.hub.bus.has(client) {
-                self.seat(client, wire, witness)?;
+            if !self.seat(client, wire, witness)? {
+                return Ok(());
             }
         }
         turn_away(wire);
         Ok(())
     }
 
-    /// Lets in who waits, if somebody does.
+    /// Lets in who waits, if the place is free. False where it is, and nobody waits.
     fn seat<W: Wire, P: Witness>(
         &mut self,
         client: u8,
         wire: &mut W,
         witness: &mut P,
-    ) -> Result<(), Unwritten>
+    ) -> Result<bool, Unwritten>
         requires { client < 8 }
         ensures turns { self.new.turns ≡ self.old.turns }
         ensures served { OnOk result (GoesOn self.old.turns (W.passed wire.old) (W.passed wire.new) self.old.hub self.new.hub) }
     {
-        if wire.let_in(client) {
-            self.is_behind = true;
-            self.happen(Event::Joins { client }, witness)
-        } else {
-            Ok(())
+        if self.hub.bus.has(client) {
+            return Ok(true);
         }
+        if !wire.let_in(client) {
+            return Ok(false);
+        }
+        self.is_behind = true;
+        self.happen(Event::Joins { client }, witness)?;
+        Ok(true)
     }
 
     /// Hears what a client sent.
@@ -245,12 +248,12 @@ impl Server {
         ensures turns { self.new.turns ≡ self.old.turns }
         ensures happened { OnOk result (Does self.old.turns (Brought event) (serving self.old.hub) (serving self.new.hub)) }
     {
+        headline();
+        self.hub.bus.always_kept();
         let told = self.hub.step(event);
         witness.told(&told, self.hub.bus.world())?;
-        match (told, self.turns) {
-            (Told::Sent { .. }, Some(turns)) => self.run_turns(turns, witness),
-            _ => Ok(()),
-        }
+        let turns = turns_behind(self.turns, &told);
+        self.run_turns(turns, witness)
     }
 
     /// So many turns.
@@ -258,12 +261,25 @@ impl Server {
         ensures turns { self.new.turns ≡ self.old.turns }
         ensures happened { OnOk result ((behind : List BusEvent) × AreTurns turns behind × HaveHappened behind (serving self.old.hub) (serving self.new.hub)) }
     {
+        headline();
+        events_add_up();
+        self.hub.bus.always_kept();
         for _turn in 0..turns {
             let missed = self.draw();
             let told = self.hub.step(Event::Turn { missed });
             witness.told(&told, self.hub.bus.world())?;
         }
         Ok(())
+    }
+}
+
+/// How many turns follow what was told: those behind a message, where turns follow messages.
+fn turns_behind(turns: Option<u8>, told: &Told) -> u8
+    ensures { result ≡ turns_behind turns told.now }
+{
+    match (told, turns) {
+        (Told::Sent { .. }, Some(turns)) => turns,
+        _ => 0,
     }
 }
 

@@ -168,7 +168,9 @@ fn has_all(text: &[u8], parts: &[&str]) -> bool {
 fn faults_are_told(rt: HostRuntime) {
     for (words, parts) in TOLD {
         let mut faults = Vec::new(rt.alloc());
-        let status = execute(&rt, words, &mut faults);
+        let mut output = Vec::new(rt.alloc());
+        let status = execute(&rt, words, &mut output, &mut faults);
+        assert!(rt; output.is_empty(), "of {words:?}");
         assert!(rt; status == 1 || status == 2, "of {words:?}");
         assert!(rt; has_all(faults.as_slice(), parts), "of {words:?}");
     }

@@ -1,0 +1,142 @@
+-- How a hub and its wire go on, one thing after another.
+use Rattle.std.proofs.Common.{◌≡◌, ℕ, zero, suc, ◌+◌, ◌<◌, ◌≤◌, Bool, true, false, List, [], ◌∷◌, ◌++◌, length, take, drop, Option, Some, None, Result, Ok, Err, refl, ap, ap₂, sym, subst, ◌∙◌, arith, append_assoc, append-nil}
+use Rattle.std.specs.Prelude.{◌==◌, slice_set, is_some, not, OnOk}
+use Rattle.std.specs.List.{list_all, slice_index_or}
+use Rattle.std.proofs.lemmas.Bool.{and_parts, and_from}
+use Rattle.std.proofs.lemmas.List.{length-take, take-append-drop, take-take}
+use Rattle.station_core.specs.Seen.{Seen}
+use Rattle.layout_core.specs.declared.event.Event.{Event as LayoutEvent}
+use Rattle.layout_core.specs.declared.node.Node.{Node}
+use Rattle.layout_core.specs.World.{HaveHeard}
+use Rattle.bus.specs.declared.event.Event.{Event}
+use Rattle.bus.specs.declared.event.Event.TheVariants.{Joins, Hears, Leaves, Passes, Turn}
+use Rattle.bus.specs.declared.event.Told.{Told}
+use Rattle.bus.specs.Bus.{AreEvents, SeenBus, after_event, after_events, is_event, told_by, told_of}
+use Rattle.bus.specs.Kept.{IsKept}
+use Rattle.bus.specs.Layout.{layout_event, layout_events}
+use Rattle.lbserver.specs.declared.hub.Hub.{Hub}
+use Rattle.lbserver.specs.Hubs.{GoesOn, serving}
+use Rattle.lbserver.specs.Served.{AreTurns, Does, HaveHappened, Serves, Serving, turns_behind, waiting_behind}
+use Rattle.lbserver.specs.Waiting.{Places, waiting_after, waits}
+use Rattle.lbserver.specs.Wire.{Brought, Grows, Passed}
+
+-- The wire.
+
+pub grows_none : (passed : Option (List Passed)) → Grows passed passed []
+grows_none None = tt
+grows_none (Some all) = sym (append-nil all)
+
+pub grows_more : (a b c : Option (List Passed)) (first second : List Passed) → Grows a b first → Grows b c second → Grows a c (first ++ second)
+grows_more None None None first second h k = tt
+grows_more None None (Some zs) first second h k = absurd k
+grows_more None (Some ys) c first second h k = absurd h
+grows_more (Some xs) None c first second h k = absurd h
+grows_more (Some xs) (Some ys) None first second h k = absurd k
+grows_more (Some xs) (Some ys) (Some zs) first second h k = k ∙ ap (λ (all : List Passed). all ++ second) h ∙ append_assoc xs first second
+
+-- What is served.
+
+pub serves_more : (turns : Option ℕ) (first second : List Passed) (old mid new : Serving) → Serves turns first old mid → Serves turns second mid new → Serves turns (first ++ second) old new
+serves_more turns [] second old mid new same rest = subst (λ (s : Serving). Serves turns second s new) same rest
+serves_more turns (passed ∷ first) second old mid new h rest = (h.0, h.1, serves_more turns first second h.0 mid new h.2 rest)
+
+pub goes_nowhere : (turns : Option ℕ) (passed : Option (List Passed)) (hub : Hub) → GoesOn turns passed passed hub hub
+goes_nowhere turns passed hub = ([], grows_none passed, refl)
+
+pub goes_on : (turns : Option ℕ) (a b c : Option (List Passed)) (old mid new : Hub) → GoesOn turns a b old mid → GoesOn turns b c mid new → GoesOn turns a c old new
+goes_on turns a b c old mid new first second =
+    (first.0 ++ second.0, grows_more a b c first.0 second.0 first.1 second.1, serves_more turns first.0 second.0 (serving old) (serving mid) (serving new) first.2 second.2)
+
+-- by the same number of turns
+pub goes_by : (turns turns' : Option ℕ) (a b c : Option (List Passed)) (old mid new : Hub) → turns' ≡ turns → GoesOn turns a b old mid → GoesOn turns' b c mid new → GoesOn turns a c old new
+goes_by turns turns' a b c old mid new same first second =
+    goes_on turns a b c old mid new first (subst (λ (t : Option ℕ). GoesOn t b c mid new) same second)
+
+pub goes_one : (turns : Option ℕ) (a b : Option (List Passed)) (passed : Passed) (old new : Hub) → Grows a b (passed ∷ []) → Does turns passed (serving old) (serving new) → GoesOn turns a b old new
+goes_one turns a b passed old new grows does = (passed ∷ [], grows, (serving new, does, refl))
+
+-- What happened.
+
+after-append : (events later : List Event) (bus : SeenBus) → after_events bus (events ++ later) ≡ after_events (after_events bus events) later
+after-append [] later bus = refl
+after-append (event ∷ events) later bus = after-append events later (after_event bus event)
+
+waiting-append : (events later : List Event) (bus : SeenBus) (places : Places)
+    → waiting_behind (told_of bus (events ++ later)) places ≡ waiting_behind (told_of (after_events bus events) later) (waiting_behind (told_of bus events) places)
+waiting-append [] later bus places = refl
+waiting-append (event ∷ events) later bus places = waiting-append events later (after_event bus event) (waiting_after (told_by bus event) places)
+
+legal-append : (these those : List Event) → AreEvents these → AreEvents those → AreEvents (these ++ those)
+legal-append [] those h k = k
+legal-append (event ∷ these) those h k =
+    let p = and_parts (is_event event) (list_all is_event these) h in
+    and_from (is_event event) (list_all is_event (these ++ those)) p.0 (legal-append these those p.1 k)
+
+-- what decoders hear adds up, as the bus promises
+abbrev pub AddsUp : Type 0
+AddsUp = (bus : SeenBus) (events later : List Event) (old mid new : List Node) → IsKept bus → AreEvents events
+    → HaveHeard bus.station (layout_events bus events) old mid
+    → HaveHeard (after_events bus events).station (layout_events (after_events bus events) later) mid new
+    → HaveHeard bus.station (layout_events bus (events ++ later)) old new
+
+pub happened_more : AddsUp → (events later : List Event) (old mid new : Serving) → IsKept old.bus → HaveHappened events old mid → HaveHappened later mid new → HaveHappened (events ++ later) old new
+happened_more adds events later old mid new kept first second = record {
+  legal = legal-append events later first.legal second.legal;
+  bus = second.bus ∙ ap (λ (bus : SeenBus). after_events bus later) first.bus ∙ sym (after-append events later old.bus);
+  nodes =
+      adds old.bus events later old.nodes mid.nodes new.nodes kept first.legal first.nodes
+      (subst (λ (bus : SeenBus). HaveHeard bus.station (layout_events bus later) mid.nodes new.nodes) first.bus second.nodes);
+  places =
+      second.places
+      ∙ ap₂ (λ (bus : SeenBus) (places : Places). waiting_behind (told_of bus later) places) first.bus first.places
+      ∙ sym (waiting-append events later old.bus old.places);
+}
+
+pub nothing_happened : ((seen : Seen) (nodes : List Node) → HaveHeard seen [] nodes nodes) → (all : Serving) → HaveHappened [] all all
+nothing_happened none all = record { legal = refl; bus = refl; nodes = none all.bus.station all.nodes; places = refl }
+
+pub happened_one : (event : Event) (old new : Serving) → is_event event ≡ true → new.bus ≡ after_event old.bus event
+    → HaveHeard old.bus.station (layout_event old.bus event) old.nodes new.nodes → new.places ≡ waiting_after (told_by old.bus event) old.places
+    → HaveHappened (event ∷ []) old new
+happened_one event old new legal bus nodes places = record {
+  legal = and_from (is_event event) true legal refl;
+  bus = bus;
+  nodes = subst (λ (events : List LayoutEvent). HaveHeard old.bus.station events old.nodes new.nodes) (sym (append-nil (layout_event old.bus event))) nodes;
+  places = places;
+}
+
+-- Turns behind a message.
+
+one_more : (count missed : ℕ) (turns : List Event) → AreTurns count turns → AreTurns (suc count) (turns ++ Turn missed ∷ [])
+one_more zero missed [] are = tt
+one_more zero missed (event ∷ turns) are = absurd are
+one_more (suc n) missed [] are = absurd are
+one_more (suc n) missed (Joins client ∷ turns) are = absurd are
+one_more (suc n) missed (Hears client byte ∷ turns) are = absurd are
+one_more (suc n) missed (Leaves client ∷ turns) are = absurd are
+one_more (suc n) missed (Passes micros gone ∷ turns) are = absurd are
+one_more (suc n) missed (Turn gone ∷ turns) are = one_more n missed turns are
+
+pub turns_more : (count missed : ℕ) (turns : List Event) → AreTurns count turns → AreTurns (count + 1) (turns ++ Turn missed ∷ [])
+turns_more count missed turns are = subst (λ (n : ℕ). AreTurns n (turns ++ Turn missed ∷ [])) {x = suc count} {y = count + 1} (omega arith) (one_more count missed turns are)
+
+-- Small things.
+
+pub whatever : {T E P : Type 0} (r : Result T E) → P → OnOk r P
+whatever (Ok value) p = p
+whatever (Err fault) p = tt
+
+pub none_of : {A : Type 0} (o : Option A) → not (is_some o) ≡ true → o ≡ None
+none_of None h = refl
+none_of (Some a) h = cc
+
+pub some_of : (n : ℕ) → false ≡ (n == 0) → 0 < n
+some_of zero h = cc
+some_of (suc n) h = omega arith
+
+-- the front of what waits, and the rest of it
+pub piece_of : (waiting : Option (List ℕ)) (piece : List ℕ) (count : ℕ) → piece ≡ take (length piece) (waits waiting) → 0 < length piece → count ≤ length piece
+    → waiting ≡ Some (take count piece ++ drop count (waits waiting))
+piece_of None piece count front some within = absurd (omega (arith, some, ap length front, length-take {A = ℕ} (length piece) []))
+piece_of (Some bytes) piece count front some within =
+    ap Some (sym (ap (λ (xs : List ℕ). xs ++ drop count bytes) (ap (take count) front ∙ take-take count (length piece) bytes within) ∙ take-append-drop count bytes))
