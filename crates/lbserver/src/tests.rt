@@ -2,4 +2,5 @@
 
 mod losses;
 mod room;
+mod serving;
 mod words;

@@ -1,0 +1,259 @@
+//! Clients on loopback, in one thread with the server.
+use crate::hub::Hub;
+use crate::losses::Losses;
+use crate::printing::Printer;
+use crate::server::Server;
+use crate::sockets::Sockets;
+use decoder_node::NodeList;
+use std::io::{Read, Write};
+use std::net::{Ipv4Addr, Net, Shutdown, SocketAddr, TcpListener, TcpStream};
+use std::process::Abort;
+use std::test::Fail;
+
+/// What a client is told when it joins.
+const VERSION: &'static str = "VERSION lbserver station\r\n";
+
+/// A server on a port of its own, with turns behind messages and not in time.
+#[derive(Drop)]
+struct Desk {
+    server: Server,
+    sockets: Sockets,
+    printed: Vec<u8>,
+}
+
+impl Desk {
+    fn new(rt: &HostRuntime, turns: u8) -> Result<Desk, Fail> {
+        Ok(Desk {
+            server: Server {
+                hub: Hub::new(rt.alloc(), NodeList::new())?,
+                turns: Some(turns),
+                losses: Losses::new(0, 0),
+                is_behind: false,
+            },
+            sockets: Sockets::bind(rt, SocketAddr::from((Ipv4Addr::LOCALHOST, 0)))?,
+            printed: Vec::new(rt.alloc()),
+        })
+    }
+
+    /// A client, which is told the version.
+    fn client<R: Net<Listener = TcpListener, Stream = TcpStream> + AllocGlobal + Abort>(
+        &mut self,
+        rt: &R,
+    ) -> Result<TcpStream, Fail> {
+        let mut client = TcpStream::connect(rt, self.sockets.address()?)?;
+        client.set_nodelay(true)?;
+        self.rounds(4)?;
+        hears(rt, &mut client, &[VERSION])?;
+        Ok(client)
+    }
+
+    /// So many rounds.
+    fn rounds(&mut self, count: u32) -> Result<(), Fail> {
+        let mut printer = Printer::new(
+            &mut self.printed,
+            None,
+            true,
+            self.server.hub.bus.world(),
+        );
+        for _round in 0..count {
+            self.server.round(&mut self.sockets, &mut printer)?;
+        }
+        Ok(())
+    }
+
+    /// A client says this, and it is heard.
+    fn say(&mut self, client: &mut TcpStream, text: &[u8]) -> Result<(), Fail> {
+        client.write_all(text)?;
+        self.rounds(4)
+    }
+}
+
+/// A client is told just these lines next.
+fn hears<R: AllocGlobal + Abort>(
+    rt: &R,
+    client: &mut TcpStream,
+    lines: &[&str],
+) -> Result<(), Fail> {
+    for line in lines {
+        let mut told = Vec::from_elem(rt.alloc(), 0, line.len())?;
+        client.read_exact(told.as_mut_slice())?;
+        assert!(rt; told.as_slice() == line.as_bytes(), "{line}");
+    }
+    Ok(())
+}
+
+/// A client is told nothing more: its next byte is behind the end.
+fn hears_the_end(client: &mut TcpStream) -> Result<bool, Fail> {
+    Ok(client.read(&mut [0; 1])? == 0)
+}
+
+const TAKE_3: &'static str = "RECEIVE BF 00 03 43\r\n";
+const SLOT_1: &'static str = "RECEIVE E7 0E 01 23 03 00 00 06 00 00 00 00 00 31\r\n";
+const POWER_ON: &'static str = "RECEIVE 83 7C\r\n";
+const POWER_OFF: &'static str = "RECEIVE 82 7D\r\n";
+const OK: &'static str = "SENT OK\r\n";
+
+#[test]
+fn two_clients_speak_in_each_others_lines(rt: HostRuntime) -> Result<(), Fail> {
+    let mut desk = Desk::new(&rt, 0)?;
+    let mut first = desk.client(&rt)?;
+    let mut second = desk.client(&rt)?;
+    desk.say(&mut first, b"SEND BF 0")?;
+    desk.say(&mut second, b"SEND 8")?;
+    desk.say(&mut first, b"0 03 43\r")?;
+    desk.say(&mut second, b"3 7D\nSEND 83 7C\r\n")?;
+    hears(&rt, &mut first, &[TAKE_3, OK, SLOT_1, POWER_ON])?;
+    hears(
+        &rt,
+        &mut second,
+        &[
+            TAKE_3,
+            SLOT_1,
+            "SENT ERROR wrong check byte\r\n",
+            POWER_ON,
+            OK,
+        ],
+    )
+}
+
+/// Eight clients say half a line each, and then the other half, in the other order.
+#[test]
+fn eight_clients_are_told_all(rt: HostRuntime) -> Result<(), Fail> {
+    let mut desk = Desk::new(&rt, 0)?;
+    let mut clients = Vec::with_capacity(rt.alloc(), 8)?;
+    for _client in 0..8u8 {
+        clients.push(desk.client(&rt)?)?;
+    }
+    for client in clients.as_mut_slice() {
+        desk.say(client, b"SEND 8")?;
+    }
+    for client in clients.as_mut_slice().iter_mut().rev() {
+        desk.say(client, b"2 7D\n")?;
+    }
+    for (i, client) in clients.as_mut_slice().iter_mut().enumerate() {
+        for said in 0..8usize {
+            hears(&rt, client, &[POWER_OFF])?;
+            if said == 7 - i {
+                hears(&rt, client, &[OK])?;
+            }
+        }
+    }
+    Ok(())
+}
+
+#[test]
+fn a_line_goes_with_its_client(rt: HostRuntime) -> Result<(), Fail> {
+    let mut desk = Desk::new(&rt, 0)?;
+    let mut other = desk.client(&rt)?;
+    let mut first = desk.client(&rt)?;
+    desk.say(&mut first, b"SEND 83")?;
+    first.shutdown(Shutdown::Both)?;
+    desk.rounds(4)?;
+    let mut second = desk.client(&rt)?;
+    desk.say(&mut second, b" 7C\nSEND 82 7D\n")?;
+    hears(&rt, &mut second, &[POWER_OFF, OK])?;
+    hears(&rt, &mut other, &[POWER_OFF])?;
+    assert!(rt; desk.printed.as_slice() == b"client 1 joins\nclient 2 joins\nclient 2 leaves\nclient 2 joins\nmsg 82 7D power off\n".as_slice());
+    Ok(())
+}
+
+#[test]
+fn a_ninth_is_turned_away(rt: HostRuntime) -> Result<(), Fail> {
+    let mut desk = Desk::new(&rt, 0)?;
+    let mut clients = Vec::with_capacity(rt.alloc(), 8)?;
+    for _client in 0..8u8 {
+        clients.push(desk.client(&rt)?)?;
+    }
+    let mut ninth = TcpStream::connect(&rt, desk.sockets.address()?)?;
+    desk.rounds(4)?;
+    hears(&rt, &mut ninth, &["ERROR no place\r\n"])?;
+    assert!(rt; hears_the_end(&mut ninth)?);
+    Ok(())
+}
+
+/// A client that is gone while it still has text to read is reset, and costs itself alone.
+#[test]
+fn a_reset_costs_one(rt: HostRuntime) -> Result<(), Fail> {
+    let mut desk = Desk::new(&rt, 0)?;
+    let mut other = desk.client(&rt)?;
+    {
+        let mut first = TcpStream::connect(&rt, desk.sockets.address()?)?;
+        desk.say(&mut first, b"SEND 83 7C\n")?;
+    }
+    desk.say(&mut other, b"SEND 82 7D\n")?;
+    desk.rounds(8)?;
+    hears(&rt, &mut other, &[POWER_ON, POWER_OFF, OK])
+}
+
+/// One client never reads, and goes when 65,536 bytes wait behind what the system keeps; another drives on.
+#[test]
+fn who_never_reads_is_let_go(rt: HostRuntime) -> Result<(), Fail> {
+    let mut desk = Desk::new(&rt, 0)?;
+    let mut driver = desk.client(&rt)?;
+    let _lazy = desk.client(&rt)?;
+    // A message that brings as many bytes as a line can.
+    let mut message = Vec::new(rt.alloc());
+    message.extend_from_slice(b"SEND E5 7F")?;
+    for _byte in 0..124u8 {
+        message.extend_from_slice(b" 00")?;
+    }
+    message.extend_from_slice(b" 65\n")?;
+    for _message in 0..40_000u32 {
+        driver.write_all(message.as_slice())?;
+        desk.rounds(1)?;
+        let mut told = [0; 399];
+        driver.read_exact(&mut told)?;
+        assert!(rt; told.as_slice().starts_with(b"RECEIVE E5 7F") && told.as_slice().ends_with(b"SENT OK\r\n"));
+        if !desk.server.hub.bus.has(1) {
+            break;
+        }
+    }
+    assert!(rt; !desk.server.hub.bus.has(1) && desk.server.hub.bus.has(0));
+    Ok(())
+}
+
+/// A megabyte without the end of a line asks nothing, and holds nobody up.
+#[test]
+fn a_flood_holds_nobody_up(rt: HostRuntime) -> Result<(), Fail> {
+    let mut desk = Desk::new(&rt, 0)?;
+    let mut flood = desk.client(&rt)?;
+    let mut driver = desk.client(&rt)?;
+    let piece = [b'S'; 1024];
+    for _piece in 0..1024u32 {
+        flood.write_all(&piece)?;
+        desk.rounds(3)?;
+    }
+    desk.say(&mut driver, b"SEND 82 7D\n")?;
+    hears(&rt, &mut driver, &[POWER_OFF, OK])?;
+    desk.say(&mut flood, b"\nSEND 83 7C\n")?;
+    hears(&rt, &mut flood, &[POWER_OFF, POWER_ON, OK])
+}
+
+/// A text asks the same wherever it is cut.
+#[test]
+fn text_in_every_cut(rt: HostRuntime) -> Result<(), Fail> {
+    let text = b"SEND 82 7D\r\n\r\nhello\nSEND 83\n";
+    let mut desk = Desk::new(&rt, 0)?;
+    let mut client = desk.client(&rt)?;
+    for cut in 0..=text.len() {
+        desk.say(&mut client, &text[..cut])?;
+        desk.say(&mut client, &text[cut..])?;
+        hears(
+            &rt,
+            &mut client,
+            &[POWER_OFF, OK, "SENT ERROR no whole message\r\n"],
+        )?;
+    }
+    Ok(())
+}
+
+/// Behind each message come its turns, and none else.
+#[test]
+fn turns_follow_messages(rt: HostRuntime) -> Result<(), Fail> {
+    let mut desk = Desk::new(&rt, 3)?;
+    let mut client = desk.client(&rt)?;
+    desk.say(&mut client, b"SEND 85 7A\nSEND 83 7C\nSEND 85 7A\n")?;
+    desk.rounds(20)?;
+    assert!(rt; desk.printed.as_slice() == b"client 1 joins\nmsg 85 7A force idle\nmsg 83 7C power on\nmsg 85 7A force idle\ntrack 7 00 51 51\ntrack 8 00 51 51\ntrack 9 00 51 51\n".as_slice());
+    Ok(())
+}
