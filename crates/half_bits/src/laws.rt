@@ -1,8 +1,9 @@
-//! What holds of the durations of all packets.
+//! What holds of the half-bits of all packets.
 ghost use Rattle.std.specs.Prelude.{ℕ, ◌≡◌, ◌≤◌, List, length, IsTrue};
 ghost use Rattle.dcc_packet.specs.Packet.{is_checked};
 ghost use Rattle.dcc_packet.specs.Sent.{idle_bytes};
-ghost use Rattle.half_bits.specs.Halves.{duration_of};
+ghost use Rattle.dcc_packet.specs.Wave.{IsWave};
+ghost use Rattle.half_bits.specs.Halves.{duration_of, halves_of};
 
 /// No packet with a right check is shorter than an idle one, and none of at most 5 bytes is longer than 15 ones, those of its
 /// preamble and the one that closes it, and 45 zeros.
@@ -11,4 +12,11 @@ pub fn durations_are_bounded()
     ensures shortest_unchecked { (packet : List ℕ) → 3 ≤ length packet → 5124 ≤ duration_of packet }
     ensures longest { (packet : List ℕ) → length packet ≤ 5 → duration_of packet ≤ 10740 }
     ensures idle { duration_of idle_bytes ≡ 5796 }
+{}
+
+/// The half-bits of a packet are a wave of it, whatever its check is.
+#[inline]
+#[tactic(auto, using(crate::proofs::Numbers::wave))]
+pub fn halves_are_a_wave()
+    ensures { (packet : List ℕ) → IsWave packet (halves_of packet) }
 {}
