@@ -2,7 +2,7 @@
 ghost use Rattle.std.specs.Prelude.{◌≡◌, ◌<◌, ◌/◌, ◌%◌};
 ghost use Rattle.dcc_packet.specs.Told.{motion_told};
 ghost use Rattle.decoder_node.specs.Bits.{with_bits};
-ghost use Rattle.decoder_node.specs.Obey.{obey, obeyed, driven, lit, is_own, own_forward};
+ghost use Rattle.decoder_node.specs.Obey.{obey, obeyed, obeyed_if, driven, lit, is_own, own_forward};
 
 use crate::running::{FIRST, Running};
 use dcc_packet::{Address, Instr, Motion, Packet, Steps, read};
@@ -14,8 +14,16 @@ use decoder_cv::CvSet;
 pub(crate) fn obey_packet(cv: &CvSet, running: &mut Running, packet: &Packet)
     ensures { running.new ≡ obey cv.now running.old packet.now }
 {
-    if let Some(instr) = read(packet) {
-        *running = after_instr(cv, *running, instr);
+    obey_instr(cv, running, &read(packet));
+}
+
+/// It obeys what a packet spells.
+#[inline]
+pub(crate) fn obey_instr(cv: &CvSet, running: &mut Running, instr: &Option<Instr>)
+    ensures { running.new ≡ obeyed_if cv.now running.old instr.now }
+{
+    if let Some(instr) = instr {
+        *running = after_instr(cv, *running, *instr);
     }
 }
 
