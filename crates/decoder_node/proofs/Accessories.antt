@@ -65,7 +65,5 @@ module _ (old : AccessoryDecoder) (packet halves : List ℕ) (form : IsPacket pa
       (same (heard_all old halves) new (law.kept ∙ sym number) (law.obeys packet form wave between ∙ sym outputs) (receiver_after halves old ∙ sym receiver)) law
 
 -- the items that an iterator of these halves gives
-pub heard_in_turn : (old start new : AccessoryDecoder) (halves all items : List ℕ) → start ≡ old → all ≡ halves → Drains (YieldsFirst (λ (left : List ℕ). left)) all items
-    → HearsAccessory start items new → HearsAccessory old halves new
-heard_in_turn old start new halves all items from whole drains hears =
-    subst (λ (d : AccessoryDecoder). HearsAccessory d halves new) from (subst (λ (hs : List ℕ). HearsAccessory start hs new) (sym (drained all items drains) ∙ whole) hears)
+pub heard_in_turn : (old new : AccessoryDecoder) (halves all items : List ℕ) → all ≡ halves → Drains (YieldsFirst (λ (left : List ℕ). left)) all items → HearsAccessory old items new → HearsAccessory old halves new
+heard_in_turn old new halves all items whole drains hears = subst (λ (hs : List ℕ). HearsAccessory old hs new) (sym (drained all items drains) ∙ whole) hears

@@ -67,7 +67,5 @@ module _ (old : LocoDecoder) (packet halves : List ℕ) (form : IsPacket packet)
       (same (heard_all old halves) new (law.kept ∙ sym cv) (law.obeys packet form wave between ∙ sym running) (receiver_after halves old ∙ sym receiver)) law
 
 -- the items that an iterator of these halves gives
-pub heard_in_turn : (old start new : LocoDecoder) (halves all items : List ℕ) → start ≡ old → all ≡ halves → Drains (YieldsFirst (λ (left : List ℕ). left)) all items
-    → HearsLoco start items new → HearsLoco old halves new
-heard_in_turn old start new halves all items from whole drains hears =
-    subst (λ (d : LocoDecoder). HearsLoco d halves new) from (subst (λ (hs : List ℕ). HearsLoco start hs new) (sym (drained all items drains) ∙ whole) hears)
+pub heard_in_turn : (old new : LocoDecoder) (halves all items : List ℕ) → all ≡ halves → Drains (YieldsFirst (λ (left : List ℕ). left)) all items → HearsLoco old items new → HearsLoco old halves new
+heard_in_turn old new halves all items whole drains hears = subst (λ (hs : List ℕ). HearsLoco old hs new) (sym (drained all items drains) ∙ whole) hears

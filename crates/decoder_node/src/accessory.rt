@@ -117,9 +117,17 @@ impl Accessory {
         waves_are_obeyed();
         halves_are_a_wave(packet);
         if !self.rx.hear_wave() {
-            return self.hear_all(halves(packet));
+            return self.hear_halves(packet);
         }
         self.outputs = after_said(self.module, self.outputs, instr);
+    }
+
+    /// Hears all half-bits of a packet, half by half.
+    #[inline(never)]
+    fn hear_halves(&mut self, packet: &Packet)
+        ensures { HearsAccessory self.old (halves_of packet.now) self.new }
+    {
+        self.hear_all(halves(packet));
     }
 
     /// Its outputs: bit j is output j, the pair j / 2, closed where j is odd.

@@ -123,9 +123,17 @@ impl Loco {
         waves_are_obeyed();
         halves_are_a_wave(packet);
         if !self.rx.hear_wave() {
-            return self.hear_all(halves(packet));
+            return self.hear_halves(packet);
         }
         obey_instr(&self.cv, &mut self.running, instr);
+    }
+
+    /// Hears all half-bits of a packet, half by half.
+    #[inline(never)]
+    fn hear_halves(&mut self, packet: &Packet)
+        ensures { HearsLoco self.old (halves_of packet.now) self.new }
+    {
+        self.hear_all(halves(packet));
     }
 
     /// How it runs. Of the functions, F0 to F12 alone may be on.

@@ -47,12 +47,15 @@ impl Nodes {
 
     /// Each node hears this packet, but for node i where bit i of `missed` is set. Bits past the last node mean nothing.
     ///
-    /// The packet is read once, for all of them.
+    /// The packet is read once, for all of them, and not where there is none.
     pub fn hear(&mut self, packet: &Packet, missed: u64)
         ensures count { length self.new ≡ length self.old }
         ensures specs { map spec_of self.new ≡ map spec_of self.old }
         ensures each { (i : ℕ) (none : NodeValue) → i < length self.old → AfterPacket (is_missed missed i) packet.now (slice_index_or self.old i none) (slice_index_or self.new i none) }
     {
+        if self.is_empty() {
+            return;
+        }
         hear_each(self.nodes.as_mut_slice(), packet, &read(packet), missed);
     }
 

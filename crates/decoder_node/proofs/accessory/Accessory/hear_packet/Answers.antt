@@ -4,13 +4,13 @@ use Rattle.decoder_rx.specs.Place.{Place}
 use Rattle.decoder_node.specs.Accessory.{HearsAccessory}
 use Rattle.decoder_node.specs.AccessoryDecoder.{AccessoryDecoder, IsBetween}
 use Rattle.decoder_node.specs.Switched.{switched_if}
-use Rattle.decoder_node.proofs.Accessories.{heard_at_once, heard_in_turn}
+use Rattle.decoder_node.proofs.Accessories.{heard_at_once}
 use Rattle.decoder_node.proofs.accessory.Accessory.hear_packet.Goals as goal
 
 pub returns-then-not-hear_wave-clause-hears : goal.returns-then-not-hear_wave-clause-hears
 returns-then-not-hear_wave-clause-hears c =
     let from = ap (λ (p : Place). record { number = c.self.inside.«module»; outputs = c.self.inside.outputs; receiver = p }) c.if-not-hear_wave.ensures.place in
-    heard_in_turn c.args.self.now _ c.hear_all.new.self (halves_of c.args.packet.now) c.halves.result c.hear_all.ensures.0 (from ∙ c.self.view_is) c.halves.ensures.items c.hear_all.ensures.1 c.hear_all.ensures.2
+    subst (λ (d : AccessoryDecoder). HearsAccessory d (halves_of c.args.packet.now) c.hear_halves.new.self) (from ∙ c.self.view_is) c.hear_halves.ensures
 
 pub returns-then-not-hear_wave-clause-settles : goal.returns-then-not-hear_wave-clause-settles
 returns-then-not-hear_wave-clause-settles c =
