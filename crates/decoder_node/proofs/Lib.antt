@@ -1,5 +1,7 @@
 pub mod Able
 pub mod Accessories
+pub mod Concerned
+pub mod Drained
 pub mod Locos
 pub mod Outputs
 pub mod Waves

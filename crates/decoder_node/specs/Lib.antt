@@ -3,6 +3,7 @@ pub use Rattle.decoder_rx.specs.Table
 pub mod Accessory
 pub mod AccessoryDecoder
 pub mod Bits
+pub mod Concerned
 pub mod Heard
 pub mod Loco
 pub mod LocoDecoder

@@ -4,9 +4,10 @@ ghost use Rattle.std.specs.Iterator.{IsFinite, Drains};
 
 use crate::ONE;
 use crate::laws::waves_are_obeyed;
-use crate::switch::after_packet;
-use dcc_packet::Module;
+use crate::switch::{after_packet, after_said};
+use dcc_packet::{Instr, Module, Packet};
 use decoder_rx::{Rx, bit_of};
+use half_bits::{halves, halves_are_a_wave};
 use std::marker::Model;
 
 /// An accessory decoder on the track, with eight outputs in four pairs, which hears it half by half.
@@ -28,9 +29,12 @@ impl Model for Accessory {
 }
 
 impl Accessory {
+    ghost use Rattle.dcc_packet.specs.Reading.{instruction_of};
+    ghost use Rattle.half_bits.specs.Halves.{halves_of};
     ghost use Rattle.decoder_rx.specs.Table.{given};
     ghost use Rattle.decoder_node.specs.Accessory.{HearsAccessory, heard};
-    ghost use Rattle.decoder_node.specs.AccessoryDecoder.{fresh};
+    ghost use Rattle.decoder_node.specs.AccessoryDecoder.{IsBetween, fresh};
+    ghost use Rattle.decoder_node.specs.Switched.{switch};
 
     /// The decoder of this module, with all outputs off, which has heard nothing.
     pub fn new(module: Module) -> Accessory
@@ -97,6 +101,33 @@ impl Accessory {
     {
         self.hear(first);
         self.hear(second);
+    }
+
+    /// Hears all half-bits of a packet that spells this instruction, or none, as `hear_all` does, and quicker where no
+    /// packet is under way: then it looks at the instruction alone.
+    ///
+    /// No packet is under way then, and a decoder that had none under way has obeyed this one.
+    #[inline]
+    pub fn hear_packet(&mut self, packet: &Packet, instr: &Option<Instr>)
+        requires read { instr.now ≡ instruction_of packet.now }
+        ensures hears { HearsAccessory self.old (halves_of packet.now) self.new }
+        ensures settles { IsBetween self.new }
+        ensures obeys { IsBetween self.old → self.new.outputs ≡ switch self.old.number self.old.outputs packet.now }
+    {
+        waves_are_obeyed();
+        halves_are_a_wave(packet);
+        if !self.rx.hear_wave() {
+            return self.hear_halves(packet);
+        }
+        self.outputs = after_said(self.module, self.outputs, instr);
+    }
+
+    /// Hears all half-bits of a packet, half by half.
+    #[inline(never)]
+    fn hear_halves(&mut self, packet: &Packet)
+        ensures { HearsAccessory self.old (halves_of packet.now) self.new }
+    {
+        self.hear_all(halves(packet));
     }
 
     /// Its outputs: bit j is output j, the pair j / 2, closed where j is odd.

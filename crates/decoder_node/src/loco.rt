@@ -4,10 +4,12 @@ ghost use Rattle.std.specs.Iterator.{IsFinite, Drains};
 
 use crate::ONE;
 use crate::laws::waves_are_obeyed;
-use crate::obey::obey_packet;
+use crate::obey::{obey_instr, obey_packet};
 use crate::running::{FIRST, Running};
+use dcc_packet::{Instr, Packet};
 use decoder_cv::CvSet;
 use decoder_rx::{Rx, bit_of};
+use half_bits::{halves, halves_are_a_wave};
 use std::marker::Model;
 
 /// A locomotive decoder on the track, which hears it half by half.
@@ -32,9 +34,12 @@ impl Model for Loco {
 }
 
 impl Loco {
+    ghost use Rattle.dcc_packet.specs.Reading.{instruction_of};
+    ghost use Rattle.half_bits.specs.Halves.{halves_of};
     ghost use Rattle.decoder_rx.specs.Table.{given};
     ghost use Rattle.decoder_node.specs.Loco.{HearsLoco, heard};
-    ghost use Rattle.decoder_node.specs.LocoDecoder.{fresh};
+    ghost use Rattle.decoder_node.specs.LocoDecoder.{IsBetween, fresh};
+    ghost use Rattle.decoder_node.specs.Obey.{obey};
     ghost use Rattle.decoder_node.specs.Running.{IsAble};
 
     /// A decoder with these settings, which stands, forward, with all functions off, and has heard nothing.
@@ -102,6 +107,33 @@ impl Loco {
     {
         self.hear(first);
         self.hear(second);
+    }
+
+    /// Hears all half-bits of a packet that spells this instruction, or none, as `hear_all` does, and quicker where no
+    /// packet is under way: then it looks at the instruction alone.
+    ///
+    /// No packet is under way then, and a decoder that had none under way has obeyed this one.
+    #[inline]
+    pub fn hear_packet(&mut self, packet: &Packet, instr: &Option<Instr>)
+        requires read { instr.now ≡ instruction_of packet.now }
+        ensures hears { HearsLoco self.old (halves_of packet.now) self.new }
+        ensures settles { IsBetween self.new }
+        ensures obeys { IsBetween self.old → self.new.running ≡ obey self.old.cv self.old.running packet.now }
+    {
+        waves_are_obeyed();
+        halves_are_a_wave(packet);
+        if !self.rx.hear_wave() {
+            return self.hear_halves(packet);
+        }
+        obey_instr(&self.cv, &mut self.running, instr);
+    }
+
+    /// Hears all half-bits of a packet, half by half.
+    #[inline(never)]
+    fn hear_halves(&mut self, packet: &Packet)
+        ensures { HearsLoco self.old (halves_of packet.now) self.new }
+    {
+        self.hear_all(halves(packet));
     }
 
     /// How it runs. Of the functions, F0 to F12 alone may be on.

@@ -2,7 +2,8 @@
 ghost use Rattle.std.specs.Prelude.{◌≡◌, ◌<◌, ◌/◌, ◌%◌};
 ghost use Rattle.dcc_packet.specs.Told.{motion_told};
 ghost use Rattle.decoder_node.specs.Bits.{with_bits};
-ghost use Rattle.decoder_node.specs.Obey.{obey, obeyed, driven, lit, is_own, own_forward};
+ghost use Rattle.decoder_node.specs.Concerned.{concerns};
+ghost use Rattle.decoder_node.specs.Obey.{obey, obeyed, obeyed_if, driven, lit, is_own, own_forward};
 
 use crate::running::{FIRST, Running};
 use dcc_packet::{Address, Instr, Motion, Packet, Steps, read};
@@ -14,12 +15,40 @@ use decoder_cv::CvSet;
 pub(crate) fn obey_packet(cv: &CvSet, running: &mut Running, packet: &Packet)
     ensures { running.new ≡ obey cv.now running.old packet.now }
 {
-    if let Some(instr) = read(packet) {
-        *running = after_instr(cv, *running, instr);
+    obey_instr(cv, running, &read(packet));
+}
+
+/// It obeys what a packet spells, and is left as it is where that is for others.
+#[inline]
+#[tactic(auto, using(crate::proofs::Concerned::stays))]
+pub(crate) fn obey_instr(cv: &CvSet, running: &mut Running, instr: &Option<Instr>)
+    ensures { running.new ≡ obeyed_if cv.now running.old instr.now }
+{
+    if let Some(instr) = instr {
+        if concerns(cv, instr) {
+            *running = after_instr(cv, *running, *instr);
+        }
+    }
+}
+
+/// Whether an instruction is for a locomotive decoder with these settings: for all of them, or for its address.
+#[inline]
+fn concerns(cv: &CvSet, instr: &Instr) -> bool
+    ensures { result ≡ concerns cv.now instr.now }
+{
+    match instr {
+        Instr::Idle | Instr::Accessory { .. } => false,
+        Instr::Reset | Instr::StopAll { .. } => true,
+        Instr::Speed { address, .. }
+        | Instr::Speed128 { address, .. }
+        | Instr::GroupOne { address, .. }
+        | Instr::GroupTwo { address, .. }
+        | Instr::GroupThree { address, .. } => is_own(cv, *address),
     }
 }
 
 /// How it runs after an instruction.
+#[inline(never)]
 fn after_instr(cv: &CvSet, running: Running, instr: Instr) -> Running
     ensures { result ≡ obeyed cv.now running instr }
 {

@@ -1,7 +1,7 @@
 //! What a packet does to an accessory decoder.
 ghost use Rattle.std.specs.Prelude.{◌≡◌, ◌<◌, Bool, if◌then◌else◌};
 ghost use Rattle.decoder_node.specs.Bits.{with_bits};
-ghost use Rattle.decoder_node.specs.Switched.{switch, switched, output_of};
+ghost use Rattle.decoder_node.specs.Switched.{switch, switched, switched_if, output_of};
 
 use dcc_packet::{Instr, Module, Packet, read};
 
@@ -11,9 +11,17 @@ use dcc_packet::{Instr, Module, Packet, read};
 pub(crate) fn after_packet(own: Module, outputs: u8, packet: &Packet) -> u8
     ensures { result ≡ switch own outputs packet.now }
 {
-    match read(packet) {
+    after_said(own, outputs, &read(packet))
+}
+
+/// Its outputs after what a packet spells.
+#[inline]
+pub(crate) fn after_said(own: Module, outputs: u8, instr: &Option<Instr>) -> u8
+    ensures { result ≡ switched_if own outputs instr.now }
+{
+    match instr {
         None => outputs,
-        Some(instr) => after_instr(own, outputs, instr),
+        Some(instr) => after_instr(own, outputs, *instr),
     }
 }
 

@@ -13,7 +13,7 @@ mod wave;
 
 use dcc_packet::Packet;
 pub use duration::duration_in_micros;
-pub use laws::durations_are_bounded;
+pub use laws::{durations_are_bounded, halves_are_a_wave};
 pub use wave::Halves;
 
 /// The half-bits of `packet` from its preamble of 14 ones to the one that closes it, in microseconds.

@@ -1,4 +1,3 @@
-pub mod Drained
 pub mod Hearing
 pub mod Told
 pub mod Fields

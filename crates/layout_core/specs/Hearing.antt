@@ -1,6 +1,6 @@
 -- What the decoders of a layout make of the packets that they hear.
 use Rattle.std.specs.Prelude.{ℕ, ◌≡◌, Bool, true, false, List, [], ◌∷◌}
-use Rattle.dcc_packet.specs.Wave.{IsWave}
+use Rattle.half_bits.specs.Halves.{halves_of}
 use Rattle.decoder_node.specs.Accessory.{heard_all as heard_all_accessory}
 use Rattle.decoder_node.specs.Loco.{heard_all as heard_all_loco}
 use Rattle.decoder_node.specs.Obey.{runs}
@@ -23,10 +23,10 @@ HeardHalves halves (Accessory old) (Accessory new) = new ≡ heard_all_accessory
 HeardHalves halves (Loco old) (Accessory new) = ⊥
 HeardHalves halves (Accessory old) (Loco new) = ⊥
 
--- What a packet that it hears whole does: it comes as half-bits that are a wave of it; no packet is under way then,
+-- What a packet that it hears whole does: what all half-bits of it do, one after another; no packet is under way then,
 -- whatever was heard before, and where none was under way before, the node obeyed this packet.
 pub record HearsPacket (packet : List ℕ) (old new : Node) : Type 0 where
-  pub in_halves : (halves : List ℕ) × IsWave packet halves × HeardHalves halves old new
+  pub in_halves : HeardHalves (halves_of packet) old new
   pub kept : spec_of new ≡ spec_of old
   pub settles : IsBetween new
   pub obeys : IsBetween old → Obeyed (packet ∷ []) old new

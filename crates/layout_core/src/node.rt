@@ -1,12 +1,11 @@
 //! A decoder on the track.
 ghost use Rattle.std.specs.Prelude.{◌≡◌, ◌∷◌, []};
 
-use dcc_packet::Packet;
+use dcc_packet::{Instr, Packet};
 use decoder_cv::CvSet;
 use decoder_node::{Accessory, Loco, NodeSpec, Running};
-use half_bits::halves;
 
-/// A decoder on the track, which hears packets half by half.
+/// A decoder on the track, which hears packets.
 #[derive(Debug, Drop)]
 pub(crate) enum Node {
     /// A locomotive decoder.
@@ -16,6 +15,7 @@ pub(crate) enum Node {
 }
 
 impl Node {
+    ghost use Rattle.dcc_packet.specs.Reading.{instruction_of};
     ghost use Rattle.layout_core.specs.Nodes.{node_of, running_of, outputs_of};
     ghost use Rattle.layout_core.specs.Hearing.{HeardHalves, HearsPacket};
 
@@ -29,13 +29,15 @@ impl Node {
         }
     }
 
-    /// Hears a packet, half by half through its receiver.
-    pub(crate) fn hear(&mut self, packet: &Packet)
+    /// Hears a packet that spells this instruction, or none: it does what its receiver would make of each half-bit.
+    #[inline]
+    pub(crate) fn hear(&mut self, packet: &Packet, instr: &Option<Instr>)
+        requires read { instr.now ≡ instruction_of packet.now }
         ensures hears { HearsPacket packet.now self.old self.new }
     {
         match self {
-            Node::Loco(loco) => loco.hear_all(halves(packet)),
-            Node::Accessory(accessory) => accessory.hear_all(halves(packet)),
+            Node::Loco(loco) => loco.hear_packet(packet, instr),
+            Node::Accessory(accessory) => accessory.hear_packet(packet, instr),
         }
     }
 

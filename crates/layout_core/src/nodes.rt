@@ -1,6 +1,7 @@
 //! The decoders of a layout.
 ghost use Rattle.std.specs.Prelude.{◌≡◌, ◌==◌, ℕ, ◌<◌, ◌≤◌, List, length, map};
 ghost use Rattle.std.specs.List.{slice_index_or};
+ghost use Rattle.dcc_packet.specs.Reading.{instruction_of};
 ghost use Rattle.layout_core.specs.declared.node.Node.{Node as NodeValue};
 ghost use Rattle.layout_core.specs.Nodes.{node_of, spec_of, running_of, outputs_of, is_missed};
 ghost use Rattle.layout_core.specs.Hearing.{AfterPacket};
@@ -8,7 +9,7 @@ ghost use Rattle.layout_core.specs.World.{OneHears};
 
 use crate::node::Node;
 use arrayvec::ArrayVec;
-use dcc_packet::Packet;
+use dcc_packet::{Instr, Packet, read};
 use decoder_node::{NodeList, Running};
 use std::marker::Model;
 
@@ -45,12 +46,17 @@ impl Nodes {
     }
 
     /// Each node hears this packet, but for node i where bit i of `missed` is set. Bits past the last node mean nothing.
+    ///
+    /// The packet is read once, for all of them, and not where there is none.
     pub fn hear(&mut self, packet: &Packet, missed: u64)
         ensures count { length self.new ≡ length self.old }
         ensures specs { map spec_of self.new ≡ map spec_of self.old }
         ensures each { (i : ℕ) (none : NodeValue) → i < length self.old → AfterPacket (is_missed missed i) packet.now (slice_index_or self.old i none) (slice_index_or self.new i none) }
     {
-        hear_each(self.nodes.as_mut_slice(), packet, missed);
+        if self.is_empty() {
+            return;
+        }
+        hear_each(self.nodes.as_mut_slice(), packet, &read(packet), missed);
     }
 
     /// Node i alone hears a half-bit of this many microseconds that belongs to no packet.
@@ -94,15 +100,16 @@ impl Nodes {
     }
 }
 
-/// Each of these nodes hears the packet, but for those whose bit is set.
-fn hear_each(nodes: &mut [Node], packet: &Packet, missed: u64)
+/// Each of these nodes hears the packet, which spells this instruction, or none, but for those whose bit is set.
+fn hear_each(nodes: &mut [Node], packet: &Packet, instr: &Option<Instr>, missed: u64)
     requires fits { length nodes.old ≤ 64 }
+    requires read { instr.now ≡ instruction_of packet.now }
     ensures specs { map spec_of nodes.new ≡ map spec_of nodes.old }
     ensures each { (i : ℕ) (none : NodeValue) → i < length nodes.old → AfterPacket (is_missed missed i) packet.now (slice_index_or nodes.old i none) (slice_index_or nodes.new i none) }
 {
     for (i, node) in nodes.iter_mut().enumerate() {
         if !is_missed(missed, i) {
-            node.hear(packet);
+            node.hear(packet, instr);
         }
     }
 }

@@ -2,7 +2,7 @@
 
 use crate::node::Node;
 use crate::{Event, Nodes, World};
-use dcc_packet::{Module, Motion, Packet, Steps};
+use dcc_packet::{Module, Motion, Packet, Steps, read};
 use decoder_cv::CvSet;
 use decoder_node::{NodeList, NodeSpec, Running};
 use half_bits::halves;
@@ -195,7 +195,8 @@ fn locomotives_and_accessory_decoders_share_a_track(rt: HostRuntime) -> Result<(
 #[test]
 fn a_node_hears_by_itself(rt: HostRuntime) -> Result<(), Fail> {
     let mut node = Node::default();
-    node.hear(&Packet::of(&[0x03, 0x78, 0x7B]).ok_or("no packet")?);
+    let packet = Packet::of(&[0x03, 0x78, 0x7B]).ok_or("no packet")?;
+    node.hear(&packet, &read(&packet));
     assert!(rt; (node.running(), node.outputs()) == runs(step(Steps::S14, 7), true, 1));
     Ok(())
 }

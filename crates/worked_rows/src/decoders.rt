@@ -1,9 +1,10 @@
 //! What decoders make of packets that were worked out by hand from S-9.2 and S-9.2.1.
 
 use arrayvec::ArrayVec;
-use dcc_packet::{Module, Motion, Steps};
+use dcc_packet::{Module, Motion, Packet, Steps, read};
 use decoder_cv::CvSet;
 use decoder_node::{Accessory, Loco, NodeList, NodeSpec, Running};
+use half_bits::halves;
 use std::process::Abort;
 use std::test::Fail;
 
@@ -153,5 +154,102 @@ fn a_list_of_decoders_is_filled_by_default(rt: HostRuntime) -> Result<(), Fail> 
     let loco = NodeSpec::Loco(CvSet::new(3, 0, 0, 0)?);
     assert!(rt; NodeList::new().len() == 0);
     assert!(rt; NodeSpec::default() == loco);
+    Ok(())
+}
+
+/// Packets, always the same ones: a linear congruence gives their bytes.
+#[derive(Drop)]
+struct Packets {
+    state: u16,
+}
+
+impl Packets {
+    fn byte(&mut self) -> u8 {
+        self.state = self.state.wrapping_mul(25173).wrapping_add(13849);
+        (self.state / 256) as u8
+    }
+
+    /// Of the decoders' own addresses, of others, for all, and some with a wrong check.
+    fn packet(&mut self) -> Option<Packet> {
+        let first = match self.byte() % 8 {
+            0 => 0x00,
+            1 | 2 => 0x81,
+            3 => 0x04,
+            _ => 0x03,
+        };
+        let second = self.byte();
+        let check = first ^ second ^ u8::from(self.byte() < 32);
+        if self.byte() < 64 {
+            Packet::of(&[first, 0x3F, second, check ^ 0x3F])
+        } else {
+            Packet::of(&[first, second, check])
+        }
+    }
+}
+
+/// Decoders that hear packets at once, and decoders of the same kinds that hear them half by half.
+#[derive(Drop)]
+struct Pairs {
+    locos: (Loco, Loco),
+    accessories: (Accessory, Accessory),
+}
+
+impl Pairs {
+    fn hear_packet(&mut self, packet: &Packet) {
+        let instr = read(packet);
+        self.locos.0.hear_packet(packet, &instr);
+        self.locos.1.hear_all(halves(packet));
+        self.accessories.0.hear_packet(packet, &instr);
+        self.accessories.1.hear_all(halves(packet));
+    }
+
+    fn hear_halves(&mut self, halves: &[u16]) {
+        self.locos.0.hear_all(halves.iter().copied());
+        self.locos.1.hear_all(halves.iter().copied());
+        self.accessories.0.hear_all(halves.iter().copied());
+        self.accessories.1.hear_all(halves.iter().copied());
+    }
+
+    fn check(&self, rt: &impl Abort) {
+        assert!(rt; self.locos.0.running() == self.locos.1.running());
+        assert!(rt; self.accessories.0.outputs() == self.accessories.1.outputs());
+    }
+}
+
+/// How many halves of a wave came before: none, a part of its preamble, all of that and a half, a byte that begins, half
+/// of a bit in it, all its bits, and half a bit more.
+const HEARD_BEFORE: [usize; 7] = [0, 9, 29, 30, 35, 46, 47];
+
+#[test]
+fn a_packet_at_once_does_what_its_halves_do(rt: HostRuntime) -> Result<(), Fail> {
+    let module = Module::new(1).ok_or("no module")?;
+    let cv = CvSet::new(3, 0, 0, 2)?;
+    let mut pairs = Pairs {
+        locos: (Loco::new(cv), Loco::new(cv)),
+        accessories: (Accessory::new(module), Accessory::new(module)),
+    };
+    let mut packets = Packets { state: 1 };
+    let mut changes = 0_usize;
+    let before = wave_of(&[0x03, 0x68, 0x6B]);
+    // Behind a packet 18 one halves are enough, and 17 are not.
+    let probes = [wave_of(&[0x03, 0x81, 0x82]), wave_of(&[0x81, 0xFA, 0x7B])];
+    for round in 0..40_usize {
+        for cut in &HEARD_BEFORE {
+            pairs.hear_halves(before.get(..*cut).unwrap_or(&[]));
+            if round % 4 == 3 {
+                pairs.hear_halves(&[75]);
+            }
+            let was = pairs.locos.0.running();
+            pairs.hear_packet(&packets.packet().ok_or("no packet")?);
+            pairs.check(&rt);
+            changes = changes.wrapping_add(usize::from(pairs.locos.0.running() != was));
+            for probe in &probes {
+                pairs.hear_halves(probe.get(10 + round % 2..).unwrap_or(&[]));
+                pairs.check(&rt);
+            }
+        }
+    }
+    // Of 280 packets more than half come in mid-packet, and half of the others are for others or say nothing.
+    assert!(rt; changes > 20);
     Ok(())
 }
