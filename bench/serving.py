@@ -94,6 +94,7 @@ class Client:
         self.stream = server.connect(seconds)
         self.lines = self.stream.makefile("rb")
         if not self.hear().startswith("VERSION "):
+            self.__exit__()
             raise ConnectionError("no place")
 
     def __enter__(self):

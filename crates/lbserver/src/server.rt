@@ -47,7 +47,7 @@ pub(crate) struct Server {
 }
 
 impl Server {
-    /// Lets in who waits, hears each client, and writes to each.
+    /// Hears each client, writes to each, and lets in who waits.
     pub(crate) fn round<W: Wire, P: Witness>(
         &mut self,
         wire: &mut W,
@@ -57,12 +57,12 @@ impl Server {
         ensures served { OnOk result (GoesOn self.old.turns (W.passed wire.old) (W.passed wire.new) self.old.hub self.new.hub) }
     {
         self.is_behind = false;
-        self.let_in(wire, witness)?;
         for client in 0..8u8 {
             self.hear(client, wire, witness)?;
             self.write_all(wire, witness)?;
         }
-        Ok(())
+        // Last, so that who has gone meanwhile holds no place.
+        self.let_in(wire, witness)
     }
 
     /// Lets in who waits, where a place is free; who else waits is turned away.
@@ -79,7 +79,9 @@ impl Server {
                 return Ok(());
             }
         }
-        turn_away(wire);
+        if turn_away(wire) {
+            self.is_behind = true;
+        }
         Ok(())
     }
 
@@ -283,13 +285,15 @@ fn turns_behind(turns: Option<u8>, told: &Told) -> u8
     }
 }
 
-/// Tells those who wait that no place is free. As many at most as there are places, so that nobody holds up the others.
-fn turn_away<W: Wire>(wire: &mut W)
+/// Tells those who wait that no place is free, as many at most as there are places, so that nobody holds up the others.
+/// True where more may wait.
+fn turn_away<W: Wire>(wire: &mut W) -> bool
     ensures { Grows (W.passed wire.old) (W.passed wire.new) [] }
 {
     for _ in 0..8u8 {
         if !wire.turn_away() {
-            return;
+            return false;
         }
     }
+    true
 }

@@ -1,4 +1,5 @@
 use Rattle.std.proofs.Common.{◌∙◌}
+use Rattle.std.proofs.lemmas.Result.{on_ok_weaker}
 use Rattle.lbserver.proofs.Going.{goes_by}
 use Rattle.lbserver.proofs.server.Server.round.Goals as goal
 
@@ -16,3 +17,11 @@ loop-client-preserved g c =
           first.invariant.served c.in_ok-hear.ensures.served)
           c.in_ok-write_all.ensures.served;
     }
+
+pub returns-clause-served : goal.returns-clause-served
+returns-clause-served g c =
+    let first = c.loop-client in
+    on_ok_weaker c.let_in.result
+    (goes_by c.args.self.now.turns first.self.turns (g.W.Wire.passed c.args.wire.now) (g.W.Wire.passed first.wire) (g.W.Wire.passed c.let_in.new.wire)
+    c.args.self.now.hub first.self.hub c.let_in.new.self.hub first.invariant.turns first.invariant.served)
+    c.let_in.ensures.served
