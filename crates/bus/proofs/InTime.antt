@@ -1,26 +1,22 @@
 -- From a cycle told by time to one told by turns.
-use Rattle.std.proofs.Common.{◌≡◌, ℕ, ◌+◌, ◌*◌, ◌<◌, ◌≤◌, Bool, true, false, if◌then◌else◌, nat_le, List, [], ◌∷◌, ◌++◌, All, length, Option, Some, None, refl, ap, ap₂, sym, subst, ◌∙◌, arith, append_assoc, inl, inr, length-append}
-use Rattle.std.specs.List.{list_all, slice_index_or}
-use Rattle.std.proofs.lemmas.Bool.{and_parts, and_from, cases_lt}
+use Rattle.std.proofs.Common.{◌≡◌, ℕ, ◌+◌, ◌*◌, ◌≤◌, Bool, true, false, if◌then◌else◌, nat_le, List, [], ◌∷◌, ◌++◌, All, length, Option, Some, None, refl, ap, sym, subst, ◌∙◌, arith, append_assoc, length-append}
+use Rattle.std.specs.List.{list_all}
+use Rattle.std.proofs.lemmas.Bool.{and_parts, and_from}
 use Rattle.std.proofs.lemmas.List.Elements.{All-append, All-cons, All-nil}
-use Rattle.dcc_packet.specs.Kinds.{kinds}
 use Rattle.over_tcp.specs.declared.ask.Ask.{Ask}
 use Rattle.over_tcp.specs.declared.ask.Ask.TheVariants.{Send, Refused}
 use Rattle.slot_table.specs.Entry.{Entry}
-use Rattle.station_core.specs.declared.call.Call.{Call}
 use Rattle.station_core.specs.Known.{Known, told_all}
-use Rattle.station_core.specs.Moments.{IsFullCycle, slots_refreshed, turns_in, turns_of}
+use Rattle.station_core.specs.Moments.{slots_refreshed, turns_in}
 use Rattle.station_core.specs.Moved.{packet_of_turn}
 use Rattle.station_core.specs.Seen.{Seen, known_of}
-use Rattle.decoder_node.specs.LocoDecoder.{LocoDecoder}
 use Rattle.layout_core.specs.declared.event.Event.{Event as LayoutEvent}
 use Rattle.layout_core.specs.declared.event.Event.TheVariants.{Byte as LayoutByte, Turn as LayoutTurn, Noise as LayoutNoise}
 use Rattle.layout_core.specs.declared.node.Node.{Node}
 use Rattle.layout_core.specs.Cycle.{IsCycleOf, RunsAsWanted}
-use Rattle.layout_core.specs.Events.{NoNoise, calls_in, calls_of}
+use Rattle.layout_core.specs.Events.{NoNoise, calls_in}
 use Rattle.bus.specs.declared.event.Event.{Event}
 use Rattle.bus.specs.declared.event.Event.TheVariants.{Joins, Hears, Leaves, Passes, Turn}
-use Rattle.bus.specs.declared.event.Told.{Told}
 use Rattle.bus.specs.declared.event.Told.TheVariants.{Nothing, Turned}
 use Rattle.bus.specs.Bus.{AreEvents, SeenBus, after_event, after_events, ask_at, client_of, is_event, lasts, told_asked, told_by, told_of}
 use Rattle.bus.specs.Course.{lasting, micros_in, turns_lasting}
@@ -108,8 +104,13 @@ pub turns_told : (events : List Event) (bus : SeenBus) → turns_in (calls_in (l
 turns_told [] bus = refl
 turns_told (event ∷ events) bus =
     let later : SeenBus = after_event bus event in
-    omega (arith, turns-append (layout_event bus event) (layout_events later events), event_turns bus event, turns_told events later,
-    length-append (lasting (told_by bus event)) (turns_lasting (told_of later events)))
+    omega (
+      arith,
+      turns-append (layout_event bus event) (layout_events later events),
+      event_turns bus event,
+      turns_told events later,
+      length-append (lasting (told_by bus event)) (turns_lasting (told_of later events)),
+    )
 
 -- None lasts longer than the longest packet.
 

@@ -1,8 +1,8 @@
 -- What each event keeps of a bus, and what it is to the layout and to time.
-use Rattle.std.proofs.Common.{◌≡◌, ℕ, ◌+◌, ◌-◌, ◌<◌, ◌≤◌, Bool, true, false, List, [], ◌∷◌, ◌++◌, length, Option, Some, None, refl, ap, ap₂, sym, subst, ◌∙◌, arith, inl, inr, if◌then◌else◌, nat_le, nat_lt, replicate, zero, suc, All}
+use Rattle.std.proofs.Common.{◌≡◌, ℕ, ◌+◌, ◌-◌, ◌<◌, ◌≤◌, Bool, true, false, List, [], ◌∷◌, length, Option, Some, None, refl, ap, sym, subst, ◌∙◌, arith, inl, inr, if◌then◌else◌, nat_lt, replicate}
 use Rattle.std.specs.Prelude.{IfSome, IsTrue, slice_set}
-use Rattle.std.specs.List.{after_first, list_all}
-use Rattle.std.proofs.lemmas.Bool.{and_parts, cases_Bool, cases_lt, ltb-true, leb-true, le-leb, lt-leb}
+use Rattle.std.specs.List.{after_first}
+use Rattle.std.proofs.lemmas.Bool.{cases_lt, ltb-true, leb-true, le-leb, lt-leb}
 use Rattle.std.proofs.lemmas.List.{length-set}
 use Rattle.dcc_packet.specs.Packet.{is_checked}
 use Rattle.dcc_packet.specs.Sent.{idle_bytes}
@@ -10,12 +10,11 @@ use Rattle.half_bits.specs.Halves.{duration_of}
 use Rattle.ln_frame.specs.Message.{IsWhole, has_form, is_whole}
 use Rattle.over_tcp.specs.declared.ask.Ask.{Ask}
 use Rattle.over_tcp.specs.declared.ask.Ask.TheVariants.{Send, Refused}
-use Rattle.over_tcp.specs.declared.ask.Reason.TheVariants.{TooLong, NotHex, NoMessage, WrongCheck}
+use Rattle.over_tcp.specs.declared.ask.Reason.TheVariants.{TooLong, NoMessage, WrongCheck}
 use Rattle.over_tcp.specs.Asked.{ask_to_send, asked_of, bytes_of, is_blank, is_send, words_of}
-use Rattle.over_tcp.specs.Reading.{ask_of_byte}
 use Rattle.over_tcp.specs.Text.{is_end}
 use Rattle.station_core.specs.declared.call.Call.TheVariants.{Turn as TurnCall}
-use Rattle.station_core.specs.Moved.{after_message, after_turn, packet_of_turn}
+use Rattle.station_core.specs.Moved.{after_turn, packet_of_turn}
 use Rattle.station_core.specs.Runs.{state_of}
 use Rattle.station_core.specs.Seen.{Seen}
 use Rattle.layout_core.specs.declared.event.Event.{Event as LayoutEvent}
@@ -27,7 +26,7 @@ use Rattle.bus.specs.declared.event.Told.TheVariants.{Nothing, Turned}
 use Rattle.bus.specs.Bus.{SeenBus, after_event, ask_at, client_of, is_event, kept_at, lasts, station_asked, told_asked, told_by, turned}
 use Rattle.bus.specs.Course.{lasting, micros_of}
 use Rattle.bus.specs.Kept.{IsKept}
-use Rattle.bus.specs.Layout.{bytes_on, layout_asked, layout_event, turn_of}
+use Rattle.bus.specs.Layout.{layout_asked, layout_event, turn_of}
 use Rattle.bus.specs.Time.{HasPassed}
 use Rattle.bus.proofs.Account.{begins, nothing, passes}
 use Rattle.bus.proofs.Whole.{Promised, whole_after}
@@ -194,7 +193,7 @@ passed_by laws bus (Hears client byte) h legal = no_time bus.left bus.left _ h.u
 passed_by laws bus (Turn missed) h legal = turn_passed laws bus bus.left (omega arith) (omega arith)
 passed_by laws bus (Passes micros missed) h legal = elim (cases_lt micros bus.left) [
   | inl less ↦ agrees bus (Passes micros missed) micros Nothing (record bus { left = bus.left - micros }) (told_on bus micros missed less) (passes_on bus micros missed less)
-    (passes bus.left micros less)
+      (passes bus.left micros less)
   | inr ends ↦ agrees bus (Passes micros missed) micros (Turned (packet_of_turn bus.station)) (turned bus micros) (told_over bus micros missed ends) (passes_over bus micros missed ends)
-    (turn_passed laws bus micros ends (omega (arith, leb-true micros 5796 legal, h.under_way)))
+      (turn_passed laws bus micros ends (omega (arith, leb-true micros 5796 legal, h.under_way)))
 ]

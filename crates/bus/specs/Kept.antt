@@ -1,5 +1,5 @@
 -- What every bus keeps.
-use Rattle.std.specs.Prelude.{ℕ, ◌≡◌, ◌<◌, ◌≤◌, [], length, replicate}
+use Rattle.std.specs.Prelude.{◌≡◌, ◌<◌, ◌≤◌, [], length, replicate}
 use Rattle.bus.specs.Bus.{SeenBus}
 
 -- Between two events no line holds the beginning of a message, there are eight places, and a turn is under way that lasts

@@ -1,6 +1,6 @@
 //! The laws of a bus, each as a function that does nothing and ensures it: a call hands the law to a proof.
-ghost use Rattle.std.specs.Prelude.{◌≡◌, ℕ, if◌then◌else◌, List, [], ◌∷◌, ◌++◌, Option, None, IsFalse, IsTrue, is_some, length};
-ghost use Rattle.std.specs.List.{flat_map};
+ghost use Rattle.std.specs.Prelude.{◌≡◌, ℕ, if◌then◌else◌, List, [], ◌∷◌, ◌++◌, Option, None, IsFalse, IsTrue, is_some, length, true};
+ghost use Rattle.std.specs.List.{flat_map, list_all};
 ghost use Rattle.station_core.specs.Powered.{HasDesk};
 ghost use Rattle.station_core.specs.Seen.{known_of};
 ghost use Rattle.layout_core.specs.declared.node.Node.{Node};
@@ -14,7 +14,7 @@ ghost use Rattle.bus.specs.declared.event.Event.TheVariants.{Joins, Leaves};
 ghost use Rattle.bus.specs.declared.event.Told.{Told};
 ghost use Rattle.bus.specs.declared.event.Told.TheVariants.{Joined, Left};
 ghost use Rattle.bus.specs.Bus.{AreEvents, SeenBus, after_event, after_events, client_of, first_bus, is_event, told_of};
-ghost use Rattle.bus.specs.Course.{micros_in, turns_lasting};
+ghost use Rattle.bus.specs.Course.{is_time, micros_in, turns_lasting};
 ghost use Rattle.bus.specs.Cycle.{RunsInTime};
 ghost use Rattle.bus.specs.Kept.{IsKept};
 ghost use Rattle.bus.specs.Layout.{layout_event, layout_events};
@@ -39,6 +39,15 @@ pub fn events_are_the_layout()
     whole_message();
     packets_are_short();
     durations_are_bounded();
+}
+
+/// Time brings the same turns, however it is cut into events.
+pub fn however_cut()
+    ensures { (bus : SeenBus) (these those : List Event) → IsKept bus → AreEvents these → AreEvents those
+        → list_all is_time these ≡ true → list_all is_time those ≡ true → micros_in bus these ≡ micros_in bus those
+        → (after_events bus these ≡ after_events bus those) × (turns_lasting (told_of bus these) ≡ turns_lasting (told_of bus those)) }
+{
+    events_are_the_layout();
 }
 
 /// What the decoders of a bus heard of its events, however the list is cut, and so the headline, by turns and by time.

@@ -12,5 +12,5 @@ mod turning;
 
 pub use bus::Bus;
 pub use event::{Event, Told};
-pub use laws::{events_are_the_layout, headline, own_lines, told_since_joining};
+pub use laws::{events_are_the_layout, headline, however_cut, own_lines, told_since_joining};
 pub use time::time_adds_up;

@@ -21,7 +21,7 @@ unfoldable pub turns_rule : Rule
 turns_rule = number (codes "turns") 0 255
 
 unfoldable pub clients_rule : Rule
-clients_rule = number (codes "clients") 1 4294967295
+clients_rule = number (codes "clients") 0 4294967295
 
 -- `--track`, a flag without a value
 unfoldable pub track_rule : Rule
@@ -69,7 +69,7 @@ pub record IsServerOrder (rows : List Row) (order : ServerOrder) : Type 0 where
   pub at_port : IsNumber (one_of (codes "port") rows) 1 65535 order.port
   pub with_roster : order.roster ≡ first_of (codes "roster") rows
   pub each_turns : IsNumberIfGiven (one_of (codes "turns") rows) 0 255 order.turns
-  pub most_clients : IsNumberIfGiven (one_of (codes "clients") rows) 1 4294967295 order.clients
+  pub most_clients : IsNumberIfGiven (one_of (codes "clients") rows) 0 4294967295 order.clients
   pub shows_track : IsFlag (one_of (codes "track") rows) order.track
   pub share_lost : IsNumber (one_of (codes "lose") rows) 0 99 order.lose
   pub with_seed : IsNumber (one_of (codes "seed") rows) 0 4294967295 order.seed

@@ -90,7 +90,7 @@ fn matched(alloc: Global, found: &ArgMatches<'_>) -> Result<ServerOrder, OrderFa
         port: port as u16,
         roster: file_name(alloc, found, "roster")?,
         turns: number_if_given(alloc, found, "turns", 0, 255)?.map(|turns| turns as u8),
-        clients: number_if_given(alloc, found, "clients", 1, u32::MAX)?,
+        clients: number_if_given(alloc, found, "clients", 0, u32::MAX)?,
         track,
         lose: lose as u8,
         seed,

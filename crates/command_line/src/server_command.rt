@@ -53,8 +53,8 @@ fn clients<'a>(alloc: Global) -> Arg<'a>
     ensures rule { rule_of result ≡ clients_rule }
     ensures local { result.global ≡ false }
 {
-    number(alloc, "clients", "C", 1, u32::MAX).help(
-        "How many clients are served before it ends; without it there is no end",
+    number(alloc, "clients", "C", 0, u32::MAX).help(
+        "Ends once so many clients have come and gone, at once with 0; without it there is no end",
     )
 }
 

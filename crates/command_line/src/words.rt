@@ -85,7 +85,7 @@ pub struct ServerOrder {
     pub roster: Option<FileName>,
     /// Track turns after each message, 0 to 255. Without it the track runs in real time.
     pub turns: Option<u8>,
-    /// How many clients are served before it ends, at least 1. Without it there is no end.
+    /// How many clients come and go before it ends, at once with 0. Without it there is no end.
     pub clients: Option<u32>,
     /// Whether the packets on the track are printed.
     pub track: bool,

@@ -96,6 +96,9 @@ fn serve<O: Write>(
         return Err(RunFault::Network);
     };
     for _round in 0..u64::MAX {
+        if clients.is_some_and(|clients| printer.gone() >= clients) {
+            break;
+        }
         if sockets.wait(longest_wait(server)).is_err() {
             return Err(RunFault::Network);
         }
@@ -104,9 +107,6 @@ fn serve<O: Write>(
             pass(rt, server, printer, &mut clock)?;
         }
         printer.flush()?;
-        if clients.is_some_and(|clients| printer.gone() >= clients) {
-            break;
-        }
     }
     Ok(())
 }

@@ -130,10 +130,12 @@ fn eight_clients_are_told_all(rt: HostRuntime) -> Result<(), Fail> {
     for client in clients.as_mut_slice().iter_mut().rev() {
         desk.say(client, b"2 7D\n")?;
     }
-    for (i, client) in clients.as_mut_slice().iter_mut().enumerate() {
-        for said in 0..8usize {
+    let mut own = 8u8;
+    for client in clients.as_mut_slice() {
+        own = own.saturating_sub(1);
+        for said in 0..8u8 {
             hears(&rt, client, &[POWER_OFF])?;
-            if said == 7 - i {
+            if said == own {
                 hears(&rt, client, &[OK])?;
             }
         }

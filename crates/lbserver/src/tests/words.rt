@@ -109,7 +109,7 @@ fn words_that_are_no_order(rt: HostRuntime) {
         &["--port", "0"],
         &["--port", "65536"],
         &["--turns", "256"],
-        &["--clients", "0"],
+        &["--clients", "-1"],
         &["--clients", "4294967296"],
         &["--track", "on"],
         &["--lose", "100"],

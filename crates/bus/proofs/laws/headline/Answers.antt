@@ -1,5 +1,5 @@
 use Rattle.std.proofs.Common.{List, subst, sym}
-use Rattle.station_core.specs.Seen.{Seen, known_of}
+use Rattle.station_core.specs.Seen.{Seen}
 use Rattle.layout_core.specs.declared.event.Event.{Event as LayoutEvent}
 use Rattle.layout_core.specs.World.{HaveHeard}
 use Rattle.bus.specs.Layout.{layout_events}

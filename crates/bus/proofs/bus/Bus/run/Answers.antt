@@ -1,9 +1,8 @@
-use Rattle.std.proofs.Common.{◌≡◌, ◌+◌, ℕ, List, [], ◌∷◌, ◌++◌, take, drop, ap, subst, sym, ◌∙◌, arith, append_assoc, drop_of_length-le, length-set, refl}
+use Rattle.std.proofs.Common.{◌≡◌, ◌+◌, List, [], ◌∷◌, ◌++◌, take, drop, ap, subst, sym, ◌∙◌, arith, append_assoc, drop_of_length-le, length-set}
 use Rattle.std.specs.List.{slice_index_or}
 use Rattle.std.proofs.lemmas.List.{drop_more, take_more_set}
 use Rattle.station_core.specs.Powered.{HasDesk}
 use Rattle.station_core.specs.Seen.{Seen}
-use Rattle.layout_core.specs.declared.event.Event.{Event as LayoutEvent}
 use Rattle.layout_core.specs.declared.node.Node.{Node}
 use Rattle.layout_core.specs.World.{HaveHeard}
 use Rattle.bus.specs.declared.event.Event.{Event}
