@@ -12,11 +12,12 @@ use Rattle.bus.specs.declared.event.Event.{Event}
 use Rattle.bus.specs.declared.event.Event.TheVariants.{Joins, Hears, Leaves, Passes, Turn}
 use Rattle.bus.specs.declared.event.Told.{Told}
 use Rattle.bus.specs.Bus.{AreEvents, SeenBus, after_event, after_events, is_event, told_by, told_of}
+use Rattle.bus.specs.Course.{is_time, micros_in}
 use Rattle.bus.specs.Kept.{IsKept}
 use Rattle.bus.specs.Layout.{layout_event, layout_events}
 use Rattle.lbserver.specs.declared.hub.Hub.{Hub}
 use Rattle.lbserver.specs.Hubs.{GoesOn, serving}
-use Rattle.lbserver.specs.Served.{AreTurns, Does, HaveHappened, Serves, Serving, turns_behind, waiting_behind}
+use Rattle.lbserver.specs.Served.{AreTurns, Does, HasPassed, HaveHappened, Serves, Serving, turns_behind, waiting_behind}
 use Rattle.lbserver.specs.Waiting.{Places, waiting_after, waits}
 use Rattle.lbserver.specs.Wire.{Brought, Grows, Passed}
 
@@ -140,3 +141,26 @@ pub piece_of : (waiting : Option (List ℕ)) (piece : List ℕ) (count : ℕ) �
 piece_of None piece count front some within = absurd (omega (arith, some, ap length front, length-take {A = ℕ} (length piece) []))
 piece_of (Some bytes) piece count front some within =
     ap Some (sym (ap (λ (xs : List ℕ). xs ++ drop count bytes) (ap (take count) front ∙ take-take count (length piece) bytes within) ∙ take-append-drop count bytes))
+
+-- Time that passes.
+
+micros-append : (events later : List Event) (bus : SeenBus) → micros_in bus (events ++ later) ≡ micros_in bus events + micros_in (after_events bus events) later
+micros-append [] later bus = omega arith
+micros-append (event ∷ events) later bus = omega (arith, micros-append events later (after_event bus event))
+
+time-append : (events later : List Event) → list_all is_time events ≡ true → list_all is_time later ≡ true → list_all is_time (events ++ later) ≡ true
+time-append [] later h k = k
+time-append (event ∷ events) later h k =
+    let p = and_parts (is_time event) (list_all is_time events) h in
+    and_from (is_time event) (list_all is_time (events ++ later)) p.0 (time-append events later p.1 k)
+
+pub no_time : ((seen : Seen) (nodes : List Node) → HaveHeard seen [] nodes nodes) → (all : Serving) → HasPassed 0 all all
+no_time none all = ([], refl, refl, nothing_happened none all)
+
+pub more_time : AddsUp → (first micros missed : ℕ) (old mid new : Serving) → IsKept old.bus → HasPassed first old mid → HaveHappened (Passes micros missed ∷ []) mid new → HasPassed (first + micros) old new
+more_time adds first micros missed old mid new kept so_far now = (
+  so_far.0 ++ Passes micros missed ∷ [],
+  time-append so_far.0 (Passes micros missed ∷ []) so_far.1 refl,
+  omega (arith, micros-append so_far.0 (Passes micros missed ∷ []) old.bus, so_far.2),
+  happened_more adds so_far.0 (Passes micros missed ∷ []) old mid new kept so_far.3 now,
+)

@@ -1,6 +1,6 @@
 -- What a server makes of what comes over the wire.
 use Rattle.std.specs.Prelude.{ℕ, zero, suc, ◌≡◌, ◌<◌, Bool, true, false, is_some, IsTrue, List, [], ◌∷◌, ◌++◌, length, Option, Some, None, slice_set}
-use Rattle.std.specs.List.{slice_index_or}
+use Rattle.std.specs.List.{list_all, slice_index_or}
 use Rattle.layout_core.specs.declared.node.Node.{Node}
 use Rattle.layout_core.specs.World.{HaveHeard}
 use Rattle.bus.specs.declared.event.Event.{Event}
@@ -8,6 +8,7 @@ use Rattle.bus.specs.declared.event.Event.TheVariants.{Joins, Hears, Leaves, Pas
 use Rattle.bus.specs.declared.event.Told.{Told}
 use Rattle.bus.specs.declared.event.Told.TheVariants.{Nothing, Joined, Left, Refused, Sent, Turned}
 use Rattle.bus.specs.Bus.{AreEvents, SeenBus, after_events, client_of, told_by, told_of}
+use Rattle.bus.specs.Course.{is_time, micros_in}
 use Rattle.bus.specs.Layout.{layout_events}
 use Rattle.lbserver.specs.Waiting.{Places, waiting_after}
 use Rattle.lbserver.specs.Wire.{Brought, Closed, Passed, Put}
@@ -30,6 +31,10 @@ pub record HaveHappened (events : List Event) (old new : Serving) : Type 0 where
   pub bus : new.bus ≡ after_events old.bus events
   pub nodes : HaveHeard old.bus.station (layout_events old.bus events) old.nodes new.nodes
   pub places : new.places ≡ waiting_behind (told_of old.bus events) old.places
+
+-- so much track time passes, however it is cut, and nothing else happens
+abbrev pub HasPassed : (micros : ℕ) → Serving → Serving → Type 0
+HasPassed micros old new = (events : List Event) × (list_all is_time events ≡ true) × (micros_in old.bus events ≡ micros) × HaveHappened events old new
 
 -- how many turns follow a message, where they follow messages and not time
 abbrev pub turns_behind : Option ℕ → Told → ℕ

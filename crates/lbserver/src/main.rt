@@ -36,10 +36,5 @@ fn run(rt: &HostRuntime) -> u8 {
 fn run_words(rt: &HostRuntime) -> Result<u8, RunFault> {
     let words = read_words(rt.alloc(), rt, no_server_text)?;
     let texts = texts(rt.alloc(), words.as_slice())?;
-    Ok(execute(
-        rt,
-        texts.as_slice(),
-        &mut io::writer(rt),
-        &mut rt.stderr(),
-    ))
+    Ok(execute(rt, texts.as_slice(), &mut io::writer(rt), &mut rt.stderr()))
 }

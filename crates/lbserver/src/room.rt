@@ -1,10 +1,8 @@
 //! What waits to be written to a client.
 ghost use Rattle.std.specs.Prelude.{◌≡◌, ◌<◌, ◌≤◌, ◌+◌, ◌==◌, ◌↔◌, ◌++◌, [], IfOk, IsOk, OnErr, OnOk, drop, length, take};
-ghost use Rattle.lbserver.specs.Moves.{Moves};
 
 use circular_buffer::HeapCircularBuffer;
 use std::alloc::{AllocError, Global};
-use std::io::{Error, ErrorKind, Write};
 use std::marker::Model;
 
 /// The most bytes that wait for a client.
@@ -13,10 +11,6 @@ const MOST_WAITING: usize = 65_536;
 /// A text was not taken, since it has no room: the client reads too slowly.
 #[derive(Clone, Copy, Debug, PartialEq, Eq)]
 pub(crate) struct TooSlow;
-
-/// The client takes no more.
-#[derive(Clone, Copy, Debug, PartialEq, Eq)]
-pub(crate) struct Gone;
 
 /// The bytes that wait to be written to a client, at most 65,536, in order.
 ///
@@ -46,13 +40,6 @@ impl Room {
         Ok(Room { bytes })
     }
 
-    /// Whether nothing waits.
-    pub(crate) fn is_empty(&self) -> bool
-        ensures { result ≡ (length self.now == 0) }
-    {
-        self.bytes.is_empty()
-    }
-
     /// Nothing waits from now on.
     pub(crate) fn clear(&mut self)
         ensures { self.new ≡ [] }
@@ -73,27 +60,6 @@ impl Room {
         Ok(())
     }
 
-    /// Writes what waits, until all is written or the writer would block. Where nothing waits, nothing is asked of it.
-    ///
-    /// # Errors
-    ///
-    /// `Gone` where a write takes nothing, or fails but to be tried again later. What was not written waits still.
-    #[tactic(auto, using(crate::proofs::Moving::nothing_left))]
-    pub(crate) fn drain<W: Write>(&mut self, writer: &mut W) -> Result<(), Gone>
-        // What is written and what still waits is what waited.
-        ensures moved { Moves (W.contents writer.old) (W.contents writer.new) self.old self.new }
-        ensures none { self.old ≡ [] → IsOk result }
-    {
-        while !self.is_empty() {
-            match writer.write(self.piece()) {
-                Ok(0) => return Err(Gone),
-                Ok(count) => self.written(count),
-                Err(error) => return blocked(&error),
-            }
-        }
-        Ok(())
-    }
-
     /// The first bytes that wait, as many as lie side by side: some where any wait.
     pub(crate) fn piece(&self) -> &[u8]
         ensures front { result.now ≡ take (length result.now) self.now }
@@ -109,13 +75,5 @@ impl Room {
         ensures { self.new ≡ drop count self.old }
     {
         self.bytes.truncate_front(self.bytes.len() - count);
-    }
-}
-
-/// A writer that would block takes more later.
-fn blocked(error: &Error) -> Result<(), Gone> {
-    match error.kind() {
-        ErrorKind::WouldBlock | ErrorKind::Interrupted => Ok(()),
-        _ => Err(Gone),
     }
 }

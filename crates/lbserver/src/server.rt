@@ -4,7 +4,7 @@ ghost use Rattle.bus.specs.declared.event.Event.{Event as BusEvent};
 ghost use Rattle.bus.specs.declared.event.Event.TheVariants.{Hears};
 ghost use Rattle.bus.specs.Bus.{is_event};
 ghost use Rattle.lbserver.specs.Wire.{Brought, Grows};
-ghost use Rattle.lbserver.specs.Served.{AreTurns, Does, HaveHappened, Serves, turns_behind};
+ghost use Rattle.lbserver.specs.Served.{AreTurns, Does, HasPassed, HaveHappened, Serves, turns_behind};
 ghost use Rattle.lbserver.specs.Hubs.{GoesOn, serving};
 
 use crate::hub::Hub;
@@ -209,23 +209,19 @@ impl Server {
         witness.told(&told, self.hub.bus.world())
     }
 
-    /// So much track time passes, in microseconds.
-    pub(crate) fn pass<P: Witness>(
-        &mut self,
-        micros: u32,
-        witness: &mut P,
-    ) -> Result<(), Unwritten>
+    /// So much track time passes, in microseconds, and nothing else happens.
+    pub(crate) fn pass<P: Witness>(&mut self, micros: u32, witness: &mut P) -> Result<(), Unwritten>
         ensures turns { self.new.turns ≡ self.old.turns }
+        ensures passed { OnOk result (HasPassed micros (serving self.old.hub) (serving self.new.hub)) }
     {
+        headline();
+        events_add_up();
+        self.hub.bus.always_kept();
         let mut rest = micros;
         while rest > 0 {
             let piece = rest.min(SHORTEST_TURN);
             rest -= piece;
-            let missed = if self.hub.bus.left() <= piece {
-                self.draw()
-            } else {
-                0
-            };
+            let missed = self.draw_within(piece);
             let told = self.hub.step(Event::Passes {
                 micros: piece as u16,
                 missed,
@@ -233,6 +229,18 @@ impl Server {
             witness.told(&told, self.hub.bus.world())?;
         }
         Ok(())
+    }
+
+    /// The decoders that miss the turn that begins in so many microseconds; where none begins, nothing is drawn.
+    fn draw_within(&mut self, micros: u32) -> u64
+        ensures turns { self.new.turns ≡ self.old.turns }
+        ensures hub { self.new.hub ≡ self.old.hub }
+    {
+        if self.hub.bus.left() <= micros {
+            self.draw()
+        } else {
+            0
+        }
     }
 
     /// The decoders that miss the turn that begins.

@@ -129,8 +129,5 @@ impl Wire for Sockets {
 
 /// Whether a read or a write only has to be tried again later.
 fn is_only_late(error: &Error) -> bool {
-    matches!(
-        error.kind(),
-        ErrorKind::WouldBlock | ErrorKind::Interrupted
-    )
+    matches!(error.kind(), ErrorKind::WouldBlock | ErrorKind::Interrupted)
 }

@@ -1,6 +1,5 @@
-//! What no clause says: words and what is told of them, writers that block or fail, and shares that are drawn.
+//! What no clause says: words and what is told of them, shares that are drawn, and clients over loopback.
 
 mod losses;
-mod room;
 mod serving;
 mod words;

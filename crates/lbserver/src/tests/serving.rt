@@ -49,12 +49,7 @@ impl Desk {
 
     /// So many rounds.
     fn rounds(&mut self, count: u32) -> Result<(), Fail> {
-        let mut printer = Printer::new(
-            &mut self.printed,
-            None,
-            true,
-            self.server.hub.bus.world(),
-        );
+        let mut printer = Printer::new(&mut self.printed, None, true, self.server.hub.bus.world());
         for _round in 0..count {
             self.server.round(&mut self.sockets, &mut printer)?;
         }
@@ -88,9 +83,13 @@ fn hears_the_end(client: &mut TcpStream) -> Result<bool, Fail> {
 }
 
 const TAKE_3: &'static str = "RECEIVE BF 00 03 43\r\n";
+
 const SLOT_1: &'static str = "RECEIVE E7 0E 01 23 03 00 00 06 00 00 00 00 00 31\r\n";
+
 const POWER_ON: &'static str = "RECEIVE 83 7C\r\n";
+
 const POWER_OFF: &'static str = "RECEIVE 82 7D\r\n";
+
 const OK: &'static str = "SENT OK\r\n";
 
 #[test]
@@ -155,7 +154,10 @@ fn a_line_goes_with_its_client(rt: HostRuntime) -> Result<(), Fail> {
     desk.say(&mut second, b" 7C\nSEND 82 7D\n")?;
     hears(&rt, &mut second, &[POWER_OFF, OK])?;
     hears(&rt, &mut other, &[POWER_OFF])?;
-    assert!(rt; desk.printed.as_slice() == b"client 1 joins\nclient 2 joins\nclient 2 leaves\nclient 2 joins\nmsg 82 7D power off\n".as_slice());
+    assert!(rt;
+        desk.printed.as_slice()
+            == b"client 1 joins\nclient 2 joins\nclient 2 leaves\nclient 2 joins\nmsg 82 7D power off\n".as_slice()
+    );
     Ok(())
 }
 
@@ -205,7 +207,10 @@ fn who_never_reads_is_let_go(rt: HostRuntime) -> Result<(), Fail> {
         desk.rounds(1)?;
         let mut told = [0; 399];
         driver.read_exact(&mut told)?;
-        assert!(rt; told.as_slice().starts_with(b"RECEIVE E5 7F") && told.as_slice().ends_with(b"SENT OK\r\n"));
+        assert!(rt;
+            told.as_slice().starts_with(b"RECEIVE E5 7F")
+                && told.as_slice().ends_with(b"SENT OK\r\n")
+        );
         if !desk.server.hub.bus.has(1) {
             break;
         }
@@ -256,6 +261,9 @@ fn turns_follow_messages(rt: HostRuntime) -> Result<(), Fail> {
     let mut client = desk.client(&rt)?;
     desk.say(&mut client, b"SEND 85 7A\nSEND 83 7C\nSEND 85 7A\n")?;
     desk.rounds(20)?;
-    assert!(rt; desk.printed.as_slice() == b"client 1 joins\nmsg 85 7A force idle\nmsg 83 7C power on\nmsg 85 7A force idle\ntrack 7 00 51 51\ntrack 8 00 51 51\ntrack 9 00 51 51\n".as_slice());
+    assert!(rt;
+        desk.printed.as_slice()
+            == b"client 1 joins\nmsg 85 7A force idle\nmsg 83 7C power on\nmsg 85 7A force idle\ntrack 7 00 51 51\ntrack 8 00 51 51\ntrack 9 00 51 51\n".as_slice()
+    );
     Ok(())
 }

@@ -13,9 +13,10 @@ loop-byte-preserved g c = record {
   rest = λ new later.
       c.loop-byte.invariant.rest new
       (subst (λ (bytes : List ℕ). Serves c.args.self.now.turns (map (λ byte. Brought (Hears c.args.client byte)) bytes) (serving c.loop-byte.self.hub) new)
-      (sym (drop_more c.args.bytes.now c.loop-byte.byte-index 0 c.loop-byte-test.true))
-      (serving c.happen.new.self.hub,
-      subst (λ (turns : Option ℕ). Does turns (Brought (Hears c.args.client (slice_index_or c.args.bytes.now c.loop-byte.byte-index 0))) (serving c.loop-byte.self.hub) (serving c.happen.new.self.hub))
-      c.loop-byte.invariant.turns c.in_ok-happen.ensures.happened,
-      later));
+      (sym (drop_more c.args.bytes.now c.loop-byte.byte-index 0 c.loop-byte-test.true)) (
+        serving c.happen.new.self.hub,
+        subst (λ (turns : Option ℕ). Does turns (Brought (Hears c.args.client (slice_index_or c.args.bytes.now c.loop-byte.byte-index 0))) (serving c.loop-byte.self.hub) (serving c.happen.new.self.hub))
+            c.loop-byte.invariant.turns c.in_ok-happen.ensures.happened,
+        later,
+      ));
 }

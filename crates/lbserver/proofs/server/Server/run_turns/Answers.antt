@@ -24,6 +24,6 @@ loop-turn-preserved g c =
         so_far.0 ++ Turn c.draw-missed.result ∷ [],
         turns_more c.loop-turn._turn c.draw-missed.result so_far.0 so_far.1,
         happened_more c.headline.ensures.more so_far.0 (Turn c.draw-missed.result ∷ []) (serving c.args.self.now.hub) (serving c.loop-turn.self.hub) (serving c.step-told.new.self)
-        c.always_kept.ensures.kept so_far.2 now,
+            c.always_kept.ensures.kept so_far.2 now,
       );
     }
