@@ -7,7 +7,7 @@
 
 #include "station.h"
 
-enum { MOST_DECODERS = 64, MOST_TEXT = 65536, MOST_TURNS = 4096 };
+enum { MOST_DECODERS = 64, MOST_TEXT = 262144, MOST_TURNS = 4096 };
 
 /* What the roster says of a decoder beside what the station keeps: its name, and how its line begins. */
 typedef struct named {
@@ -46,6 +46,10 @@ static char *read_file(const char *name, size_t *size) {
         exit(2);
     }
     *size = fread(into, 1, MOST_TEXT - 1, file);
+    if (fgetc(file) != EOF) {
+        fprintf(stderr, "play: %s is too long\n", name);
+        exit(2);
+    }
     fclose(file);
     return into;
 }

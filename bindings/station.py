@@ -12,6 +12,7 @@ numbers that the library's types do not hold. It is used by one thread at a time
 import ctypes
 import sys
 from ctypes import POINTER, Structure, byref, c_bool, c_size_t, c_uint8, c_uint16, c_uint64, c_void_p
+from dataclasses import dataclass
 
 QUIET, REPLY, PACKET, OFF = range(4)
 STOP, EMERGENCY, STEP = range(3)
@@ -63,6 +64,29 @@ class Motion(Structure):
         ("steps", c_uint8),
         ("forward", c_bool),
     ]
+
+
+@dataclass(frozen=True)
+class SlotData:
+    """A slot, as the station told it (OPC_SL_RD_DATA)."""
+
+    slot: int
+    address: int
+    state: str  # "free", "common", "idle" or "in use"
+    steps: int  # 14, 28 or 128
+    speed: int  # 0 stands, 1 to 126
+    emergency: bool
+    direction: str  # "forward" or "reverse"
+    functions: int  # bit k is Fk, F0 to F8
+    power: str  # "on", "paused" or "off"
+
+
+@dataclass(frozen=True)
+class Acknowledge:
+    """What became of a message (OPC_LONG_ACK), by its opcode."""
+
+    opcode: int
+    accepted: bool
 
 
 def _below(limit, number, what):
@@ -157,6 +181,21 @@ class Station:
             raise ValueError("the station is closed, or there is no such line")
         return _told(answer)
 
+    def send(self, body, line=0):
+        """A whole message comes on a line: `body` is all of it but the check byte, which is added.
+
+        The reply: a SlotData, an Acknowledge, or None where the station answers nothing.
+        """
+        body = bytes(body)
+        if not _is_body(body):
+            raise ValueError(f"no message: {body.hex(' ').upper()}")
+        check = 0xFF
+        for byte in body:
+            check ^= byte
+        answers = self.run([byte_event(line, byte) for byte in (*body, check)])
+        kind, found = answers[-1]
+        return _reply(found) if kind == REPLY else None
+
     def turn(self, missed=0):
         """The track has room for a packet. The answer, a kind and its bytes."""
         event, answer = turn_event(missed), _Answer()
@@ -185,6 +224,33 @@ class Station:
 
     def __exit__(self, *_):
         self.close()
+
+
+def _is_body(body):
+    """Whether one more byte makes a whole message: an opcode, then bytes below 80, as many as the opcode says."""
+    if not body or body[0] < 0x80 or any(byte >= 0x80 for byte in body[1:]):
+        return False
+    if body[0] >= 0xE0:
+        return len(body) > 1 and body[1] == len(body) + 1
+    return len(body) == {0x80: 1, 0xA0: 3, 0xC0: 5}[body[0] & 0xE0]
+
+
+def _reply(found):
+    if found[0] == 0xB4:
+        # The answer to OPC_IMM_PACKET names 7D.
+        return Acknowledge(0xED if found[1] == 0x7D else found[1] | 0x80, found[2] == 0x7F)
+    _, _, slot, stat, low, spd, dirf, trk, _, high, snd, *_ = found
+    return SlotData(
+        slot=slot,
+        address=high * 128 + low,
+        state=("free", "common", "idle", "in use")[stat >> 4 & 3],
+        steps={2: 14, 3: 128, 7: 128}.get(stat & 7, 28),
+        speed=max(spd - 1, 0),
+        emergency=spd == 1,
+        direction="reverse" if dirf & 0x20 else "forward",
+        functions=dirf >> 4 & 1 | (dirf & 15) << 1 | (snd & 15) << 5,
+        power="off" if not trk & 1 else "on" if trk & 2 else "paused",
+    )
 
 
 def _told(answer):
@@ -244,32 +310,83 @@ def sizes():
             yield f"station_{name}.{field} {getattr(kind, field).offset}"
 
 
-def checks(library):
-    """What is wrong is refused, here or by the library, and a list of events answers as its events do one by one."""
+def _refused(call):
+    """The text of the refusal, or None where the call is taken."""
+    try:
+        call()
+    except ValueError as refusal:
+        return str(refusal)
+    return None
+
+
+def _check_layouts(library):
+    """Which layouts are refused and why, what variables are where none are given, and that `with` ends a layout."""
     short = loco(3, cv29=2)
     for lines, decoders in ((0, []), (9, []), (1, [loco(0)]), (1, [accessory(511)]), (1, [short] * 65), (1, "version = 3")):
-        refused = False
-        try:
-            Station(library, lines, decoders)
-        except ValueError:
-            refused = True
-        assert refused, (lines, decoders)
+        assert _refused(lambda: Station(library, lines, decoders)), (lines, decoders)
+    assert _refused(lambda: Station(library, 0, [])) == "the lines are not 1 to 8"
+    second = 'version = 1\n# die zweite geht über die Grenze: é\n' + '[[node]]\nname = "a"\nkind = "accessory"\nmodule = 1\n'
+    second += '[[node]]\nname = "b"\nkind = "accessory"\nmodule = 511\n'
+    assert (_refused(lambda: Station(library, 1, second)) or "").endswith(", at decoder 2")
+    with Station(library, 1, second.replace("511", "510")) as station:
+        assert station.outputs(1) == 0
+    assert station.outputs(1) is None and _refused(station.turn) == "the station is closed"
+    made = loco(3)
+    assert (made.cv1, made.cv17, made.cv18, made.cv29) == (3, 192, 0, 0)
+
+
+def _check_events(library):
+    """A list of events answers as its events do one by one, and numbers are taken up to their limits and no further."""
+    short = loco(3, cv29=2)
     events = [byte_event(0, byte) for byte in bytes.fromhex("BF000343 837C BA010145 A001401E")] + [turn_event(1)] * 20 + [turn_event()] * 20
     with Station(library, 1, [short, accessory(1)]) as one, Station(library, 1, [short, accessory(1)]) as other:
         together = one.run(events)
         apart = [other.byte(e.line, e.byte) if e.kind == BYTE else other.turn(e.missed) for e in events]
         assert together == apart and (one.running(0).kind, one.running(0).step) == (STEP, 63)
         assert one.running(1) is None and one.outputs(0) is None and one.outputs(1) == 0
-        assert one.run([noise_event(0, 58)]) == [(QUIET, b"")] and one.run([]) == []
-        for wrong in (lambda: one.byte(1, 0), lambda: one.byte(0, 256), lambda: one.turn(-1), lambda: one.run([noise_event(2, 58)])):
-            try:
-                wrong()
-            except ValueError:
-                continue
-            raise AssertionError("not refused")
-    for _ in range(2):
-        one.close()
-        assert one.running(0) is None
+        assert one.run([noise_event(0, 58), noise_event(1, 65535)]) == [(QUIET, b"")] * 2 and one.run([]) == []
+        for wrong in (
+            lambda: one.byte(1, 0),
+            lambda: one.byte(0, 256),
+            lambda: one.turn(-1),
+            lambda: one.turn(1 << 64),
+            lambda: one.run([noise_event(2, 58)]),
+            lambda: noise_event(0, 65536),
+        ):
+            assert _refused(wrong)
+    one.close()
+    assert one.running(0) is None
+    # Decoder 63 alone misses everything.
+    with Station(library, 1, [short] * 64) as many:
+        many.run(events[:14] + [turn_event(1 << 63)] * 20)
+        assert [many.running(i).step for i in (0, 62)] == [63, 63] and many.running(63).kind == STOP
+
+
+def _check_messages(library):
+    """What a message is answered, as an object."""
+    with Station(library, 2, [loco(3, cv29=2)]) as station:
+        assert station.send([0x83]) is None
+        found = SlotData(1, 3, "idle", 128, 0, False, "forward", 0, "on")
+        assert station.send([0xBF, 0, 3], line=1) == found
+        assert station.send([0xBA, 1, 1]).state == "in use" and station.send([0xBA, 2, 2]) == Acknowledge(0xBA, False)
+        # Speed 126, reverse, F0, F4 and F5 on, 28 steps; then an emergency stop, and the track paused.
+        assert [station.send(body) for body in ([0xA0, 1, 127], [0xA1, 1, 0x38], [0xA2, 1, 1], [0xB5, 1, 0x30])] == [None] * 4
+        assert station.send([0xBB, 1, 0]) == SlotData(1, 3, "in use", 28, 126, False, "reverse", 1 | 16 | 32, "on")
+        assert station.send([0xA0, 1, 1]) is None and station.send([0x85]) is None
+        assert station.send([0xBB, 1, 0]) == SlotData(1, 3, "in use", 28, 0, True, "reverse", 1 | 16 | 32, "paused")
+        assert station.send([0xED, 0x0B, 0x7F, 0x23, 0x22, 3, 0x21, 0, 0, 0]) == Acknowledge(0xED, True)
+        assert station.send([0xBF, 36, 103]).address == 4711 and station.send([0x82]) is None
+        assert station.send([0xBB, 2, 0]).power == "off" and station.send([0xBD, 0, 0x30]) == Acknowledge(0xBD, True)
+        for body in ([], [3], [0x83, 0], [0xA0, 1], [0xA0, 1, 0x80], [0xED, 0x0B, 0], [0xE7]):
+            assert _refused(lambda: station.send(body)), body
+        assert _refused(lambda: station.send([0x83], line=2))
+
+
+def checks(library):
+    """What the library takes and refuses through this module."""
+    _check_layouts(library)
+    _check_events(library)
+    _check_messages(library)
 
 
 if __name__ == "__main__":

@@ -9,6 +9,11 @@ use Rattle.show_text.specs.Messages.{message_text}
 abbrev pub ended : List ℕ → List ℕ
 ended text = text ++ 10 ∷ []
 
+-- lines, each with its line feed
+abbrev pub lines_text : List (List ℕ) → List ℕ
+lines_text [] = []
+lines_text (line ∷ lines) = ended line ++ lines_text lines
+
 -- a line for each message, in order
 abbrev pub messages_text : List (List ℕ) → List ℕ
 messages_text [] = []

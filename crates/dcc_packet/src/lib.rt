@@ -13,7 +13,9 @@ mod steps;
 pub use address::Address;
 pub use build::{accessory, group_one, group_three, group_two, idle, speed, stop_all};
 pub use instr::Instr;
-pub use laws::{one_spelling, sent_packets_spell, speeds_are_told, spellings_are_read};
+pub use laws::{
+    one_spelling, sent_packets_spell, speeds_are_told, speeds_rise, spellings_are_read,
+};
 pub use module::Module;
 pub use packet::Packet;
 pub use reading::read;

@@ -15,3 +15,4 @@ pub mod Stopping
 pub mod Putting
 pub mod Counting
 pub mod Making
+pub mod Stands

@@ -3,6 +3,7 @@ pub mod Settling
 pub mod Events
 pub mod Played
 pub mod Nodes
+pub mod Standings
 pub mod Hearing
 pub mod Heard
 pub mod World

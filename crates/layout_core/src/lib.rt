@@ -8,6 +8,7 @@ mod laws;
 mod node;
 mod nodes;
 mod port;
+mod standing;
 mod tally;
 mod world;
 mod writing;
@@ -18,6 +19,7 @@ pub use event::Event;
 pub use laws::{events_add_up, headline, others_leave_it, settling};
 pub use nodes::Nodes;
 pub use port::Port;
+pub use standing::Standing;
 pub use world::World;
 
 // What goes into a layout and comes out of it, so that a program needs no other crate.

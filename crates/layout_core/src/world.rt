@@ -9,6 +9,9 @@ ghost use Rattle.layout_core.specs.declared.node.Node.{Node as NodeValue};
 ghost use Rattle.layout_core.specs.Cycle.{RunsAfterNoise, RunsAsWanted};
 ghost use Rattle.layout_core.specs.Nodes.{node_of, outputs_of, running_of, spec_of};
 ghost use Rattle.layout_core.specs.Served.{IsSendableAnswer};
+ghost use Rattle.layout_core.specs.Standings.{standing_of};
+ghost use Rattle.decoder_node.specs.declared.node.NodeSpec.{NodeSpec};
+ghost use Rattle.show_text.specs.Nodes.{IsToldOf};
 ghost use Rattle.layout_core.specs.Events.{calls_in};
 ghost use Rattle.layout_core.specs.Played.{AreEvents, after_event, after_events, answer_to, answers_to, is_event};
 ghost use Rattle.layout_core.specs.World.{AfterEvent, HaveHeard, HaveObeyed, OneHears};
@@ -16,6 +19,7 @@ ghost use Rattle.layout_core.specs.World.{AfterEvent, HaveHeard, HaveObeyed, One
 use crate::event::Event;
 use crate::laws::headline;
 use crate::nodes::Nodes;
+use crate::standing::Standing;
 use decoder_node::{NodeList, Running};
 use station_core::{Station, StationFault, Step, calls_are_moves, stays_a_desk};
 use std::alloc::Global;
@@ -72,6 +76,19 @@ impl World {
         ensures { (none : NodeValue) → result ≡ outputs_of (slice_index_or self.now.nodes i none) }
     {
         self.nodes.outputs(i)
+    }
+
+    /// How decoder i stands.
+    pub fn standing(&self, i: usize) -> Standing
+        requires { i < length self.now.nodes }
+        ensures standing { (none : NodeValue) → result ≡ standing_of (slice_index_or self.now.nodes i none) }
+        // Of a locomotive decoder it is how it runs, of an accessory decoder its outputs.
+        ensures told { (none : NodeSpec) → IsToldOf (slice_index_or (map spec_of self.now.nodes) i none) result.running result.outputs }
+    {
+        Standing {
+            running: self.running(i),
+            outputs: self.outputs(i),
+        }
     }
 
     /// One event: the station moves, and each decoder hears what it sends, but for those that miss it. Noise reaches one

@@ -1,14 +1,14 @@
 //! The program on its words, its port and its clock.
-ghost use Rattle.std.specs.Prelude.{◌≤◌};
+ghost use Rattle.std.specs.Prelude.{◌≡◌, ◌≤◌};
+ghost use Rattle.bus_lines.specs.Decoders.{entries_of, specs_of};
+ghost use Rattle.hub.specs.Hubs.{Watches};
 
-use crate::hub::Hub;
-use crate::losses::Losses;
-use crate::printing::Printer;
-use crate::server::Server;
 use crate::sockets::Sockets;
+use bus_lines::Printer;
 use command_line::{ServerOrder, server_order};
 use console::{RunFault, Unwritten, read_roster, tell_as};
 use decoder_node::NodeList;
+use hub::{Losses, Server};
 use roster::Roster;
 use std::io::{BufWriter, Write};
 use std::net::SocketAddr;
@@ -50,12 +50,8 @@ fn run<O: Write>(rt: &HostRuntime, words: &[&str], output: &mut O) -> Result<(),
         seed,
     } = server_order(rt.alloc(), words)?;
     let roster = read_roster(rt, roster)?;
-    let mut server = Server {
-        hub: Hub::new(rt.alloc(), decoders(roster.as_ref()))?,
-        turns,
-        losses: Losses::new(lose, u64::from(seed)),
-        is_behind: false,
-    };
+    let losses = Losses::new(lose, u64::from(seed));
+    let mut server = Server::new(rt.alloc(), decoders(roster.as_ref()), turns, losses)?;
     let Ok(mut sockets) = Sockets::bind(rt, SocketAddr::from((address, port))) else {
         return Err(RunFault::Network);
     };
@@ -63,12 +59,14 @@ fn run<O: Write>(rt: &HostRuntime, words: &[&str], output: &mut O) -> Result<(),
         return Err(RunFault::NoMemory);
     };
     print_listening(&sockets, &mut lines)?;
-    let mut printer = Printer::new(&mut lines, roster.as_ref(), track, server.hub.bus.world());
+    let mut printer = Printer::new(lines, roster.as_ref(), track, server.world());
     serve(rt, &mut server, &mut sockets, &mut printer, clients)
 }
 
 /// The decoders of a roster; none without one.
-fn decoders(roster: Option<&Roster>) -> NodeList {
+fn decoders(roster: Option<&Roster>) -> NodeList
+    ensures { result.items ≡ specs_of (entries_of roster.entry) }
+{
     match roster {
         Some(roster) => roster.nodes(),
         None => NodeList::new(),
@@ -91,19 +89,21 @@ fn serve<O: Write>(
     sockets: &mut Sockets,
     printer: &mut Printer<'_, O>,
     clients: Option<u32>,
-) -> Result<(), RunFault> {
+) -> Result<(), RunFault>
+    requires { Watches (specs_of (entries_of printer.old.roster)) server.old.hub }
+{
     let Ok(mut clock) = Clock::new(rt) else {
         return Err(RunFault::Network);
     };
     for _round in 0..u64::MAX {
-        if clients.is_some_and(|clients| printer.gone() >= clients) {
+        if clients.is_some_and(|clients| printer.gone() >= u64::from(clients)) {
             break;
         }
         if sockets.wait(longest_wait(server)).is_err() {
             return Err(RunFault::Network);
         }
         server.round(sockets, printer)?;
-        if server.turns.is_none() {
+        if server.turns().is_none() {
             pass(rt, server, printer, &mut clock)?;
         }
         printer.flush()?;
@@ -114,12 +114,12 @@ fn serve<O: Write>(
 /// How long a round may wait: not where somebody may have more to say, in real time until the turn under way ends, and
 /// else until something comes.
 fn longest_wait(server: &Server) -> Option<Duration> {
-    if server.is_behind {
+    if server.is_behind() {
         return Some(Duration::ZERO);
     }
-    match server.turns {
+    match server.turns() {
         Some(_) => None,
-        None => Some(Duration::from_micros(u64::from(server.hub.bus.left()))),
+        None => Some(Duration::from_micros(u64::from(server.left()))),
     }
 }
 
@@ -129,13 +129,16 @@ fn pass<O: Write>(
     server: &mut Server,
     printer: &mut Printer<'_, O>,
     clock: &mut Clock,
-) -> Result<(), RunFault> {
+) -> Result<(), RunFault>
+    requires { Watches (specs_of (entries_of printer.old.roster)) server.old.hub }
+    ensures { Watches (specs_of (entries_of printer.new.roster)) server.new.hub }
+{
     let Ok(micros) = clock.passed(rt) else {
         return Err(RunFault::Network);
     };
     let slept = micros.saturating_sub(MOST_MICROS);
     if slept > 0 {
-        printer.print_slept(u128::from(slept / 1000))?;
+        printer.print_slept(slept / 1000)?;
     }
     Ok(server.pass(micros.min(MOST_MICROS) as u32, printer)?)
 }

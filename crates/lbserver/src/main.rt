@@ -2,14 +2,7 @@
 #![tactic(auto)]
 
 mod executing;
-mod hub;
-mod losses;
-mod printing;
-mod room;
-mod server;
 mod sockets;
-mod waiting;
-mod wire;
 
 use command_line::no_server_text;
 use console::{RunFault, read_words, tell_as, texts};

@@ -1,8 +1,7 @@
 //! The sockets of a server: a port, and the streams of up to eight clients.
 ghost use Rattle.std.specs.Prelude.{None};
 
-use crate::hub::PLACES;
-use crate::wire::{Heard, Wire, Wrote};
+use hub::{Heard, PLACES, Wire, Wrote};
 use mio::net::{TcpListener, TcpStream};
 use mio::{Events, Interest, Poll, Token};
 use over_tcp::{Text, push_no_place};

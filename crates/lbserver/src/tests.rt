@@ -1,5 +1,4 @@
-//! What no clause says: words and what is told of them, shares that are drawn, and clients over loopback.
+//! What no clause says: words and what is told of them, and clients over loopback.
 
-mod losses;
 mod serving;
 mod words;

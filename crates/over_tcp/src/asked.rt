@@ -13,8 +13,8 @@ const LONGEST: usize = 400;
 /// The most bytes that are kept of a line: one more than a line that sends may have, so that a longer one is told.
 pub const KEPT: usize = LONGEST + 1;
 
-/// The most bytes that a line can write, which takes two characters for each.
-const MOST_BYTES: usize = LONGEST / 2;
+/// The bytes that the words of a text of at most 400 characters write, two characters for each: at most 200.
+pub type Bytes = ArrayVec<u8, 200>;
 
 /// What a line asks, given without its end.
 pub(crate) fn asked(line: &[u8]) -> Option<Ask>
@@ -45,8 +45,9 @@ fn ask_to_send(words: &[u8]) -> Ask
     }
 }
 
-/// The bytes that the words of a text write, each a pair of hexadecimal digits.
-fn bytes_of(text: &[u8]) -> Option<ArrayVec<u8, MOST_BYTES>>
+/// The bytes that the words of a text write, each a pair of hexadecimal digits. None where a word is no such pair; no
+/// bytes where there is no word.
+pub fn bytes_of(text: &[u8]) -> Option<Bytes>
     requires { length text.now ≤ 400 }
     ensures { MatchOption result (bytes_of (words_of text.now) ≡ None) (λ v. bytes_of (words_of text.now) ≡ Some v.items) }
 {
@@ -62,9 +63,10 @@ fn bytes_of(text: &[u8]) -> Option<ArrayVec<u8, MOST_BYTES>>
     Some(bytes)
 }
 
-/// What stands before the first blank, and what stands behind that blank.
+/// What stands before the first blank, a space or a tab, and what stands behind that blank. A text without a blank is all
+/// before it.
 #[tactic(auto, using(crate::proofs::Words::cuts))]
-fn cut_piece(text: &[u8]) -> (&[u8], &[u8])
+pub fn cut_piece(text: &[u8]) -> (&[u8], &[u8])
     ensures first { result.0.now ≡ before_first is_blank text.now }
     ensures rest { result.1.now ≡ after_first is_blank text.now }
     ensures words { words_of text.now ≡ with_piece result.0.now (words_of result.1.now) }
@@ -89,8 +91,9 @@ fn is_blank(byte: u8) -> bool
     byte == b' ' || byte == b'\t'
 }
 
-/// The byte that a word of two hexadecimal digits writes, the high digit first.
-fn hex_pair(word: &[u8]) -> Option<u8>
+/// The byte that a word of two hexadecimal digits writes, the high digit first. Digits have either case; any other word
+/// writes none.
+pub fn hex_pair(word: &[u8]) -> Option<u8>
     ensures { result ≡ pair_of word.now }
 {
     match word {

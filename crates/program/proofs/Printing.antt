@@ -2,9 +2,8 @@
 use Rattle.std.proofs.Common.{◌≡◌, ◌<◌, ℕ, ◌+◌, List, [], ◌∷◌, ◌++◌, length, take, get_or, Option, refl, ap, sym, subst, ◌∙◌, append_assoc}
 use Rattle.std.proofs.lemmas.List.{append-nil, take_more}
 use Rattle.std.specs.Io.KnownBytes.{Appends}
-use Rattle.console.specs.Printed.{ended}
+use Rattle.console.specs.Printed.{ended, lines_text}
 use Rattle.console.proofs.Printing.{appends_more}
-use Rattle.program.specs.Printed.{lines_text}
 
 pub lines-append : (lines more : List (List ℕ)) → lines_text (lines ++ more) ≡ lines_text lines ++ lines_text more
 lines-append [] more = refl

@@ -17,7 +17,8 @@ use Rattle.roster.specs.Entry.{Entry}
 use Rattle.show_text.specs.declared.command.Command.{Command}
 use Rattle.show_text.specs.declared.command.Command.TheVariants as command
 use Rattle.program.specs.Layout.{AreBetween}
-use Rattle.program.specs.Printed.{Standing, standing_of}
+use Rattle.layout_core.specs.declared.standing.Standing.{Standing}
+use Rattle.layout_core.specs.Standings.{standing_of}
 use Rattle.program.specs.Replayed.{HasDone, Scene, command_text, commands_text, events_in, events_of, scene_after, scene_of, standing_after, standings_after, standings_from, turns_among}
 use Rattle.console.proofs.Printing.{appends_more, appends_none}
 use Rattle.program.proofs.Replaying.{HasPassed, HeardMore, HeardNone, passed_more, passed_none, text_more, done_more, done_none, events-append, turns-append}

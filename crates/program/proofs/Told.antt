@@ -3,33 +3,19 @@ use Rattle.std.proofs.Common.{◌≡◌, ◌<◌, ◌∙◌, ℕ, sym, zero, suc
 use Rattle.std.proofs.lemmas.List.{get_or-map, length-map}
 use Rattle.std.specs.List.{slice_index_or}
 use Rattle.decoder_node.specs.declared.node.NodeSpec.{NodeSpec}
-use Rattle.decoder_node.specs.declared.running.Running.{Running}
 use Rattle.layout_core.specs.declared.node.Node.{Node}
 use Rattle.decoder_node.specs.declared.node.NodeSpec.TheVariants as spec
 use Rattle.layout_core.specs.declared.node.Node.TheVariants.{Loco, Accessory}
-use Rattle.layout_core.specs.Nodes.{node_of, outputs_of, running_of, spec_of}
+use Rattle.layout_core.specs.Nodes.{node_of, spec_of}
 use Rattle.roster.specs.Entry.{Entry, name_of, spec_of as spec_of_entry}
-use Rattle.show_text.specs.Nodes.{IsToldOf, node_text}
 use Rattle.program.specs.Layout.{AreBetween, IsWorldOf, entries_in}
-use Rattle.program.specs.Printed.{decoder_line, decoder_lines, Standing, standing_of}
-
-told_of : (node : Node) → IsToldOf (spec_of node) (running_of node) (outputs_of node)
-told_of (Loco loco) = refl
-told_of (Accessory accessory) = refl
-
-pub told_at : (nodes : List Node) (specs : List NodeSpec) (i : ℕ) (spec : NodeSpec) (running : Option Running) (outputs : Option ℕ)
-    → map spec_of nodes ≡ specs → i < length nodes → spec ≡ slice_index_or specs i spec
-    → ((none : Node) → running ≡ running_of (slice_index_or nodes i none)) → ((none : Node) → outputs ≡ outputs_of (slice_index_or nodes i none))
-    → IsToldOf spec running outputs
-told_at nodes specs i spec running outputs same inside at runs switches =
-    let none : Node = node_of spec in
-    let node : Node = slice_index_or nodes i none in
-    let of_node : spec ≡ spec_of node = at ∙ rw (← same) (get_or-map spec_of nodes i none spec inside) in
-    rw (of_node, runs none, switches none) (told_of node)
+use Rattle.layout_core.specs.declared.standing.Standing.{Standing}
+use Rattle.layout_core.specs.Standings.{decoder_line, standing_of}
+use Rattle.program.specs.Printed.{decoder_lines}
 
 -- line i is that of entry i and of how decoder i stands
 pub line_at : (entries : List Entry) (standings : List Standing) (i : ℕ) (entry : Entry) (standing : Standing) (line : List ℕ) → i < length entries → length standings ≡ length entries
-    → get_or (decoder_lines entries standings) i line ≡ decoder_line (get_or entries i entry) (get_or standings i standing)
+    → get_or (decoder_lines entries standings) i line ≡ decoder_line (get_or entries i entry).name (get_or entries i entry).spec (get_or standings i standing)
 line_at [] standings i entry standing line below same = absurd (omega arith)
 line_at (e ∷ entries) [] i entry standing line below same = absurd (omega arith)
 line_at (e ∷ entries) (s ∷ standings) zero entry standing line below same = refl
@@ -43,11 +29,11 @@ length-decoder_lines (e ∷ entries) (s ∷ standings) same =
     omega (arith, rest)
 
 -- the line that is printed of decoder i
-pub told_line : (entries : List Entry) (nodes : List Node) (specs : List NodeSpec) (i : ℕ) (name : List ℕ) (spec : NodeSpec) (running : Option Running) (outputs : Option ℕ)
+pub told_line : (entries : List Entry) (nodes : List Node) (specs : List NodeSpec) (i : ℕ) (name : List ℕ) (spec : NodeSpec) (standing : Standing)
     → specs ≡ map spec_of_entry entries → i < length specs → length nodes ≡ length specs → spec ≡ slice_index_or specs i spec
-    → ((none : Entry) → name ≡ name_of (slice_index_or entries i none)) → ((none : Node) → running ≡ running_of (slice_index_or nodes i none)) → ((none : Node) → outputs ≡ outputs_of (slice_index_or nodes i none))
-    → get_or (decoder_lines entries (map standing_of nodes)) i [] ≡ node_text name spec running outputs
-told_line entries nodes specs i name spec running outputs are inside same at names runs switches =
+    → ((none : Entry) → name ≡ name_of (slice_index_or entries i none)) → ((none : Node) → standing ≡ standing_of (slice_index_or nodes i none))
+    → get_or (decoder_lines entries (map standing_of nodes)) i [] ≡ decoder_line name spec standing
+told_line entries nodes specs i name spec standing are inside same at names stands_so =
     let none : Entry = record { name = []; spec = spec } in
     let node : Node = node_of spec in
     let count : length specs ≡ length entries = ap length are ∙ length-map entries spec_of_entry in
@@ -58,11 +44,10 @@ told_line entries nodes specs i name spec running outputs are inside same at nam
     let here : Standing = get_or (map standing_of nodes) i (standing_of node) in
     let stands : here ≡ standing_of (slice_index_or nodes i node) = get_or-map standing_of nodes i node (standing_of node) listens in
     line_at entries (map standing_of nodes) i none (standing_of node) [] below as_many
-    ∙ ap (decoder_line (slice_index_or entries i none)) stands
-    ∙ sym (ap (λ (n : List ℕ). node_text n spec running outputs) (names none)
-    ∙ ap (λ (s : NodeSpec). node_text (slice_index_or entries i none).name s running outputs) of_entry
-    ∙ ap (λ (r : Option Running). node_text (slice_index_or entries i none).name (slice_index_or entries i none).spec r outputs) (runs node)
-    ∙ ap (λ (o : Option ℕ). node_text (slice_index_or entries i none).name (slice_index_or entries i none).spec (running_of (slice_index_or nodes i node)) o) (switches node))
+    ∙ ap (decoder_line (slice_index_or entries i none).name (slice_index_or entries i none).spec) stands
+    ∙ sym (ap (λ (n : List ℕ). decoder_line n spec standing) (names none)
+    ∙ ap (λ (s : NodeSpec). decoder_line (slice_index_or entries i none).name s standing) of_entry
+    ∙ ap (decoder_line (slice_index_or entries i none).name (slice_index_or entries i none).spec) (stands_so node))
 
 -- no decoder of a new layout has a packet under way
 pub fresh_between : (specs : List NodeSpec) → AreBetween (map node_of specs)

@@ -20,7 +20,10 @@ use Rattle.station_core.specs.Powered.{HasDesk}
 use Rattle.station_core.specs.Seen.{Seen, known_of}
 use Rattle.program.specs.Headline.{ShowsAsWanted}
 use Rattle.program.specs.Layout.{AreBetween}
-use Rattle.program.specs.Printed.{Standing, decoder_line, decoder_lines, lines_text, standing_of}
+use Rattle.console.specs.Printed.{lines_text}
+use Rattle.layout_core.specs.declared.standing.Standing.{Standing}
+use Rattle.layout_core.specs.Standings.{decoder_line, standing_of}
+use Rattle.program.specs.Printed.{decoder_lines}
 use Rattle.program.specs.Replayed.{HasDone, commands_text, events_in, standings_after}
 use Rattle.program.proofs.Replaying.{HasPassed, commands-append}
 use Rattle.program.proofs.Standing.{quiet_in, stands_as_told}
@@ -68,5 +71,5 @@ shows_as_wanted obeyed headline start entries commands desk many between passed 
       shown,
       printed,
       length-decoder_lines entries (standings_after start events) so_many,
-      line_at entries (standings_after start events) i entry told [] (omega (arith, below, many)) so_many ∙ ap (decoder_line (slice_index_or entries i entry)) here,
+      line_at entries (standings_after start events) i entry told [] (omega (arith, below, many)) so_many ∙ ap (decoder_line (slice_index_or entries i entry).name (slice_index_or entries i entry).spec) here,
     )

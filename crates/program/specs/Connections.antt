@@ -16,7 +16,9 @@ use Rattle.station_core.specs.Seen.{Seen, known_of}
 use Rattle.console.specs.declared.fault.RunFault.{RunFault}
 use Rattle.console.specs.declared.fault.RunFault.TheVariants.{Network, Output}
 use Rattle.program.specs.Fault.{of_serve}
-use Rattle.program.specs.Printed.{decoder_lines, lines_text, standing_of}
+use Rattle.console.specs.Printed.{lines_text}
+use Rattle.layout_core.specs.Standings.{standing_of}
+use Rattle.program.specs.Printed.{decoder_lines}
 use Rattle.program.specs.Replayed.{HasDone}
 
 -- the events of connections, one behind the other: each has its bytes, on line 0, and behind each byte so many turns that

@@ -16,12 +16,13 @@ use Rattle.show_text.specs.declared.command.Command.TheVariants.{Show}
 use Rattle.layout_core.specs.{Entry as SlotEntry}
 use Rattle.station_core.specs.Known.{told_all}
 use Rattle.station_core.specs.Seen.{known_of}
-use Rattle.program.specs.Printed.{decoder_line, lines_text}
+use Rattle.console.specs.Printed.{lines_text}
+use Rattle.layout_core.specs.Standings.{decoder_line}
 use Rattle.program.specs.Replayed.{commands_text, events_in}
 
 -- the line of a locomotive that runs as an entry wants it
 abbrev pub wanted_line : Entry → SlotEntry → Settings → List ℕ
-wanted_line entry e cv = decoder_line entry (record { running = Some (wanted e cv.reversed); outputs = None })
+wanted_line entry e cv = decoder_line entry.name entry.spec (record { running = Some (wanted e cv.reversed); outputs = None })
 
 -- Wherever the commands have `show`, and the events before it end with a full refresh cycle of the address of locomotive
 -- i, which heard all of it: there, behind what the commands before it print, stands a line for each decoder, and line i is

@@ -1,23 +1,26 @@
 -- What the replay of a script does and prints.
 use Rattle.std.specs.Prelude.{ℕ, ◌≡◌, ◌+◌, List, [], ◌∷◌, ◌++◌, Some, None, map, replicate}
+use Rattle.console.specs.Printed.{lines_text}
 use Rattle.decoder_node.specs.Obey.{runs}
 use Rattle.decoder_node.specs.Switched.{switches}
 use Rattle.layout_core.specs.declared.event.Event.{Event}
 use Rattle.layout_core.specs.declared.event.Event.TheVariants as event
 use Rattle.layout_core.specs.declared.node.Node.{Node}
 use Rattle.layout_core.specs.declared.node.Node.TheVariants.{Loco, Accessory}
+use Rattle.layout_core.specs.declared.standing.Standing.{Standing}
 use Rattle.layout_core.specs.declared.world.World.{World}
 use Rattle.layout_core.specs.Events.{calls_in}
 use Rattle.layout_core.specs.Heard.{heard}
 use Rattle.layout_core.specs.Played.{after_events, answers_to}
 use Rattle.layout_core.specs.Served.{traced_from}
+use Rattle.layout_core.specs.Standings.{standing_of}
 use Rattle.layout_core.specs.World.{HaveHeard}
 use Rattle.roster.specs.Entry.{Entry}
 use Rattle.show_text.specs.declared.command.Command.{Command}
 use Rattle.show_text.specs.declared.command.Command.TheVariants.{Byte, Turns, Show}
 use Rattle.station_core.specs.Moments.{turns_in}
 use Rattle.station_core.specs.Seen.{Seen}
-use Rattle.program.specs.Printed.{Standing, decoder_lines, lines_text, standing_of}
+use Rattle.program.specs.Printed.{decoder_lines}
 
 -- The events of a command, and of commands in order. `show` is none.
 

@@ -5,13 +5,14 @@ ghost use Rattle.station_core.specs.Seen.{is_line_count};
 ghost use Rattle.program.specs.Fault.{of_station};
 ghost use Rattle.program.specs.Layout.{AreBetween, IsWorldOf, entries_in, roster_value};
 ghost use Rattle.program.specs.Runs.{IsNew};
-ghost use Rattle.program.specs.Printed.{decoder_lines, lines_text, standing_of};
+ghost use Rattle.console.specs.Printed.{lines_text};
+ghost use Rattle.layout_core.specs.Standings.{standing_of};
+ghost use Rattle.program.specs.Printed.{decoder_lines};
 
 use console::{RunFault, Unwritten, print};
 use decoder_node::NodeList;
 use layout_core::World;
 use roster::Roster;
-use show_text::node_line;
 use station_core::StationFault;
 use std::alloc::Global;
 use std::io::Write;
@@ -64,7 +65,7 @@ fn print_decoders<O: Write>(world: &World, roster: &Roster, output: &mut O) -> R
     ensures printed { OnOk result (Appends (O.contents output.old) (O.contents output.new) (lines_text (decoder_lines roster.now (map standing_of world.now.nodes)))) }
 {
     for (i, spec) in roster.nodes().as_slice().iter().enumerate() {
-        let line = node_line(roster.name(i), spec, world.running(i), world.outputs(i));
+        let line = world.standing(i).line(roster.name(i), spec);
         print(output, &line)?;
     }
     Ok(())

@@ -18,3 +18,4 @@ pub use messages::message_line;
 pub use nodes::node_line;
 pub use script::{LONGEST_TEXT, read_script};
 pub use traffic::{off_line, push_off, push_track, reply_line, track_line};
+pub use words::decimal;

@@ -39,7 +39,7 @@ fn decimal_value(word: &[u8]) -> u32
 }
 
 /// The number that one to seven decimal digits write.
-pub(crate) fn decimal(word: &[u8]) -> Option<u32>
+pub fn decimal(word: &[u8]) -> Option<u32>
     ensures { result ≡ decimal_of word.now }
 {
     if is_decimal(word) {

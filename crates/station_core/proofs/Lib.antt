@@ -1,4 +1,5 @@
 pub mod Agreeing
+pub mod Anew
 pub mod Apart
 pub mod Counted
 pub mod Desks

@@ -5,6 +5,7 @@ pub mod Asking
 pub mod Kept
 pub mod Immediate
 pub mod Known
+pub mod Meaning
 pub mod Messages
 pub mod Moments
 pub mod Moved

@@ -4,6 +4,7 @@
 mod call;
 mod immediate;
 mod laws;
+mod meaning;
 mod messages;
 mod packets;
 mod schedule;
@@ -15,6 +16,10 @@ pub use laws::{
     calls_are_moves, changes_first, changes_wait, coverage, desk_of_messages, messages_of_a_line,
     neighbours, packets_are_short, packets_of_the_desk, stays_a_desk, switches_are_sent,
     switches_in_order,
+};
+pub use meaning::{
+    functions_are_bits, group_three_is_asked, off_ends_by_power_on, what_is_new_waits,
+    whole_slots_wait,
 };
 pub use refresh_ring::{Kind, Power};
 pub use station::{Station, StationFault};

@@ -1,5 +1,2 @@
-pub mod Cuts
 pub mod Rails
-pub mod Telling
-pub mod Turns
 pub mod Whole

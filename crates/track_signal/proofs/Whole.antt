@@ -9,9 +9,11 @@ use Rattle.track_signal.specs.declared.fault.SignalFault.TheVariants.{Unreadable
 use Rattle.track_signal.specs.Drawn.{DrawsInput, FailsInput, IsBroken, IsRefusal, RefusesInput}
 use Rattle.track_signal.specs.Dump.{dump_of}
 use Rattle.track_signal.specs.Fault.{Refuses}
-use Rattle.track_signal.specs.Input.{ReadsMost}
-use Rattle.track_signal.specs.Traffic.{FailsAt, IsTraffic}
-use Rattle.track_signal.proofs.Telling.{fails_once, never_both}
+use Rattle.station_text.specs.Input.{ReadsMost}
+use Rattle.track_signal.specs.Traffic.{IsTraffic}
+use Rattle.station_text.specs.Told.{FailsAt}
+use Rattle.station_text.specs.Traffic.{Tells}
+use Rattle.station_text.proofs.Telling.{fails_once, never_both}
 
 at_end : (old new : Option (List ℕ)) (bytes : List ℕ) → ReadsMost old new 16777217 bytes → length bytes ≤ 16777216 → IsAtEnd new
 at_end old new bytes read short = elim read.enough [ inl long ↦ absurd (omega (arith, long, short)) | inr end ↦ end ]
@@ -42,7 +44,7 @@ same_fault text new bytes TooLong TooLong read refused found = refl
 same_fault text new bytes TooLong (BadLine number) read refused found = absurd (let same : length text ≡ length bytes = ap length (whole text new bytes read found.0) in omega (arith, same, refused, found.0))
 same_fault text new bytes (BadLine number) TooLong read refused found = absurd (omega (arith, refused.0, found, no_longer text new bytes read))
 same_fault text new bytes (BadLine number) (BadLine other) read refused found =
-    ap BadLine (fails_once (lines bytes) other number found.1 (subst (λ (bs : List ℕ). FailsAt (lines bs) number) (whole text new bytes read found.0) refused.1))
+    ap BadLine (fails_once Tells (lines bytes) other number found.1 (subst (λ (bs : List ℕ). FailsAt Tells (lines bs) number) (whole text new bytes read found.0) refused.1))
 same_fault text new bytes Unreadable e read refused found = absurd refused
 same_fault text new bytes Output e read refused found = absurd refused
 same_fault text new bytes NoMemory e read refused found = absurd refused
@@ -53,7 +55,7 @@ same_fault text new bytes fault NoMemory read refused found = absurd found
 -- and packets are told of a text without one
 no_fault : (text : List ℕ) (new : Option (List ℕ)) (bytes : List ℕ) (packets : List (List ℕ)) (fault : SignalFault) → ReadsMost (Some text) new 16777217 bytes → IsTraffic bytes packets → Refuses text fault → ⊥
 no_fault text new bytes packets TooLong read told refused = let same : length text ≡ length bytes = ap length (whole text new bytes read told.0) in omega (arith, same, refused, told.0)
-no_fault text new bytes packets (BadLine number) read told refused = never_both (lines bytes) number packets (subst (λ (bs : List ℕ). FailsAt (lines bs) number) (whole text new bytes read told.0) refused.1) told.1
+no_fault text new bytes packets (BadLine number) read told refused = never_both Tells (lines bytes) number packets (subst (λ (bs : List ℕ). FailsAt Tells (lines bs) number) (whole text new bytes read told.0) refused.1) told.1
 no_fault text new bytes packets Unreadable read told refused = refused
 no_fault text new bytes packets Output read told refused = refused
 no_fault text new bytes packets NoMemory read told refused = refused

@@ -2,6 +2,7 @@
 ghost use Rattle.std.specs.Prelude.{◌≡◌};
 ghost use Rattle.track_signal.specs.Fault.{status_of};
 
+use station_text::InputFault;
 use thiserror::Error;
 
 /// Why a run ends with a status other than 0. Its text is what follows `track_signal: ` on standard error.
@@ -22,6 +23,20 @@ pub enum SignalFault {
     /// Status 6: want of memory.
     #[error("no memory")]
     NoMemory,
+}
+
+impl From<InputFault> for SignalFault {
+    ghost use Rattle.std.specs.Prelude.{◌≡◌, ◌⊎◌};
+    ghost use Rattle.track_signal.specs.declared.fault.SignalFault.TheVariants.{NoMemory, Unreadable};
+
+    ghost from_gives = { λ _ fault. (fault ≡ Unreadable) ⊎ (fault ≡ NoMemory) };
+
+    fn from(fault: InputFault) -> SignalFault {
+        match fault {
+            InputFault::Unreadable => SignalFault::Unreadable,
+            InputFault::NoMemory => SignalFault::NoMemory,
+        }
+    }
 }
 
 impl SignalFault {

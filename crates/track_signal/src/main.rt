@@ -4,8 +4,6 @@
 
 mod drawing;
 mod fault;
-mod input;
-mod line;
 mod reading;
 mod signal;
 

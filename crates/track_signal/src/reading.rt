@@ -1,42 +1,13 @@
 //! The packets in what `station` prints.
-ghost use Rattle.std.specs.Prelude.{ℕ, ◌≡◌, ◌⊎◌, ◌<◌, ◌≤◌, ◌==◌, ◌∷◌, List, IfErr, IfOk, MatchResult, length, position};
-ghost use Rattle.std.specs.Str.Lines.{lines, strip_carriage_return};
+ghost use Rattle.std.specs.Prelude.{ℕ, ◌≡◌, ◌⊎◌, ◌≤◌, List, IfErr, IfOk, MatchResult, length};
 ghost use Rattle.track_signal.specs.declared.fault.SignalFault.TheVariants.{NoMemory};
 ghost use Rattle.track_signal.specs.Traffic.{IsTraffic};
 ghost use Rattle.track_signal.specs.Fault.{Refuses};
 
 use crate::fault::SignalFault;
-use crate::line::packet_told;
 use dcc_packet::Packet;
+use station_text::{LONGEST_TEXT, cut_line, packet_told};
 use std::alloc::Global;
-
-/// The most bytes of an input.
-pub(crate) const LONGEST_TEXT: usize = 16_777_216;
-
-fn line_feed_at(text: &[u8]) -> Option<usize>
-    ensures { result ≡ position (λ b. b == 10) text.now }
-{
-    text.iter().position(|byte| *byte == b'\n')
-}
-
-fn without_carriage_return(line: &[u8]) -> &[u8]
-    ensures { result.now ≡ strip_carriage_return line.now }
-{
-    line.strip_suffix(b"\r").unwrap_or(line)
-}
-
-/// The first line and what follows it.
-#[tactic(auto, using(crate::proofs::Cuts::line_cuts))]
-fn cut_line(text: &[u8]) -> (&[u8], &[u8])
-    requires { 0 < length text.now }
-    ensures lines { lines text.now ≡ result.0.now ∷ lines result.1.now }
-    ensures shorter { length result.1.now < length text.now }
-{
-    match line_feed_at(text) {
-        None => (text, &[]),
-        Some(at) => (without_carriage_return(&text[..at]), &text[at + 1..]),
-    }
-}
 
 /// The packets that the lines of a text tell, in order.
 ///

@@ -5,8 +5,8 @@ ghost use Rattle.track_signal.specs.Fault.{status_of};
 
 use crate::drawing::draw_packets;
 use crate::fault::SignalFault;
-use crate::input::read_most;
-use crate::reading::{LONGEST_TEXT, read_packets};
+use crate::reading::read_packets;
+use station_text::{LONGEST_TEXT, read_most};
 use std::alloc::Global;
 use std::io::{Read, Write};
 

@@ -2,7 +2,10 @@
 
 mod conversations;
 mod drives;
+mod functions;
 mod hostile;
+mod immediate;
+mod waiting;
 
 use conversations::holds;
 use dcc_packet::idle;

@@ -1,10 +1,11 @@
 //! Clients on loopback, in one thread with the server.
-use crate::hub::Hub;
-use crate::losses::Losses;
-use crate::printing::Printer;
-use crate::server::Server;
+ghost use Rattle.bus_lines.specs.Decoders.{entries_of, specs_of};
+ghost use Rattle.hub.specs.Hubs.{Watches};
+
 use crate::sockets::Sockets;
+use bus_lines::Printer;
 use decoder_node::NodeList;
+use hub::{Losses, Server};
 use std::io::{Read, Write};
 use std::net::{Ipv4Addr, Net, Shutdown, SocketAddr, TcpListener, TcpStream};
 use std::process::Abort;
@@ -18,20 +19,18 @@ const VERSION: &'static str = "VERSION lbserver station\r\n";
 struct Desk {
     server: Server,
     sockets: Sockets,
-    printed: Vec<u8>,
+    printer: Printer<'static, Vec<u8>>,
+    ghost watched: { Watches (specs_of (entries_of printer.roster)) server.hub },
 }
 
 impl Desk {
     fn new(rt: &HostRuntime, turns: u8) -> Result<Desk, Fail> {
+        let server = Server::new(rt.alloc(), NodeList::new(), Some(turns), Losses::new(0, 0))?;
+        let printer = Printer::new(Vec::new(rt.alloc()), None, true, server.world());
         Ok(Desk {
-            server: Server {
-                hub: Hub::new(rt.alloc(), NodeList::new())?,
-                turns: Some(turns),
-                losses: Losses::new(0, 0),
-                is_behind: false,
-            },
+            server,
             sockets: Sockets::bind(rt, SocketAddr::from((Ipv4Addr::LOCALHOST, 0)))?,
-            printed: Vec::new(rt.alloc()),
+            printer,
         })
     }
 
@@ -49,9 +48,8 @@ impl Desk {
 
     /// So many rounds.
     fn rounds(&mut self, count: u32) -> Result<(), Fail> {
-        let mut printer = Printer::new(&mut self.printed, None, true, self.server.hub.bus.world());
         for _round in 0..count {
-            self.server.round(&mut self.sockets, &mut printer)?;
+            self.server.round(&mut self.sockets, &mut self.printer)?;
         }
         Ok(())
     }
@@ -155,7 +153,7 @@ fn a_line_goes_with_its_client(rt: HostRuntime) -> Result<(), Fail> {
     hears(&rt, &mut second, &[POWER_OFF, OK])?;
     hears(&rt, &mut other, &[POWER_OFF])?;
     assert!(rt;
-        desk.printed.as_slice()
+        desk.printer.output().as_slice()
             == b"client 1 joins\nclient 2 joins\nclient 2 leaves\nclient 2 joins\nmsg 82 7D power off\n".as_slice()
     );
     Ok(())
@@ -211,11 +209,11 @@ fn who_never_reads_is_let_go(rt: HostRuntime) -> Result<(), Fail> {
             told.as_slice().starts_with(b"RECEIVE E5 7F")
                 && told.as_slice().ends_with(b"SENT OK\r\n")
         );
-        if !desk.server.hub.bus.has(1) {
+        if !desk.server.has(1) {
             break;
         }
     }
-    assert!(rt; !desk.server.hub.bus.has(1) && desk.server.hub.bus.has(0));
+    assert!(rt; !desk.server.has(1) && desk.server.has(0));
     Ok(())
 }
 
@@ -262,7 +260,7 @@ fn turns_follow_messages(rt: HostRuntime) -> Result<(), Fail> {
     desk.say(&mut client, b"SEND 85 7A\nSEND 83 7C\nSEND 85 7A\n")?;
     desk.rounds(20)?;
     assert!(rt;
-        desk.printed.as_slice()
+        desk.printer.output().as_slice()
             == b"client 1 joins\nmsg 85 7A force idle\nmsg 83 7C power on\nmsg 85 7A force idle\ntrack 7 00 51 51\ntrack 8 00 51 51\ntrack 9 00 51 51\n".as_slice()
     );
     Ok(())

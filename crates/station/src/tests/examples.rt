@@ -341,6 +341,398 @@ fn scripts_of_the_examples(rt: HostRuntime) -> Result<(), Fail> {
     Ok(())
 }
 
+const PAIR: &[u8] = b"# Two locomotives of one address: what one is told, both are told.
+version = 2
+
+[[node]]
+name = \"hears-all\"
+kind = \"loco\"
+cvs = [[1, 3], [29, 2]]
+
+[[node]]
+name = \"loses-some\"
+kind = \"loco\"
+cvs = [[1, 3], [29, 2]]
+";
+
+const JOURNEY: &[u8] =
+    b"# A drive, for the picture that `timeline` draws of it: behind each turn all decoders are shown.
+turn 1
+show
+turn 1
+show
+# Address 3 is taken, and slot 1 put in use. Then power on.
+line 0 BF 00 03 43
+line 0 BA 01 01 45
+line 0 83 7C
+turn 1
+show
+turn 1
+show
+# The light: bit 4 of DIRF.
+line 0 A1 01 10 4F
+turn 1
+show
+turn 1
+show
+turn 1
+show
+turn 1
+show
+# Speed 32, then 64, then 127.
+line 0 A0 01 20 7E
+turn 1
+show
+turn 1
+show
+turn 1
+show
+turn 1
+show
+turn 1
+show
+turn 1
+show
+line 0 A0 01 40 1E
+turn 1
+show
+turn 1
+show
+turn 1
+show
+turn 1
+show
+turn 1
+show
+turn 1
+show
+line 0 A0 01 7F 21
+turn 1
+show
+turn 1
+show
+turn 1
+show
+turn 1
+show
+turn 1
+show
+turn 1
+show
+# F2, the whistle, on and off again.
+line 0 A1 01 12 4D
+turn 1
+show
+turn 1
+show
+turn 1
+show
+turn 1
+show
+turn 1
+show
+turn 1
+show
+turn 1
+show
+turn 1
+show
+line 0 A1 01 10 4F
+turn 1
+show
+turn 1
+show
+turn 1
+show
+turn 1
+show
+turn 1
+show
+turn 1
+show
+turn 1
+show
+turn 1
+show
+# Switch 0 closed.
+line 0 B0 00 30 7F
+turn 1
+show
+turn 1
+show
+turn 1
+show
+turn 1
+show
+# Speed 40, a stop, and then in reverse: bit 5 of DIRF.
+line 0 A0 01 28 76
+turn 1
+show
+turn 1
+show
+turn 1
+show
+turn 1
+show
+turn 1
+show
+turn 1
+show
+line 0 A0 01 00 5E
+turn 1
+show
+turn 1
+show
+turn 1
+show
+turn 1
+show
+turn 1
+show
+turn 1
+show
+line 0 A1 01 30 6F
+turn 1
+show
+turn 1
+show
+turn 1
+show
+turn 1
+show
+line 0 A0 01 50 0E
+turn 1
+show
+turn 1
+show
+turn 1
+show
+turn 1
+show
+turn 1
+show
+turn 1
+show
+turn 1
+show
+turn 1
+show
+# An emergency stop: speed 1.
+line 0 A0 01 01 5F
+turn 1
+show
+turn 1
+show
+turn 1
+show
+turn 1
+show
+turn 1
+show
+turn 1
+show
+# Power off.
+line 0 82 7D
+turn 1
+show
+turn 1
+show
+turn 1
+show
+turn 1
+show
+";
+
+const TWO: &[u8] =
+    b"# Two locomotives of one address are driven by one throttle. One hears every packet, the other misses all of those that
+# tell of a change. Behind each turn both are shown.
+line 0 BF 00 03 43
+line 0 BA 01 01 45
+line 0 83 7C
+turn 1
+show
+turn 1
+show
+turn 1
+show
+turn 1
+show
+turn 1
+show
+turn 1
+show
+turn 1
+show
+turn 1
+show
+turn 1
+show
+turn 1
+show
+turn 1
+show
+turn 1
+show
+turn 1
+show
+turn 1
+show
+turn 1
+show
+turn 1
+show
+# Speed 64 and the light, in reverse: the other misses the next 12 turns.
+line 0 A0 01 40 1E
+line 0 A1 01 30 6F
+turn 1 miss 1
+show
+turn 1 miss 1
+show
+turn 1 miss 1
+show
+turn 1 miss 1
+show
+turn 1 miss 1
+show
+turn 1 miss 1
+show
+turn 1 miss 1
+show
+turn 1 miss 1
+show
+turn 1 miss 1
+show
+turn 1 miss 1
+show
+turn 1 miss 1
+show
+turn 1 miss 1
+show
+# Speed 127, and F1 with it: it misses these too.
+line 0 A0 01 7F 21
+line 0 A1 01 31 6E
+turn 1 miss 1
+show
+turn 1 miss 1
+show
+turn 1 miss 1
+show
+turn 1 miss 1
+show
+turn 1 miss 1
+show
+turn 1 miss 1
+show
+turn 1 miss 1
+show
+turn 1 miss 1
+show
+turn 1 miss 1
+show
+turn 1 miss 1
+show
+turn 1 miss 1
+show
+turn 1 miss 1
+show
+# A full refresh cycle, 16 turns for the one slot in use, of which it misses none: it has settled.
+turn 1
+show
+turn 1
+show
+turn 1
+show
+turn 1
+show
+turn 1
+show
+turn 1
+show
+turn 1
+show
+turn 1
+show
+turn 1
+show
+turn 1
+show
+turn 1
+show
+turn 1
+show
+turn 1
+show
+turn 1
+show
+turn 1
+show
+turn 1
+show
+# And so it stays.
+turn 1
+show
+turn 1
+show
+turn 1
+show
+turn 1
+show
+turn 1
+show
+turn 1
+show
+turn 1
+show
+turn 1
+show
+turn 1
+show
+turn 1
+show
+turn 1
+show
+turn 1
+show
+turn 1
+show
+turn 1
+show
+turn 1
+show
+turn 1
+show
+";
+
+/// Where these runs end: the shunter by its emergency stop, switch 0 closed; and both locomotives as they were last asked,
+/// step 126 in reverse with F0 and F1.
+#[test]
+fn scripts_that_are_drawn(rt: HostRuntime) -> Result<(), Fail> {
+    let file = "station-test-drawn.toml";
+    let rows: [(&[u8], &[u8], &[u8]); 2] = [
+        (
+            LAYOUT,
+            JOURNEY,
+            b"track 80 off
+node shunter short 3 emergency reverse F 1000000000000
+node yard module 1 outputs 01000000
+",
+        ),
+        (
+            PAIR,
+            TWO,
+            b"node hears-all short 3 step 126 of 128 reverse F 1100000000000
+node loses-some short 3 step 126 of 128 reverse F 1100000000000
+",
+        ),
+    ];
+    for (layout, script, end) in rows {
+        let ran = run_on(&rt, &["replay", "--roster", file], file, layout, script)?;
+        assert_eq!(rt; ran.status, 0);
+        assert!(rt; ran.output.as_slice().ends_with(end));
+    }
+    Ok(())
+}
+
 /// Captures, and what is printed of them. What is behind the last whole message is no message, and is not printed.
 const SHOWN: [(&'static [u8], &'static [u8]); 2] = [
     (CAPTURE, CAPTURED),

@@ -4,18 +4,19 @@ use Rattle.std.specs.Io.KnownBytes.{Appends}
 use Rattle.decoder_node.specs.declared.node.NodeSpec.{NodeSpec}
 use Rattle.layout_core.specs.Nodes.{spec_of}
 use Rattle.roster.specs.Entry.{spec_of as spec_of_entry}
-use Rattle.program.specs.Printed.{decoder_lines, lines_text, standing_of}
+use Rattle.console.specs.Printed.{lines_text}
+use Rattle.layout_core.specs.Standings.{standing_of}
+use Rattle.show_text.specs.Nodes.{IsToldOf}
+use Rattle.std.specs.List.{slice_index_or}
+use Rattle.program.specs.Printed.{decoder_lines}
 use Rattle.program.proofs.Printing.{one_line_more}
-use Rattle.program.proofs.Told.{length-decoder_lines, told_at, told_line}
+use Rattle.program.proofs.Told.{length-decoder_lines, told_line}
 use Rattle.program.proofs.layout.print_decoders.Goals as goal
 
-pub node_line-line-requires-clause-told : goal.node_line-line-requires-clause-told
-node_line-line-requires-clause-told g c =
+pub line-line-requires-clause-told : goal.line-line-requires-clause-told
+line-line-requires-clause-told g c =
     let same : map spec_of c.args.world.now.nodes ≡ c.as_slice-spec-items.result.now = c.requires ∙ sym c.nodes.ensures.nodes ∙ sym c.as_slice-spec-items.ensures.value in
-    let below : c.loop-i.i < length c.as_slice-spec-items.result.now = c.loop-i-test.true in
-    let count : length c.args.world.now.nodes ≡ length c.as_slice-spec-items.result.now = sym (length-map c.args.world.now.nodes spec_of) ∙ ap length same in
-    told_at c.args.world.now.nodes c.as_slice-spec-items.result.now c.loop-i.i c.spec-item.result c.running.result c.outputs.result
-    same (omega (arith, below, count)) c.spec-item.is c.running.ensures c.outputs.ensures
+    subst (λ (s : NodeSpec). IsToldOf s c.standing.result.running c.standing.result.outputs) (ap (λ (ss : List NodeSpec). slice_index_or ss c.loop-i.i c.spec-item.result) same ∙ sym c.spec-item.is) (c.standing.ensures.told c.spec-item.result)
 
 pub loop-i-preserved : goal.loop-i-preserved
 loop-i-preserved g c =
@@ -30,9 +31,9 @@ loop-i-preserved g c =
     let so_many : length (decoder_lines entries (map standing_of nodes)) ≡ length entries = length-decoder_lines entries (map standing_of nodes) as_many in
     let same_length : length specs ≡ length entries = ap length are ∙ length-map entries spec_of_entry in
     let inside : c.loop-i.i < length entries = omega (arith, below, same_length) in
-    one_line_more (decoder_lines entries (map standing_of nodes)) c.loop-i.i c.node_line-line.result.bytes (g.O.Write.contents c.args.output.now) (g.O.Write.contents c.loop-i.output) (g.O.Write.contents c.print.new.output)
+    one_line_more (decoder_lines entries (map standing_of nodes)) c.loop-i.i c.line-line.result.bytes (g.O.Write.contents c.args.output.now) (g.O.Write.contents c.loop-i.output) (g.O.Write.contents c.print.new.output)
     (omega (arith, inside, so_many))
-    (told_line entries nodes specs c.loop-i.i c.name.result.now c.spec-item.result c.running.result c.outputs.result are below count c.spec-item.is c.name.ensures.value c.running.ensures c.outputs.ensures ∙ sym c.node_line-line.ensures)
+    (told_line entries nodes specs c.loop-i.i c.name.result.now c.spec-item.result c.standing.result are below count c.spec-item.is c.name.ensures.value c.standing.ensures.standing ∙ sym c.line-line.ensures)
     c.loop-i.invariant c.in_ok-print.ensures.printed
 
 pub returns : goal.returns

@@ -1,6 +1,8 @@
 use Rattle.std.proofs.Common.{map, take}
 use Rattle.std.specs.Io.KnownBytes.{Appends}
-use Rattle.program.specs.Printed.{decoder_lines, lines_text, standing_of}
+use Rattle.console.specs.Printed.{lines_text}
+use Rattle.layout_core.specs.Standings.{standing_of}
+use Rattle.program.specs.Printed.{decoder_lines}
 use Rattle.program.proofs.layout.print_decoders.Given as goal
 
 -- so many lines are printed

@@ -1,0 +1,14 @@
+-- The decoders of a roster that is lent.
+use Rattle.std.specs.Prelude.{List, [], map, Option, Some, None}
+use Rattle.std.specs.Borrow.{Bor}
+use Rattle.decoder_node.specs.declared.node.NodeSpec.{NodeSpec}
+use Rattle.roster.specs.Entry.{Entry, spec_of}
+
+-- its entries; none without one
+abbrev pub entries_of : Option (Bor (List Entry)) → List Entry
+entries_of (Some roster) = roster.now
+entries_of None = []
+
+-- the decoders of these entries
+abbrev pub specs_of : List Entry → List NodeSpec
+specs_of entries = map spec_of entries

@@ -1,0 +1,6 @@
+//! What happens on a bus, printed a line each, for people.
+#![tactic(auto)]
+
+mod printer;
+
+pub use printer::Printer;

@@ -1,0 +1,262 @@
+//! Who prints what happens on a bus.
+ghost use Rattle.std.specs.Prelude.{◌≡◌, ◌<◌, ◌++◌, IfOk, OnOk, List, [], ◌∷◌, length, map, codes};
+ghost use Rattle.std.specs.Fmt.{decimal};
+ghost use Rattle.std.specs.Io.KnownBytes.{Appends};
+ghost use Rattle.std.specs.Option.{option_to_list};
+ghost use Rattle.console.specs.Printed.{ended, lines_text};
+ghost use Rattle.dcc_packet.specs.Sent.{idle_bytes};
+ghost use Rattle.layout_core.specs.Nodes.{spec_of};
+ghost use Rattle.layout_core.specs.Standings.{decoder_line, standing_of};
+ghost use Rattle.roster.specs.Entry.{spec_of as entry_spec};
+ghost use Rattle.show_text.specs.Messages.{message_text};
+ghost use Rattle.bus_lines.specs.Decoders.{entries_of, specs_of};
+ghost use Rattle.bus_lines.specs.Lines.{changed_lines, client_line, late_line, one_more, packet_lines, slept_line};
+
+use arrayvec::ArrayVec;
+use bus::Told;
+use console::{Unwritten, print};
+use dcc_packet::{Packet, idle};
+use decoder_node::NodeSpec;
+use hub::Witness;
+use layout_core::{Standing, World};
+use ln_frame::Msg;
+use roster::Roster;
+use show_text::{message_line, track_line};
+use std::io::Write;
+
+/// The most decoders of a layout.
+const MOST_NODES: usize = 64;
+
+/// How decoders stand, in the order of their roster.
+type Standings = ArrayVec<Standing, MOST_NODES>;
+
+/// Prints what happens on a bus to an output, a line each.
+#[derive(Drop)]
+pub struct Printer<'a, O> {
+    pub(crate) output: O,
+    pub(crate) roster: Option<&'a Roster>,
+    /// Whether packets are printed, all but idle ones.
+    pub(crate) track: bool,
+    /// How each decoder stood when it was printed last, or at the start.
+    pub(crate) standings: Standings,
+    /// The turns since the start.
+    pub(crate) turns: u64,
+    /// The clients that have gone.
+    pub(crate) gone: u64,
+    ghost as_many: { length standings.items ≡ length (entries_of roster) },
+}
+
+impl<'a, O: Write> Printer<'a, O> {
+    ghost use Rattle.bus_lines.specs.Printers.{remembered, standings_of, text_of};
+    ghost use Rattle.bus_lines.specs.Lines.{first_remembered, remembered_after};
+    ghost use Rattle.bus.specs.declared.event.Told.TheVariants.{Turned};
+
+    /// A printer of what happens on a layout with the decoders of this roster, or none; `track`: packets too.
+    ///
+    /// How the decoders stand now is not printed.
+    pub fn new(output: O, roster: Option<&'a Roster>, track: bool, world: &World) -> Printer<'a, O>
+        requires { map spec_of world.now.nodes ≡ specs_of (entries_of roster) }
+        ensures output { result.output ≡ output }
+        ensures roster { result.roster ≡ roster.entry }
+        ensures track { result.track ≡ track }
+        ensures remembered { remembered result ≡ first_remembered (standings_of world.now.nodes) }
+    {
+        Printer {
+            output,
+            roster,
+            track,
+            standings: standings(world),
+            turns: 0,
+            gone: 0,
+        }
+    }
+
+    /// How many clients have gone; from 2^64 - 1 on it stays.
+    pub fn gone(&self) -> u64
+        ensures { result ≡ self.now.gone }
+    {
+        self.gone
+    }
+
+    /// The output.
+    pub fn output(&self) -> &O
+        ensures { result.now ≡ self.now.output }
+    {
+        &self.output
+    }
+
+    /// Lets all lines go out.
+    ///
+    /// # Errors
+    ///
+    /// `Unwritten` where the output does not take them.
+    pub fn flush(&mut self) -> Result<(), Unwritten>
+        ensures kept { remembered self.new ≡ remembered self.old }
+        ensures roster { self.new.roster ≡ self.old.roster }
+        ensures track { self.new.track ≡ self.old.track }
+    {
+        self.output.flush().map_err(|_| Unwritten)
+    }
+
+    /// Prints that the machine slept, so many milliseconds that no turns are made of.
+    ///
+    /// # Errors
+    ///
+    /// `Unwritten` where the output does not take them. How much of the line was written is not known.
+    pub fn print_slept(&mut self, millis: u64) -> Result<(), Unwritten>
+        ensures printed { OnOk result (Appends (O.contents self.old.output) (O.contents self.new.output) (lines_text (slept_line millis ∷ []))) }
+        ensures kept { remembered self.new ≡ remembered self.old }
+        ensures roster { self.new.roster ≡ self.old.roster }
+        ensures track { self.new.track ≡ self.old.track }
+    {
+        print_count(&mut self.output, "slept ", millis, " ms, left out")
+    }
+
+    /// Prints a turn, and remembers it.
+    fn print_turn(&mut self, packet: &Option<Packet>, world: &World) -> Result<(), Unwritten>
+        requires { map spec_of world.now.nodes ≡ specs_of (entries_of self.old.roster) }
+        ensures printed { OnOk result (Appends (O.contents self.old.output) (O.contents self.new.output) (text_of self.old (Turned packet.now) world.now.nodes)) }
+        ensures remembered { OnOk result (remembered self.new ≡ remembered_after (remembered self.old) (Turned packet.now) (standings_of world.now.nodes)) }
+        ensures roster { self.new.roster ≡ self.old.roster }
+        ensures track { self.new.track ≡ self.old.track }
+    {
+        self.turns = self.turns.saturating_add(1);
+        print_packet(&mut self.output, self.track, self.turns, packet)?;
+        if let Some(roster) = self.roster {
+            print_changed(&mut self.output, roster, self.standings.as_slice(), world)?;
+        }
+        self.standings = standings(world);
+        Ok(())
+    }
+}
+
+impl<O: Write> Witness for Printer<'_, O> {
+    ghost use Rattle.bus_lines.specs.Printers.{remembered, standings_of, text_of};
+    ghost use Rattle.bus_lines.specs.Lines.{remembered_after};
+
+    type Fault = Unwritten;
+
+    ghost decoders = { λ printer. specs_of (entries_of printer.roster) };
+
+    /// Prints what was told, and remembers it.
+    fn told(&mut self, told: &Told, world: &World) -> Result<(), Unwritten>
+        requires { map spec_of world.now.nodes ≡ specs_of (entries_of self.old.roster) }
+        ensures printed { OnOk result (Appends (O.contents self.old.output) (O.contents self.new.output) (text_of self.old told.now world.now.nodes)) }
+        ensures remembered { OnOk result (remembered self.new ≡ remembered_after (remembered self.old) told.now (standings_of world.now.nodes)) }
+        ensures decoders { specs_of (entries_of self.new.roster) ≡ specs_of (entries_of self.old.roster) }
+        ensures roster { self.new.roster ≡ self.old.roster }
+        ensures track { self.new.track ≡ self.old.track }
+    {
+        match told {
+            Told::Nothing | Told::Refused { .. } => Ok(()),
+            Told::Joined { client } => print_client(&mut self.output, *client, " joins"),
+            Told::Left { client } => {
+                self.gone = self.gone.saturating_add(1);
+                print_client(&mut self.output, *client, " leaves")
+            }
+            Told::Sent { message, reply, .. } => print_messages(&mut self.output, message, reply),
+            Told::Turned { packet } => self.print_turn(packet, world),
+        }
+    }
+
+    /// Prints that a client is too slow.
+    fn late(&mut self, client: u8) -> Result<(), Unwritten>
+        ensures printed { OnOk result (Appends (O.contents self.old.output) (O.contents self.new.output) (lines_text (late_line client ∷ []))) }
+        ensures remembered { remembered self.new ≡ remembered self.old }
+        ensures decoders { specs_of (entries_of self.new.roster) ≡ specs_of (entries_of self.old.roster) }
+        ensures roster { self.new.roster ≡ self.old.roster }
+        ensures track { self.new.track ≡ self.old.track }
+    {
+        print_client(&mut self.output, client, " is too slow")
+    }
+}
+
+/// How the decoders of a layout stand.
+fn standings(world: &World) -> Standings
+    ensures { result.items ≡ map standing_of world.now.nodes }
+{
+    let mut standings = Standings::new();
+    for i in 0..world.nodes() {
+        standings.push(world.standing(i));
+    }
+    standings
+}
+
+/// Prints what a client does, 0 to 7; for people they are counted from 1.
+fn print_client<O: Write>(output: &mut O, client: u8, does: &str) -> Result<(), Unwritten>
+    ensures { OnOk result (Appends (O.contents output.old) (O.contents output.new) (lines_text (client_line client does.now ∷ []))) }
+{
+    print_count(output, "client ", u64::from(client) + 1, does)
+}
+
+/// Prints a number between two texts.
+fn print_count<O: Write>(
+    output: &mut O,
+    before: &str,
+    number: u64,
+    behind: &str,
+) -> Result<(), Unwritten>
+    ensures { OnOk result (Appends (O.contents output.old) (O.contents output.new) (lines_text ((before.now ++ decimal number ++ behind.now) ∷ []))) }
+{
+    writeln!(output, "{before}{number}{behind}").map_err(|_| Unwritten)
+}
+
+/// Prints a message, and then the reply to it.
+fn print_messages<O: Write>(
+    output: &mut O,
+    message: &Msg,
+    reply: &Option<Msg>,
+) -> Result<(), Unwritten>
+    ensures { OnOk result (Appends (O.contents output.old) (O.contents output.new) (lines_text (map message_text (message.now ∷ option_to_list reply.now)))) }
+{
+    print(output, &message_line(message))?;
+    print_reply(output, reply)
+}
+
+/// Prints a reply, where there is one.
+fn print_reply<O: Write>(output: &mut O, reply: &Option<Msg>) -> Result<(), Unwritten>
+    ensures { OnOk result (Appends (O.contents output.old) (O.contents output.new) (lines_text (map message_text (option_to_list reply.now)))) }
+{
+    match reply {
+        Some(reply) => print(output, &message_line(reply)),
+        None => Ok(()),
+    }
+}
+
+/// Prints the packet of a turn, where packets are printed; idle ones are not.
+fn print_packet<O: Write>(
+    output: &mut O,
+    track: bool,
+    turn: u64,
+    packet: &Option<Packet>,
+) -> Result<(), Unwritten>
+    ensures { OnOk result (Appends (O.contents output.old) (O.contents output.new) (lines_text (packet_lines track turn packet.now))) }
+{
+    let Some(packet) = packet else {
+        return Ok(());
+    };
+    if !track || packet.bytes() == idle().bytes() {
+        return Ok(());
+    }
+    print(output, &track_line(turn, packet))
+}
+
+/// Prints each decoder that stands otherwise than it did.
+fn print_changed<O: Write>(
+    output: &mut O,
+    roster: &Roster,
+    before: &[Standing],
+    world: &World,
+) -> Result<(), Unwritten>
+    requires decoders { map spec_of world.now.nodes ≡ map entry_spec roster.now }
+    requires as_many { length before.now ≡ length roster.now }
+    ensures { OnOk result (Appends (O.contents output.old) (O.contents output.new) (lines_text (changed_lines roster.now before.now (map standing_of world.now.nodes)))) }
+{
+    for (i, spec) in roster.nodes().as_slice().iter().enumerate() {
+        let now = world.standing(i);
+        if !before[i].is_same(&now) {
+            print(output, &now.line(roster.name(i), spec))?;
+        }
+    }
+    Ok(())
+}

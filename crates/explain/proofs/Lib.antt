@@ -1,0 +1,6 @@
+mod Ends
+mod Held
+mod Leads
+mod Passing
+mod Pieces
+mod Told

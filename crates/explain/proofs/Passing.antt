@@ -1,0 +1,151 @@
+-- What is known of a run, read by read.
+use Rattle.std.proofs.Common.{◌≡◌, ℕ, ◌-◌, Bool, List, [], ◌∷◌, ◌++◌, length, take, drop, append_assoc, append-nil, Option, Some, refl, ap, sym, subst, ◌∙◌, false, arith}
+use Rattle.std.specs.Prelude.{Result, Ok, Err, OnErr, IsErrAnd, MatchOption}
+use Rattle.std.specs.Io.KnownBytes.{Appends, Consumes, Keeps}
+use Rattle.std.proofs.KnownBytes.{Appends-kept, Appends-nil, Appends-trans, Consumes-nil, Consumes-kept, Consumes-trans}
+use Rattle.std.proofs.lemmas.List.{take-append-drop, take_rest}
+use Rattle.explain.specs.Explained.{explained}
+use Rattle.explain.specs.Streams.{AppendsFront, Begins, Explains, ExplainsFront, Follows}
+use Rattle.explain.specs.Unfinished.{to_write}
+
+-- A text that is written piece by piece.
+
+-- the front of a text was written, and this is the rest
+abbrev pub HasWritten : (old new : Option (List ℕ)) → (text rest : List ℕ) → Type 0
+HasWritten old new text rest = (written : List ℕ) × Appends old new written × (text ≡ written ++ rest)
+
+pub written-none : (o : Option (List ℕ)) (text : List ℕ) → HasWritten o o text text
+written-none o text = ([], Appends-nil o, refl)
+
+pub written-more : (o p q : Option (List ℕ)) (text rest : List ℕ) (k : ℕ) → HasWritten o p text rest → Appends p q (take k rest) → HasWritten o q text (drop k rest)
+written-more o p q text rest k so_far more =
+    let written = so_far.0 in (
+      written ++ take k rest,
+      Appends-trans o p q written (take k rest) so_far.1 more,
+      so_far.2 ∙ ap (λ (bs : List ℕ). written ++ bs) (sym (take-append-drop k rest)) ∙ sym (append_assoc written (take k rest) (drop k rest)),
+    )
+
+pub written-kept : (o p q : Option (List ℕ)) (text rest : List ℕ) → HasWritten o p text rest → Keeps p q → HasWritten o q text rest
+written-kept o p q text rest so_far k = (so_far.0, Appends-kept o p q so_far.0 so_far.1 k, so_far.2)
+
+pub written-part : (o p q : Option (List ℕ)) (text rest left : List ℕ) (k : ℕ) → HasWritten o p text rest → Appends p q (take k rest) → left ≡ take (length rest - k) (drop k rest) → HasWritten o q text left
+written-part o p q text rest left k so_far more is =
+    subst (λ (bs : List ℕ). HasWritten o q text bs) (sym (is ∙ take_rest rest k)) (written-more o p q text rest k so_far more)
+
+pub written-same : (o p q : Option (List ℕ)) (text rest left : List ℕ) → HasWritten o p text rest → Keeps p q → left ≡ rest → HasWritten o q text left
+written-same o p q text rest left so_far k is = subst (λ (bs : List ℕ). HasWritten o q text bs) (sym is) (written-kept o p q text rest so_far k)
+
+pub written-front : (o p : Option (List ℕ)) (text rest : List ℕ) → HasWritten o p text rest → AppendsFront o p text
+written-front o p text rest so_far = (so_far.0, rest, so_far.1, so_far.2)
+
+pub written-all : (o p q : Option (List ℕ)) (text rest : List ℕ) → HasWritten o p text rest → length rest ≡ 0 → Keeps p q → Appends o q text
+written-all o p q text [] so_far none k =
+    let kept = written-kept o p q text [] so_far k in
+    subst (λ (bs : List ℕ). Appends o q bs) (sym (kept.2 ∙ append-nil kept.0)) kept.1
+written-all o p q text (b ∷ rest) so_far none k = absurd (omega arith)
+
+-- Reads, one after another.
+
+-- a read that fails took nothing
+pub follows-nothing : (a b o : Option (List ℕ)) (is_long : Bool) (held : List ℕ) → Keeps a b → Follows a b o o is_long held is_long held
+follows-nothing a b o is_long held k = ([], [], Consumes-kept a a b [] (Consumes-nil a) k, Appends-nil o, λ more. refl)
+
+pub begins-nothing : (a b o : Option (List ℕ)) (is_long : Bool) (held : List ℕ) → Keeps a b → Begins a b o o is_long held
+begins-nothing a b o is_long held k = ([], [], to_write is_long held [], Consumes-kept a a b [] (Consumes-nil a) k, Appends-nil o, refl)
+
+-- what was heard is not written
+pub begins-unwritten : (a b o : Option (List ℕ)) (is_long : Bool) (held text : List ℕ) → Consumes a b text → Begins a b o o is_long held
+begins-unwritten a b o is_long held text taken = (text, [], to_write is_long held text, taken, Appends-nil o, refl)
+
+-- of what was heard, into a text that was cleared, a front is written
+pub begins-written : (a b o p : Option (List ℕ)) (l m : Bool) (h i text empty heard : List ℕ) → Consumes a b text → empty ≡ []
+    → ((more : List ℕ) → empty ++ to_write l h (text ++ more) ≡ heard ++ to_write m i more) → AppendsFront o p heard → Begins a b o p l h
+begins-written a b o p l m h i text empty heard taken none all front =
+    let written = front.0 in
+    let left = front.1 in (
+      text,
+      written,
+      left ++ to_write m i [],
+      taken,
+      front.2,
+      sym (ap (λ (bs : List ℕ). bs ++ to_write l h (text ++ [])) none ∙ ap (λ (bs : List ℕ). to_write l h bs) (append-nil text))
+          ∙ all [] ∙ ap (λ (bs : List ℕ). bs ++ to_write m i []) front.3 ∙ append_assoc written left (to_write m i []),
+    )
+
+pub follows-trans : (a b c o p q : Option (List ℕ)) (l m n : Bool) (h i j : List ℕ) → Follows a b o p l h m i → Follows b c p q m i n j → Follows a c o q l h n j
+follows-trans a b c o p q l m n h i j first second =
+    let text = first.0 in
+    let after = second.0 in
+    let written = first.1 in
+    let others = second.1 in (
+      text ++ after,
+      written ++ others,
+      Consumes-trans a b c text after first.2 second.2,
+      Appends-trans o p q written others first.3 second.3,
+      λ more. ap (λ (bs : List ℕ). to_write l h bs) (append_assoc text after more) ∙ first.4 (after ++ more) ∙ ap (λ (bs : List ℕ). written ++ bs) (second.4 more)
+          ∙ sym (append_assoc written others (to_write n j more)),
+    )
+
+pub begins-behind : (a b c o p q : Option (List ℕ)) (l m : Bool) (h i : List ℕ) → Follows a b o p l h m i → Begins b c p q m i → Begins a c o q l h
+begins-behind a b c o p q l m h i first second =
+    let text = first.0 in
+    let after = second.0 in
+    let written = first.1 in
+    let others = second.1 in
+    let left = second.2 in (
+      text ++ after,
+      written ++ others,
+      left,
+      Consumes-trans a b c text after first.2 second.3,
+      Appends-trans o p q written others first.3 second.4,
+      first.4 after ∙ ap (λ (bs : List ℕ). written ++ bs) second.5 ∙ sym (append_assoc written others left),
+    )
+
+-- The whole run, which begins with nothing held.
+
+start : (l : Bool) (h text : List ℕ) → l ≡ false → h ≡ [] → to_write l h text ≡ explained text
+unfolding to_write
+start l h text new none = ap (λ (b : Bool). to_write b h text) new ∙ ap (λ (bs : List ℕ). explained (bs ++ text)) none
+
+pub explains-front : (a b o p : Option (List ℕ)) (l : Bool) (h : List ℕ) → l ≡ false → h ≡ [] → Begins a b o p l h → ExplainsFront a b o p
+explains-front a b o p l h new none begun =
+    (begun.0, begun.1, begun.2, begun.3, begun.4, sym (start l h begun.0 new none) ∙ begun.5)
+
+heard-is : (a b o p : Option (List ℕ)) (l m : Bool) (h i : List ℕ) → l ≡ false → h ≡ [] → (heard : Follows a b o p l h m i) → explained heard.0 ≡ heard.1 ++ to_write m i []
+heard-is a b o p l m h i new none heard =
+    sym (start l h heard.0 new none) ∙ sym (ap (λ (bs : List ℕ). to_write l h bs) (append-nil heard.0)) ∙ heard.4 []
+
+-- what was heard, and nothing of what is left
+pub explains-heard : (a b o p : Option (List ℕ)) (l m : Bool) (h i : List ℕ) → l ≡ false → h ≡ [] → Follows a b o p l h m i → ExplainsFront a b o p
+explains-heard a b o p l m h i new none heard = (heard.0, heard.1, to_write m i [], heard.2, heard.3, heard-is a b o p l m h i new none heard)
+
+-- a front of what is left
+pub explains-most : (a b o p q : Option (List ℕ)) (l m : Bool) (h i last : List ℕ) → l ≡ false → h ≡ [] → Follows a b o p l h m i → last ≡ to_write m i [] → AppendsFront p q last → ExplainsFront a b o q
+explains-most a b o p q l m h i last new none heard is front =
+    let before = heard.1 in (
+      heard.0,
+      before ++ front.0,
+      front.1,
+      heard.2,
+      Appends-trans o p q before front.0 heard.3 front.2,
+      heard-is a b o p l m h i new none heard ∙ ap (λ (bs : List ℕ). before ++ bs) (sym is ∙ front.3) ∙ sym (append_assoc before front.0 front.1),
+    )
+
+-- all of it
+pub explains-all : (a b o p q : Option (List ℕ)) (l m : Bool) (h i last : List ℕ) → l ≡ false → h ≡ [] → Follows a b o p l h m i → last ≡ to_write m i [] → Appends p q last → Explains a b o q
+explains-all a b o p q l m h i last new none heard is appended =
+    let before = heard.1 in
+    (heard.0, heard.2, subst (λ (bs : List ℕ). Appends o q bs) (sym (heard-is a b o p l m h i new none heard ∙ ap (λ (bs : List ℕ). before ++ bs) (sym is))) (Appends-trans o p q before last heard.3 appended))
+
+-- a read that did not fail
+pub taken_of : (a b : Option (List ℕ)) (chunk : List ℕ) (read : Option ℕ) (n : ℕ) → read ≡ Some n → MatchOption read (Keeps a b) (λ k. Consumes a b (take k chunk)) → Consumes a b (take n chunk)
+taken_of a b chunk read n e known = subst (λ (m : Option ℕ). MatchOption m (Keeps a b) (λ k. Consumes a b (take k chunk))) e known
+
+-- what is appended to a text that was cleared
+pub from_nothing : (empty new left : List ℕ) → empty ≡ [] → new ≡ empty ++ left → new ≡ left
+from_nothing empty new left e n = n ∙ ap (λ (bs : List ℕ). bs ++ left) e
+
+-- an error that is passed up says what was said of it
+pub passed_up : {A : Type 0} {E : Type 0} (up : Result A E) (e : E) (P : Type 0) → IsErrAnd up (λ f. f ≡ e) → P → OnErr up P
+passed_up (Ok a) e P is p = tt
+passed_up (Err f) e P is p = p

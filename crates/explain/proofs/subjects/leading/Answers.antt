@@ -1,0 +1,26 @@
+use Rattle.std.proofs.Common.{◌<◌, ◌∷◌, [], length, length-append, eqb-true, ap, sym, ◌∙◌, arith}
+use Rattle.std.proofs.lemmas.Bool.Decides.{nat_tests}
+use Rattle.explain.proofs.Leads.{lead-word, lead-no_pair, lead-all, pair-length}
+use Rattle.explain.proofs.subjects.leading.Goals as goal
+
+pub returns-in_default : goal.returns-in_default
+returns-in_default c =
+    let some : 0 < length c.cut_piece.result.0.now = grind (arith, nat_tests) in
+    sym (lead-no_pair c.loop-rest.bytes.items c.loop-rest.rest.now c.cut_piece.result.0.now c.cut_piece.result.1.now c.cut_piece.ensures.words some (sym c.hex_pair.ensures ∙ c.in_default.is))
+    ∙ c.loop-rest.invariant.led
+
+pub loop-rest-preserved-in-Some : goal.loop-rest-preserved-in-Some
+loop-rest-preserved-in-Some c =
+    let bytes = c.loop-rest.bytes.items in
+    let piece = c.cut_piece.result.0.now in
+    let byte = c.in-Some.byte in
+    let pair = sym c.hex_pair.ensures ∙ c.in-Some.is in
+    record {
+      led = rw c.push.ensures.items (sym (lead-word bytes c.loop-rest.rest.now piece c.cut_piece.result.1.now byte c.cut_piece.ensures.words pair) ∙ c.loop-rest.invariant.led);
+      room = omega (arith, ap length c.push.ensures.items, length-append bytes (byte ∷ []), pair-length piece byte pair, c.cut_piece.ensures.within, c.loop-rest.invariant.room);
+    }
+
+pub returns : goal.returns
+returns c =
+    sym (lead-all c.loop-rest.bytes.items c.loop-rest.rest.now (eqb-true (length c.loop-rest.rest.now) 0 (sym c.loop-rest-test.ensures)))
+    ∙ c.loop-rest.invariant.led

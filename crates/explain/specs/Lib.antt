@@ -1,0 +1,6 @@
+pub mod Explained
+pub mod Fault
+pub mod Lines
+pub mod Streams
+pub mod Subjects
+pub mod Unfinished

@@ -1,0 +1,60 @@
+-- What a line is about, and what is said of it (own). What the words say is that of `plain_words`.
+use Rattle.std.specs.Prelude.{ℕ, Bool, if◌then◌else◌, nat_lt, List, [], ◌∷◌, length, Option, Some, None, codes}
+use Rattle.std.specs.List.{before_first, after_first}
+use Rattle.std.specs.Str.{bytes_eq}
+use Rattle.over_tcp.specs.Asked.{is_blank, words_of, pair_of, bytes_of}
+use Rattle.plain_words.specs.Messages.{message_words}
+use Rattle.plain_words.specs.Packets.{packet_words}
+
+-- what some bytes say; nothing is said of none, or where a word is no pair of digits
+abbrev pub said_by : (List ℕ → List ℕ) → Option (List ℕ) → List ℕ
+said_by say None = []
+said_by say (Some []) = []
+said_by say (Some (b ∷ bs)) = say (b ∷ bs)
+
+-- words that are a message, and nothing else
+unfoldable pub message_in : List ℕ → List ℕ
+message_in text = said_by message_words (bytes_of (words_of text))
+
+-- what a turn sent: `off`, or the words of a packet and nothing else
+unfoldable pub turn_in : List ℕ → List ℕ
+turn_in text = if bytes_eq text (codes "off") then codes "no power, nothing is sent" else said_by packet_words (bytes_of (words_of text))
+
+abbrev pub led_by : Option ℕ → List ℕ → List ℕ
+led_by None bytes = []
+led_by (Some byte) bytes = byte ∷ bytes
+
+-- the bytes of the words up to the first that is no pair
+unfoldable pub leading : List (List ℕ) → List ℕ
+leading [] = []
+leading (word ∷ words) = led_by (pair_of word) (leading words)
+
+-- a message, and behind it words that tell it another way, none of which begins with a pair
+unfoldable pub monitored_in : List ℕ → List ℕ
+monitored_in text = said_by message_words (Some (leading (words_of text)))
+
+-- what stands behind the first word
+abbrev pub behind : List ℕ → List ℕ
+behind text = after_first is_blank text
+
+abbrev pub begins_with : List ℕ → List ℕ → Bool
+begins_with word line = bytes_eq (before_first is_blank line) word
+
+-- What a line says, by its first word. Behind `reply` stands the line that is answered, and behind `track` the turn. A line
+-- that begins with none of these words is a message, or says nothing.
+abbrev pub words_about : List ℕ → List ℕ
+words_about line =
+    if begins_with (codes "reply") line then message_in (behind (behind line)) else
+    (if begins_with (codes "track") line then turn_in (behind (behind line)) else
+    (if begins_with (codes "msg") line then monitored_in (behind line) else
+    (if begins_with (codes "RECEIVE") line then message_in (behind line) else
+    (if begins_with (codes "SEND") line then message_in (behind line) else message_in line))))
+
+-- two spaces before words
+abbrev pub set_off : List ℕ → List ℕ
+set_off [] = []
+set_off (w ∷ words) = 32 ∷ 32 ∷ w ∷ words
+
+-- what is written behind a line, given without its end: nothing behind one of more than 400 characters
+abbrev pub note_of : List ℕ → List ℕ
+note_of line = if nat_lt 400 (length line) then [] else set_off (words_about line)

@@ -1,0 +1,42 @@
+//! Why a run ends with a status other than 0.
+ghost use Rattle.std.specs.Prelude.{◌≡◌};
+ghost use Rattle.explain.specs.declared.fault.ExplainFault.TheVariants.{NoMemory};
+ghost use Rattle.explain.specs.Fault.{status_of};
+
+use std::alloc::AllocError;
+use thiserror::Error;
+
+/// Why a run ends with a status other than 0. Its text is what follows `explain: ` on standard error.
+#[derive(Clone, Copy, Debug, Error)]
+pub enum ExplainFault {
+    /// Status 2: standard input could not be read.
+    #[error("cannot read -")]
+    Unreadable,
+    /// Status 4: standard output could not be written.
+    #[error("output")]
+    Output,
+    /// Status 6: want of memory.
+    #[error("no memory")]
+    NoMemory,
+}
+
+impl ExplainFault {
+    /// The exit status.
+    pub fn status(self) -> u8
+        ensures { result ≡ status_of self }
+    {
+        match self {
+            ExplainFault::Unreadable => 2,
+            ExplainFault::Output => 4,
+            ExplainFault::NoMemory => 6,
+        }
+    }
+}
+
+impl From<AllocError> for ExplainFault {
+    ghost from_gives = { λ _ fault. fault ≡ NoMemory };
+
+    fn from(_: AllocError) -> Self {
+        ExplainFault::NoMemory
+    }
+}

@@ -1,0 +1,28 @@
+//! `explain`: the lines that it reads, and behind those of messages and packets what they say in plain words.
+#![tactic(auto)]
+
+mod explainer;
+mod fault;
+mod laws;
+mod lines;
+mod streams;
+mod subjects;
+
+pub use explainer::Explainer;
+pub use fault::ExplainFault;
+pub use laws::told_is_explained;
+use std::io;
+use std::process::ExitCode;
+pub use streams::execute;
+
+#[cfg(test)]
+mod tests;
+
+fn main(rt: HostRuntime) -> ExitCode {
+    ExitCode::from(execute(
+        rt.alloc(),
+        &mut rt.reader(),
+        &mut io::writer(&rt),
+        &mut rt.stderr(),
+    ))
+}

@@ -1,0 +1,5 @@
+pub mod Missed
+pub mod Keeping
+pub mod Placing
+pub mod Going
+pub mod Rounding

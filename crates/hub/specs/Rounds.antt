@@ -1,0 +1,95 @@
+-- What a round of a server is: everybody is heard and written to, nobody stays late, and who waits is let in.
+use Rattle.std.specs.Prelude.{ℕ, ◌≡◌, ◌⊎◌, ◌<◌, ◌≤◌, ◌==◌, Bool, true, false, List, [], ◌∷◌, ◌++◌, length, replicate, Option, None}
+use Rattle.std.specs.List.{filter, list_any, slice_index_or}
+use Rattle.bus.specs.declared.event.Event.{Event}
+use Rattle.bus.specs.declared.event.Event.TheVariants.{Joins, Hears, Leaves, Passes, Turn}
+use Rattle.hub.specs.Served.{Serving, has_place, is_late}
+use Rattle.hub.specs.Waiting.{waits}
+use Rattle.hub.specs.Wire.{Brought, Closed, Full, Grows, NobodyWaits, Passed, Put, Quiet, TurnedAway}
+
+-- an event is a byte of this client, or that it has gone
+abbrev pub is_of : (client : ℕ) → Event → Bool
+is_of i (Joins client) = false
+is_of i (Hears client byte) = client == i
+is_of i (Leaves client) = client == i
+is_of i (Passes micros missed) = false
+is_of i (Turn missed) = false
+
+-- a client is heard: it says something, has sent nothing, or has gone
+abbrev pub is_heard : (client : ℕ) → Passed → Bool
+is_heard i (Brought event) = is_of i event
+is_heard i (Put client bytes) = false
+is_heard i (Closed client) = false
+is_heard i (Quiet client) = client == i
+is_heard i (Full client) = false
+is_heard i NobodyWaits = false
+is_heard i TurnedAway = false
+
+-- a piece of what waits is written to a client
+abbrev pub is_put : (client : ℕ) → Passed → Bool
+is_put i (Brought event) = false
+is_put i (Put client bytes) = client == i
+is_put i (Closed client) = false
+is_put i (Quiet client) = false
+is_put i (Full client) = false
+is_put i NobodyWaits = false
+is_put i TurnedAway = false
+
+-- a client joins
+abbrev pub joins : (client : ℕ) → Event → Bool
+joins i (Joins client) = client == i
+joins i (Hears client byte) = false
+joins i (Leaves client) = false
+joins i (Passes micros missed) = false
+joins i (Turn missed) = false
+
+-- a client takes no more, or has only just come
+abbrev pub takes_later : (client : ℕ) → Passed → Bool
+takes_later i (Brought event) = joins i event
+takes_later i (Put client bytes) = false
+takes_later i (Closed client) = false
+takes_later i (Quiet client) = false
+takes_later i (Full client) = client == i
+takes_later i NobodyWaits = false
+takes_later i TurnedAway = false
+
+-- nothing waits for a client
+abbrev pub NothingWaits : (client : ℕ) → Serving → Type 0
+NothingWaits client serving = waits (slice_index_or serving.places client None) ≡ []
+
+-- A client is written to: nothing waits for it any more, or it took no more, or four pieces were written to it. One that has
+-- only just come is written to in the next round.
+abbrev pub IsWrittenTo : (client : ℕ) → List Passed → Serving → Type 0
+IsWrittenTo client more serving = NothingWaits client serving ⊎ (list_any (takes_later client) more ≡ true) ⊎ (4 ≤ length (filter (is_put client) more))
+
+-- Who waits is let in, or turned away, until nobody waits, or eight were turned away.
+abbrev pub LetsIn : List Passed → Type 0
+LetsIn more = (before : List Passed) × ((more ≡ before ++ NobodyWaits ∷ []) ⊎ (more ≡ before ++ replicate 8 TurnedAway))
+
+-- all are written to, and nobody is late
+abbrev pub AllWrittenTo : (below : ℕ) → List Passed → Serving → Type 0
+AllWrittenTo below more serving = (client : ℕ) → client < below → IsWrittenTo client more serving × (is_late serving client ≡ false)
+
+-- All clients are heard and written to, nobody is late then, so that one for whom too much would have waited was closed, and
+-- who waits is let in.
+pub record IsRound (more : List Passed) (new : Serving) : Type 0 where
+  pub heard : (client : ℕ) → client < 8 → list_any (is_heard client) more ≡ true
+  pub written : AllWrittenTo 8 more new
+  pub lets_in : LetsIn more
+
+-- What the steps of a round promise one another.
+
+-- Eight that wait are turned away, or fewer, until nobody waits.
+abbrev pub TurnsAway : (eight : Bool) → (passed passed' : Option (List Passed)) → Type 0
+TurnsAway true passed passed' = Grows passed passed' (replicate 8 TurnedAway)
+TurnsAway false passed passed' = (count : ℕ) × Grows passed passed' (replicate count TurnedAway ++ NobodyWaits ∷ [])
+
+-- whoever was written to before was written to still, and nobody comes to be late
+pub record Keeps (more : List Passed) (old new : Serving) : Type 0 where
+  pub written : (client : ℕ) (before : List Passed) → IsWrittenTo client before old → IsWrittenTo client (before ++ more) new
+  pub on_time : (client : ℕ) → is_late old client ≡ false → is_late new client ≡ false
+
+-- a place is taken now, and so are all that were
+pub record HasMorePlaces (client : ℕ) (old new : Serving) : Type 0 where
+  pub takes : has_place new client ≡ true
+  pub keeps : (other : ℕ) → has_place old other ≡ true → has_place new other ≡ true

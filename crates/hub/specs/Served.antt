@@ -1,0 +1,100 @@
+-- What a server makes of what comes over the wire.
+use Rattle.std.specs.Prelude.{ℕ, zero, suc, ◌≡◌, ◌<◌, Bool, true, ◌&&◌, not, is_some, List, [], ◌∷◌, ◌++◌, map, replicate, Option, Some, None, slice_set}
+use Rattle.decoder_node.specs.declared.node.NodeSpec.{NodeSpec}
+use Rattle.std.specs.List.{list_all, slice_index_or}
+use Rattle.layout_core.specs.declared.node.Node.{Node}
+use Rattle.layout_core.specs.Nodes.{node_of}
+use Rattle.layout_core.specs.World.{HaveHeard}
+use Rattle.bus.specs.declared.event.Event.{Event}
+use Rattle.bus.specs.declared.event.Event.TheVariants.{Joins, Hears, Leaves, Passes, Turn}
+use Rattle.bus.specs.declared.event.Told.{Told}
+use Rattle.bus.specs.declared.event.Told.TheVariants.{Nothing, Joined, Left, Refused, Sent, Turned}
+use Rattle.bus.specs.Bus.{AreEvents, SeenBus, after_events, client_of, first_bus, told_by, told_of}
+use Rattle.bus.specs.Course.{is_time, micros_in}
+use Rattle.bus.specs.Layout.{layout_events}
+use Rattle.hub.specs.Waiting.{Places, waiting_after}
+use Rattle.hub.specs.Wire.{Brought, Closed, Full, NobodyWaits, Passed, Put, Quiet, TurnedAway}
+
+-- what a server is: its bus, the decoders, and what waits for each client
+pub record Serving : Type 0 where
+  pub bus : SeenBus
+  pub nodes : List Node
+  pub places : Places
+
+-- a new one: the decoders as they are made, and nobody is there
+abbrev pub first_serving : List NodeSpec → Serving
+first_serving nodes = record { bus = first_bus; nodes = map node_of nodes; places = replicate 8 None }
+
+-- what waits once all were told of all
+abbrev pub waiting_behind : List Told → Places → Places
+waiting_behind [] places = places
+waiting_behind (told ∷ all) places = waiting_behind all (waiting_after told places)
+
+-- these events of the bus happened, one after another, the decoders heard what they are to the layout, and all that is told
+-- of them was put behind what waits
+pub record HaveHappened (events : List Event) (old new : Serving) : Type 0 where
+  pub legal : AreEvents events
+  pub bus : new.bus ≡ after_events old.bus events
+  pub nodes : HaveHeard old.bus.station (layout_events old.bus events) old.nodes new.nodes
+  pub places : new.places ≡ waiting_behind (told_of old.bus events) old.places
+
+-- so much track time passes, however it is cut, and nothing else happens
+abbrev pub HasPassed : (micros : ℕ) → Serving → Serving → Type 0
+HasPassed micros old new = (events : List Event) × (list_all is_time events ≡ true) × (micros_in old.bus events ≡ micros) × HaveHappened events old new
+
+-- how many turns follow a message, where they follow messages and not time
+abbrev pub turns_behind : Option ℕ → Told → ℕ
+turns_behind None told = 0
+turns_behind (Some turns) Nothing = 0
+turns_behind (Some turns) (Joined client) = 0
+turns_behind (Some turns) (Left client) = 0
+turns_behind (Some turns) (Refused client reason) = 0
+turns_behind (Some turns) (Sent client message reply) = turns
+turns_behind (Some turns) (Turned packet) = 0
+
+-- so many turns, whoever misses them
+abbrev pub AreTurns : ℕ → List Event → Type 0
+AreTurns zero [] = Unit {0}
+AreTurns zero (event ∷ events) = ⊥
+AreTurns (suc n) [] = ⊥
+AreTurns (suc n) (Joins client ∷ events) = ⊥
+AreTurns (suc n) (Hears client byte ∷ events) = ⊥
+AreTurns (suc n) (Leaves client ∷ events) = ⊥
+AreTurns (suc n) (Passes micros missed ∷ events) = ⊥
+AreTurns (suc n) (Turn missed ∷ events) = AreTurns n events
+
+-- a client has its place on the bus
+abbrev pub has_place : Serving → (client : ℕ) → Bool
+has_place serving client = is_some (client_of serving.bus client)
+
+-- who comes takes a place that was free
+abbrev pub finds_place : Serving → Event → Bool
+finds_place serving (Joins client) = not (has_place serving client)
+finds_place serving (Hears client byte) = true
+finds_place serving (Leaves client) = true
+finds_place serving (Passes micros missed) = true
+finds_place serving (Turn missed) = true
+
+-- A client is late: it has its place, but too much would have waited for it, so that it is told nothing more.
+abbrev pub is_late : Serving → (client : ℕ) → Bool
+is_late serving client = has_place serving client && not (is_some (slice_index_or serving.places client None))
+
+-- What is brought over the wire happens on the bus, and behind a message its turns; who comes takes a free place. What is
+-- written to a client is the front of what waited for it. Closed is a late client, and no other; turned away is who comes
+-- where all eight places are taken, and no other. All else changes nothing.
+abbrev pub Does : Option ℕ → Passed → Serving → Serving → Type 0
+Does turns (Brought event) old new =
+    (finds_place old event ≡ true) × (behind : List Event) × AreTurns (turns_behind turns (told_by old.bus event)) behind × HaveHappened (event ∷ behind) old new
+Does turns (Put client bytes) old new =
+    (rest : List ℕ) × (slice_index_or old.places client None ≡ Some (bytes ++ rest)) × (new ≡ record old { places = slice_set old.places client (Some rest) })
+Does turns (Closed client) old new =
+    (is_late old client ≡ true) × HaveHappened (Leaves client ∷ []) old new
+Does turns TurnedAway old new = ((client : ℕ) → client < 8 → has_place old client ≡ true) × (new ≡ old)
+Does turns (Quiet client) old new = new ≡ old
+Does turns (Full client) old new = new ≡ old
+Does turns NobodyWaits old new = new ≡ old
+
+-- one after another
+abbrev pub Serves : Option ℕ → List Passed → Serving → Serving → Type 0
+Serves turns [] old new = new ≡ old
+Serves turns (passed ∷ more) old new = (mid : Serving) × Does turns passed old mid × Serves turns more mid new

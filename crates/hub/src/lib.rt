@@ -1,0 +1,18 @@
+//! The clients of a bus: who is let in, what is heard of them and told to them, round by round. Who connects them is behind
+//! a trait, `Wire`, and so is who sees what happens, `Witness`; so there are no sockets, no clock and no printing here.
+#![tactic(auto)]
+
+mod hub;
+mod losses;
+mod room;
+mod server;
+mod waiting;
+mod wire;
+
+pub use hub::PLACES;
+pub use losses::Losses;
+pub use server::{Server, Witness};
+pub use wire::{Heard, Wire, Wrote};
+
+#[cfg(test)]
+mod tests;

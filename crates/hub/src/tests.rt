@@ -1,0 +1,3 @@
+//! What no clause says: shares that are drawn.
+
+mod losses;

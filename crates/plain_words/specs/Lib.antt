@@ -1,0 +1,5 @@
+pub mod Fields
+pub mod Messages
+pub mod Packets
+pub mod Pieces
+pub mod Rows

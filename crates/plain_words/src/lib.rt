@@ -1,0 +1,15 @@
+//! What the messages of a LocoNet line and the packets of a track say, in plain words.
+#![tactic(auto)]
+
+mod fields;
+mod message_rows;
+mod messages;
+mod packet_rows;
+mod packets;
+mod pieces;
+mod rows;
+mod slots;
+
+pub use messages::message_words;
+pub use packets::packet_words;
+pub use pieces::Words;

@@ -1,0 +1,419 @@
+//! What packets say that no decoder of this project obeys (S-9.2.1).
+use crate::fields::Field::{
+    BinaryState, Bit, Byte, Decoder, Length, LightAndFour, LowFour, LowSeven, LowThree, Output,
+    Step, Top, Variable,
+};
+use crate::rows::Part::{Choice, Number, On, Text};
+use crate::rows::Row;
+
+/// What a decoder is told, from the first byte behind its address to the check, which counts as one.
+pub(crate) const INSTRUCTIONS: [Row; 42] = [
+    // nothing but the check
+    (&[(Length, 1)], &[(Text, &["unknown form"])]),
+    // 2.3.1, decoder control: 0000CCCF
+    (&[(Length, 2), (Byte(0), 0)], &[(Text, &["decoder reset"])]),
+    (&[(Length, 2), (Byte(0), 1)], &[(Text, &["hard reset"])]),
+    (&[(Top(0, 1), 1)], &[(Text, &["factory test"])]),
+    (&[(Top(0, 1), 3)], &[(Text, &["set decoder flags"])]),
+    (
+        &[(Length, 2), (Top(0, 1), 5)],
+        &[
+            (Text, &["long address "]),
+            (Choice(Bit(0, 0)), &["off", "on"]),
+        ],
+    ),
+    (&[(Length, 2), (Top(0, 1), 7)], &[(Text, &["acknowledge"])]),
+    // 2.3.1, consist control: 0001CCCC 0AAAAAAA
+    (
+        &[(Length, 3), (Top(0, 1), 9), (LowSeven(1), 0)],
+        &[(Text, &["leave the consist"])],
+    ),
+    (
+        &[(Length, 3), (Top(0, 1), 9), (Bit(1, 7), 0)],
+        &[
+            (Text, &["join consist "]),
+            (Number(LowSeven(1)), &[]),
+            (
+                Choice(Bit(0, 0)),
+                &[", normal direction", ", reversed direction"],
+            ),
+        ],
+    ),
+    // 2.3.2, 128 speed steps: 00111111 DSSSSSSS
+    (
+        &[(Length, 3), (Byte(0), 0x3F), (LowSeven(1), 0)],
+        &[
+            (Text, &["stop"]),
+            (Choice(Bit(1, 7)), &[", reverse", ", forward"]),
+        ],
+    ),
+    (
+        &[(Length, 3), (Byte(0), 0x3F), (LowSeven(1), 1)],
+        &[
+            (Text, &["emergency stop"]),
+            (Choice(Bit(1, 7)), &[", reverse", ", forward"]),
+        ],
+    ),
+    (
+        &[(Length, 3), (Byte(0), 0x3F)],
+        &[
+            (Text, &["step "]),
+            (Number(Step(1)), &[]),
+            (Text, &[" of 128"]),
+            (Choice(Bit(1, 7)), &[", reverse", ", forward"]),
+        ],
+    ),
+    // 2.3.2, restricted speed step: 00111110
+    (
+        &[(Length, 3), (Byte(0), 0x3E), (Bit(1, 7), 0)],
+        &[
+            (Text, &["speed restricted, number "]),
+            (Number(LowSeven(1)), &[]),
+        ],
+    ),
+    (
+        &[(Length, 3), (Byte(0), 0x3E)],
+        &[(Text, &["speed not restricted"])],
+    ),
+    // 2.3.2, analog function group: 00111101
+    (
+        &[(Length, 4), (Byte(0), 0x3D)],
+        &[
+            (Text, &["analog function "]),
+            (Number(Byte(1)), &[]),
+            (Text, &[" at "]),
+            (Number(Byte(2)), &[]),
+        ],
+    ),
+    // 2.3.3, speed and direction to all: 01DCSSSS, of which a locomotive's own and a stop are read elsewhere
+    (
+        &[(Length, 2), (Top(0, 6), 1)],
+        &[
+            (Text, &["speed with 14 or 28 steps, number "]),
+            (Number(LowFour(0)), &[]),
+            (Choice(Bit(0, 5)), &[", reverse", ", forward"]),
+        ],
+    ),
+    // 2.3.4 and 2.3.5, function groups to all: 100DDDDD, 1011DDDD, 1010DDDD
+    (
+        &[(Length, 2), (Byte(0), 0x80)],
+        &[(Text, &["F0 to F4: all off"])],
+    ),
+    (
+        &[(Length, 2), (Top(0, 5), 4)],
+        &[
+            (Text, &["F0 to F4:"]),
+            (On(0, LightAndFour(0)), &[]),
+            (Text, &[" on"]),
+        ],
+    ),
+    (
+        &[(Length, 2), (Byte(0), 0xB0)],
+        &[(Text, &["F5 to F8: all off"])],
+    ),
+    (
+        &[(Length, 2), (Top(0, 4), 11)],
+        &[
+            (Text, &["F5 to F8:"]),
+            (On(5, LowFour(0)), &[]),
+            (Text, &[" on"]),
+        ],
+    ),
+    (
+        &[(Length, 2), (Byte(0), 0xA0)],
+        &[(Text, &["F9 to F12: all off"])],
+    ),
+    (
+        &[(Length, 2), (Top(0, 4), 10)],
+        &[
+            (Text, &["F9 to F12:"]),
+            (On(9, LowFour(0)), &[]),
+            (Text, &[" on"]),
+        ],
+    ),
+    // 2.3.6, feature expansion: 110CCCCC
+    (
+        &[(Length, 3), (Byte(0), 0xDE), (Byte(1), 0)],
+        &[(Text, &["F13 to F20: all off"])],
+    ),
+    (
+        &[(Length, 3), (Byte(0), 0xDE)],
+        &[
+            (Text, &["F13 to F20:"]),
+            (On(13, Byte(1)), &[]),
+            (Text, &[" on"]),
+        ],
+    ),
+    (
+        &[(Length, 3), (Byte(0), 0xDF), (Byte(1), 0)],
+        &[(Text, &["F21 to F28: all off"])],
+    ),
+    (
+        &[(Length, 3), (Byte(0), 0xDF)],
+        &[
+            (Text, &["F21 to F28:"]),
+            (On(21, Byte(1)), &[]),
+            (Text, &[" on"]),
+        ],
+    ),
+    (
+        &[(Length, 3), (Byte(0), 0xDD), (LowSeven(1), 0)],
+        &[
+            (Text, &["all binary states "]),
+            (Choice(Bit(1, 7)), &["off", "on"]),
+        ],
+    ),
+    (
+        &[(Length, 3), (Byte(0), 0xDD)],
+        &[
+            (Text, &["binary state "]),
+            (Number(LowSeven(1)), &[]),
+            (Choice(Bit(1, 7)), &[" off", " on"]),
+        ],
+    ),
+    (
+        &[(Length, 4), (Byte(0), 0xC0), (BinaryState, 0)],
+        &[
+            (Text, &["all binary states "]),
+            (Choice(Bit(1, 7)), &["off", "on"]),
+        ],
+    ),
+    (
+        &[(Length, 4), (Byte(0), 0xC0)],
+        &[
+            (Text, &["binary state "]),
+            (Number(BinaryState), &[]),
+            (Choice(Bit(1, 7)), &[" off", " on"]),
+        ],
+    ),
+    // 2.3.7, configuration variables, long form: 1110CCVV VVVVVVVV DDDDDDDD
+    (
+        &[(Length, 4), (Top(0, 2), 57)],
+        &[
+            (Text, &["verify that CV "]),
+            (Number(Variable(0)), &[]),
+            (Text, &[" is "]),
+            (Number(Byte(2)), &[]),
+        ],
+    ),
+    (
+        &[(Length, 4), (Top(0, 2), 59)],
+        &[
+            (Text, &["write "]),
+            (Number(Byte(2)), &[]),
+            (Text, &[" to CV "]),
+            (Number(Variable(0)), &[]),
+        ],
+    ),
+    (
+        &[(Length, 4), (Top(0, 2), 58), (Top(2, 4), 14)],
+        &[
+            (Text, &["verify that bit "]),
+            (Number(LowThree(2)), &[]),
+            (Text, &[" of CV "]),
+            (Number(Variable(0)), &[]),
+            (Text, &[" is "]),
+            (Number(Bit(2, 3)), &[]),
+        ],
+    ),
+    (
+        &[(Length, 4), (Top(0, 2), 58), (Top(2, 4), 15)],
+        &[
+            (Text, &["write "]),
+            (Number(Bit(2, 3)), &[]),
+            (Text, &[" to bit "]),
+            (Number(LowThree(2)), &[]),
+            (Text, &[" of CV "]),
+            (Number(Variable(0)), &[]),
+        ],
+    ),
+    // 2.3.7, short form: 1111CCCC DDDDDDDD
+    (
+        &[(Length, 3), (Byte(0), 0xF2)],
+        &[
+            (Text, &["write "]),
+            (Number(Byte(1)), &[]),
+            (Text, &[" to CV 23"]),
+        ],
+    ),
+    (
+        &[(Length, 3), (Byte(0), 0xF3)],
+        &[
+            (Text, &["write "]),
+            (Number(Byte(1)), &[]),
+            (Text, &[" to CV 24"]),
+        ],
+    ),
+    // the rest, by the first bits
+    (
+        &[(Top(0, 4), 0)],
+        &[(Text, &["unknown form of decoder control"])],
+    ),
+    (
+        &[(Top(0, 4), 1)],
+        &[(Text, &["unknown form of consist control"])],
+    ),
+    (
+        &[(Top(0, 5), 1)],
+        &[(Text, &["unknown form of advanced operation"])],
+    ),
+    (
+        &[(Top(0, 5), 6)],
+        &[(Text, &["unknown form of feature expansion"])],
+    ),
+    (
+        &[(Top(0, 5), 7)],
+        &[(Text, &["unknown form of variable access"])],
+    ),
+    (&[], &[(Text, &["unknown form"])]),
+];
+
+/// What accessory decoders are told, by the whole packet.
+pub(crate) const ACCESSORIES: [Row; 14] = [
+    // 2.1: the first byte of an accessory decoder is 10AAAAAA
+    (
+        &[(Bit(0, 7), 1), (Bit(0, 6), 1)],
+        &[(Text, &["unknown form: address "]), (Number(Byte(0)), &[])],
+    ),
+    // 2.4.1, basic: 10AAAAAA 1AAACDDD, of which decoders 1 to 510 are read elsewhere
+    (
+        &[(Length, 3), (Bit(1, 7), 1), (Decoder, 511)],
+        &[
+            (Text, &["all accessory decoders: output "]),
+            (Number(LowThree(1)), &[]),
+            (Choice(Bit(1, 3)), &[" off", " on"]),
+        ],
+    ),
+    (
+        &[(Length, 3), (Bit(1, 7), 1), (Decoder, 0)],
+        &[
+            (Text, &["accessory decoder 0: output "]),
+            (Number(LowThree(1)), &[]),
+            (Choice(Bit(1, 3)), &[" off", " on"]),
+        ],
+    ),
+    // 2.4.2, extended: 10AAAAAA 0AAA0AA1 000XXXXX
+    (
+        &[
+            (Length, 4),
+            (Top(1, 7), 0),
+            (LowThree(1), 7),
+            (Decoder, 511),
+        ],
+        &[(Text, &["all signals: aspect "]), (Number(Byte(2)), &[])],
+    ),
+    (
+        &[
+            (Length, 4),
+            (Bit(1, 7), 0),
+            (Bit(1, 3), 0),
+            (Bit(1, 0), 1),
+            (Decoder, 0),
+        ],
+        &[
+            (Text, &["signal decoder 0: aspect "]),
+            (Number(Byte(2)), &[]),
+        ],
+    ),
+    (
+        &[(Length, 4), (Bit(1, 7), 0), (Bit(1, 3), 0), (Bit(1, 0), 1)],
+        &[
+            (Text, &["signal "]),
+            (Number(Output), &[]),
+            (Text, &[": aspect "]),
+            (Number(Byte(2)), &[]),
+            (Choice(Byte(2)), &[" (stop)"]),
+        ],
+    ),
+    // 2.4.4, configuration variables: basic 10AAAAAA 1AAACDDD, extended 10AAAAAA 0AAA0AA1, and behind it 1110CCVV VVVVVVVV
+    // DDDDDDDD
+    (
+        &[(Length, 6), (Bit(1, 7), 1), (Top(2, 2), 57)],
+        &[
+            (Text, &["accessory decoder "]),
+            (Number(Decoder), &[]),
+            (Text, &[": verify that CV "]),
+            (Number(Variable(2)), &[]),
+            (Text, &[" is "]),
+            (Number(Byte(4)), &[]),
+        ],
+    ),
+    (
+        &[(Length, 6), (Bit(1, 7), 1), (Top(2, 2), 59)],
+        &[
+            (Text, &["accessory decoder "]),
+            (Number(Decoder), &[]),
+            (Text, &[": write "]),
+            (Number(Byte(4)), &[]),
+            (Text, &[" to CV "]),
+            (Number(Variable(2)), &[]),
+        ],
+    ),
+    (
+        &[(Length, 6), (Bit(1, 7), 1), (Top(2, 2), 58)],
+        &[
+            (Text, &["accessory decoder "]),
+            (Number(Decoder), &[]),
+            (Text, &[": bit of CV "]),
+            (Number(Variable(2)), &[]),
+        ],
+    ),
+    (
+        &[
+            (Length, 6),
+            (Bit(1, 7), 0),
+            (Bit(1, 3), 0),
+            (Bit(1, 0), 1),
+            (Top(2, 2), 57),
+        ],
+        &[
+            (Text, &["signal "]),
+            (Number(Output), &[]),
+            (Text, &[": verify that CV "]),
+            (Number(Variable(2)), &[]),
+            (Text, &[" is "]),
+            (Number(Byte(4)), &[]),
+        ],
+    ),
+    (
+        &[
+            (Length, 6),
+            (Bit(1, 7), 0),
+            (Bit(1, 3), 0),
+            (Bit(1, 0), 1),
+            (Top(2, 2), 59),
+        ],
+        &[
+            (Text, &["signal "]),
+            (Number(Output), &[]),
+            (Text, &[": write "]),
+            (Number(Byte(4)), &[]),
+            (Text, &[" to CV "]),
+            (Number(Variable(2)), &[]),
+        ],
+    ),
+    (
+        &[
+            (Length, 6),
+            (Bit(1, 7), 0),
+            (Bit(1, 3), 0),
+            (Bit(1, 0), 1),
+            (Top(2, 2), 58),
+        ],
+        &[
+            (Text, &["signal "]),
+            (Number(Output), &[]),
+            (Text, &[": bit of CV "]),
+            (Number(Variable(2)), &[]),
+        ],
+    ),
+    (
+        &[(Bit(1, 7), 1)],
+        &[
+            (Text, &["accessory decoder "]),
+            (Number(Decoder), &[]),
+            (Text, &[": unknown form"]),
+        ],
+    ),
+    (&[], &[(Text, &["unknown form for signals"])]),
+];

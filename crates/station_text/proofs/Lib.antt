@@ -1,0 +1,4 @@
+pub mod Cuts
+pub mod Telling
+pub mod Turns
+pub mod FirstWords

@@ -1,0 +1,4 @@
+pub mod Input
+pub mod Node
+pub mod Told
+pub mod Traffic

@@ -1,0 +1,16 @@
+-- The packets in what `station` prints (own).
+use Rattle.std.specs.Prelude.{ℕ, ◌≡◌, ◌<◌, ◌^◌, ◌⊎◌, ◌||◌, Bool, true, false, nat_eq, List, Option, Some, None, codes}
+use Rattle.std.specs.List.{starts_with}
+use Rattle.std.specs.Str.{bytes_eq}
+use Rattle.dcc_packet.specs.Packet.{IsPacket, is_checked}
+use Rattle.show_text.specs.Lines.{off_text, track_text}
+
+-- the first word, up to a space, is `track`
+abbrev pub is_of_turn : List ℕ → Bool
+is_of_turn line = bytes_eq line (codes "track") || starts_with nat_eq line (codes "track ")
+
+-- A line tells a packet where it is what is printed of a turn that sent it. It tells of none where it is no line of a turn,
+-- or is what is printed of a turn that sent nothing.
+abbrev pub Tells : List ℕ → Option (List ℕ) → Type 0
+Tells line (Some packet) = (turn : ℕ) × (turn < 2 ^ 64) × IsPacket packet × (is_checked packet ≡ true) × (line ≡ track_text turn packet)
+Tells line None = (is_of_turn line ≡ false) ⊎ ((turn : ℕ) × (turn < 2 ^ 64) × (line ≡ off_text turn))

@@ -1,0 +1,5 @@
+pub mod Drawn
+pub mod Fault
+pub mod Picture
+pub mod Rows
+pub mod Run

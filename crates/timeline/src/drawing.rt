@@ -1,0 +1,186 @@
+//! The picture of a run (W3C, Scalable Vector Graphics 1.1).
+ghost use Rattle.std.specs.Prelude.{◌≡◌, ◌⊎◌, ◌≤◌, ◌<◌, ◌^◌, ◌*◌, ◌+◌, Some, IfErr, IfOk, OnOk, length};
+ghost use Rattle.std.specs.Io.KnownBytes.{Appends};
+ghost use Rattle.timeline.specs.declared.fault.TimelineFault.TheVariants.{NoMemory, Output};
+ghost use Rattle.timeline.specs.Picture.{axis, bottom_of, framed, legend, opening, picture_of, picture_with, rows_text, title, turn_at, turn_text, turns_from};
+
+use crate::event::Event;
+use crate::fault::TimelineFault;
+use crate::pieces::{room_of, turn_after, write_row, x_of};
+use crate::row::Row;
+use crate::rows::rows_of;
+use std::alloc::Global;
+use std::io;
+use std::io::Write;
+
+/// Where the rows begin, in pixels from the top.
+const TOP: u64 = 52;
+
+/// How many turns events have.
+fn turns_in(events: &[Event]) -> u64
+    requires { length events.now < 2 ^ 32 }
+    ensures value { result ≡ turns_from 0 events.now }
+    ensures most { result ≤ length events.now }
+{
+    let mut turn = 0;
+    for event in events {
+        turn = turn_after(turn, event);
+    }
+    turn
+}
+
+/// Where the rows end.
+fn bottom_of(rows: &[Row]) -> u64
+    requires { length rows.now < 2 ^ 48 }
+    ensures value { result ≡ bottom_of 52 rows.now }
+    ensures most { result ≤ 52 + 60 * length rows.now }
+{
+    let mut bottom = TOP;
+    for row in rows {
+        bottom += room_of(row);
+    }
+    bottom
+}
+
+fn write_open<O: Write>(bottom: u64, output: &mut O) -> io::Result<()>
+    requires { bottom < 2 ^ 60 }
+    ensures { OnOk result (Appends (O.contents output.old) (O.contents output.new) (opening bottom)) }
+{
+    let height = bottom + 60;
+    writeln!(
+        output,
+        "<svg xmlns=\"http://www.w3.org/2000/svg\" width=\"1200\" height=\"{height}\" font-family=\"sans-serif\" font-size=\"11\" fill=\"none\" stroke=\"black\">"
+    )
+}
+
+fn write_title<O: Write>(output: &mut O) -> io::Result<()>
+    ensures { OnOk result (Appends (O.contents output.old) (O.contents output.new) title) }
+{
+    output.write_all(b"<title>What station printed, turn by turn</title>\n")?;
+    output.write_all(b"<style>text{fill:black;stroke:none}</style>\n")?;
+    output.write_all(b"<rect width=\"1200\" height=\"100%\" fill=\"white\" stroke=\"none\"/>\n")?;
+    output.write_all(
+        b"<text x=\"8\" y=\"22\" font-size=\"16\">What station printed, turn by turn</text>\n",
+    )
+}
+
+fn write_framed<O: Write>(first: &str, number: u64, second: &str, output: &mut O) -> io::Result<()>
+    ensures { OnOk result (Appends (O.contents output.old) (O.contents output.new) (framed first.now number second.now)) }
+{
+    write!(output, "{first}{number}{second}")
+}
+
+/// A number above a thin line to the end of the rows.
+fn write_turn_at<O: Write>(x: u64, turn: u64, bottom: u64, output: &mut O) -> io::Result<()>
+    ensures { OnOk result (Appends (O.contents output.old) (O.contents output.new) (turn_at x turn bottom)) }
+{
+    write_framed(
+        "<text text-anchor=\"middle\" x=\"",
+        x,
+        "\" y=\"46\">",
+        output,
+    )?;
+    write_framed("", turn, "</text>\n", output)?;
+    write_framed(
+        "<path stroke-width=\"0.3\" stroke-dasharray=\"1 3\" d=\"M",
+        x,
+        " 50V",
+        output,
+    )?;
+    write_framed("", bottom, "\"/>\n", output)
+}
+
+fn write_turn<O: Write>(turns: u64, turn: u64, bottom: u64, output: &mut O) -> io::Result<()>
+    requires { turn < 2 ^ 33 }
+    ensures { OnOk result (Appends (O.contents output.old) (O.contents output.new) (turn_text turns turn bottom)) }
+{
+    let x = x_of(turns, turn);
+    write_turn_at(x, turn, bottom, output)
+}
+
+fn write_axis<O: Write>(turns: u64, bottom: u64, output: &mut O) -> io::Result<()>
+    requires { turns < 2 ^ 32 }
+    ensures { OnOk result (Appends (O.contents output.old) (O.contents output.new) (axis turns bottom)) }
+{
+    write_turn(turns, 0, bottom, output)?;
+    write_turn(turns, turns / 4, bottom, output)?;
+    write_turn(turns, turns / 2, bottom, output)?;
+    write_turn(turns, 3 * turns / 4, bottom, output)?;
+    write_turn(turns, turns, bottom, output)
+}
+
+fn write_rows<O: Write>(
+    rows: &[Row],
+    turns: u64,
+    events: &[Event],
+    output: &mut O,
+) -> io::Result<()>
+    requires few { length events.now < 2 ^ 32 }
+    requires rows { length rows.now < 2 ^ 48 }
+    ensures { OnOk result (Appends (O.contents output.old) (O.contents output.new) (rows_text turns events.now 52 rows.now)) }
+{
+    let mut base = TOP;
+    for row in rows {
+        base += room_of(row);
+        write_row(row, turns, events, base, output)?;
+    }
+    Ok(())
+}
+
+fn write_legend<O: Write>(bottom: u64, output: &mut O) -> io::Result<()>
+    requires { bottom < 2 ^ 60 }
+    ensures { OnOk result (Appends (O.contents output.old) (O.contents output.new) (legend bottom)) }
+{
+    let top = bottom + 28;
+    writeln!(output, "<g transform=\"translate(8 {top})\">")?;
+    output.write_all(
+        b"<text>Packets: tick up to a locomotive, tick down to an accessory decoder, long tick to all or to one decoder, dot idle, cross no power.</text>\n",
+    )?;
+    output.write_all(
+        b"<text y=\"16\">Speed: from 0 at the base to the last step; below it a tick where it stands by a stop, a cross by an emergency stop. Dashed: direction. Thin: functions. Dotted: outputs.</text>\n",
+    )?;
+    output.write_all(b"</g>\n</svg>\n")
+}
+
+fn write_picture<O: Write>(
+    rows: &[Row],
+    turns: u64,
+    bottom: u64,
+    events: &[Event],
+    output: &mut O,
+) -> io::Result<()>
+    requires few { length events.now < 2 ^ 32 }
+    requires turns { turns < 2 ^ 32 }
+    requires rows { length rows.now < 2 ^ 48 }
+    requires bottom { bottom < 2 ^ 60 }
+    ensures { OnOk result (Appends (O.contents output.old) (O.contents output.new) (picture_with turns bottom events.now rows.now)) }
+{
+    write_open(bottom, output)?;
+    write_title(output)?;
+    write_axis(turns, bottom, output)?;
+    write_rows(rows, turns, events, output)?;
+    write_legend(bottom, output)
+}
+
+/// Draws what events tell, whole, and then writes it.
+pub(crate) fn draw<O: Write>(
+    alloc: Global,
+    events: &[Event],
+    output: &mut O,
+) -> Result<(), TimelineFault>
+    requires { length events.now ≤ 16777216 }
+    ensures text { OnOk result (Appends (O.contents output.old) (O.contents output.new) (picture_of events.now)) }
+    ensures fault { IfErr result (λ e. (e ≡ Output) ⊎ (e ≡ NoMemory)) }
+    ensures kept { IfErr result (λ e. e ≡ NoMemory → output.new ≡ output.old) }
+{
+    let rows = rows_of(alloc, events)?;
+    let turns = turns_in(events);
+    let bottom = bottom_of(rows.as_slice());
+    let mut text = Vec::new(alloc);
+    write_picture(rows.as_slice(), turns, bottom, events, &mut text).map_err(
+        |_| TimelineFault::NoMemory,
+    )?;
+    output
+        .write_all(text.as_slice())
+        .map_err(|_| TimelineFault::Output)
+}

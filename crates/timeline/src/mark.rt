@@ -1,0 +1,8 @@
+//! A mark of a picture.
+
+/// A mark of a picture: its place from the left in pixels, and its height above the base of its row.
+#[derive(Clone, Copy, Debug, PartialEq, Eq)]
+pub struct Mark {
+    pub x: u64,
+    pub height: u64,
+}

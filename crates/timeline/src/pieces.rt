@@ -1,0 +1,288 @@
+//! The texts of marks and rows.
+ghost use Rattle.std.specs.Prelude.{◌≡◌, ◌≤◌, ◌<◌, ◌^◌, ◌+◌, None, OnOk, codes, length};
+ghost use Rattle.std.specs.Io.KnownBytes.{Appends};
+ghost use Rattle.timeline.specs.Picture.{address_name, base_line, is_line, is_same, joined_text, kind_name, label_open, mark_text, module_name, marks_of, marks_text, name_of, next_text, part_name, part_strokes, path_open, point_text, room_of, row_text, step_text, strokes_of, style_of, turn_after, x_of};
+
+use crate::event::Event;
+use crate::levels::height_of;
+use crate::mark::Mark;
+use crate::row::{Kind, Part, Row};
+use dcc_packet::Address;
+use station_text::Standing;
+use std::io;
+use std::io::Write;
+
+/// The turn of an event, where this was the turn before it.
+pub(crate) fn turn_after(turn: u64, event: &Event) -> u64
+    requires { turn < 2 ^ 32 }
+    ensures value { result ≡ turn_after turn event.now }
+    ensures most { result ≤ turn + 1 }
+{
+    match event {
+        Event::Sent(_) | Event::Off => turn + 1,
+        Event::Shown(_) => turn,
+    }
+}
+
+/// How far from the left a turn is.
+pub(crate) fn x_of(turns: u64, turn: u64) -> u64
+    requires { turn < 2 ^ 33 }
+    ensures { result ≡ x_of turns turn }
+{
+    170 + turn * 1000 / turns.max(1)
+}
+
+fn is_line(row: &Row) -> bool
+    ensures { result ≡ is_line row.now }
+{
+    match row {
+        Row::Strip(_) => false,
+        Row::Lane(_, kind) => match kind {
+            Kind::Packets | Kind::Stops | Kind::Emergencies => false,
+            Kind::Speed | Kind::Direction | Kind::Function(_) | Kind::Output(_) => true,
+        },
+    }
+}
+
+fn part_strokes(part: Part) -> &'static str
+    ensures { result.now ≡ part_strokes part }
+{
+    match part {
+        Part::Locomotives => "v-6",
+        Part::Accessories => "v6",
+        Part::Everyone => "m0-6v12",
+        Part::Idle => "m-1-1h2v2h-2z",
+        Part::Unpowered => "m-3-3l6 6m0-6l-6 6",
+    }
+}
+
+/// The strokes of a mark that stands alone.
+fn strokes_of(row: &Row) -> &'static str
+    ensures { result.now ≡ strokes_of row.now }
+{
+    match row {
+        Row::Strip(part) => part_strokes(*part),
+        Row::Lane(_, kind) => match kind {
+            Kind::Packets => "m0 6v-12",
+            Kind::Stops => "v6",
+            Kind::Emergencies => "m-3-3l6 6m0-6l-6 6",
+            Kind::Speed | Kind::Direction | Kind::Function(_) | Kind::Output(_) => "",
+        },
+    }
+}
+
+fn write_joined<O: Write>(last: &Option<Mark>, x: u64, y: u64, output: &mut O) -> io::Result<()>
+    ensures { OnOk result (Appends (O.contents output.old) (O.contents output.new) (joined_text last.now x y)) }
+{
+    match last {
+        None => write!(output, "M{x} {y}h1"),
+        Some(_) => write!(output, "H{x}V{y}"),
+    }
+}
+
+fn write_mark<O: Write>(
+    row: &Row,
+    base: u64,
+    last: &Option<Mark>,
+    mark: Mark,
+    output: &mut O,
+) -> io::Result<()>
+    requires { mark.height ≤ base }
+    ensures { OnOk result (Appends (O.contents output.old) (O.contents output.new) (mark_text row.now base last.now mark)) }
+{
+    let x = mark.x;
+    let y = base - mark.height;
+    if is_line(row) {
+        return write_joined(last, x, y, output);
+    }
+    let strokes = strokes_of(row);
+    write!(output, "M{x} {y}{strokes}")
+}
+
+fn is_same(last: &Option<Mark>, mark: Mark) -> bool
+    ensures { result ≡ is_same last.now mark }
+{
+    match last {
+        Some(last) => last.x == mark.x && last.height == mark.height,
+        None => false,
+    }
+}
+
+/// Writes a mark, unless it is the same as the last.
+fn write_next<O: Write>(
+    row: &Row,
+    base: u64,
+    last: &Option<Mark>,
+    mark: Mark,
+    output: &mut O,
+) -> io::Result<()>
+    requires { mark.height ≤ base }
+    ensures { OnOk result (Appends (O.contents output.old) (O.contents output.new) (next_text row.now base last.now mark)) }
+{
+    if is_same(last, mark) {
+        return Ok(());
+    }
+    write_mark(row, base, last, mark, output)
+}
+
+/// Writes what a row shows of all events.
+fn write_marks<O: Write>(
+    row: &Row,
+    turns: u64,
+    events: &[Event],
+    base: u64,
+    output: &mut O,
+) -> io::Result<()>
+    requires few { length events.now < 2 ^ 32 }
+    requires base { 48 ≤ base }
+    ensures { OnOk result (Appends (O.contents output.old) (O.contents output.new) (marks_text row.now base None (marks_of row.now turns 0 events.now))) }
+{
+    let mut turn = 0;
+    let mut last = None;
+    for event in events {
+        turn = turn_after(turn, event);
+        if let Some(height) = height_of(row, event) {
+            let mark = Mark {
+                x: x_of(turns, turn),
+                height,
+            };
+            write_next(row, base, &last, mark, output)?;
+            last = Some(mark);
+        }
+    }
+    Ok(())
+}
+
+fn part_name(part: Part) -> &'static str
+    ensures { result.now ≡ part_name part }
+{
+    match part {
+        Part::Locomotives => "to locomotives",
+        Part::Accessories => "to accessories",
+        Part::Everyone => "to all",
+        Part::Idle => "idle",
+        Part::Unpowered => "power off",
+    }
+}
+
+fn write_module<O: Write>(number: u16, output: &mut O) -> io::Result<()>
+    ensures { OnOk result (Appends (O.contents output.old) (O.contents output.new) (module_name number)) }
+{
+    write!(output, "packets, module {number}")
+}
+
+fn write_address<O: Write>(standing: &Standing, output: &mut O) -> io::Result<()>
+    ensures { OnOk result (Appends (O.contents output.old) (O.contents output.new) (address_name standing.now)) }
+{
+    match standing {
+        Standing::Loco { address, .. } => match address {
+            Address::Short(number) => write!(output, "packets, short {number}"),
+            Address::Long(number) => write!(output, "packets, long {number}"),
+        },
+        Standing::Accessory { module, .. } => write_module(module.number(), output),
+    }
+}
+
+fn write_kind<O: Write>(kind: Kind, standing: &Standing, output: &mut O) -> io::Result<()>
+    ensures { OnOk result (Appends (O.contents output.old) (O.contents output.new) (kind_name kind standing.now)) }
+{
+    match kind {
+        Kind::Packets => write_address(standing, output),
+        Kind::Speed => output.write_all(b"speed"),
+        Kind::Stops => output.write_all(b"stop"),
+        Kind::Emergencies => output.write_all(b"emergency"),
+        Kind::Direction => output.write_all(b"forward is high"),
+        Kind::Function(number) => write!(output, "F{number}"),
+        Kind::Output(number) => write!(output, "output {number}"),
+    }
+}
+
+fn write_name<O: Write>(row: &Row, output: &mut O) -> io::Result<()>
+    ensures { OnOk result (Appends (O.contents output.old) (O.contents output.new) (name_of row.now)) }
+{
+    match row {
+        Row::Strip(part) => output.write_all(part_name(*part).as_bytes()),
+        Row::Lane(lane, kind) => {
+            output.write_all(lane.name.bytes())?;
+            output.write_all(b" ")?;
+            write_kind(*kind, &lane.standing, output)
+        }
+    }
+}
+
+/// The width of the strokes of a row, and how they are dashed.
+fn style_of(row: &Row) -> &'static str
+    ensures { result.now ≡ style_of row.now }
+{
+    match row {
+        Row::Strip(_) => "1",
+        Row::Lane(_, kind) => match kind {
+            Kind::Packets | Kind::Stops | Kind::Emergencies | Kind::Function(_) => "1",
+            Kind::Speed => "2",
+            Kind::Direction => "1\" stroke-dasharray=\"6 3",
+            Kind::Output(_) => "1\" stroke-dasharray=\"2 2",
+        },
+    }
+}
+
+/// How high a row is in pixels, with the room above it.
+pub(crate) fn room_of(row: &Row) -> u64
+    ensures value { result ≡ room_of row.now }
+    ensures most { result ≤ 60 }
+{
+    match row {
+        Row::Strip(_) => 18,
+        Row::Lane(_, kind) => match kind {
+            Kind::Packets => 30,
+            Kind::Speed => 60,
+            _ => 16,
+        },
+    }
+}
+
+fn write_label_open<O: Write>(base: u64, output: &mut O) -> io::Result<()>
+    ensures { OnOk result (Appends (O.contents output.old) (O.contents output.new) (label_open base)) }
+{
+    write!(output, "<text x=\"8\" y=\"{base}\">")
+}
+
+fn write_base<O: Write>(base: u64, output: &mut O) -> io::Result<()>
+    ensures { OnOk result (Appends (O.contents output.old) (O.contents output.new) (base_line base)) }
+{
+    writeln!(
+        output,
+        "</text>\n<path stroke-width=\"0.3\" d=\"M170 {base}H1170\"/>"
+    )
+}
+
+fn write_style<O: Write>(style: &str, output: &mut O) -> io::Result<()>
+    ensures { OnOk result (Appends (O.contents output.old) (O.contents output.new) (path_open style.now)) }
+{
+    write!(output, "<path stroke-width=\"{style}\" d=\"")
+}
+
+fn write_end<O: Write>(output: &mut O) -> io::Result<()>
+    ensures { OnOk result (Appends (O.contents output.old) (O.contents output.new) (codes "\"/>\n")) }
+{
+    output.write_all(b"\"/>\n")
+}
+
+/// Writes a row: its name, its base and its marks.
+pub(crate) fn write_row<O: Write>(
+    row: &Row,
+    turns: u64,
+    events: &[Event],
+    base: u64,
+    output: &mut O,
+) -> io::Result<()>
+    requires few { length events.now < 2 ^ 32 }
+    requires base { 48 ≤ base }
+    ensures { OnOk result (Appends (O.contents output.old) (O.contents output.new) (row_text row.now turns events.now base)) }
+{
+    write_label_open(base, output)?;
+    write_name(row, output)?;
+    write_base(base, output)?;
+    write_style(style_of(row), output)?;
+    write_marks(row, turns, events, base, output)?;
+    write_end(output)
+}

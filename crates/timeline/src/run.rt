@@ -1,0 +1,54 @@
+//! The program on its streams.
+ghost use Rattle.std.specs.Prelude.{◌≡◌, ◌≢◌, IfErr, OnOk};
+ghost use Rattle.timeline.specs.Drawn.{DrawsInput, EndsAs, FailsInput, RefusesInput};
+ghost use Rattle.timeline.specs.Fault.{status_of};
+
+use crate::drawing::draw;
+use crate::fault::TimelineFault;
+use crate::reading::read_events;
+use station_text::{LONGEST_TEXT, read_most};
+use std::alloc::Global;
+use std::io::{Read, Write};
+
+/// Draws what `input` tells, to its end, and answers the exit status, 0 to 6.
+///
+/// The picture goes to `output`. Where the status is not 0, `faults` gets one line `timeline: ..`.
+pub fn execute<I, O, E>(alloc: Global, input: &mut I, output: &mut O, faults: &mut E) -> u8
+where
+    I: Read,
+    O: Write,
+    E: Write,
+    ensures status { EndsAs (I.remaining input.old) result }
+    ensures drawn { result ≡ 0 → DrawsInput (I.remaining input.old) (I.remaining input.new) (O.contents output.old) (O.contents output.new) }
+    // Where the output did not fail, a fault writes nothing.
+    ensures kept { result ≢ 0 → result ≢ 4 → output.new ≡ output.old }
+{
+    match draw_input(alloc, input, output) {
+        Ok(()) => 0,
+        Err(fault) => tell(fault, faults),
+    }
+}
+
+/// Tells a fault, and answers its status. Where it cannot be told, nobody can be told that.
+fn tell<E: Write>(fault: TimelineFault, faults: &mut E) -> u8
+    ensures { result ≡ status_of fault }
+{
+    let _ = writeln!(faults, "timeline: {fault}");
+    fault.status()
+}
+
+/// Reads the input, whole, and then draws what its lines tell. Where a line has a fault nothing is written.
+fn draw_input<I: Read, O: Write>(
+    alloc: Global,
+    input: &mut I,
+    output: &mut O,
+) -> Result<(), TimelineFault>
+    ensures drawn { OnOk result (DrawsInput (I.remaining input.old) (I.remaining input.new) (O.contents output.old) (O.contents output.new)) }
+    ensures refused { RefusesInput (I.remaining input.old) result (O.contents output.old) (O.contents output.new) }
+    ensures failed { FailsInput (I.remaining input.old) result }
+    ensures kept { IfErr result (λ e. e ≢ TimelineFault.Output → output.new ≡ output.old) }
+{
+    let text = read_most(alloc, input, LONGEST_TEXT + 1)?;
+    let events = read_events(alloc, text.as_slice())?;
+    draw(alloc, events.as_slice(), output)
+}
