@@ -148,6 +148,16 @@ finish-short is_long held before after e h a =
 pub one_line : (rest piece behind more : List ℕ) → rest ≡ piece ++ 10 ∷ behind → rest ++ more ≡ piece ++ 10 ∷ (behind ++ more)
 one_line rest piece behind more e = ap (λ (bs : List ℕ). bs ++ more) e ∙ append_assoc piece (10 ∷ behind) more
 
+-- a line that nothing is held of
+pub line-whole : (is_long : Bool) (held piece more before after : List ℕ) → is_long ≡ false → length held ≡ 0 → is_open piece ≡ true → after ≡ before ++ shown (piece ++ 10 ∷ [])
+    → before ++ to_write is_long held (piece ++ 10 ∷ more) ≡ after ++ to_write is_long held more
+line-whole is_long [] piece more before after e none h a =
+    moved before after (shown (piece ++ 10 ∷ [])) (to_write is_long [] (piece ++ 10 ∷ more)) (to_write is_long [] more)
+    (write-short is_long [] (piece ++ 10 ∷ more) e ∙ explained-ended piece more h ∙ ap (λ (bs : List ℕ). shown (piece ++ 10 ∷ []) ++ bs) (sym (write-short is_long [] more e))) a
+line-whole is_long (x ∷ xs) piece more before after e none h a = absurd (omega (arith, none))
+
+pub ruleset hears_line = (line-whole)
+
 pub ruleset holds = (hold-long, hold-short, hold-over)
 
 pub ruleset ends_line = (end-long, end-short)

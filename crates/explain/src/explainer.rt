@@ -5,6 +5,7 @@ ghost use Rattle.explain.specs.Unfinished.{to_write};
 
 use crate::lines::{LONGEST, cut_line, push_ended, push_last};
 use arrayvec::ArrayVec;
+use plain_words::Words;
 use std::alloc::AllocError;
 
 /// The most bytes that are held of a line: those of the longest that is explained, and a carriage return.
@@ -17,6 +18,8 @@ pub struct Explainer {
     line: ArrayVec<u8, KEPT>,
     /// The beginning of the line that has not ended was too long, and is written.
     is_long: bool,
+    /// Room for what a line says, so that none is made for each.
+    words: Words,
     // Each line is written when its end comes.
     ghost open: { IsTrue (is_open line.items) },
 }
@@ -30,6 +33,7 @@ impl Explainer {
         Explainer {
             line: ArrayVec::new(),
             is_long: false,
+            words: Words::new(),
         }
     }
 
@@ -46,8 +50,7 @@ impl Explainer {
     {
         let mut rest = bytes;
         while let Some((piece, behind)) = cut_line(rest) {
-            self.hold(piece, text)?;
-            self.end_line(text)?;
+            self.hear_line(piece, text)?;
             rest = behind;
         }
         self.hold(rest, text)
@@ -65,7 +68,21 @@ impl Explainer {
         if self.is_long {
             return Ok(());
         }
-        push_last(self.line.as_slice(), text)
+        push_last(self.line.as_slice(), &mut self.words, text)
+    }
+
+    /// Takes bytes and the line feed behind them.
+    #[tactic(auto, using(crate::proofs::Held::hears_line))]
+    fn hear_line(&mut self, piece: &[u8], text: &mut Vec<u8>) -> Result<(), AllocError>
+        requires { IsTrue (is_open piece.now) }
+        ensures { OnOk result ((more : List ℕ) → text.old.items ++ to_write self.old.is_long self.old.line.items (piece.now ++ 10 ∷ more)
+            ≡ text.new.items ++ to_write self.new.is_long self.new.line.items more) }
+    {
+        if !self.is_long && self.line.is_empty() {
+            return push_ended(piece, &mut self.words, text);
+        }
+        self.hold(piece, text)?;
+        self.end_line(text)
     }
 
     /// Takes bytes that end no line.
@@ -95,7 +112,7 @@ impl Explainer {
         if self.is_long {
             text.push(b'\n')?;
         } else {
-            push_ended(self.line.as_slice(), text)?;
+            push_ended(self.line.as_slice(), &mut self.words, text)?;
         }
         self.is_long = false;
         self.line.clear();

@@ -4,16 +4,19 @@ ghost use Rattle.explain.specs.Explained.{shown};
 ghost use Rattle.explain.specs.Lines.{body_of, end_of, is_open};
 ghost use Rattle.explain.specs.Subjects.{note_of};
 
-use crate::subjects::words_about;
+use crate::subjects::tell_line;
+use memchr::memchr;
+use plain_words::Words;
 use std::alloc::AllocError;
 
 /// The most characters of a line that is explained.
 pub(crate) const LONGEST: usize = 400;
 
+#[tactic(auto, using(crate::proofs::Pieces::first_is_position))]
 fn line_feed_at(text: &[u8]) -> Option<usize>
     ensures { result ≡ position (λ b. b == 10) text.now }
 {
-    text.iter().position(|byte| *byte == b'\n')
+    memchr(b'\n', text)
 }
 
 /// What stands before the first line feed, and what stands behind it.
@@ -41,14 +44,14 @@ fn body_and_end(line: &[u8]) -> (&[u8], &[u8])
     }
 }
 
-/// Appends two spaces and what a line says, if it says anything.
-fn push_note(line: &[u8], text: &mut Vec<u8>) -> Result<(), AllocError>
+/// Appends two spaces and what a line says, if it says anything; `words` lends the room to say it in.
+fn push_note(line: &[u8], words: &mut Words, text: &mut Vec<u8>) -> Result<(), AllocError>
     ensures { OnOk result (text.new.items ≡ text.old.items ++ note_of line.now) }
 {
     if line.len() > LONGEST {
         return Ok(());
     }
-    let words = words_about(line);
+    tell_line(line, words);
     if words.is_empty() {
         return Ok(());
     }
@@ -57,22 +60,30 @@ fn push_note(line: &[u8], text: &mut Vec<u8>) -> Result<(), AllocError>
 }
 
 /// Appends a line that a line feed ends, given without it, and what it says before its end.
-pub(crate) fn push_ended(line: &[u8], text: &mut Vec<u8>) -> Result<(), AllocError>
+pub(crate) fn push_ended(
+    line: &[u8],
+    words: &mut Words,
+    text: &mut Vec<u8>,
+) -> Result<(), AllocError>
     requires { IsTrue (is_open line.now) }
     ensures { OnOk result (text.new.items ≡ text.old.items ++ shown (line.now ++ 10 ∷ [])) }
 {
     let (body, end) = body_and_end(line);
     text.extend_from_slice(body)?;
-    push_note(body, text)?;
+    push_note(body, words, text)?;
     text.extend_from_slice(end)
 }
 
 /// Appends a line that the text ends with, and what it says.
 #[tactic(auto, using(crate::proofs::Ends::lasts))]
-pub(crate) fn push_last(line: &[u8], text: &mut Vec<u8>) -> Result<(), AllocError>
+pub(crate) fn push_last(
+    line: &[u8],
+    words: &mut Words,
+    text: &mut Vec<u8>,
+) -> Result<(), AllocError>
     requires { IsTrue (is_open line.now) }
     ensures { OnOk result (text.new.items ≡ text.old.items ++ shown line.now) }
 {
     text.extend_from_slice(line)?;
-    push_note(line, text)
+    push_note(line, words, text)
 }

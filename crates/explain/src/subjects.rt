@@ -5,53 +5,53 @@ ghost use Rattle.plain_words.specs.Messages.{message_words};
 ghost use Rattle.explain.specs.Subjects.{leading, message_in, monitored_in, said_by, turn_in, words_about};
 
 use over_tcp::{Bytes, bytes_of, cut_piece, hex_pair};
-use plain_words::{Words, message_words, packet_words};
+use plain_words::{Words, tell_message, tell_packet};
 
 /// What the words of a text say, a message and nothing else.
 #[tactic(auto, unfolding(crate::specs::Subjects::message_in))]
-fn message_in(text: &[u8]) -> Words
+fn tell_message_in(text: &[u8], words: &mut Words)
     requires { length text.now ≤ 400 }
-    ensures { result.items ≡ message_in text.now }
+    ensures { words.new.items ≡ message_in text.now }
 {
     match bytes_of(text) {
-        Some(bytes) => message_said(&bytes),
-        None => Words::new(),
+        Some(bytes) => tell_some(&bytes, words),
+        None => words.clear(),
     }
 }
 
 /// What the bytes of a message say, if there are any.
-fn message_said(bytes: &Bytes) -> Words
-    ensures { result.items ≡ said_by message_words (Some bytes.now.items) }
+fn tell_some(bytes: &Bytes, words: &mut Words)
+    ensures { words.new.items ≡ said_by message_words (Some bytes.now.items) }
 {
     if bytes.is_empty() {
-        return Words::new();
+        words.clear();
+    } else {
+        tell_message(words, bytes.as_slice());
     }
-    message_words(bytes.as_slice())
 }
 
 /// What a turn sent: `off`, or the words of a packet and nothing else.
 #[tactic(auto, unfolding(crate::specs::Subjects::turn_in))]
-fn turn_in(text: &[u8]) -> Words
+fn tell_turn_in(text: &[u8], words: &mut Words)
     requires { length text.now ≤ 400 }
-    ensures { result.items ≡ turn_in text.now }
+    ensures { words.new.items ≡ turn_in text.now }
 {
     if text == b"off".as_slice() {
-        return words(b"no power, nothing is sent");
+        return tell(b"no power, nothing is sent", words);
     }
     match bytes_of(text) {
-        Some(bytes) if !bytes.is_empty() => packet_words(bytes.as_slice()),
-        _ => Words::new(),
+        Some(bytes) if !bytes.is_empty() => tell_packet(words, bytes.as_slice()),
+        _ => words.clear(),
     }
 }
 
 /// These words.
-fn words(text: &[u8]) -> Words
+fn tell(text: &[u8], words: &mut Words)
     requires { length text.now ≤ 400 }
-    ensures { result.items ≡ text.now }
+    ensures { words.new.items ≡ text.now }
 {
-    let mut words = Words::new();
+    words.clear();
     let _fits = words.try_extend_from_slice(text);
-    words
 }
 
 /// The bytes of the words up to the first that is no pair of hexadecimal digits.
@@ -76,30 +76,31 @@ fn leading(text: &[u8]) -> Bytes
 
 /// What a message says that has words behind it which tell it another way.
 #[tactic(auto, unfolding(crate::specs::Subjects::monitored_in))]
-fn monitored_in(text: &[u8]) -> Words
+fn tell_monitored_in(text: &[u8], words: &mut Words)
     requires { length text.now ≤ 400 }
-    ensures { result.items ≡ monitored_in text.now }
+    ensures { words.new.items ≡ monitored_in text.now }
 {
-    message_said(&leading(text))
+    tell_some(&leading(text), words);
 }
 
 /// What a line of at most 400 characters says, by its first word; nothing, if it is about neither a message nor a packet.
-pub(crate) fn words_about(line: &[u8]) -> Words
+/// It is told in place of what the words were.
+pub(crate) fn tell_line(line: &[u8], words: &mut Words)
     requires { length line.now ≤ 400 }
-    ensures { result.items ≡ words_about line.now }
+    ensures { words.new.items ≡ words_about line.now }
 {
     let (first, behind) = cut_piece(line);
     if first == b"reply".as_slice() {
-        return message_in(cut_piece(behind).1);
+        return tell_message_in(cut_piece(behind).1, words);
     }
     if first == b"track".as_slice() {
-        return turn_in(cut_piece(behind).1);
+        return tell_turn_in(cut_piece(behind).1, words);
     }
     if first == b"msg".as_slice() {
-        return monitored_in(behind);
+        return tell_monitored_in(behind, words);
     }
     if first == b"RECEIVE".as_slice() || first == b"SEND".as_slice() {
-        return message_in(behind);
+        return tell_message_in(behind, words);
     }
-    message_in(line)
+    tell_message_in(line, words);
 }

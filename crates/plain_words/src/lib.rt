@@ -10,6 +10,6 @@ mod pieces;
 mod rows;
 mod slots;
 
-pub use messages::message_words;
-pub use packets::packet_words;
+pub use messages::{message_words, tell_message};
+pub use packets::{packet_words, tell_packet};
 pub use pieces::Words;

@@ -282,11 +282,19 @@ pub fn message_words(bytes: &[u8]) -> Words
     ensures { result.items ≡ message_words bytes.now }
 {
     let mut words = Words::new();
-    match Msg::whole(bytes) {
-        Some(message) => push_whole(&mut words, &message),
-        None => push_text(&mut words, fault_words(bytes)),
-    }
+    tell_message(&mut words, bytes);
     words
+}
+
+/// [`message_words`] in a room that is there, in place of what it held: for who tells many messages.
+pub fn tell_message(words: &mut Words, bytes: &[u8])
+    ensures { words.new.items ≡ message_words bytes.now }
+{
+    words.clear();
+    match Msg::whole(bytes) {
+        Some(message) => push_whole(words, &message),
+        None => push_text(words, fault_words(bytes)),
+    }
 }
 
 /// What a whole message says.

@@ -279,3 +279,11 @@ pub fn packet_words(bytes: &[u8]) -> Words
     push_packet(&mut words, bytes);
     words
 }
+
+/// [`packet_words`] in a room that is there, in place of what it held: for who tells many packets.
+pub fn tell_packet(words: &mut Words, bytes: &[u8])
+    ensures { words.new.items ≡ packet_words bytes.now }
+{
+    words.clear();
+    push_packet(words, bytes);
+}

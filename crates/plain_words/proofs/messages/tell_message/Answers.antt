@@ -2,9 +2,9 @@ use Rattle.std.proofs.Common.{◌++◌, ap, sym, subst, ◌≡◌, List, ℕ, �
 use Rattle.ln_ops.specs.Message.{op_of}
 use Rattle.plain_words.specs.Messages.{fault_words, whole_words}
 use Rattle.plain_words.proofs.Whole.{whole_of}
-use Rattle.plain_words.proofs.messages.message_words.Goals as goal
+use Rattle.plain_words.proofs.messages.tell_message.Goals as goal
 
 pub returns-in-Some : goal.returns-in-Some
 returns-in-Some c =
     let found = whole_of c.args.bytes.now c.in-Some.message (sym c.whole.ensures ∙ c.in-Some.is) in
-    rw found.0 (c.push_whole.ensures ∙ ap (λ text. text ++ whole_words (op_of c.in-Some.message) c.in-Some.message) c.new-words.ensures ∙ ap (λ bytes. whole_words (op_of bytes) bytes) (sym found.1))
+    rw found.0 (c.push_whole.ensures ∙ ap (λ text. text ++ whole_words (op_of c.in-Some.message) c.in-Some.message) c.clear.ensures ∙ ap (λ bytes. whole_words (op_of bytes) bytes) (sym found.1))
