@@ -9,8 +9,10 @@ mod sending;
 mod texts;
 mod time;
 mod turning;
+mod witness;
 
 pub use bus::Bus;
 pub use event::{Event, Told};
 pub use laws::{events_are_the_layout, headline, however_cut, own_lines, told_since_joining};
 pub use time::time_adds_up;
+pub use witness::Witness;

@@ -13,11 +13,10 @@ ghost use Rattle.bus_lines.specs.Decoders.{entries_of, specs_of};
 ghost use Rattle.bus_lines.specs.Lines.{changed_lines, client_line, late_line, one_more, packet_lines, slept_line};
 
 use arrayvec::ArrayVec;
-use bus::Told;
+use bus::{Told, Witness};
 use console::{Unwritten, print};
 use dcc_packet::{Packet, idle};
 use decoder_node::NodeSpec;
-use hub::Witness;
 use layout_core::{Standing, World};
 use ln_frame::Msg;
 use roster::Roster;

@@ -11,7 +11,7 @@ mod wire;
 
 pub use hub::PLACES;
 pub use losses::Losses;
-pub use server::{Server, Witness};
+pub use server::Server;
 pub use wire::{Heard, Wire, Wrote};
 
 #[cfg(test)]

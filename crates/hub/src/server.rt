@@ -15,7 +15,7 @@ ghost use Rattle.hub.specs.Rounds.{AllWrittenTo, IsRound, IsWrittenTo, LetsIn, T
 use crate::hub::Hub;
 use crate::losses::Losses;
 use crate::wire::{Heard, Wire, Wrote};
-use bus::{Event, Told, headline};
+use bus::{Event, Told, Witness, headline};
 use layout_core::{NodeList, World, events_add_up};
 use std::alloc::{AllocError, Global};
 
@@ -30,25 +30,6 @@ const MOST_WRITES: u8 = 4;
 
 /// The longest time in which at most one turn begins, in microseconds.
 const SHORTEST_TURN: u32 = 5_796;
-
-/// Who sees what happens, as it happens.
-pub trait Witness {
-    /// Why it could not go on. The server stops at once then, in the middle of a round.
-    type Fault;
-
-    /// The decoders of the layout that it watches.
-    ghost decoders: { Self → List NodeSpec };
-
-    /// This was told, and the layout stands so.
-    fn told(&mut self, told: &Told, world: &World) -> Result<(), Self::Fault>
-        requires { map spec_of world.now.nodes ≡ decoders self.old }
-        ensures { decoders self.new ≡ decoders self.old };
-
-    /// Too much waits for a client, 0 to 7, and its connection is closed.
-    fn late(&mut self, client: u8) -> Result<(), Self::Fault>
-        requires { client < 8 }
-        ensures { decoders self.new ≡ decoders self.old };
-}
 
 /// A bus with what waits for each of its clients, and how its track runs.
 #[derive(Drop)]
