@@ -5,19 +5,21 @@ use crate::execute;
 use std::io;
 use std::io::{ErrorKind, Read, Write};
 
-// A device whose every call fails.
+// A device whose every call fails, and of what kind its failures are.
 #[derive(Drop)]
-struct Broken;
+struct Broken {
+    kind: ErrorKind,
+}
 
 impl Read for Broken {
     fn read(&mut self, _buf: &mut [u8]) -> io::Result<usize> {
-        Err(io::Error::from(ErrorKind::Other))
+        Err(io::Error::from(self.kind))
     }
 }
 
 impl Write for Broken {
     fn write(&mut self, _buf: &[u8]) -> io::Result<usize> {
-        Err(io::Error::from(ErrorKind::Other))
+        Err(io::Error::from(self.kind))
     }
 
     fn flush(&mut self) -> io::Result<()> {
@@ -74,15 +76,21 @@ impl Read for Spaces {
 
 #[test]
 fn standard_input_cannot_be_read(rt: HostRuntime) {
-    let mut output = Vec::new(rt.alloc());
-    let mut faults = Vec::new(rt.alloc());
-    let status = execute(&rt, &[], &mut Broken, &mut output, &mut faults);
-    let ran = Ran {
-        status,
-        output,
-        faults,
-    };
-    look(&rt, &ran, 2, b"", b"station: cannot read -\n");
+    let rows: [(ErrorKind, u8, &[u8]); 2] = [
+        (ErrorKind::Other, 2, b"station: cannot read -\n"),
+        (ErrorKind::OutOfMemory, 6, b"station: no memory\n"),
+    ];
+    for (kind, wanted, told) in rows {
+        let mut output = Vec::new(rt.alloc());
+        let mut faults = Vec::new(rt.alloc());
+        let status = execute(&rt, &[], &mut Broken { kind }, &mut output, &mut faults);
+        let ran = Ran {
+            status,
+            output,
+            faults,
+        };
+        look(&rt, &ran, wanted, b"", told);
+    }
 }
 
 #[test]
@@ -104,11 +112,16 @@ fn standard_input_is_interrupted_once(rt: HostRuntime) {
 
 #[test]
 fn standard_output_cannot_be_written(rt: HostRuntime) {
-    let rows: [&[u8]; 2] = [b"line 0 BF 00 03 43", b"turn 1"];
-    for text in rows {
+    let rows: [(&[u8], ErrorKind); 3] = [
+        (b"line 0 BF 00 03 43", ErrorKind::Other),
+        (b"turn 1", ErrorKind::Other),
+        (b"turn 1", ErrorKind::OutOfMemory),
+    ];
+    for (text, kind) in rows {
         let mut input = text;
+        let mut broken = Broken { kind };
         let mut faults = Vec::new(rt.alloc());
-        assert_eq!(rt; execute(&rt, &[], &mut input, &mut Broken, &mut faults), 4);
+        assert_eq!(rt; execute(&rt, &[], &mut input, &mut broken, &mut faults), 4);
         assert_eq!(rt; faults.as_slice(), b"station: output\n".as_slice());
     }
 }
@@ -128,7 +141,10 @@ fn standard_output_cannot_be_flushed(rt: HostRuntime) {
 fn standard_error_cannot_be_written(rt: HostRuntime) {
     let mut input: &[u8] = b"turn 0";
     let mut output = Vec::new(rt.alloc());
-    assert_eq!(rt; execute(&rt, &[], &mut input, &mut output, &mut Broken), 5);
+    let mut broken = Broken {
+        kind: ErrorKind::Other,
+    };
+    assert_eq!(rt; execute(&rt, &[], &mut input, &mut output, &mut broken), 5);
 }
 
 #[test]
