@@ -52,7 +52,7 @@ IsDue s Idle = Unit {0}
 IsDue s (PlacePick slot kind) = is_refreshed s.slots slot ≡ true
 IsDue s (Switch number closed on) = Contains (to_send s.jobs) (Switch number closed on)
 
--- slots are 1 to 119, and switches such that a packet can name
+-- slots are 1 to 119, and switches those that a packet can name
 abbrev pub IsLegalPick : Pick → Type 0
 IsLegalPick Off = Unit {0}
 IsLegalPick StopAll = Unit {0}
