@@ -57,6 +57,10 @@ group_three_bytes address functions = to_decoder address ((160 + group_three_bit
 abbrev pub module_of : ℕ → ℕ
 module_of number = number / 4 + 1
 
+-- the last switch that a packet can name: four to each of the modules 1 to 510, from switch 0 on
+abbrev pub last_switch : ℕ
+last_switch = 2039
+
 -- the output of a switch, closed or thrown, on or off
 abbrev pub accessory_bytes : ℕ → Bool → Bool → List ℕ
 accessory_bytes number closed on =

@@ -6,7 +6,7 @@ ghost use Rattle.dcc_packet.specs.Form.{to_decoder};
 ghost use Rattle.dcc_packet.specs.Meant.{speed_instr, group_one_instr, group_two_instr, group_three_instr, accessory_instr};
 ghost use Rattle.dcc_packet.specs.Spells.{Spells};
 ghost use Rattle.dcc_packet.specs.declared.instr.Instr.TheVariants.{Idle, StopAll};
-ghost use Rattle.dcc_packet.specs.Sent.{code_of, code_28_of, speed_bytes, group_one_bytes, group_two_bytes, group_three_bytes, accessory_bytes, idle_bytes, stop_all_bytes};
+ghost use Rattle.dcc_packet.specs.Sent.{code_of, code_28_of, speed_bytes, group_one_bytes, group_two_bytes, group_three_bytes, accessory_bytes, idle_bytes, stop_all_bytes, last_switch};
 
 use crate::address::Address;
 use crate::packet::{MAX_LEN, Packet};
@@ -115,7 +115,7 @@ pub fn group_three(address: Address, functions: u16) -> Packet
 /// The packet of a switch, 0 to 2039, four to a module: which output of its pair, closed or thrown, goes on or off
 /// (S-9.2.1, 2.4.1).
 pub fn accessory(number: u16, closed: bool, on: bool) -> Packet
-    requires { number ≤ 2039 }
+    requires { number ≤ last_switch }
     ensures bytes { result ≡ accessory_bytes number closed on }
     ensures spells { Spells result (accessory_instr number closed on) }
 {

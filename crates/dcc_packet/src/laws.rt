@@ -13,7 +13,7 @@ ghost use Rattle.dcc_packet.specs.Meant.{speed_instr, group_one_instr, group_two
 ghost use Rattle.dcc_packet.specs.Motions.{is_motion};
 ghost use Rattle.dcc_packet.specs.Packet.{is_checked, IsPacket};
 ghost use Rattle.dcc_packet.specs.Reading.{instruction_of};
-ghost use Rattle.dcc_packet.specs.Sent.{code_of, low_14, low_28, speed_bytes, group_one_bytes, group_two_bytes, group_three_bytes, accessory_bytes, idle_bytes, stop_all_bytes};
+ghost use Rattle.dcc_packet.specs.Sent.{code_of, low_14, low_28, speed_bytes, group_one_bytes, group_two_bytes, group_three_bytes, accessory_bytes, idle_bytes, last_switch, stop_all_bytes};
 ghost use Rattle.dcc_packet.specs.Spells.{Spells};
 ghost use Rattle.dcc_packet.specs.Steps.{motion_of};
 ghost use Rattle.dcc_packet.specs.Told.{motion_told, number_28};
@@ -35,7 +35,7 @@ pub fn sent_packets_spell()
     ensures group_one { (address : Address) (functions : ℕ) → IsTrue (is_legal address) → Spells (group_one_bytes address functions) (group_one_instr address functions) }
     ensures group_two { (address : Address) (functions : ℕ) → IsTrue (is_legal address) → Spells (group_two_bytes address functions) (group_two_instr address functions) }
     ensures group_three { (address : Address) (functions : ℕ) → IsTrue (is_legal address) → Spells (group_three_bytes address functions) (group_three_instr address functions) }
-    ensures accessory { (number : ℕ) (closed on : Bool) → number ≤ 2039 → Spells (accessory_bytes number closed on) (accessory_instr number closed on) }
+    ensures accessory { (number : ℕ) (closed on : Bool) → number ≤ last_switch → Spells (accessory_bytes number closed on) (accessory_instr number closed on) }
     ensures idle { Spells idle_bytes Idle }
     ensures stop_all { Spells stop_all_bytes (StopAll true) }
 {}

@@ -7,7 +7,8 @@ use Rattle.dcc_packet.specs.Reading.{instruction_of}
 use Rattle.decoder_cv.specs.Settings.{Settings}
 use Rattle.decoder_node.specs.declared.running.Running.{Running}
 use Rattle.decoder_node.specs.Bits.{with_bits}
-use Rattle.decoder_node.specs.Obey.{is_own, driven, lit, obeyed, obeyed_if, obey}
+use Rattle.decoder_node.specs.Heard.{told}
+use Rattle.decoder_node.specs.Obey.{is_own, driven, lit, obeyed, obey}
 use Rattle.decoder_node.specs.Running.{IsAble}
 
 own : (b : Bool) (new old : Running) → IsAble new → IsAble old → IsAble (if b then new else old)
@@ -40,10 +41,10 @@ obeyed-able cv r (GroupThree address bits) h =
     own (is_own cv.address address) _ r next h
 obeyed-able cv r (Accessory number pair closed on) h = h
 
-obeyed_if-able : (cv : Settings) (r : Running) (instr : Option Instr) → IsAble r → IsAble (obeyed_if cv r instr)
-obeyed_if-able cv r None h = h
-obeyed_if-able cv r (Some instr) h = obeyed-able cv r instr h
+told-able : (cv : Settings) (r : Running) (instr : Option Instr) → IsAble r → IsAble (told (obeyed cv) r instr)
+told-able cv r None h = h
+told-able cv r (Some instr) h = obeyed-able cv r instr h
 
 pub obey-able : (cv : Settings) (r : Running) (packet : List ℕ) → IsAble r → IsAble (obey cv r packet)
 unfolding obey
-obey-able cv r packet h = obeyed_if-able cv r (instruction_of packet) h
+obey-able cv r packet h = told-able cv r (instruction_of packet) h

@@ -1,11 +1,9 @@
 -- What an accessory decoder makes of the half-bits that it hears.
 use Rattle.std.specs.Prelude.{ℕ, ◌≡◌, List, fold}
-use Rattle.dcc_packet.specs.Packet.{IsPacket}
-use Rattle.dcc_packet.specs.Wave.{IsWave}
 use Rattle.decoder_rx.specs.Table.{after, given}
-use Rattle.decoder_node.specs.Heard.{told, AreWaves}
-use Rattle.decoder_node.specs.Switched.{switch, switches}
-use Rattle.decoder_node.specs.AccessoryDecoder.{AccessoryDecoder, IsBetween}
+use Rattle.decoder_node.specs.Heard.{told, ObeysWaves}
+use Rattle.decoder_node.specs.Switched.{switch}
+use Rattle.decoder_node.specs.AccessoryDecoder.{AccessoryDecoder}
 
 -- after one half, and after many
 abbrev pub heard : AccessoryDecoder → ℕ → AccessoryDecoder
@@ -22,8 +20,4 @@ heard_all = fold heard
 pub record HearsAccessory (old : AccessoryDecoder) (halves : List ℕ) (new : AccessoryDecoder) : Type 0 where
   pub in_turn : new ≡ heard_all old halves
   pub kept : new.number ≡ old.number
-  pub settles : (packet : List ℕ) → IsPacket packet → IsWave packet halves → IsBetween new
-  pub obeys : (packet : List ℕ) → IsPacket packet → IsWave packet halves → IsBetween old
-      → new.outputs ≡ switch old.number old.outputs packet
-  pub runs : (packets : List (List ℕ)) → AreWaves packets halves → IsBetween old
-      → (new.outputs ≡ switches old.number old.outputs packets) × IsBetween new
+  pub waves : ObeysWaves (switch old.number) old.outputs old.receiver halves new.outputs new.receiver

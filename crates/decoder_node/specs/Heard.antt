@@ -1,15 +1,31 @@
--- What decoders make of the half-bits that they hear, whatever packets do to them.
-use Rattle.std.specs.Prelude.{ℕ, ◌≡◌, List, [], ◌∷◌, ◌++◌, Option, Some, None}
+-- What decoders make of packets and of the half-bits that they hear, whatever instructions do to them.
+use Rattle.std.specs.Prelude.{ℕ, ◌≡◌, List, [], ◌∷◌, ◌++◌, fold, IsTrue, Option, Some, None}
+use Rattle.dcc_packet.specs.declared.instr.Instr.{Instr}
 use Rattle.dcc_packet.specs.Packet.{IsPacket}
+use Rattle.dcc_packet.specs.Reading.{instruction_of}
 use Rattle.dcc_packet.specs.Wave.{IsWave}
+use Rattle.decoder_rx.specs.Place.{Place, is_hunting}
 
--- the state after a half that ends this packet, or none, where packets do this
-abbrev pub told : {State : Type 0} (obey : State → List ℕ → State) → State → Option (List ℕ) → State
-told obey state None = state
-told obey state (Some packet) = obey state packet
+-- the state after what is told, if anything is, where it does this
+abbrev pub told : {State Said : Type 0} (does : State → Said → State) → State → Option Said → State
+told does state None = state
+told does state (Some said) = does state said
+
+-- What a packet does: what the instruction does that its bytes spell, and nothing where they spell none.
+abbrev pub obeying : {State : Type 0} (does : State → Instr → State) → State → List ℕ → State
+obeying does state packet = told does state (instruction_of packet)
 
 -- the halves are waves of these packets, one behind the other
 abbrev pub AreWaves : List (List ℕ) → List ℕ → Type 0
 AreWaves [] halves = halves ≡ []
 AreWaves (packet ∷ packets) halves =
     (wave rest : List ℕ) × (halves ≡ wave ++ rest) × IsPacket packet × IsWave packet wave × AreWaves packets rest
+
+-- From a state and a place of the receiver to others, where packets do this to the state. Where the halves are a wave of
+-- a packet, no packet is under way then, whatever was heard before; and where none was under way before, that packet was
+-- obeyed and nothing else. So with waves of packets, one behind the other.
+pub record ObeysWaves {State : Type 0} (obey : State → List ℕ → State) (old : State) (from : Place) (halves : List ℕ) (new : State) (to : Place) : Type 0 where
+  pub settles : (packet : List ℕ) → IsPacket packet → IsWave packet halves → IsTrue (is_hunting to)
+  pub obeys : (packet : List ℕ) → IsPacket packet → IsWave packet halves → IsTrue (is_hunting from) → new ≡ obey old packet
+  pub runs : (packets : List (List ℕ)) → AreWaves packets halves → IsTrue (is_hunting from)
+      → (new ≡ fold obey old packets) × IsTrue (is_hunting to)

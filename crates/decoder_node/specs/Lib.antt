@@ -4,6 +4,7 @@ pub mod Accessory
 pub mod AccessoryDecoder
 pub mod Bits
 pub mod Concerned
+pub mod Decoder
 pub mod Heard
 pub mod Loco
 pub mod LocoDecoder

@@ -2,6 +2,7 @@
 use Rattle.std.specs.Prelude.{IsTrue}
 use Rattle.decoder_cv.specs.Settings.{Settings}
 use Rattle.decoder_rx.specs.Place.{Place, Hunting, is_hunting}
+use Rattle.decoder_node.specs.declared.decoder.Decoder.{Decoder}
 use Rattle.decoder_node.specs.declared.running.Running.{Running}
 use Rattle.decoder_node.specs.Running.{first_running}
 
@@ -10,6 +11,9 @@ pub record LocoDecoder : Type 0 where
   pub cv : Settings
   pub running : Running
   pub receiver : Place
+
+abbrev pub loco_of : Decoder Settings Running → LocoDecoder
+loco_of decoder = record { cv = decoder.settings; running = decoder.state; receiver = decoder.rx }
 
 -- no packet is under way
 abbrev pub IsBetween : LocoDecoder → Type 0

@@ -1,17 +1,17 @@
 -- What packets do to a locomotive decoder. Where the standard leaves a rule open, (own) marks this project's profile.
 -- Bit k of `functions` is Fk.
-use Rattle.std.specs.Prelude.{ℕ, ◌+◌, ◌*◌, ◌/◌, ◌%◌, ◌==◌, Bool, false, not, if◌then◌else◌, List, fold, Option, Some, None}
+use Rattle.std.specs.Prelude.{ℕ, ◌+◌, ◌*◌, ◌/◌, ◌%◌, ◌==◌, Bool, false, not, if◌then◌else◌, List, fold}
 use Rattle.dcc_packet.specs.declared.address.Address.{Address}
 use Rattle.dcc_packet.specs.declared.address.Address.TheVariants.{Short, Long}
 use Rattle.dcc_packet.specs.declared.instr.Instr.{Instr}
 use Rattle.dcc_packet.specs.declared.instr.Instr.TheVariants.{Idle, Reset, StopAll, Speed, Speed128, GroupOne, GroupTwo, GroupThree, Accessory}
 use Rattle.dcc_packet.specs.declared.steps.Steps.TheVariants.{S14, S28, S128}
 use Rattle.dcc_packet.specs.declared.steps.Motion.TheVariants.{Stop, Emergency}
-use Rattle.dcc_packet.specs.Reading.{instruction_of}
 use Rattle.dcc_packet.specs.Told.{motion_told, number_28}
 use Rattle.decoder_cv.specs.Settings.{Settings}
 use Rattle.decoder_node.specs.declared.running.Running.{Running}
 use Rattle.decoder_node.specs.Bits.{with_bits}
+use Rattle.decoder_node.specs.Heard.{obeying}
 use Rattle.decoder_node.specs.Running.{first_running}
 
 -- The forward of a decoder is the D of the packet, or where CV29 bit 0 is set the other way.
@@ -57,13 +57,9 @@ obeyed cv running (GroupThree address bits) =
     if is_own cv.address address then record running { functions = 512 * (bits % 16) + running.functions % 512 } else running
 obeyed cv running (Accessory number pair closed on) = running
 
-abbrev pub obeyed_if : Settings → Running → Option Instr → Running
-obeyed_if cv running None = running
-obeyed_if cv running (Some instr) = obeyed cv running instr
-
--- What one packet does: what the instruction does that its bytes spell, and nothing where they spell none.
+-- what one packet does
 unfoldable pub obey : Settings → Running → List ℕ → Running
-obey cv running packet = obeyed_if cv running (instruction_of packet)
+obey cv running packet = obeying (obeyed cv) running packet
 
 -- what packets do, one after another
 abbrev pub runs : Settings → Running → List (List ℕ) → Running

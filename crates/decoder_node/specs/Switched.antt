@@ -1,9 +1,9 @@
 -- What packets do to an accessory decoder; (own) marks this project's profile.
-use Rattle.std.specs.Prelude.{ℕ, ◌+◌, ◌*◌, ◌%◌, ◌==◌, Bool, if◌then◌else◌, List, fold, Option, Some, None}
+use Rattle.std.specs.Prelude.{ℕ, ◌+◌, ◌*◌, ◌%◌, ◌==◌, Bool, if◌then◌else◌, List, fold}
 use Rattle.dcc_packet.specs.declared.instr.Instr.{Instr}
 use Rattle.dcc_packet.specs.declared.instr.Instr.TheVariants.{Idle, Reset, StopAll, Speed, Speed128, GroupOne, GroupTwo, GroupThree, Accessory}
-use Rattle.dcc_packet.specs.Reading.{instruction_of}
 use Rattle.decoder_node.specs.Bits.{with_bits}
+use Rattle.decoder_node.specs.Heard.{obeying}
 
 -- S-9.2.1, 2.4.1: the output DDD, which is the pair and whether its second output, closed, is meant
 abbrev pub output_of : ℕ → Bool → ℕ
@@ -23,13 +23,9 @@ switched number outputs (GroupOne address bits) = outputs
 switched number outputs (GroupTwo address bits) = outputs
 switched number outputs (GroupThree address bits) = outputs
 
-abbrev pub switched_if : ℕ → ℕ → Option Instr → ℕ
-switched_if number outputs None = outputs
-switched_if number outputs (Some instr) = switched number outputs instr
-
--- What one packet does: what the instruction does that its bytes spell, and nothing where they spell none.
+-- what one packet does
 unfoldable pub switch : ℕ → ℕ → List ℕ → ℕ
-switch number outputs packet = switched_if number outputs (instruction_of packet)
+switch number outputs packet = obeying (switched number) outputs packet
 
 -- what packets do, one after another
 abbrev pub switches : ℕ → ℕ → List (List ℕ) → ℕ

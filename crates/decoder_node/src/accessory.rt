@@ -2,12 +2,10 @@
 ghost use Rattle.std.specs.Prelude.{◌≡◌, ℕ, List, None};
 ghost use Rattle.std.specs.Iterator.{IsFinite, Drains};
 
-use crate::ONE;
+use crate::decoder::Decoder;
 use crate::laws::waves_are_obeyed;
-use crate::switch::{after_packet, after_said};
 use dcc_packet::{Instr, Module, Packet};
-use decoder_rx::{Rx, bit_of};
-use half_bits::{halves, halves_are_a_wave};
+use half_bits::halves_are_a_wave;
 use std::marker::Model;
 
 /// An accessory decoder on the track, with eight outputs in four pairs, which hears it half by half.
@@ -15,17 +13,15 @@ use std::marker::Model;
 /// Contracts see it as an `AccessoryDecoder`: its module, its outputs, and the place of its receiver.
 #[derive(Debug, Drop)]
 pub struct Accessory {
-    module: Module,
-    rx: Rx,
-    outputs: u8,
+    decoder: Decoder<Module, u8>,
 }
 
 impl Model for Accessory {
-    ghost use Rattle.decoder_node.specs.AccessoryDecoder.{AccessoryDecoder};
+    ghost use Rattle.decoder_node.specs.AccessoryDecoder.{AccessoryDecoder, accessory_of};
 
     ghost Value = { AccessoryDecoder };
 
-    ghost view = { λ accessory. record { number = accessory.«module»; outputs = accessory.outputs; receiver = accessory.rx } };
+    ghost view = { λ accessory. accessory_of accessory.decoder };
 }
 
 impl Accessory {
@@ -41,9 +37,7 @@ impl Accessory {
         ensures { result ≡ fresh «module» }
     {
         Accessory {
-            module,
-            rx: Rx::new(),
-            outputs: 0,
+            decoder: Decoder::new(module, 0),
         }
     }
 
@@ -53,9 +47,7 @@ impl Accessory {
         ensures heard { self.new ≡ heard self.old half }
         ensures quiet { given self.old.receiver half ≡ None → self.new.outputs ≡ self.old.outputs }
     {
-        if let Some(packet) = self.rx.hear(half) {
-            self.outputs = after_packet(self.module, self.outputs, &packet);
-        }
+        self.decoder.hear(half);
     }
 
     /// Hears each item in order.
@@ -68,39 +60,7 @@ impl Accessory {
         ensures { (items : List ℕ) × Drains I.next_gives halves items × HearsAccessory self.old items self.new }
     {
         waves_are_obeyed();
-        let mut halves = halves;
-        // The two halves of a bit are heard together, which is quicker.
-        while let Some(first) = halves.next() {
-            let Some(second) = halves.next() else {
-                return self.hear(first);
-            };
-            self.hear_two(first, second);
-        }
-    }
-
-    /// Hears two halves, one after the other: together, where they are those of a bit.
-    #[inline]
-    fn hear_two(&mut self, first: u16, second: u16)
-        ensures { self.new ≡ heard (heard self.old first) second }
-    {
-        match (bit_of(first), bit_of(second)) {
-            (Some(bit), Some(next)) if bit == next => {
-                // What it does not hear is a one, and each half of a one does the same.
-                if !self.rx.hear_bit(bit) {
-                    self.hear_each(ONE, ONE);
-                }
-            }
-            _ => self.hear_each(first, second),
-        }
-    }
-
-    /// The same, each alone.
-    #[inline(never)]
-    fn hear_each(&mut self, first: u16, second: u16)
-        ensures { self.new ≡ heard (heard self.old first) second }
-    {
-        self.hear(first);
-        self.hear(second);
+        self.decoder.hear_all(halves);
     }
 
     /// Hears all half-bits of a packet that spells this instruction, or none, as `hear_all` does, and quicker where no
@@ -116,18 +76,7 @@ impl Accessory {
     {
         waves_are_obeyed();
         halves_are_a_wave(packet);
-        if !self.rx.hear_wave() {
-            return self.hear_halves(packet);
-        }
-        self.outputs = after_said(self.module, self.outputs, instr);
-    }
-
-    /// Hears all half-bits of a packet, half by half.
-    #[inline(never)]
-    fn hear_halves(&mut self, packet: &Packet)
-        ensures { HearsAccessory self.old (halves_of packet.now) self.new }
-    {
-        self.hear_all(halves(packet));
+        self.decoder.hear_packet(packet, instr);
     }
 
     /// Its outputs: bit j is output j, the pair j / 2, closed where j is odd.
@@ -135,6 +84,6 @@ impl Accessory {
     pub fn outputs(&self) -> u8
         ensures { result ≡ self.now.outputs }
     {
-        self.outputs
+        self.decoder.state
     }
 }

@@ -3,6 +3,7 @@
 #![tactic(auto)]
 
 mod accessory;
+mod decoder;
 mod laws;
 mod loco;
 mod node;

@@ -2,14 +2,12 @@
 ghost use Rattle.std.specs.Prelude.{◌≡◌, ℕ, List, None};
 ghost use Rattle.std.specs.Iterator.{IsFinite, Drains};
 
-use crate::ONE;
+use crate::decoder::Decoder;
 use crate::laws::waves_are_obeyed;
-use crate::obey::{obey_instr, obey_packet};
 use crate::running::{FIRST, Running};
 use dcc_packet::{Instr, Packet};
 use decoder_cv::CvSet;
-use decoder_rx::{Rx, bit_of};
-use half_bits::{halves, halves_are_a_wave};
+use half_bits::halves_are_a_wave;
 use std::marker::Model;
 
 /// A locomotive decoder on the track, which hears it half by half.
@@ -17,20 +15,18 @@ use std::marker::Model;
 /// Contracts see it as a `LocoDecoder`: its settings, how it runs, and the place of its receiver.
 #[derive(Debug, Drop)]
 pub struct Loco {
-    cv: CvSet,
-    rx: Rx,
-    running: Running,
+    decoder: Decoder<CvSet, Running>,
 }
 
 impl Model for Loco {
-    ghost use Rattle.decoder_node.specs.LocoDecoder.{LocoDecoder};
+    ghost use Rattle.decoder_node.specs.LocoDecoder.{LocoDecoder, loco_of};
     ghost use Rattle.decoder_node.specs.Running.{IsAble};
 
     ghost Value = { LocoDecoder };
 
-    ghost view = { λ loco. record { cv = loco.cv; running = loco.running; receiver = loco.rx } };
+    ghost view = { λ loco. loco_of loco.decoder };
 
-    ghost invariant = { λ loco. IsAble loco.running };
+    ghost invariant = { λ loco. IsAble loco.decoder.state };
 }
 
 impl Loco {
@@ -47,9 +43,7 @@ impl Loco {
         ensures { result ≡ fresh cv }
     {
         Loco {
-            cv,
-            rx: Rx::new(),
-            running: FIRST,
+            decoder: Decoder::new(cv, FIRST),
         }
     }
 
@@ -59,9 +53,7 @@ impl Loco {
         ensures heard { self.new ≡ heard self.old half }
         ensures quiet { given self.old.receiver half ≡ None → self.new.running ≡ self.old.running }
     {
-        if let Some(packet) = self.rx.hear(half) {
-            obey_packet(&self.cv, &mut self.running, &packet);
-        }
+        self.decoder.hear(half);
     }
 
     /// Hears each item in order.
@@ -74,39 +66,7 @@ impl Loco {
         ensures { (items : List ℕ) × Drains I.next_gives halves items × HearsLoco self.old items self.new }
     {
         waves_are_obeyed();
-        let mut halves = halves;
-        // The two halves of a bit are heard together, which is quicker.
-        while let Some(first) = halves.next() {
-            let Some(second) = halves.next() else {
-                return self.hear(first);
-            };
-            self.hear_two(first, second);
-        }
-    }
-
-    /// Hears two halves, one after the other: together, where they are those of a bit.
-    #[inline]
-    fn hear_two(&mut self, first: u16, second: u16)
-        ensures { self.new ≡ heard (heard self.old first) second }
-    {
-        match (bit_of(first), bit_of(second)) {
-            (Some(bit), Some(next)) if bit == next => {
-                // What it does not hear is a one, and each half of a one does the same.
-                if !self.rx.hear_bit(bit) {
-                    self.hear_each(ONE, ONE);
-                }
-            }
-            _ => self.hear_each(first, second),
-        }
-    }
-
-    /// The same, each alone.
-    #[inline(never)]
-    fn hear_each(&mut self, first: u16, second: u16)
-        ensures { self.new ≡ heard (heard self.old first) second }
-    {
-        self.hear(first);
-        self.hear(second);
+        self.decoder.hear_all(halves);
     }
 
     /// Hears all half-bits of a packet that spells this instruction, or none, as `hear_all` does, and quicker where no
@@ -122,18 +82,7 @@ impl Loco {
     {
         waves_are_obeyed();
         halves_are_a_wave(packet);
-        if !self.rx.hear_wave() {
-            return self.hear_halves(packet);
-        }
-        obey_instr(&self.cv, &mut self.running, instr);
-    }
-
-    /// Hears all half-bits of a packet, half by half.
-    #[inline(never)]
-    fn hear_halves(&mut self, packet: &Packet)
-        ensures { HearsLoco self.old (halves_of packet.now) self.new }
-    {
-        self.hear_all(halves(packet));
+        self.decoder.hear_packet(packet, instr);
     }
 
     /// How it runs. Of the functions, F0 to F12 alone may be on.
@@ -142,14 +91,13 @@ impl Loco {
         ensures value { result ≡ self.now.running }
         ensures able { IsAble result }
     {
-        self.running
+        self.decoder.state
     }
 
     /// The track lost its power: the decoder stands, forward, with all functions off, and has heard nothing.
     pub fn power_lost(&mut self)
         ensures { self.new ≡ fresh self.old.cv }
     {
-        self.rx = Rx::new();
-        self.running = FIRST;
+        self.decoder = Decoder::new(self.decoder.settings, FIRST);
     }
 }

@@ -3,30 +3,23 @@ ghost use Rattle.std.specs.Prelude.{◌≡◌, ◌<◌, ◌/◌, ◌%◌};
 ghost use Rattle.dcc_packet.specs.Told.{motion_told};
 ghost use Rattle.decoder_node.specs.Bits.{with_bits};
 ghost use Rattle.decoder_node.specs.Concerned.{concerns};
-ghost use Rattle.decoder_node.specs.Obey.{obey, obeyed, obeyed_if, driven, lit, is_own, own_forward};
+ghost use Rattle.decoder_node.specs.Obey.{obeyed, driven, lit, is_own, own_forward};
 
+use crate::decoder::Obeys;
 use crate::running::{FIRST, Running};
-use dcc_packet::{Address, Instr, Motion, Packet, Steps, read};
+use dcc_packet::{Address, Instr, Motion, Steps};
 use decoder_cv::CvSet;
 
-/// A decoder with these settings, which runs so, obeys a packet.
-#[inline(never)]
-#[tactic(auto, unfolding(crate::specs::Obey::obey))]
-pub(crate) fn obey_packet(cv: &CvSet, running: &mut Running, packet: &Packet)
-    ensures { running.new ≡ obey cv.now running.old packet.now }
-{
-    obey_instr(cv, running, &read(packet));
-}
+impl Obeys<Running> for CvSet {
+    ghost does = { obeyed };
 
-/// It obeys what a packet spells, and is left as it is where that is for others.
-#[inline]
-#[tactic(auto, using(crate::proofs::Concerned::stays))]
-pub(crate) fn obey_instr(cv: &CvSet, running: &mut Running, instr: &Option<Instr>)
-    ensures { running.new ≡ obeyed_if cv.now running.old instr.now }
-{
-    if let Some(instr) = instr {
-        if concerns(cv, instr) {
-            *running = after_instr(cv, *running, *instr);
+    #[inline]
+    #[tactic(auto, using(crate::proofs::Concerned::stays))]
+    fn obey(&self, running: &mut Running, instr: &Option<Instr>) {
+        if let Some(instr) = instr {
+            if concerns(self, instr) {
+                *running = after_instr(self, *running, *instr);
+            }
         }
     }
 }

@@ -1,27 +1,19 @@
 //! What a packet does to an accessory decoder.
 ghost use Rattle.std.specs.Prelude.{◌≡◌, ◌<◌, Bool, if◌then◌else◌};
 ghost use Rattle.decoder_node.specs.Bits.{with_bits};
-ghost use Rattle.decoder_node.specs.Switched.{switch, switched, switched_if, output_of};
+ghost use Rattle.decoder_node.specs.Switched.{switched, output_of};
 
-use dcc_packet::{Instr, Module, Packet, read};
+use crate::decoder::Obeys;
+use dcc_packet::{Instr, Module};
 
-/// The outputs of the decoder of a module after a packet.
-#[inline(never)]
-#[tactic(auto, unfolding(crate::specs::Switched::switch))]
-pub(crate) fn after_packet(own: Module, outputs: u8, packet: &Packet) -> u8
-    ensures { result ≡ switch own outputs packet.now }
-{
-    after_said(own, outputs, &read(packet))
-}
+impl Obeys<u8> for Module {
+    ghost does = { switched };
 
-/// Its outputs after what a packet spells.
-#[inline]
-pub(crate) fn after_said(own: Module, outputs: u8, instr: &Option<Instr>) -> u8
-    ensures { result ≡ switched_if own outputs instr.now }
-{
-    match instr {
-        None => outputs,
-        Some(instr) => after_instr(own, outputs, *instr),
+    #[inline]
+    fn obey(&self, outputs: &mut u8, instr: &Option<Instr>) {
+        if let Some(instr) = instr {
+            *outputs = after_instr(*self, *outputs, *instr);
+        }
     }
 }
 

@@ -23,7 +23,8 @@ use Rattle.decoder_cv.specs.Answering.{is_at}
 use Rattle.decoder_cv.specs.Settings.{Settings}
 use Rattle.decoder_node.specs.declared.running.Running.{Running}
 use Rattle.decoder_node.specs.Bits.{with_bits}
-use Rattle.decoder_node.specs.Obey.{is_own, own_forward, driven, lit, obeyed, obeyed_if, obey}
+use Rattle.decoder_node.specs.Heard.{told}
+use Rattle.decoder_node.specs.Obey.{is_own, own_forward, driven, lit, obeyed, obey}
 
 -- what the crate of packets promises: how packets are read, and what those of an address spell
 pub record Spelling : Type 0 where
@@ -46,7 +47,7 @@ run_by cv motion forward functions = record { motion = motion; forward = own_for
 -- a packet does what the instruction does that it spells
 pub obey-told : Spelling → (cv : Settings) (r : Running) (packet : List ℕ) (i : Instr) → Spells packet i → obey cv r packet ≡ obeyed cv r i
 unfolding obey
-obey-told laws cv r packet i s = ap (obeyed_if cv r) ((laws.read packet i).1 s)
+obey-told laws cv r packet i s = ap (told (obeyed cv) r) ((laws.read packet i).1 s)
 
 -- SPD below 128 is a motion of each kind of steps
 motion-by : (steps : Steps) (spd : ℕ) → (2 ≤ spd → IsTrue (is_motion steps (Step steps (step_of steps spd)))) → IsTrue (is_motion steps (motion_of steps spd))

@@ -6,6 +6,7 @@ use Rattle.std.proofs.lemmas.Bool.{or_cases, and_from, both_ways}
 use Rattle.std.proofs.lemmas.Map.Keys.{IsDistinct-cons, IsDistinct-push, IsDistinct-tail}
 use Rattle.std.proofs.lemmas.List.{append-nil}
 use Rattle.std.proofs.lemmas.Map.Steps.{length-le_from_distinct_below}
+use Rattle.dcc_packet.specs.Sent.{last_switch}
 use Rattle.refresh_ring.specs.Places.{IsSlot, last_place, place_of, number_of}
 use Rattle.refresh_ring.specs.Jobs.{IsJob, most_requests, most_jobs, is_place, waits, places_in, requests_in, sends_in, IsQueue, is_live, live_jobs, first_of, after_send}
 use Rattle.refresh_ring.specs.declared.kind.Kind.{Kind}
@@ -105,7 +106,7 @@ queue-place jobs slot kind queue in_range absent = record {
   few = omega (arith, requests_in-append jobs (Place slot kind ∷ []), queue.few);
 }
 
-pub queue-request : (jobs : List Job) (number : ℕ) (closed on : Bool) → IsQueue jobs → number ≤ 2039 → requests_in jobs < most_requests → IsQueue (jobs ++ Request number closed on true ∷ [])
+pub queue-request : (jobs : List Job) (number : ℕ) (closed on : Bool) → IsQueue jobs → number ≤ last_switch → requests_in jobs < most_requests → IsQueue (jobs ++ Request number closed on true ∷ [])
 queue-request jobs number closed on queue legal few = record {
   legal = legal-push jobs (Request number closed on true) queue.legal legal;
   once = rw (places_in-append jobs (Request number closed on true ∷ []), append-nil) queue.once;

@@ -2,15 +2,16 @@
 use Rattle.std.specs.Prelude.{ℕ, ◌+◌, ◌≤◌, ◌==◌, ◌&&◌, Bool, true, false, if◌then◌else◌, List, [], ◌∷◌, Option, Some, None, nat_eq}
 use Rattle.std.specs.List.{AllByRecursion, IsDistinct, list_any}
 use Rattle.std.specs.Option.{option_map}
+use Rattle.dcc_packet.specs.Sent.{last_switch}
 use Rattle.refresh_ring.specs.Places.{IsSlot, last_place, place_of, number_of, is_refreshed}
 use Rattle.refresh_ring.specs.declared.kind.Kind.{Kind}
 use Rattle.refresh_ring.specs.declared.job.Job.{Job}
 use Rattle.refresh_ring.specs.declared.job.Job.TheVariants.{Place, Request}
 
--- a job's slot is one of the 119, and a switch number is at most 2039
+-- a job's slot is one of the 119, and its switch one that a packet can name
 abbrev pub IsJob : Job → Type 0
 IsJob (Place slot kind) = IsSlot slot
-IsJob (Request number closed on again) = number ≤ 2039
+IsJob (Request number closed on again) = number ≤ last_switch
 
 abbrev pub is_place : ℕ → Kind → Job → Bool
 is_place slot kind (Place other other_kind) = (other == slot) && (number_of other_kind == number_of kind)

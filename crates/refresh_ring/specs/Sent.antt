@@ -1,6 +1,7 @@
 -- What is sent: of switch requests, and where it goes.
 use Rattle.std.specs.Prelude.{ℕ, ◌≡◌, ◌+◌, ◌≤◌, true, false, List, [], ◌∷◌, ◌++◌, Option, Some, None}
 use Rattle.std.specs.List.{Contains}
+use Rattle.dcc_packet.specs.Sent.{last_switch}
 use Rattle.refresh_ring.specs.Places.{IsSlot, is_refreshed}
 use Rattle.refresh_ring.specs.Scheduled.{Scheduled}
 use Rattle.refresh_ring.specs.Left.{turns_for}
@@ -51,13 +52,13 @@ IsDue s Idle = Unit {0}
 IsDue s (PlacePick slot kind) = is_refreshed s.slots slot ≡ true
 IsDue s (Switch number closed on) = Contains (to_send s.jobs) (Switch number closed on)
 
--- slots are 1 to 119, switch numbers at most 2039
+-- slots are 1 to 119, and switches those that a packet can name
 abbrev pub IsLegalPick : Pick → Type 0
 IsLegalPick Off = Unit {0}
 IsLegalPick StopAll = Unit {0}
 IsLegalPick Idle = Unit {0}
 IsLegalPick (PlacePick slot kind) = IsSlot slot
-IsLegalPick (Switch number closed on) = number ≤ 2039
+IsLegalPick (Switch number closed on) = number ≤ last_switch
 
 -- of the jobs in front, what is left after a turn; what they still had to send was sent or is left, and fewer turns are left
 pub record LessLeft (front back : List Job) (turns : ℕ) (m : Picked) : Type 0 where

@@ -1,5 +1,6 @@
 //! The jobs that wait, in a buffer that is made once.
 ghost use Rattle.std.specs.Prelude.{◌≡◌, ◌<◌, ◌≤◌, ◌+◌, ◌++◌, [], ◌∷◌, false, true, if◌then◌else◌, IfOk, IfSome, drop};
+ghost use Rattle.dcc_packet.specs.Sent.{last_switch};
 ghost use Rattle.refresh_ring.specs.Places.{IsSlot, is_refreshed};
 ghost use Rattle.refresh_ring.specs.Jobs.{IsJob, IsQueue, most_requests, waits, requests_in, sends_ahead, is_live, live_jobs, first_of, after_send};
 ghost use Rattle.refresh_ring.specs.declared.job.Job.TheVariants.{Place, Request};
@@ -104,7 +105,7 @@ impl JobQueue {
 
     // A switch request waits behind all others, and is sent twice.
     pub(crate) fn push_request(&mut self, number: u16, closed: bool, on: bool)
-        requires number { number ≤ 2039 }
+        requires number { number ≤ last_switch }
         requires room { requests_in self.old < most_requests }
         ensures jobs { self.new ≡ self.old ++ Request number closed on true ∷ [] }
         ensures queue { IsQueue self.new }

@@ -1,5 +1,6 @@
 //! The schedule of a command station: what waits, where the ring stands, and what is sent next.
 ghost use Rattle.std.specs.Prelude.{◌≡◌, ◌≤◌, ◌<◌, ◌-◌, Some, IfOk, IfSome, if◌then◌else◌};
+ghost use Rattle.dcc_packet.specs.Sent.{last_switch};
 ghost use Rattle.refresh_ring.specs.Places.{IsSlot, IsPlace, next_place};
 ghost use Rattle.refresh_ring.specs.Jobs.{IsJob, requests_in, sends_ahead, first_of};
 ghost use Rattle.refresh_ring.specs.Scheduled.{IsScheduled, first_schedule, after_refresh, after_changed, after_switch, switch_answer};
@@ -80,7 +81,7 @@ impl<R: Ring> Schedule<R> {
     /// A request to close or throw a switch, number 0 to 2039, its output on or off, waits behind all jobs, and is then
     /// sent twice. It is refused, and nothing changes, exactly where 32 requests wait.
     pub fn switch(&mut self, number: u16, closed: bool, on: bool) -> Result<(), Full>
-        requires { number ≤ 2039 }
+        requires { number ≤ last_switch }
         ensures answer { result ≡ switch_answer self.old }
         ensures state { self.new ≡ after_switch number closed on self.old }
         ensures legal { IsScheduled self.new }

@@ -3,7 +3,7 @@ use Rattle.std.proofs.Common.{◌≡◌, ℕ, ◌+◌, ◌-◌, ◌*◌, ◌/◌
 use Rattle.std.proofs.lemmas.Bool.{and_parts, cases_lt, lt-ltb, le-ltb, leb-true, both_ways}
 use Rattle.std.proofs.Math.ListN.{get_or-eq_default}
 use Rattle.std.specs.List.{AllByRecursion, slice_index_or}
-use Rattle.dcc_packet.specs.Sent.{accessory_bytes, idle_bytes}
+use Rattle.dcc_packet.specs.Sent.{accessory_bytes, idle_bytes, last_switch}
 use Rattle.dcc_packet.specs.Form.{bit, to_decoder}
 use Rattle.ln_ops.specs.Message.{op_of}
 use Rattle.ln_ops.specs.declared.op.Op.{Op}
@@ -12,7 +12,7 @@ use Rattle.ln_ops.specs.declared.reply.Reply.{Reply as ReplyOf}
 use Rattle.slot_table.specs.Desk.{Desk}
 use Rattle.slot_table.specs.Entry.{entry_of}
 use Rattle.slot_table.specs.Reading.{row_of}
-use Rattle.refresh_ring.specs.Jobs.{IsJob, requests_in}
+use Rattle.refresh_ring.specs.Jobs.{IsJob, requests_in, most_requests}
 use Rattle.refresh_ring.specs.Picked.{address_of, module_of, picked, turned}
 use Rattle.refresh_ring.specs.Places.{is_refreshed as is_slot_on}
 use Rattle.refresh_ring.specs.Scheduled.{Scheduled}
@@ -80,7 +80,7 @@ bit_low : (b : Bool) → bit b ≤ 1
 bit_low true = omega arith
 bit_low false = omega arith
 
-to_module : (number : ℕ) (closed on : Bool) → number ≤ 2039 → Coarser (destination_of (accessory_bytes number closed on)) (Some (Module (module_of number)))
+to_module : (number : ℕ) (closed on : Bool) → number ≤ last_switch → Coarser (destination_of (accessory_bytes number closed on)) (Some (Module (module_of number)))
 to_module number closed on legal =
     let m : ℕ = module_of number in
     let first : ℕ = 128 + m % 64 in
@@ -96,7 +96,7 @@ IsLegal Off = Unit {0}
 IsLegal StopAll = Unit {0}
 IsLegal Idle = Unit {0}
 IsLegal (Place slot kind) = Unit {0}
-IsLegal (Switch number closed on) = number ≤ 2039
+IsLegal (Switch number closed on) = number ≤ last_switch
 
 abbrev AreLegal : List Pick → Type 0
 AreLegal picks = AllByRecursion IsLegal picks
@@ -115,9 +115,9 @@ one_legal zero (x ∷ xs) pick h below is = subst IsLegal is h.0
 one_legal (suc k) (x ∷ xs) pick h below is = one_legal k xs pick h.1 (omega (arith, below)) is
 
 twice_legal : (number waiting : ℕ) (closed on : Bool) → AreLegal (twice_if (is_taken number waiting) (Switch number closed on))
-twice_legal number waiting closed on = by_test (is_taken number waiting) (λ taken. leb-true number 2039 (and_parts (nat_le number 2039) (nat_lt waiting 32) taken).0)
+twice_legal number waiting closed on = by_test (is_taken number waiting) (λ taken. leb-true number last_switch (and_parts (nat_le number last_switch) (nat_lt waiting most_requests) taken).0)
   where
-    by_test : (b : Bool) → (b ≡ true → number ≤ 2039) → AreLegal (twice_if b (Switch number closed on))
+    by_test : (b : Bool) → (b ≡ true → number ≤ last_switch) → AreLegal (twice_if b (Switch number closed on))
     by_test true h = (h refl, (h refl, tt))
     by_test false h = tt
 

@@ -1,6 +1,7 @@
 -- Changes first, and switches twice, in order, from the laws of one turn.
 use Rattle.std.proofs.Common.{◌≡◌, ℕ, ◌+◌, ◌*◌, ◌<◌, ◌≤◌, ◌&&◌, nat_le, nat_lt, if◌then◌else◌, Bool, true, false, List, [], ◌∷◌, ◌++◌, Option, Some, None, refl, sym, ap, subst, ◌∙◌, arith, inl, inr, ◌⊎◌, append_assoc, append-nil}
 use Rattle.std.proofs.lemmas.Bool.{cases_lt, le-ltb, lt-ltb}
+use Rattle.dcc_packet.specs.Sent.{last_switch}
 use Rattle.ln_ops.specs.declared.op.Op.{Op}
 use Rattle.ln_ops.specs.declared.op.Op.TheVariants.{PowerOff, PowerOn, ForceIdle, Speed, Dirf, Snd, SwReq, SwAck, LongAck, SlotStat, Move, SlotRead, LocoAddr, SlotData, SlotWrite, Imm, Other}
 use Rattle.ln_ops.specs.Message.{op_of}
@@ -77,7 +78,7 @@ module _ (falls : (slot : ℕ) (kind : Kind) (addresses : List ℕ) (s : Schedul
   ahead_request : (number : ℕ) (closed on : Bool) (s : Scheduled) → Ahead s (after_request number closed on s)
   unfolding Ahead
   ahead_request number closed on s n h =
-      by_request (λ (jobs : List Job). turns_ahead slot kind (record s { jobs = jobs }) ≡ Some n) (nat_le number 2039) (with_request number closed on s.jobs) s.jobs (switched slot kind number closed on s n h) h
+      by_request (λ (jobs : List Job). turns_ahead slot kind (record s { jobs = jobs }) ≡ Some n) (nat_le number last_switch) (with_request number closed on s.jobs) s.jobs (switched slot kind number closed on s n h) h
 
   ahead_op : (desk : Desk) (op : Op) (s : Scheduled) → Ahead s (schedule_asked desk op s)
   unfolding Ahead
@@ -148,7 +149,7 @@ module _ (turn : (addresses : List ℕ) (s : Scheduled) → switch_in (picked ad
   ]
 
   kept_request : (number : ℕ) (closed on : Bool) (s : Scheduled) → to_send (after_request number closed on s).jobs ≡ to_send s.jobs ++ twice_if (is_taken number (requests_in s.jobs)) (Switch number closed on)
-  kept_request number closed on s = by_number (nat_le number 2039)
+  kept_request number closed on s = by_number (nat_le number last_switch)
     where
       by_number : (b : Bool) → to_send (if b then with_request number closed on s.jobs else s.jobs) ≡ to_send s.jobs ++ twice_if (b && nat_lt (requests_in s.jobs) 32) (Switch number closed on)
       by_number true = kept_switch number closed on s
@@ -212,7 +213,7 @@ module _ (falls : (addresses : List ℕ) (s : Scheduled) (front back : List Job)
   behind_request : (number : ℕ) (closed on : Bool) (s : Scheduled) → Behind s (after_request number closed on s)
   unfolding Behind
   behind_request number closed on s =
-      (by_request (λ (jobs : List Job). (more : List Job) × (jobs ≡ s.jobs ++ more)) (nat_le number 2039) (with_request number closed on s.jobs) s.jobs (asked number closed on s) ([], sym (append-nil s.jobs)), refl, refl)
+      (by_request (λ (jobs : List Job). (more : List Job) × (jobs ≡ s.jobs ++ more)) (nat_le number last_switch) (with_request number closed on s.jobs) s.jobs (asked number closed on s) ([], sym (append-nil s.jobs)), refl, refl)
 
   chained : (s t u : Scheduled) → Behind s t → Behind t u → Behind s u
   unfolding Behind

@@ -1,5 +1,7 @@
 -- What a station answers to an operation. Each refusal, and the code of each long acknowledge, is this project's own.
 use Rattle.std.specs.Prelude.{ℕ, ◌==◌, ◌/◌, ◌%◌, ◌&&◌, Bool, nat_le, nat_lt, if◌then◌else◌, Option, Some, None, Result, Ok, Err}
+use Rattle.refresh_ring.specs.Jobs.{most_requests}
+use Rattle.dcc_packet.specs.Sent.{last_switch}
 use Rattle.ln_ops.specs.Fields.{SlotBytes}
 use Rattle.ln_ops.specs.Slot.{address_with, is_slot, stat_with}
 use Rattle.ln_ops.specs.declared.op.Op.{Op}
@@ -68,9 +70,9 @@ move_answer desk src dest =
     (if src == dest then slot_if (is_placed desk src) src else
     (if dest == 0 then slot_if (is_placed desk src) src else slot_if (can_shift desk src dest) dest))
 
--- switches that can be asked for (own): four of each of the modules 1 to 510, and fewer than 32 requests that wait
+-- switches that can be asked for (own): those that a packet can name, where fewer requests wait than have room
 abbrev pub is_taken : ℕ → ℕ → Bool
-is_taken number waiting = nat_le number 2039 && nat_lt waiting 32
+is_taken number waiting = nat_le number last_switch && nat_lt waiting most_requests
 
 -- the answer to an operation, where so many switch requests wait
 abbrev pub answer : PoweredDesk → Op → ℕ → Option Reply

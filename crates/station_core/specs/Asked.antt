@@ -1,5 +1,6 @@
 -- What a message makes of the schedule: the changed places that are to wait, and switch requests.
 use Rattle.std.specs.Prelude.{ℕ, Bool, nat_le, if◌then◌else◌, List, [], ◌∷◌, Option, Some, None, Result, Ok, Err}
+use Rattle.dcc_packet.specs.Sent.{last_switch}
 use Rattle.ln_ops.specs.declared.op.Op.{Op}
 use Rattle.ln_ops.specs.declared.op.Op.TheVariants.{PowerOff, PowerOn, ForceIdle, Speed, Dirf, Snd, SwReq, SwAck, LongAck, SlotStat, Move, SlotRead, LocoAddr, SlotData, SlotWrite, Imm, Other}
 use Rattle.slot_table.specs.Desk.{Desk}
@@ -63,7 +64,7 @@ after_places (place ∷ places) s = after_places places (after_changed place.0 p
 
 -- a switch request waits, where there is such a switch and room
 abbrev pub after_request : ℕ → Bool → Bool → Scheduled → Scheduled
-after_request number closed on s = record s { jobs = if nat_le number 2039 then with_request number closed on s.jobs else s.jobs }
+after_request number closed on s = record s { jobs = if nat_le number last_switch then with_request number closed on s.jobs else s.jobs }
 
 -- what a message makes of a schedule that goes by the desk after it; the desk here is the one before it
 abbrev pub schedule_asked : Desk → Op → Scheduled → Scheduled

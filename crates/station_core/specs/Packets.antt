@@ -2,7 +2,7 @@
 use Rattle.std.specs.Prelude.{ℕ, ◌≡◌, ◌≤◌, true, ◌/◌, ◌%◌, ◌==◌, Bool, if◌then◌else◌, nat_lt, List}
 use Rattle.dcc_packet.specs.declared.address.Address.{Address}
 use Rattle.dcc_packet.specs.declared.address.Address.TheVariants.{Short, Long}
-use Rattle.dcc_packet.specs.Sent.{speed_bytes, group_one_bytes, group_two_bytes, group_three_bytes}
+use Rattle.dcc_packet.specs.Sent.{speed_bytes, group_one_bytes, group_two_bytes, group_three_bytes, last_switch}
 use Rattle.refresh_ring.specs.declared.kind.Kind.{Kind}
 use Rattle.refresh_ring.specs.declared.kind.Kind.TheVariants.{Speed, GroupOne, GroupTwo, GroupThree}
 use Rattle.refresh_ring.specs.declared.pick.Pick.{Pick}
@@ -51,4 +51,4 @@ IsPickOf desk Off = Unit {0}
 IsPickOf desk StopAll = Unit {0}
 IsPickOf desk Idle = Unit {0}
 IsPickOf desk (Place slot kind) = IsSlot slot × (is_held (row_of desk slot).state ≡ true)
-IsPickOf desk (Switch number closed on) = number ≤ 2039
+IsPickOf desk (Switch number closed on) = number ≤ last_switch

@@ -1,36 +1,8 @@
-use Rattle.std.proofs.Common.{refl, subst, sym, ◌≡◌, ◌∙◌}
-use Rattle.std.proofs.iter.Next as it
-use Rattle.decoder_node.specs.Accessory.{heard, heard_all, HearsAccessory}
-use Rattle.decoder_node.specs.AccessoryDecoder.{AccessoryDecoder}
-use Rattle.decoder_node.proofs.Accessories.{heard_next}
+use Rattle.decoder_node.proofs.Accessories.{heard_as_accessory}
 use Rattle.decoder_node.proofs.accessory.Accessory.hear_all.Goals as goal
-
-pub loop-first-init : goal.loop-first-init
-loop-first-init g c = it.begun c.requires.can c.requires.ends refl
-
-pub loop-first-preserved : goal.loop-first-preserved
-loop-first-preserved g c =
-    let i = c.loop-first.invariant in
-    let old = c.args.self.now in
-    let after_first = heard_next old c.loop-first.self i.seen c.in-Some.first i.holds in
-    let j = it.again i {Q = λ xs. heard c.loop-first.self c.in-Some.first ≡ heard_all old xs} c.in-Some.first c.in-Some.is (c.next.ensures.steps, c.next.ensures.goes) after_first in
-    it.again j c.in-Some-next.second c.in-Some-next.is (c.next-in-Some.ensures.steps, c.next-in-Some.ensures.goes) (c.hear_two.ensures ∙ heard_next old (heard c.loop-first.self c.in-Some.first) j.seen c.in-Some-next.second j.holds)
-
-pub returns-in_default-next : goal.returns-in_default-next
-returns-in_default-next g c =
-    let i = c.loop-first.invariant in
-    let old = c.args.self.now in
-    let after_first = heard_next old c.loop-first.self i.seen c.in-Some.first i.holds in
-    let j = it.again i {Q = λ xs. heard c.loop-first.self c.in-Some.first ≡ heard_all old xs} c.in-Some.first c.in-Some.is (c.next.ensures.steps, c.next.ensures.goes) after_first in (
-      j.seen,
-      it.drained j c.in_default-next.is c.next-in-Some.ensures.steps,
-      subst (λ (d : AccessoryDecoder). HearsAccessory old j.seen d) (sym (c.hear.ensures.heard ∙ j.holds)) (c.waves_are_obeyed.ensures.accessory old j.seen),
-    )
 
 pub returns : goal.returns
 returns g c =
-    let i = c.loop-first.invariant in (
-      i.seen,
-      it.drained i c.in_default.is c.next.ensures.steps,
-      subst (λ (d : AccessoryDecoder). HearsAccessory c.args.self.now i.seen d) (sym i.holds) (c.waves_are_obeyed.ensures.accessory c.args.self.now i.seen),
-    )
+    let old = c.args.self.now in
+    let items = c.hear_all.ensures.0 in
+    (items, c.hear_all.ensures.1, heard_as_accessory old c.self.inside.decoder c.hear_all.new.self items c.self.view_is c.hear_all.ensures.2 (c.waves_are_obeyed.ensures.accessory old items))

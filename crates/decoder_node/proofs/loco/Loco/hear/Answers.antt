@@ -1,8 +1,12 @@
-use Rattle.std.proofs.Common.{subst, sym}
-use Rattle.decoder_node.specs.declared.running.Running.{Running}
-use Rattle.decoder_node.specs.Running.{IsAble}
-use Rattle.decoder_node.proofs.Able.{obey-able}
+use Rattle.std.proofs.Common.{[], ◌∷◌, ap, ◌∙◌}
+use Rattle.decoder_node.specs.Loco.{heard}
+use Rattle.decoder_node.specs.LocoDecoder.{LocoDecoder, loco_of}
+use Rattle.decoder_node.proofs.Locos.{as_loco, heard-able}
 use Rattle.decoder_node.proofs.loco.Loco.hear.Goals as goal
 
 pub invariant_of-self : goal.invariant_of-self
-invariant_of-self c = subst (λ (r : Running). IsAble r) (sym c.obey_packet.ensures) (obey-able c.self.inside.cv c.self.inside.running c.in-Some.packet c.self.invariant)
+invariant_of-self c = heard-able c.self.inside.decoder c.hear.new.self (c.args.half ∷ []) c.hear.ensures c.self.invariant
+
+pub returns-clause-heard : goal.returns-clause-heard
+returns-clause-heard c =
+    ap loco_of c.hear.ensures ∙ as_loco (c.args.half ∷ []) c.self.inside.decoder ∙ ap (λ (l : LocoDecoder). heard l c.args.half) c.self.view_is

@@ -1,0 +1,129 @@
+//! A decoder, whatever instructions do to it.
+ghost use Rattle.std.specs.Prelude.{◌≡◌, ℕ, List};
+ghost use Rattle.std.specs.Iterator.{IsFinite, Drains};
+ghost use Rattle.dcc_packet.specs.declared.instr.Instr.{Instr as InstrValue};
+ghost use Rattle.decoder_node.specs.Heard.{obeying, told};
+
+use crate::ONE;
+use dcc_packet::{Instr, Packet, read};
+use decoder_rx::{Rx, bit_of, complete, settles};
+use half_bits::{halves, halves_are_a_wave};
+
+/// Settings by which a state obeys instructions.
+pub(crate) trait Obeys<State> {
+    /// The state after an instruction.
+    ghost does: { Self → State → InstrValue → State };
+
+    /// The state obeys what a packet spells, and stays as it is where that is nothing.
+    fn obey(&self, state: &mut State, instr: &Option<Instr>)
+        ensures { state.new ≡ told (does self.now) state.old instr.now };
+}
+
+/// A decoder on the track, which hears it half by half: its settings, the state that obeys by them, and its receiver.
+#[derive(Debug, Drop)]
+pub(crate) struct Decoder<Settings, State> {
+    pub(crate) settings: Settings,
+    pub(crate) state: State,
+    pub(crate) rx: Rx,
+}
+
+impl<Settings: Obeys<State>, State> Decoder<Settings, State> {
+    ghost use Rattle.dcc_packet.specs.Reading.{instruction_of};
+    ghost use Rattle.half_bits.specs.Halves.{halves_of};
+    ghost use Rattle.decoder_rx.specs.Place.{Hunting};
+    ghost use Rattle.decoder_node.specs.Decoder.{heard, heard_all};
+
+    /// A decoder with these settings and this state, which has heard nothing.
+    pub(crate) fn new(settings: Settings, state: State) -> Self
+        ensures { result ≡ record { settings = settings; state = state; rx = Hunting 0 } }
+    {
+        Decoder {
+            settings,
+            state,
+            rx: Rx::new(),
+        }
+    }
+
+    /// Hears the next half of the track, of this many microseconds, and obeys the packet that it ends, if it ends one.
+    #[inline]
+    pub(crate) fn hear(&mut self, half: u16)
+        ensures { self.new ≡ heard Settings.does self.old half }
+    {
+        if let Some(packet) = self.rx.hear(half) {
+            self.obey_packet(&packet);
+        }
+    }
+
+    /// Obeys a packet.
+    #[inline(never)]
+    fn obey_packet(&mut self, packet: &Packet)
+        ensures { self.new ≡ record self.old { state = obeying (Settings.does self.old.settings) self.old.state packet.now } }
+    {
+        self.settings.obey(&mut self.state, &read(packet));
+    }
+
+    /// Hears each item in order.
+    pub(crate) fn hear_all<I: Iterator<Item = u16> + Drop>(&mut self, halves: I)
+        requires can { I.can_next halves }
+        requires ends { IsFinite (I.remaining halves) }
+        ensures { (items : List ℕ) × Drains I.next_gives halves items × (self.new ≡ heard_all Settings.does self.old items) }
+    {
+        let mut halves = halves;
+        // The two halves of a bit are heard together, which is quicker.
+        while let Some(first) = halves.next() {
+            let Some(second) = halves.next() else {
+                return self.hear(first);
+            };
+            self.hear_two(first, second);
+        }
+    }
+
+    /// Hears two halves, one after the other: together, where they are those of a bit.
+    #[inline]
+    fn hear_two(&mut self, first: u16, second: u16)
+        ensures { self.new ≡ heard Settings.does (heard Settings.does self.old first) second }
+    {
+        match (bit_of(first), bit_of(second)) {
+            (Some(bit), Some(next)) if bit == next => {
+                // What it does not hear is a one, and each half of a one does the same.
+                if !self.rx.hear_bit(bit) {
+                    self.hear_each(ONE, ONE);
+                }
+            }
+            _ => self.hear_each(first, second),
+        }
+    }
+
+    /// The same, each alone.
+    #[inline(never)]
+    fn hear_each(&mut self, first: u16, second: u16)
+        ensures { self.new ≡ heard Settings.does (heard Settings.does self.old first) second }
+    {
+        self.hear(first);
+        self.hear(second);
+    }
+
+    /// Hears all half-bits of a packet that spells this instruction, or none, as `hear_all` does, and quicker where no
+    /// packet is under way: then it looks at the instruction alone.
+    #[inline]
+    pub(crate) fn hear_packet(&mut self, packet: &Packet, instr: &Option<Instr>)
+        requires read { instr.now ≡ instruction_of packet.now }
+        ensures { self.new ≡ heard_all Settings.does self.old (halves_of packet.now) }
+    {
+        complete();
+        settles();
+        halves_are_a_wave(packet);
+        if !self.rx.hear_wave() {
+            return self.hear_halves(packet);
+        }
+        self.settings.obey(&mut self.state, instr);
+    }
+
+    /// Hears all half-bits of a packet, half by half.
+    #[inline(never)]
+    fn hear_halves(&mut self, packet: &Packet)
+        ensures { self.new ≡ heard_all Settings.does self.old (halves_of packet.now) }
+    {
+        self.hear_all(halves(packet));
+    }
+}
