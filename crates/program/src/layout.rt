@@ -1,5 +1,5 @@
 //! The layout that a run works on, and the lines of its decoders.
-ghost use Rattle.std.specs.Prelude.{◌≡◌, IfOk, OnOk, Some, length, map, true};
+ghost use Rattle.std.specs.Prelude.{◌≡◌, Err, IfErr, IfOk, OnOk, Some, false, length, map, true};
 ghost use Rattle.std.specs.Io.KnownBytes.{Appends};
 ghost use Rattle.station_core.specs.Seen.{is_line_count};
 ghost use Rattle.program.specs.Fault.{of_station};
@@ -23,6 +23,9 @@ pub fn new_world(alloc: Global, lines: u8, roster: Option<&Roster>) -> Result<Wo
     ensures new { IfOk result (λ world. IsNew lines (roster_value roster.entry) world) }
     ensures nodes { IfOk result (λ world. IsWorldOf (roster_value roster.entry) world.nodes) }
     ensures between { IfOk result (λ world. AreBetween world.nodes) }
+    // The lines are refused exactly where they are not 1 to 8, and else only memory can be wanting.
+    ensures refused { is_line_count lines ≡ false → result ≡ Err RunFault.Lines }
+    ensures fault { IfErr result (λ e. is_line_count lines ≡ true → e ≡ RunFault.NoMemory) }
 {
     let nodes = match roster {
         Some(roster) => roster.nodes(),
