@@ -5,6 +5,7 @@ pub mod Told
 pub mod Waiting
 pub mod Marks
 pub mod Firsts
+pub mod Idling
 pub mod Ahead
 pub mod Counts
 pub mod Following

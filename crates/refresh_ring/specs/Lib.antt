@@ -7,3 +7,4 @@ pub mod Scheduled
 pub mod Picked
 pub mod Left
 pub mod Sent
+pub mod Idle

@@ -1,14 +1,15 @@
 //! What holds of every running turn, whatever messages come in between, for the crates above.
-ghost use Rattle.std.specs.Prelude.{◌≡◌, ◌+◌, ◌*◌, ◌<◌, ◌≤◌, ◌⊎◌, ◌++◌, [], ◌∷◌, ℕ, Bool, true, List, Some};
+ghost use Rattle.std.specs.Prelude.{◌≡◌, ◌+◌, ◌*◌, ◌<◌, ◌≤◌, ◌⊎◌, ◌↔◌, ◌++◌, [], ◌∷◌, ℕ, Bool, true, List, Some};
 ghost use Rattle.refresh_ring.specs.Places.{IsSlot, kinds, slot_count, is_refreshed};
 ghost use Rattle.refresh_ring.specs.Jobs.{IsQueue, most_requests, requests_in, sends_ahead};
-ghost use Rattle.refresh_ring.specs.Scheduled.{Scheduled, after_changed, after_switch};
+ghost use Rattle.refresh_ring.specs.Scheduled.{IsScheduled, Scheduled, after_changed, after_switch};
+ghost use Rattle.refresh_ring.specs.Idle.{HasCauseToIdle, NothingIsDue, next_of, unless_too_soon};
 ghost use Rattle.refresh_ring.specs.Picked.{picked};
 ghost use Rattle.refresh_ring.specs.Left.{count_to, turns_left, turns_ahead, turns_for, turns_to_empty};
 ghost use Rattle.refresh_ring.specs.Sent.{to_send, switch_in, goes_to, IsApart, IsDue, LessLeft};
 ghost use Rattle.refresh_ring.specs.declared.kind.Kind.{Kind as KindOf};
 ghost use Rattle.refresh_ring.specs.declared.job.Job.{Job as JobOf};
-ghost use Rattle.refresh_ring.specs.declared.pick.Pick.TheVariants.{Place, Switch};
+ghost use Rattle.refresh_ring.specs.declared.pick.Pick.TheVariants.{Idle, Place, Switch};
 
 /// The four-turn argument for the ring: where a slot is refreshed, a turn sends its packet of this kind, or leaves
 /// fewer turns until the ring does. The slots that are ever refreshed are to be known; any cursor, jobs, preference and
@@ -66,4 +67,12 @@ pub fn neighbours()
 pub fn picks_are_due()
     ensures due { (addresses : List ℕ) (s : Scheduled) → IsDue s (picked addresses s).answer }
     ensures slots { (addresses : List ℕ) (s : Scheduled) → (picked addresses s).state.slots ≡ s.slots }
+{}
+
+/// A turn sends idle only where nothing is due, or where the packet that is next goes to the decoder that the last one
+/// went to. Any other turn sends what is next.
+pub fn idle_has_a_cause()
+    ensures cause { (addresses : List ℕ) (s : Scheduled) → (picked addresses s).answer ≡ Idle → HasCauseToIdle addresses s }
+    ensures next { (addresses : List ℕ) (s : Scheduled) → (picked addresses s).answer ≡ unless_too_soon addresses s (next_of addresses s) }
+    ensures nothing { (addresses : List ℕ) (s : Scheduled) → IsScheduled s → (next_of addresses s ≡ Idle) ↔ NothingIsDue s }
 {}

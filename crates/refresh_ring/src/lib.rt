@@ -25,7 +25,9 @@ pub use bit_ring::BitRing;
 pub use fault::{Full, NoMemory};
 pub use job::{Destination, Job};
 pub use kind::Kind;
-pub use laws::{changes_first, four_turns, neighbours, picks_are_due, switches_in_order};
+pub use laws::{
+    changes_first, four_turns, idle_has_a_cause, neighbours, picks_are_due, switches_in_order,
+};
 pub use pick::{Pick, Power};
 pub use plain::PlainRing;
 pub use ring::Ring;

@@ -1,6 +1,7 @@
 pub mod Agreeing
 pub mod Anew
 pub mod Apart
+pub mod Carrying
 pub mod Counted
 pub mod Desks
 pub mod Follows

@@ -2,6 +2,7 @@ pub mod After
 pub mod Answer
 pub mod Asked
 pub mod Asking
+pub mod Carried
 pub mod Kept
 pub mod Immediate
 pub mod Known

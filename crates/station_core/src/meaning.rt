@@ -4,15 +4,19 @@ ghost use Rattle.std.specs.Prelude.{◌≡◌, ◌≢◌, ◌<◌, ◌^◌, ◌�
 ghost use Rattle.std.specs.List.{list_all};
 ghost use Rattle.slot_table.specs.Desk.{Desk};
 ghost use Rattle.slot_table.specs.Entry.{Entry, IsSlot};
+ghost use Rattle.ln_frame.specs.Message.{IsWhole};
+ghost use Rattle.ln_ops.specs.Message.{op_of};
 ghost use Rattle.ln_ops.specs.declared.op.Op.{Op as OpOf};
 ghost use Rattle.ln_ops.specs.declared.op.Op.TheVariants.{PowerOn};
 ghost use Rattle.refresh_ring.specs.declared.kind.Kind.{Kind as KindOf};
 ghost use Rattle.refresh_ring.specs.declared.pick.Power.TheVariants.{Off};
-ghost use Rattle.station_core.specs.After.{power_after};
 ghost use Rattle.station_core.specs.Asking.{functions_asked, is_forward};
-ghost use Rattle.station_core.specs.Immediate.{more_asked};
+ghost use Rattle.station_core.specs.After.{desk_after, power_after};
+ghost use Rattle.station_core.specs.Answer.{answer, more_reply};
+ghost use Rattle.station_core.specs.Carried.{can_carry, carried_by, carrying};
+ghost use Rattle.station_core.specs.Immediate.{more_asked, with_more};
 ghost use Rattle.station_core.specs.Meaning.{AskMore, IsNew, LeavesSlot, WaitsAfter, asked_bits, bits_of_slot};
-ghost use Rattle.station_core.specs.Powered.{HasDesk};
+ghost use Rattle.station_core.specs.Powered.{HasDesk, PoweredDesk};
 ghost use Rattle.station_core.specs.Seen.{Seen};
 
 use crate::laws::changes_wait;
@@ -46,6 +50,15 @@ pub fn whole_slots_wait()
 /// address in that slot, as the station itself sends that address.
 pub fn group_three_is_asked()
     ensures { (desk : Desk) (bytes : List ℕ) (slot bits : ℕ) → list_all (λ byte. nat_lt byte 256) bytes ≡ true → (more_asked desk bytes ≡ Some (record { slot = slot; bits = bits })) ↔ AskMore desk bytes slot bits }
+{}
+
+/// The bytes that a throttle puts into OPC_IMM_PACKET, one to five, are the bytes that are read of it, whatever the
+/// repeats; by these alone the station answers, and changes the slots.
+pub fn packets_are_carried()
+    ensures whole { (repeats : ℕ) (bytes : List ℕ) → can_carry repeats bytes ≡ true → IsWhole (carrying repeats bytes) }
+    ensures read { (repeats : ℕ) (bytes : List ℕ) → can_carry repeats bytes ≡ true → carried_by (op_of (carrying repeats bytes)) ≡ bytes }
+    ensures after { (repeats : ℕ) (bytes : List ℕ) (desk : Desk) → can_carry repeats bytes ≡ true → desk_after desk (op_of (carrying repeats bytes)) ≡ with_more desk (more_asked desk bytes) }
+    ensures answer { (repeats : ℕ) (bytes : List ℕ) (powered : PoweredDesk) (waiting : ℕ) → can_carry repeats bytes ≡ true → answer powered (op_of (carrying repeats bytes)) waiting ≡ Some (more_reply (more_asked powered.desk bytes)) }
 {}
 
 /// Off ends by power on alone.

@@ -1,0 +1,186 @@
+-- What is read of a packet in OPC_IMM_PACKET.
+use Rattle.std.proofs.Common.{◌≡◌, ℕ, zero, suc, ◌%◌, ◌<◌, ◌≤◌, ◌&&◌, nat_lt, nat_le, true, List, [], ◌∷◌, ◌++◌, length, take, get_or, refl, ap, ap₂, ◌∙◌, arith}
+use Rattle.std.specs.List.{list_all}
+use Rattle.std.proofs.lemmas.Bool.{and_parts, lt-ltb, ltb-true, leb-true}
+use Rattle.ln_frame.specs.Message.{are_data, check_of, has_form, IsWhole}
+use Rattle.ln_frame.proofs.Checks.{sealed-whole}
+use Rattle.ln_ops.specs.Message.{op_of}
+use Rattle.station_core.specs.Carried.{can_carry, carried_by, carrying, carrying_body, dhi_of, reps_of}
+
+abbrev are_bytes : List ℕ → Type 0
+are_bytes bytes = list_all (λ byte. nat_lt byte 256) bytes ≡ true
+
+record CanCarry (repeats : ℕ) (bytes : List ℕ) : Type 0 where
+  few_repeats : repeats < 8
+  some : 1 ≤ length bytes
+  few : length bytes ≤ 5
+  low : are_bytes bytes
+
+can : (repeats : ℕ) (bytes : List ℕ) → can_carry repeats bytes ≡ true → CanCarry repeats bytes
+can repeats bytes h =
+    let p = and_parts (nat_lt repeats 8) (nat_le 1 (length bytes) && (nat_le (length bytes) 5 && list_all (λ byte. nat_lt byte 256) bytes)) h in
+    let q = and_parts (nat_le 1 (length bytes)) (nat_le (length bytes) 5 && list_all (λ byte. nat_lt byte 256) bytes) p.1 in
+    let r = and_parts (nat_le (length bytes) 5) (list_all (λ byte. nat_lt byte 256) bytes) q.1 in
+    record { few_repeats = ltb-true repeats 8 p.0; some = leb-true 1 (length bytes) q.0; few = leb-true (length bytes) 5 r.0; low = r.1 }
+
+each : (byte : ℕ) (bytes : List ℕ) → are_bytes (byte ∷ bytes) → (byte < 256) × are_bytes bytes
+each byte bytes h =
+    let p = and_parts (nat_lt byte 256) (list_all (λ byte. nat_lt byte 256) bytes) h in
+    (ltb-true byte 256 p.0, p.1)
+
+-- ---- as many of the five as count
+
+took : (n k x1 x2 x3 x4 x5 : ℕ) (bytes : List ℕ) → n ≡ k → take k (x1 ∷ x2 ∷ x3 ∷ x4 ∷ x5 ∷ []) ≡ bytes → take n (x1 ∷ x2 ∷ x3 ∷ x4 ∷ x5 ∷ []) ≡ bytes
+took n k x1 x2 x3 x4 x5 bytes e h = ap (λ (j : ℕ). take j (x1 ∷ x2 ∷ x3 ∷ x4 ∷ x5 ∷ [])) e ∙ h
+
+onto : (x y : ℕ) (xs ys : List ℕ) → x ≡ y → xs ≡ ys → x ∷ xs ≡ y ∷ ys
+onto x y xs ys e es = ap₂ (λ (z : ℕ) (zs : List ℕ). z ∷ zs) e es
+
+read : (repeats check : ℕ) (bytes : List ℕ) → CanCarry repeats bytes → carried_by (op_of (carrying_body repeats bytes ++ check ∷ [])) ≡ bytes
+read repeats check [] h = absurd (let some = h.some in omega arith)
+read repeats check (a ∷ []) h =
+    let few : repeats < 8 = h.few_repeats in
+    let ha = each a [] h.low in
+    let la : a < 256 = ha.0 in
+    took _ 1 _ _ _ _ _ (a ∷ []) (omega arith) (onto _ _ _ _ (omega arith) refl)
+read repeats check (a ∷ b ∷ []) h =
+    let few : repeats < 8 = h.few_repeats in
+    let ha = each a (b ∷ []) h.low in
+    let la : a < 256 = ha.0 in
+    let lb : b < 256 = (each b [] ha.1).0 in
+    took _ 2 _ _ _ _ _ (a ∷ b ∷ []) (omega arith) (onto _ _ _ _ (omega arith) (onto _ _ _ _ (omega arith) refl))
+read repeats check (a ∷ b ∷ c ∷ []) h =
+    let few : repeats < 8 = h.few_repeats in
+    let ha = each a (b ∷ c ∷ []) h.low in
+    let hb = each b (c ∷ []) ha.1 in
+    let la : a < 256 = ha.0 in
+    let lb : b < 256 = hb.0 in
+    let lc : c < 256 = (each c [] hb.1).0 in
+    took _ 3 _ _ _ _ _ (a ∷ b ∷ c ∷ []) (omega arith) (onto _ _ _ _ (omega arith) (onto _ _ _ _ (omega arith) (onto _ _ _ _ (omega arith) refl)))
+read repeats check (a ∷ b ∷ c ∷ d ∷ []) h =
+    let few : repeats < 8 = h.few_repeats in
+    let ha = each a (b ∷ c ∷ d ∷ []) h.low in
+    let hb = each b (c ∷ d ∷ []) ha.1 in
+    let hc = each c (d ∷ []) hb.1 in
+    let la : a < 256 = ha.0 in
+    let lb : b < 256 = hb.0 in
+    let lc : c < 256 = hc.0 in
+    let ld : d < 256 = (each d [] hc.1).0 in
+    took _ 4 _ _ _ _ _ (a ∷ b ∷ c ∷ d ∷ []) (omega arith) (onto _ _ _ _ (omega arith) (onto _ _ _ _ (omega arith) (onto _ _ _ _ (omega arith) (onto _ _ _ _ (omega arith) refl))))
+read repeats check (a ∷ b ∷ c ∷ d ∷ e ∷ []) h =
+    let few : repeats < 8 = h.few_repeats in
+    let ha = each a (b ∷ c ∷ d ∷ e ∷ []) h.low in
+    let hb = each b (c ∷ d ∷ e ∷ []) ha.1 in
+    let hc = each c (d ∷ e ∷ []) hb.1 in
+    let hd = each d (e ∷ []) hc.1 in
+    let la : a < 256 = ha.0 in
+    let lb : b < 256 = hb.0 in
+    let lc : c < 256 = hc.0 in
+    let ld : d < 256 = hd.0 in
+    let le : e < 256 = (each e [] hd.1).0 in
+    took _ 5 _ _ _ _ _ (a ∷ b ∷ c ∷ d ∷ e ∷ []) (omega arith)
+    (onto _ _ _ _ (omega arith) (onto _ _ _ _ (omega arith) (onto _ _ _ _ (omega arith) (onto _ _ _ _ (omega arith) (onto _ _ _ _ (omega arith) refl)))))
+read repeats check (a ∷ b ∷ c ∷ d ∷ e ∷ f ∷ rest) h = absurd (let many = h.few in omega arith)
+
+pub read-back : (repeats : ℕ) (bytes : List ℕ) → can_carry repeats bytes ≡ true → carried_by (op_of (carrying repeats bytes)) ≡ bytes
+read-back repeats bytes h = read repeats _ bytes (can repeats bytes h)
+
+-- ---- a whole message
+
+-- REPS, DHI and five bytes of data behind ED 0B 7F
+record AreSent (r d x1 x2 x3 x4 x5 : ℕ) : Type 0 where
+  reps : r < 128
+  dhi : d < 128
+  im1 : x1 < 128
+  im2 : x2 < 128
+  im3 : x3 < 128
+  im4 : x4 < 128
+  im5 : x5 < 128
+
+data-sent : (r d x1 x2 x3 x4 x5 : ℕ) → AreSent r d x1 x2 x3 x4 x5 → (check : List ℕ) → are_data check ≡ true → are_data (0x0B ∷ 0x7F ∷ r ∷ d ∷ x1 ∷ x2 ∷ x3 ∷ x4 ∷ x5 ∷ check) ≡ true
+data-sent r d x1 x2 x3 x4 x5 s check k =
+    rw (lt-ltb r 128 s.reps, lt-ltb d 128 s.dhi, lt-ltb x1 128 s.im1, lt-ltb x2 128 s.im2, lt-ltb x3 128 s.im3, lt-ltb x4 128 s.im4, lt-ltb x5 128 s.im5) k
+
+get-data : (xs : List ℕ) → are_data xs ≡ true → (i : ℕ) → get_or xs i 0 < 256
+get-data [] h i = omega arith
+get-data (x ∷ xs) h zero =
+    let p = and_parts (nat_lt x 128) (are_data xs) h in
+    let low : x < 128 = ltb-true x 128 p.0 in
+    omega arith
+get-data (x ∷ xs) h (suc i) = get-data xs (and_parts (nat_lt x 128) (are_data xs) h).1 i
+
+abbrev body_of : (r d x1 x2 x3 x4 x5 : ℕ) → List ℕ
+body_of r d x1 x2 x3 x4 x5 = 0xED ∷ 0x0B ∷ 0x7F ∷ r ∷ d ∷ x1 ∷ x2 ∷ x3 ∷ x4 ∷ x5 ∷ []
+
+closed : (r d x1 x2 x3 x4 x5 : ℕ) → AreSent r d x1 x2 x3 x4 x5 → IsWhole (body_of r d x1 x2 x3 x4 x5 ++ check_of (body_of r d x1 x2 x3 x4 x5) ∷ [])
+closed r d x1 x2 x3 x4 x5 s = sealed-whole (body_of r d x1 x2 x3 x4 x5) 0 below form
+  where
+    form : has_form (body_of r d x1 x2 x3 x4 x5 ++ 0 ∷ []) ≡ true
+    form = data-sent r d x1 x2 x3 x4 x5 s (0 ∷ []) refl
+
+    below : (i : ℕ) → get_or (body_of r d x1 x2 x3 x4 x5) i 0 < 256
+    below zero = omega arith
+    below (suc i) = get-data (0x0B ∷ 0x7F ∷ r ∷ d ∷ x1 ∷ x2 ∷ x3 ∷ x4 ∷ x5 ∷ []) (data-sent r d x1 x2 x3 x4 x5 s [] refl) i
+
+seven : (x : ℕ) → x % 128 < 128
+seven x = omega arith
+
+zeros : 0 < 128
+zeros = omega arith
+
+whole : (repeats : ℕ) (bytes : List ℕ) → CanCarry repeats bytes → IsWhole (carrying repeats bytes)
+whole repeats [] h = absurd (let some = h.some in omega arith)
+whole repeats (a ∷ []) h =
+    let few : repeats < 8 = h.few_repeats in
+    let la : a < 256 = (each a [] h.low).0 in
+    let reps : reps_of 1 repeats < 128 = omega arith in
+    let dhi : dhi_of (a ∷ []) < 128 = omega arith in
+    closed (reps_of 1 repeats) (dhi_of (a ∷ [])) (a % 128) 0 0 0 0 (record { reps = reps; dhi = dhi; im1 = seven a; im2 = zeros; im3 = zeros; im4 = zeros; im5 = zeros })
+whole repeats (a ∷ b ∷ []) h =
+    let few : repeats < 8 = h.few_repeats in
+    let ha = each a (b ∷ []) h.low in
+    let la : a < 256 = ha.0 in
+    let lb : b < 256 = (each b [] ha.1).0 in
+    let reps : reps_of 2 repeats < 128 = omega arith in
+    let dhi : dhi_of (a ∷ b ∷ []) < 128 = omega arith in
+    closed (reps_of 2 repeats) (dhi_of (a ∷ b ∷ [])) (a % 128) (b % 128) 0 0 0 (record { reps = reps; dhi = dhi; im1 = seven a; im2 = seven b; im3 = zeros; im4 = zeros; im5 = zeros })
+whole repeats (a ∷ b ∷ c ∷ []) h =
+    let few : repeats < 8 = h.few_repeats in
+    let ha = each a (b ∷ c ∷ []) h.low in
+    let la : a < 256 = ha.0 in
+    let hb = each b (c ∷ []) ha.1 in
+    let lb : b < 256 = hb.0 in
+    let lc : c < 256 = (each c [] hb.1).0 in
+    let reps : reps_of 3 repeats < 128 = omega arith in
+    let dhi : dhi_of (a ∷ b ∷ c ∷ []) < 128 = omega arith in
+    closed (reps_of 3 repeats) (dhi_of (a ∷ b ∷ c ∷ [])) (a % 128) (b % 128) (c % 128) 0 0 (record { reps = reps; dhi = dhi; im1 = seven a; im2 = seven b; im3 = seven c; im4 = zeros; im5 = zeros })
+whole repeats (a ∷ b ∷ c ∷ d ∷ []) h =
+    let few : repeats < 8 = h.few_repeats in
+    let ha = each a (b ∷ c ∷ d ∷ []) h.low in
+    let la : a < 256 = ha.0 in
+    let hb = each b (c ∷ d ∷ []) ha.1 in
+    let lb : b < 256 = hb.0 in
+    let hc = each c (d ∷ []) hb.1 in
+    let lc : c < 256 = hc.0 in
+    let ld : d < 256 = (each d [] hc.1).0 in
+    let reps : reps_of 4 repeats < 128 = omega arith in
+    let dhi : dhi_of (a ∷ b ∷ c ∷ d ∷ []) < 128 = omega arith in
+    closed (reps_of 4 repeats) (dhi_of (a ∷ b ∷ c ∷ d ∷ [])) (a % 128) (b % 128) (c % 128) (d % 128) 0 (record { reps = reps; dhi = dhi; im1 = seven a; im2 = seven b; im3 = seven c; im4 = seven d; im5 = zeros })
+whole repeats (a ∷ b ∷ c ∷ d ∷ e ∷ []) h =
+    let few : repeats < 8 = h.few_repeats in
+    let ha = each a (b ∷ c ∷ d ∷ e ∷ []) h.low in
+    let la : a < 256 = ha.0 in
+    let hb = each b (c ∷ d ∷ e ∷ []) ha.1 in
+    let lb : b < 256 = hb.0 in
+    let hc = each c (d ∷ e ∷ []) hb.1 in
+    let lc : c < 256 = hc.0 in
+    let hd = each d (e ∷ []) hc.1 in
+    let ld : d < 256 = hd.0 in
+    let le : e < 256 = (each e [] hd.1).0 in
+    let reps : reps_of 5 repeats < 128 = omega arith in
+    let dhi : dhi_of (a ∷ b ∷ c ∷ d ∷ e ∷ []) < 128 = omega arith in
+    closed (reps_of 5 repeats) (dhi_of (a ∷ b ∷ c ∷ d ∷ e ∷ [])) (a % 128) (b % 128) (c % 128) (d % 128) (e % 128) (record { reps = reps; dhi = dhi; im1 = seven a; im2 = seven b; im3 = seven c; im4 = seven d; im5 = seven e })
+whole repeats (a ∷ b ∷ c ∷ d ∷ e ∷ f ∷ rest) h = absurd (let many = h.few in omega arith)
+
+pub whole-carrying : (repeats : ℕ) (bytes : List ℕ) → can_carry repeats bytes ≡ true → IsWhole (carrying repeats bytes)
+whole-carrying repeats bytes h = whole repeats bytes (can repeats bytes h)
