@@ -42,7 +42,7 @@ split_first p xs at d h =
     let found = first_place p xs at h in
     rw (← found.0) (slice_split_first p xs d (omega arith))
 
-parts_after : (x : List ℕ) (p : ℕ → Bool) (rest : List ℕ) → lines_of_parts (x ∷ slice_split p rest) ≡ strip_carriage_return x ∷ lines_of_parts (slice_split p rest)
+pub parts_after : (x : List ℕ) (p : ℕ → Bool) (rest : List ℕ) → lines_of_parts (x ∷ slice_split p rest) ≡ strip_carriage_return x ∷ lines_of_parts (slice_split p rest)
 parts_after x p [] = refl
 parts_after x p (b ∷ bs) = grind (arith, common_steps)
 

@@ -9,10 +9,10 @@ use Rattle.std.proofs.lemmas.Int.Digits.{digits_value_more}
 use Rattle.std.proofs.lemmas.Str.Parse.{IsNumeralModel, numerals_by_value, tells_all_ascii_digits, digits_value_short, digits_value-take-le, digit_at}
 use Rattle.show_text.specs.Words.{is_decimal}
 
-own : IsNumeralModel (λ ds. all_ascii_digits ds ≡ true) (digits_value 10)
+pub own : IsNumeralModel (λ ds. all_ascii_digits ds ≡ true) (digits_value 10)
 own = numerals_by_value _ tells_all_ascii_digits
 
-all_digits : (word : List ℕ) → list_all is_ascii_digit word ≡ all_ascii_digits word
+pub all_digits : (word : List ℕ) → list_all is_ascii_digit word ≡ all_ascii_digits word
 all_digits [] = refl
 all_digits (b ∷ bs) = ap (λ rest. is_ascii_digit b && rest) (all_digits bs)
 

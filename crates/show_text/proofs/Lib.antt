@@ -7,3 +7,4 @@ pub mod Sequences
 pub mod Examples
 pub mod Texts
 pub mod OnLines
+pub mod ReadBack

@@ -5,3 +5,4 @@ pub mod Nodes
 pub mod Script
 pub mod Sequence
 pub mod Words
+pub mod Written

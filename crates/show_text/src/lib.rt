@@ -4,6 +4,7 @@
 mod command;
 mod cursors;
 mod hex;
+mod laws;
 mod line;
 mod messages;
 mod nodes;
@@ -13,6 +14,7 @@ mod words;
 
 pub use command::{Command, ScriptFault, Why};
 pub use hex::{HexFault, HexWhy, read_hex};
+pub use laws::written_is_read;
 pub use line::Line;
 pub use messages::message_line;
 pub use nodes::node_line;
