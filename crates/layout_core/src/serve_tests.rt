@@ -258,6 +258,28 @@ fn power_comes_on(rt: HostRuntime) -> Result<(), Fail> {
     Ok(())
 }
 
+#[test]
+fn a_read_asks_for_64_bytes(rt: HostRuntime) -> Result<(), Fail> {
+    let mut world = World::new(rt.alloc(), 1, NodeList::new())?;
+    // Two such reads, one of the byte behind them, and the one that finds the end.
+    let bytes = [0u8; 129];
+    let mut source = Port::new(bytes.as_slice());
+    let mut written = Vec::new(rt.alloc());
+    let mut traced = Vec::new(rt.alloc());
+    let mut sink = Port::new(&mut written);
+    let mut trace = Port::new(&mut traced);
+    let limits = Limits { reads: 4, turns: 0 };
+    let summary = Summary {
+        reads: 4,
+        bytes: 129,
+        replies: 0,
+        turns: 0,
+    };
+    let outcome = serve(&mut world, 0, &mut source, &mut sink, &mut trace, limits);
+    assert!(rt; outcome == Ok(summary));
+    Ok(())
+}
+
 /// How many bytes of the replies are written once the trace has come so far.
 fn replied_before(traced: usize) -> usize {
     match traced {
