@@ -33,6 +33,12 @@ lose_rule = or_else (number (codes "lose") 0 99) (codes "0")
 unfoldable pub seed_rule : Rule
 seed_rule = or_else (number (codes "seed") 0 4294967295) (codes "0")
 
+unfoldable pub page_rule : Rule
+page_rule = number (codes "page") 1 65535
+
+unfoldable pub page_file_rule : Rule
+page_file_rule = option (codes "page-file")
+
 -- The program, whose own words come without its name.
 
 unfoldable pub bare_server_app : App
@@ -44,8 +50,11 @@ listening_app = with_rule (with_rule (with_rule bare_server_app address_rule) po
 unfoldable pub paced_app : App
 paced_app = with_rule (with_rule listening_app turns_rule) clients_rule
 
+unfoldable pub shown_app : App
+shown_app = with_rule (with_rule (with_rule paced_app track_rule) page_rule) page_file_rule
+
 unfoldable pub server_app : App
-server_app = with_rule (with_rule (with_rule paced_app track_rule) lose_rule) seed_rule
+server_app = with_rule (with_rule shown_app lose_rule) seed_rule
 
 -- What the words ask for.
 
@@ -71,6 +80,8 @@ pub record IsServerOrder (rows : List Row) (order : ServerOrder) : Type 0 where
   pub each_turns : IsNumberIfGiven (one_of (codes "turns") rows) 0 255 order.turns
   pub most_clients : IsNumberIfGiven (one_of (codes "clients") rows) 0 4294967295 order.clients
   pub shows_track : IsFlag (one_of (codes "track") rows) order.track
+  pub at_page : IsNumberIfGiven (one_of (codes "page") rows) 1 65535 order.page
+  pub with_page : order.page_file ≡ first_of (codes "page-file") rows
   pub share_lost : IsNumber (one_of (codes "lose") rows) 0 99 order.lose
   pub with_seed : IsNumber (one_of (codes "seed") rows) 0 4294967295 order.seed
 
@@ -85,5 +96,7 @@ pub record IsDefaultOrder (order : ServerOrder) : Type 0 where
   pub in_real_time : order.turns ≡ None
   pub for_ever : order.clients ≡ None
   pub shows_no_track : order.track ≡ false
+  pub without_page : order.page ≡ None
+  pub without_page_file : order.page_file ≡ None
   pub loses_none : order.lose ≡ 0
   pub with_seed : order.seed ≡ 0

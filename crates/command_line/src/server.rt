@@ -92,6 +92,8 @@ fn matched(alloc: Global, found: &ArgMatches<'_>) -> Result<ServerOrder, OrderFa
         turns: number_if_given(alloc, found, "turns", 0, 255)?.map(|turns| turns as u8),
         clients: number_if_given(alloc, found, "clients", 0, u32::MAX)?,
         track,
+        page: number_if_given(alloc, found, "page", 1, 65_535)?.map(|port| port as u16),
+        page_file: file_name(alloc, found, "page-file")?,
         lose: lose as u8,
         seed,
     })

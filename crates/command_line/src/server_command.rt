@@ -2,7 +2,7 @@
 ghost use Rattle.std.specs.Prelude.{◌≡◌, false};
 ghost use Rattle.clap.specs.Words.{rule_of};
 ghost use Rattle.command_line.specs.CommandLine.{HasApp, HasNoGlobals};
-ghost use Rattle.command_line.specs.ServerLine.{address_rule, port_rule, turns_rule, clients_rule, track_rule, lose_rule, seed_rule, bare_server_app, listening_app, paced_app, server_app};
+ghost use Rattle.command_line.specs.ServerLine.{address_rule, port_rule, turns_rule, clients_rule, track_rule, page_rule, page_file_rule, lose_rule, seed_rule, bare_server_app, listening_app, paced_app, shown_app, server_app};
 
 use crate::command::{Draft, number, number_or, option, roster, with_arg};
 use clap::{Arg, ArgAction, Command};
@@ -70,6 +70,28 @@ fn track<'a>(alloc: Global) -> Arg<'a>
         .help("Prints the packets on the track")
 }
 
+/// `--page PORT`.
+#[tactic(auto, unfolding(crate::specs::ServerLine::page_rule))]
+fn page<'a>(alloc: Global) -> Arg<'a>
+    ensures rule { rule_of result ≡ page_rule }
+    ensures local { result.global ≡ false }
+{
+    number(alloc, "page", "PORT", 1, 65_535).help(
+        "The TCP port of a page for browsers, to drive and to watch, 1 to 65535; without it there is none",
+    )
+}
+
+/// `--page-file FILE`.
+#[tactic(auto, unfolding(crate::specs::ServerLine::page_file_rule))]
+fn page_file<'a>(alloc: Global) -> Arg<'a>
+    ensures rule { rule_of result ≡ page_file_rule }
+    ensures local { result.global ≡ false }
+{
+    option(alloc, "page-file", "FILE").help(
+        "The file that the page is; pages/throttle.html without it",
+    )
+}
+
 /// `--lose N`.
 #[tactic(auto, unfolding(crate::specs::ServerLine::lose_rule))]
 fn lose<'a>(alloc: Global) -> Arg<'a>
@@ -134,10 +156,18 @@ fn paced<'a>(alloc: Global) -> Draft<'a>
     with_arg(with_arg(listening(alloc), turns(alloc)), clients(alloc))
 }
 
+/// The same, with what is shown.
+fn shown<'a>(alloc: Global) -> Draft<'a>
+    ensures app { HasApp result shown_app }
+    ensures local { HasNoGlobals result }
+{
+    let printed = with_arg(paced(alloc), track(alloc));
+    with_arg(with_arg(printed, page(alloc)), page_file(alloc))
+}
+
 /// The whole command line.
 pub(crate) fn server_command<'a>(alloc: Global) -> Draft<'a>
     ensures { HasApp result server_app }
 {
-    let shown = with_arg(paced(alloc), track(alloc));
-    with_arg(with_arg(shown, lose(alloc)), seed(alloc))
+    with_arg(with_arg(shown(alloc), lose(alloc)), seed(alloc))
 }

@@ -89,6 +89,10 @@ pub struct ServerOrder {
     pub clients: Option<u32>,
     /// Whether the packets on the track are printed.
     pub track: bool,
+    /// The port of the page, 1 to 65535. Without it no page is served.
+    pub page: Option<u16>,
+    /// The file that the page is. Without it, it is that of the repository.
+    pub page_file: Option<FileName>,
     /// How many of 100 packets each decoder misses, 0 to 99.
     pub lose: u8,
     /// What the draw of the missed packets begins with, any number of 32 bits.
