@@ -3,12 +3,10 @@ use Rattle.std.proofs.Common.{◌≡◌, ◌<◌, ◌≤◌, ◌+◌, ◌∙◌,
 use Rattle.std.proofs.lemmas.List.{append-nil, get_or-map, length-map, take_more}
 use Rattle.std.specs.Io.KnownBytes.{Appends}
 use Rattle.std.specs.List.{slice_index_or}
-use Rattle.decoder_node.specs.declared.node.NodeSpec.{NodeSpec}
 use Rattle.layout_core.specs.declared.node.Node.{Node}
 use Rattle.layout_core.specs.declared.standing.Standing.{Standing}
-use Rattle.layout_core.specs.Nodes.{node_of, spec_of}
 use Rattle.layout_core.specs.Standings.{decoder_line, same_standing, standing_of}
-use Rattle.roster.specs.Entry.{Entry, name_of, spec_of as entry_spec}
+use Rattle.roster.specs.Entry.{Entry}
 use Rattle.console.specs.Printed.{ended, lines_text}
 use Rattle.console.proofs.Printing.{appends_more, appends_none}
 use Rattle.bus_lines.specs.Lines.{changed_lines}

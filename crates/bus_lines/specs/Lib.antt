@@ -1,3 +1,4 @@
+pub mod Boards
 pub mod Decoders
 pub mod Lines
 pub mod Printers

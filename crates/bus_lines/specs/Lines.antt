@@ -3,8 +3,9 @@ use Rattle.std.specs.Prelude.{ℕ, ◌+◌, Bool, ◌&&◌, not, if◌then◌els
 use Rattle.std.specs.Fmt.{decimal}
 use Rattle.std.specs.Str.{bytes_eq}
 use Rattle.dcc_packet.specs.Sent.{idle_bytes}
+use Rattle.layout_core.specs.declared.node.Node.{Node}
 use Rattle.layout_core.specs.declared.standing.Standing.{Standing}
-use Rattle.layout_core.specs.Standings.{decoder_line, same_standing}
+use Rattle.layout_core.specs.Standings.{decoder_line, same_standing, standing_of}
 use Rattle.roster.specs.Entry.{Entry}
 use Rattle.show_text.specs.Lines.{track_text}
 use Rattle.show_text.specs.Messages.{message_text}
@@ -44,6 +45,10 @@ client_line client does = codes "client " ++ decimal (client + 1) ++ does
 abbrev pub packet_lines : (track : Bool) → (turn : ℕ) → Option (List ℕ) → List (List ℕ)
 packet_lines track turn None = []
 packet_lines track turn (Some packet) = if track && not (bytes_eq packet idle_bytes) then track_text turn packet ∷ [] else []
+
+-- the line of a decoder, under the name of its entry
+abbrev pub line_at : Entry → Node → List ℕ
+line_at entry node = decoder_line entry.name entry.spec (standing_of node)
 
 -- each decoder that stands otherwise than it did, in the roster's order
 abbrev pub changed_lines : List Entry → (before standings : List Standing) → List (List ℕ)

@@ -7,7 +7,7 @@ use Rattle.bus.specs.declared.event.Told.{Told}
 use Rattle.console.specs.Printed.{lines_text}
 use Rattle.bus_lines.specs.declared.printer.Printer.{Printer}
 use Rattle.bus_lines.specs.Decoders.{entries_of}
-use Rattle.bus_lines.specs.Lines.{Remembered, lines_of, remembered_after}
+use Rattle.bus_lines.specs.Lines.{Remembered, lines_of}
 
 abbrev pub remembered : {O : Type 0} → Printer O → Remembered
 remembered printer = record { turns = printer.turns; gone = printer.gone; standings = printer.standings.items }

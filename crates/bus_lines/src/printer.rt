@@ -5,9 +5,11 @@ ghost use Rattle.std.specs.Io.KnownBytes.{Appends};
 ghost use Rattle.std.specs.Option.{option_to_list};
 ghost use Rattle.console.specs.Printed.{ended, lines_text};
 ghost use Rattle.dcc_packet.specs.Sent.{idle_bytes};
+ghost use Rattle.std.specs.List.{slice_index_or};
+ghost use Rattle.layout_core.specs.declared.node.Node.{Node as NodeValue};
 ghost use Rattle.layout_core.specs.Nodes.{spec_of};
 ghost use Rattle.layout_core.specs.Standings.{decoder_line, standing_of};
-ghost use Rattle.roster.specs.Entry.{spec_of as entry_spec};
+ghost use Rattle.roster.specs.Entry.{Entry, spec_of as entry_spec};
 ghost use Rattle.show_text.specs.Messages.{message_text};
 ghost use Rattle.bus_lines.specs.Decoders.{entries_of, specs_of};
 ghost use Rattle.bus_lines.specs.Lines.{changed_lines, client_line, late_line, one_more, packet_lines, slept_line};
@@ -20,11 +22,11 @@ use decoder_node::NodeSpec;
 use layout_core::{Standing, World};
 use ln_frame::Msg;
 use roster::Roster;
-use show_text::{message_line, track_line};
+use show_text::{Line, message_line, track_line};
 use std::io::Write;
 
 /// The most decoders of a layout.
-const MOST_NODES: usize = 64;
+pub(crate) const MOST_NODES: usize = 64;
 
 /// How decoders stand, in the order of their roster.
 type Standings = ArrayVec<Standing, MOST_NODES>;
@@ -47,7 +49,7 @@ pub struct Printer<'a, O> {
 
 impl<'a, O: Write> Printer<'a, O> {
     ghost use Rattle.bus_lines.specs.Printers.{remembered, standings_of, text_of};
-    ghost use Rattle.bus_lines.specs.Lines.{first_remembered, remembered_after};
+    ghost use Rattle.bus_lines.specs.Lines.{first_remembered, line_at, remembered_after};
     ghost use Rattle.bus.specs.declared.event.Told.TheVariants.{Turned};
 
     /// A printer of what happens on a layout with the decoders of this roster, or none; `track`: packets too.
@@ -82,6 +84,22 @@ impl<'a, O: Write> Printer<'a, O> {
         ensures { result.now ≡ self.now.output }
     {
         &self.output
+    }
+
+    /// The line of a decoder as it stands, by its place in the roster.
+    pub fn line(&self, decoder: usize, world: &World) -> Line
+        requires decoders { map spec_of world.now.nodes ≡ specs_of (entries_of self.now.roster) }
+        requires decoder { decoder < length world.now.nodes }
+        ensures { (entry : Entry) → (node : NodeValue) → result.bytes ≡ line_at (slice_index_or (entries_of self.now.roster) decoder entry) (slice_index_or world.now.nodes decoder node) }
+    {
+        let Some(roster) = self.roster else {
+            // Without a roster there are no decoders.
+            return Line::new();
+        };
+        let specs = roster.nodes();
+        world
+            .standing(decoder)
+            .line(roster.name(decoder), &specs.as_slice()[decoder])
     }
 
     /// Lets all lines go out.

@@ -1,4 +1,4 @@
-use Rattle.std.proofs.Common.{◌≡◌, ◌<◌, ◌≤◌, ◌+◌, ◌∙◌, ℕ, List, [], ◌∷◌, Option, None, length, map, get_or, ap, ap₂, sym, subst, arith}
+use Rattle.std.proofs.Common.{◌≡◌, ◌<◌, ◌∙◌, ℕ, List, [], Option, None, length, map, get_or, ap, ap₂, sym, subst, arith}
 use Rattle.std.proofs.lemmas.List.{get_or-map, length-map}
 use Rattle.std.specs.Io.KnownBytes.{Appends}
 use Rattle.decoder_node.specs.declared.node.NodeSpec.{NodeSpec}
@@ -8,7 +8,7 @@ use Rattle.layout_core.specs.Nodes.{node_of, spec_of}
 use Rattle.layout_core.specs.Standings.{decoder_line, standing_of}
 use Rattle.roster.specs.Entry.{Entry, spec_of as entry_spec}
 use Rattle.console.specs.Printed.{lines_text}
-use Rattle.bus_lines.proofs.Changed.{changed, line_if, rest_more, rest_none, unchanged}
+use Rattle.bus_lines.proofs.Changed.{changed, line_if, rest_more, unchanged}
 use Rattle.bus_lines.proofs.printer.print_changed.Goals.{then-not-is_same+in_ok-print, else-not-is_same}
 use Rattle.bus_lines.proofs.printer.print_changed.Goals as goal
 

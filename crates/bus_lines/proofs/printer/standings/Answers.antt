@@ -1,4 +1,4 @@
-use Rattle.std.proofs.Common.{◌≡◌, ◌<◌, ◌+◌, ◌∙◌, ℕ, ap, arith, length}
+use Rattle.std.proofs.Common.{◌<◌, ◌+◌, ◌∙◌, ℕ, ap, arith, length}
 use Rattle.bus_lines.proofs.Changed.{stands_more}
 use Rattle.bus_lines.proofs.printer.standings.Goals as goal
 
