@@ -1,0 +1,6 @@
+pub mod Answers
+pub mod Heads
+pub mod Lines
+pub mod Messages
+pub mod Origins
+pub mod Replies

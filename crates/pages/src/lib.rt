@@ -1,0 +1,25 @@
+//! A web page, and the WebSocket by which it is a client of LocoNet over TCP: what a request is answered, the replies as
+//! text, and a page that joined as a stream of lines. No sockets, no threads and no clock are here.
+//!
+//! A program reads the head of a request, and asks [`answer`] each time that bytes came, until it is other than
+//! [`Answer::Later`]. It then writes a reply ([`push_page_head`] and the page, [`push_refusal`]) and closes the connection,
+//! or it writes [`push_joining`] and makes a [`Page`] of the stream and of what stands behind the head.
+#![tactic(auto)]
+
+mod answering;
+mod asked;
+mod gate;
+mod lines;
+mod origin;
+mod page;
+mod reply;
+
+pub use answering::{LONGEST, MOST_FIELDS, answer};
+pub use asked::{Answer, Joined, Refusal};
+pub use gate::Gate;
+pub use lines::{HeardLine, LONGEST_LINE, UnfinishedLine};
+pub use page::Page;
+pub use reply::{Head, push_joining, push_page_head, push_refusal};
+
+#[cfg(test)]
+mod tests;

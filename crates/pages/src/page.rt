@@ -1,0 +1,222 @@
+//! A page that joined, as a stream of lines.
+use crate::gate::Gate;
+use crate::lines::{HeardLine, LONGEST_LINE, UnfinishedLine};
+use std::alloc::{AllocError, Global};
+use std::io;
+use std::io::{ErrorKind, Read, Write};
+use std::str;
+use tungstenite::{CloseCode, CloseFrame, Error, Message, NoMask, Role, Utf8Bytes, WebSocket, WebSocketConfig};
+
+/// The most bytes that are read of the stream at once.
+const READ_AT_ONCE: usize = 4_096;
+
+/// The most bytes that wait to be sent, but for the heads of frames.
+const MOST_WAITING: usize = 65_536;
+
+/// The most messages without text that are passed over in one read.
+const MOST_PASSED: u8 = 64;
+
+/// A page that joined the bus: each message is a line, either way.
+///
+/// It is read and written as a client's stream is. A message that it sends is read as its text and a line feed; what is
+/// written to it becomes a message for each line that ends.
+#[derive(Drop)]
+pub struct Page<S> {
+    alloc: Global,
+    socket: WebSocket<Gate<S>, NoMask>,
+    heard: HeardLine,
+    unfinished: UnfinishedLine,
+    has_gone: bool,
+}
+
+impl<S: Read + Write + Drop> Page<S> {
+    /// A page that joined on this stream, the handshake's reply being written. `behind` is what was read behind the
+    /// request's head, at most 8,192 bytes.
+    ///
+    /// # Errors
+    ///
+    /// Want of memory, of which 16 KiB are taken here.
+    pub fn new(alloc: Global, stream: S, behind: &[u8]) -> Result<Self, AllocError> {
+        let mut input = Vec::with_capacity(alloc, 4 * READ_AT_ONCE)?;
+        input.extend_from_slice(behind)?;
+        let config = WebSocketConfig::default()
+            .read_buffer_size(READ_AT_ONCE)
+            .write_buffer_size(usize::MAX)
+            .max_write_buffer_size(MOST_WAITING)
+            .max_message_size(Some(LONGEST_LINE))
+            .max_frame_size(Some(LONGEST_LINE));
+        Ok(Page {
+            alloc,
+            socket: WebSocket::from_partially_read(
+                alloc,
+                Gate::new(stream),
+                NoMask,
+                input,
+                Role::Server,
+                Some(config),
+            ),
+            heard: HeardLine::new(),
+            unfinished: UnfinishedLine::new(),
+            has_gone: false,
+        })
+    }
+
+    /// The stream below.
+    pub fn stream(&self) -> &S {
+        self.socket.get_ref().get_ref()
+    }
+
+    /// Tells the page one message beside the lines, whole or not at all, and never within a line.
+    ///
+    /// # Errors
+    ///
+    /// `WouldBlock` where a line is not at its end, or where too much waits to be sent: nothing was told then. Any other
+    /// error where the page has gone, or for want of memory.
+    pub fn tell(&mut self, message: &str) -> io::Result<()> {
+        if !self.unfinished.is_empty() {
+            return Err(io::Error::from(ErrorKind::WouldBlock));
+        }
+        self.send_waiting()?;
+        say(&mut self.socket, self.alloc, message)?;
+        self.send_waiting()
+    }
+
+    /// Tells the page that the server goes, where it can be told, and ends the stream.
+    pub fn close(&mut self) {
+        self.has_gone = true;
+        // Whoever has gone already need not be told.
+        let _ = self.socket.close(Some(CloseFrame {
+            code: CloseCode::Away,
+            reason: Utf8Bytes::from_static(""),
+        }));
+    }
+
+    /// Reads until a message of text came. False where the page has gone.
+    fn hear(&mut self) -> io::Result<bool> {
+        for _ in 0..MOST_PASSED {
+            match self.socket.read() {
+                Ok(Message::Text(text)) => return Ok(self.hear_text(text.as_bytes())),
+                Ok(Message::Binary(_)) => return Ok(self.refuse(CloseCode::Unsupported)),
+                Ok(_) => {}
+                Err(Error::Io(error)) => return Err(error),
+                Err(_) => return Ok(false),
+            }
+        }
+        Err(io::Error::from(ErrorKind::Interrupted))
+    }
+
+    /// Takes the text of a message. False where it is too long.
+    fn hear_text(&mut self, text: &[u8]) -> bool {
+        if text.len() > LONGEST_LINE {
+            return self.refuse(CloseCode::Size);
+        }
+        self.heard.hear(text);
+        true
+    }
+
+    /// Ends the WebSocket for this reason: false.
+    fn refuse(&mut self, code: CloseCode) -> bool {
+        let _ = self.socket.close(Some(CloseFrame {
+            code,
+            reason: Utf8Bytes::from_static(""),
+        }));
+        false
+    }
+
+    /// Takes bytes from the front, each line that ends becoming a message, until too much waits.
+    fn take(&mut self, bytes: &[u8]) -> io::Result<usize> {
+        for (taken, byte) in bytes.iter().enumerate() {
+            if *byte != b'\n' {
+                self.unfinished.hold(*byte);
+            } else if let Err(error) = self.say_line() {
+                if taken > 0 && error.kind() == ErrorKind::WouldBlock {
+                    return Ok(taken);
+                }
+                return Err(error);
+            }
+        }
+        Ok(bytes.len())
+    }
+
+    /// Puts the line that ends now among what waits to be sent.
+    fn say_line(&mut self) -> io::Result<()> {
+        let Ok(line) = str::from_utf8(self.unfinished.line()) else {
+            return Err(io::Error::from(ErrorKind::InvalidData));
+        };
+        say(&mut self.socket, self.alloc, line)?;
+        self.unfinished.end();
+        Ok(())
+    }
+
+    /// Sends what waits, as far as it is taken now.
+    fn send_waiting(&mut self) -> io::Result<()> {
+        match self.socket.flush() {
+            Err(error) => {
+                let error = io_error(error);
+                if error.kind() == ErrorKind::WouldBlock {
+                    Ok(())
+                } else {
+                    Err(error)
+                }
+            }
+            Ok(()) => Ok(()),
+        }
+    }
+}
+
+impl<S: Read + Write + Drop> Read for Page<S> {
+    /// Reads what the page sent: the text of its messages, a line feed behind each. It never waits, and reads the stream
+    /// once at most.
+    ///
+    /// `Ok(0)` where the page has closed, or has broken the protocol: then it has gone for good. `WouldBlock` where nothing
+    /// is there. `Interrupted` where nothing is there yet and the stream may have more: ask again without waiting for it.
+    fn read(&mut self, room: &mut [u8]) -> io::Result<usize> {
+        if self.has_gone {
+            return Ok(0);
+        }
+        if self.heard.is_empty() && !self.hear()? {
+            self.has_gone = true;
+            return Ok(0);
+        }
+        Ok(self.heard.give(room))
+    }
+}
+
+impl<S: Read + Write + Drop> Write for Page<S> {
+    /// Takes bytes of lines: each that ends becomes a message, without its carriage return and line feed. It never waits.
+    ///
+    /// `WouldBlock` where too much waits to be sent.
+    fn write(&mut self, bytes: &[u8]) -> io::Result<usize> {
+        self.send_waiting()?;
+        let taken = self.take(bytes)?;
+        self.send_waiting()?;
+        Ok(taken)
+    }
+
+    /// Sends what waits, as far as it is taken now.
+    fn flush(&mut self) -> io::Result<()> {
+        self.send_waiting()
+    }
+}
+
+/// Puts a message among what waits to be sent. `WouldBlock` where too much waits: then it was not taken.
+fn say<S: Read + Write + Drop>(
+    socket: &mut WebSocket<Gate<S>, NoMask>,
+    alloc: Global,
+    text: &str,
+) -> io::Result<()> {
+    match Message::text(alloc, text) {
+        Ok(message) => socket.write(message).map_err(io_error),
+        Err(_) => Err(io::Error::from(ErrorKind::OutOfMemory)),
+    }
+}
+
+/// A failure of the WebSocket as one of a stream.
+fn io_error(error: Error) -> io::Error {
+    match error {
+        Error::Io(error) => error,
+        Error::WriteBufferFull => io::Error::from(ErrorKind::WouldBlock),
+        Error::OutOfMemory => io::Error::from(ErrorKind::OutOfMemory),
+        _ => io::Error::from(ErrorKind::BrokenPipe),
+    }
+}
