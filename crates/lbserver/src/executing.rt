@@ -5,12 +5,13 @@ ghost use Rattle.hub.specs.Hubs.{Watches};
 
 use crate::sockets::Sockets;
 use bus_lines::Printer;
-use command_line::{ServerOrder, server_order};
-use console::{RunFault, Unwritten, read_roster, tell_as};
+use command_line::{FileName, ServerOrder, server_order};
+use console::{ReadFault, RunFault, Unwritten, read_most, read_roster, tell_as};
 use decoder_node::NodeList;
 use hub::{Losses, Server};
 use roster::Roster;
-use std::io::{BufWriter, Write};
+use std::fs;
+use std::io::{BufWriter, ErrorKind, Write};
 use std::net::SocketAddr;
 use std::time::{Duration, Instant};
 
@@ -19,6 +20,12 @@ pub(crate) const NAME: &'static str = "lbserver";
 
 /// The most time that one round lets pass, in microseconds. What the machine slept through beyond it is left out.
 const MOST_MICROS: u64 = 1_000_000;
+
+/// The page that is served where none is named.
+const PAGE_FILE: &'static str = "pages/throttle.html";
+
+/// The longest page, in bytes.
+const LONGEST_PAGE: usize = 1_048_576;
 
 /// Runs the program on the words behind its name, and answers its exit status, 0 to 6.
 ///
@@ -46,6 +53,8 @@ fn run<O: Write>(rt: &HostRuntime, words: &[&str], output: &mut O) -> Result<(),
         turns,
         clients,
         track,
+        page,
+        page_file,
         lose,
         seed,
     } = server_order(rt.alloc(), words)?;
@@ -55,6 +64,9 @@ fn run<O: Write>(rt: &HostRuntime, words: &[&str], output: &mut O) -> Result<(),
     let Ok(mut sockets) = Sockets::bind(rt, SocketAddr::from((address, port))) else {
         return Err(RunFault::Network);
     };
+    if let Some(page) = page {
+        bind_page(rt, &mut sockets, SocketAddr::from((address, page)), page_file)?;
+    }
     let Ok(mut lines) = BufWriter::new(rt.alloc(), output) else {
         return Err(RunFault::NoMemory);
     };
@@ -73,13 +85,55 @@ fn decoders(roster: Option<&Roster>) -> NodeList
     }
 }
 
-/// Tells the address and the port that are bound, at once.
+/// Reads a page, and serves it.
+fn bind_page(
+    rt: &HostRuntime,
+    sockets: &mut Sockets,
+    address: SocketAddr,
+    file: Option<FileName>,
+) -> Result<(), RunFault> {
+    let page = read_page(rt, file)?;
+    match sockets.bind_page(rt, address, page.as_slice()) {
+        Ok(()) => Ok(()),
+        Err(error) if error.kind() == ErrorKind::OutOfMemory => Err(RunFault::NoMemory),
+        Err(_) => Err(RunFault::Network),
+    }
+}
+
+/// The page of this file, or of the one in the repository.
+fn read_page(rt: &HostRuntime, file: Option<FileName>) -> Result<Vec<u8>, RunFault> {
+    let file = match file {
+        Some(file) => file,
+        None => FileName::new(rt.alloc(), PAGE_FILE)?,
+    };
+    let Ok(mut opened) = fs::open(rt, file.as_str()) else {
+        return Err(RunFault::Unreadable(file));
+    };
+    match read_most(rt.alloc(), &mut opened, LONGEST_PAGE + 1) {
+        Ok(page) if page.len() <= LONGEST_PAGE => Ok(page),
+        Ok(_) => Err(RunFault::TooLong(file)),
+        Err(ReadFault::Failed) => Err(RunFault::Unreadable(file)),
+        Err(ReadFault::NoMemory) => Err(RunFault::NoMemory),
+    }
+}
+
+/// Tells the addresses and the ports that are bound, at once.
 fn print_listening<O: Write>(sockets: &Sockets, output: &mut O) -> Result<(), RunFault> {
     let Ok(address) = sockets.address() else {
         return Err(RunFault::Network);
     };
     writeln!(output, "listening {address}").map_err(|_| RunFault::Output)?;
+    print_page(sockets, output)?;
     output.flush().map_err(|_| RunFault::Output)
+}
+
+/// Tells where the page is, if one is served.
+fn print_page<O: Write>(sockets: &Sockets, output: &mut O) -> Result<(), RunFault> {
+    match sockets.page_address() {
+        Some(Ok(address)) => writeln!(output, "page http://{address}/").map_err(|_| RunFault::Output),
+        Some(Err(_)) => Err(RunFault::Network),
+        None => Ok(()),
+    }
 }
 
 /// Serves until so many clients have come and gone, or for ever: 2 ^ 64 rounds.
@@ -99,13 +153,15 @@ fn serve<O: Write>(
         if clients.is_some_and(|clients| printer.gone() >= u64::from(clients)) {
             break;
         }
-        if sockets.wait(longest_wait(server)).is_err() {
+        if sockets.wait(longest_wait(server), clock.now(rt)?).is_err() {
             return Err(RunFault::Network);
         }
+        sockets.answer(clock.now(rt)?);
         server.round(sockets, printer)?;
         if server.turns().is_none() {
             pass(rt, server, printer, &mut clock)?;
         }
+        sockets.tell_pages(printer, server.world());
         printer.flush()?;
     }
     Ok(())
@@ -133,9 +189,7 @@ fn pass<O: Write>(
     requires { Watches (specs_of (entries_of printer.old.roster)) server.old.hub }
     ensures { Watches (specs_of (entries_of printer.new.roster)) server.new.hub }
 {
-    let Ok(micros) = clock.passed(rt) else {
-        return Err(RunFault::Network);
-    };
+    let micros = clock.passed(rt)?;
     let slept = micros.saturating_sub(MOST_MICROS);
     if slept > 0 {
         printer.print_slept(slept / 1000)?;
@@ -158,9 +212,17 @@ impl Clock {
         })
     }
 
+    /// The microseconds since the start.
+    fn now(&self, rt: &HostRuntime) -> Result<u64, RunFault> {
+        match self.start.elapsed(rt) {
+            Ok(elapsed) => Ok(u64::try_from(elapsed.as_micros()).unwrap_or(u64::MAX)),
+            Err(_) => Err(RunFault::Network),
+        }
+    }
+
     /// The microseconds since this was last asked.
-    fn passed(&mut self, rt: &HostRuntime) -> std::io::Result<u64> {
-        let now = u64::try_from(self.start.elapsed(rt)?.as_micros()).unwrap_or(u64::MAX);
+    fn passed(&mut self, rt: &HostRuntime) -> Result<u64, RunFault> {
+        let now = self.now(rt)?;
         let passed = now.saturating_sub(self.told);
         self.told = now;
         Ok(passed)

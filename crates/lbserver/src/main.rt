@@ -1,8 +1,10 @@
 //! `lbserver`: a LocoNet command station that serves clients of LocoNet over TCP.
 #![tactic(auto)]
 
+mod doors;
 mod executing;
 mod sockets;
+mod visitor;
 
 use command_line::no_server_text;
 use console::{RunFault, read_words, tell_as, texts};

@@ -1,17 +1,37 @@
-//! The sockets of a server: a port, and the streams of up to eight clients.
-ghost use Rattle.std.specs.Prelude.{None};
+//! The sockets of a server: its ports, and the streams of up to eight clients.
+ghost use Rattle.std.specs.Prelude.{◌≡◌, None, map};
+ghost use Rattle.bus_lines.specs.Decoders.{entries_of, specs_of};
+ghost use Rattle.layout_core.specs.Nodes.{spec_of};
 
+use crate::doors::{DOORS, Doors};
+use crate::visitor::is_only_late;
+use bus_lines::{Board, Printer};
 use hub::{Heard, PLACES, Wire, Wrote};
+use layout_core::World;
 use mio::net::{TcpListener, TcpStream};
 use mio::{Events, Interest, Poll, Token};
 use over_tcp::{Text, push_no_place};
+use pages::Page;
+use show_text::Line;
 use std::alloc::AllocGlobal;
 use std::io;
-use std::io::{Error, ErrorKind, Read, Write};
+use std::io::{ErrorKind, Read, Write};
 use std::net::{Net, SocketAddr};
 use std::time::Duration;
 
-/// A port, and the streams of the clients that were let in, each at its place.
+/// The most that a page sends in one read where none of it is text yet.
+const MOST_TRIES: u8 = 4;
+
+/// Who has a place on the bus.
+#[derive(Drop)]
+enum Client {
+    /// A program, by LocoNet over TCP.
+    Program(TcpStream),
+    /// A page, by the same text over a WebSocket, and what it was told of the decoders.
+    Page(Page<TcpStream>, Board),
+}
+
+/// The ports, and the streams of the clients that were let in, each at its place.
 ///
 /// What sockets deliver no contract can say, so of this wire nothing is known.
 #[derive(Drop)]
@@ -19,7 +39,10 @@ pub(crate) struct Sockets {
     poll: Poll,
     events: Events,
     listener: TcpListener,
-    streams: [Option<TcpStream>; PLACES],
+    clients: [Option<Client>; PLACES],
+    doors: Option<Doors>,
+    /// A page has sent something, and may have sent more.
+    is_behind: bool,
 }
 
 impl Sockets {
@@ -31,10 +54,27 @@ impl Sockets {
             .register(&mut listener, Token(PLACES), Interest::READABLE)?;
         Ok(Sockets {
             poll,
-            events: Events::with_capacity(rt.alloc(), PLACES + 1)?,
+            events: Events::with_capacity(rt.alloc(), PLACES + DOORS + 2)?,
             listener,
-            streams: [None, None, None, None, None, None, None, None],
+            clients: [None, None, None, None, None, None, None, None],
+            doors: None,
+            is_behind: false,
         })
+    }
+
+    /// Serves this page on an address and a port.
+    pub(crate) fn bind_page<R: Net + AllocGlobal>(
+        &mut self,
+        rt: &R,
+        address: SocketAddr,
+        page: &[u8],
+    ) -> io::Result<()> {
+        let mut listener = TcpListener::bind(rt, address)?;
+        self.poll
+            .registry()
+            .register(&mut listener, Token(PLACES + 1), Interest::READABLE)?;
+        self.doors = Some(Doors::new(rt.alloc(), listener, page)?);
+        Ok(())
     }
 
     /// The address and the port that are bound.
@@ -42,18 +82,54 @@ impl Sockets {
         self.listener.local_addr()
     }
 
-    /// Waits until something may be there, or so long.
+    /// The address and the port of the page, where one is served.
+    pub(crate) fn page_address(&self) -> Option<io::Result<SocketAddr>> {
+        self.doors
+            .as_ref()
+            .map(|doors| doors.listener().local_addr())
+    }
+
+    /// Waits until something may be there, or so long. `now`: microseconds since the start.
     ///
     /// An event only ends the wait: each round goes over all places, so none is looked up, and a stale one does no harm.
-    pub(crate) fn wait(&mut self, longest: Option<Duration>) -> io::Result<()> {
+    pub(crate) fn wait(&mut self, longest: Option<Duration>, now: u64) -> io::Result<()> {
+        let longest = shorter(longest, self.patience(now));
         match self.poll.poll(&mut self.events, longest) {
             Err(error) if error.kind() != ErrorKind::Interrupted => Err(error),
             _ => Ok(()),
         }
     }
 
+    /// How long those who ask for a page, and pages, can be let wait, in microseconds.
+    fn patience(&self, now: u64) -> Option<u64> {
+        match &self.doors {
+            Some(_) if self.is_behind => Some(0),
+            Some(doors) => doors.patience(now),
+            None => None,
+        }
+    }
+
+    /// Goes on with those who ask for a page. `now`: microseconds since the start.
+    pub(crate) fn answer(&mut self, now: u64) {
+        self.is_behind = false;
+        if let Some(doors) = &mut self.doors {
+            doors.round(self.poll.registry(), Token(PLACES + 2), now);
+        }
+    }
+
+    /// Tells each page the decoders that it was not told as they stand.
+    pub(crate) fn tell_pages<O: Write>(&mut self, printer: &Printer<'_, O>, world: &World)
+        requires { map spec_of world.now.nodes ≡ specs_of (entries_of printer.now.roster) }
+    {
+        for client in &mut self.clients {
+            if let Some(Client::Page(page, board)) = client {
+                tell_page(page, board, printer, world);
+            }
+        }
+    }
+
     /// Makes a stream ready to be served at a place.
-    fn prepare(&mut self, stream: &mut TcpStream, place: usize) -> io::Result<()> {
+    fn prepare(&self, stream: &mut TcpStream, place: usize) -> io::Result<()> {
         // Else a second write waits some 40 ms for the client to acknowledge the first.
         stream.set_nodelay(true)?;
         // Both ways from the start, since a change is reported once.
@@ -63,6 +139,21 @@ impl Sockets {
             Interest::READABLE | Interest::WRITABLE,
         )
     }
+
+    /// A page that has joined, and has no place yet.
+    fn joined(&mut self) -> Option<Page<TcpStream>> {
+        match &mut self.doors {
+            Some(doors) => doors.take_joined(),
+            None => None,
+        }
+    }
+
+    /// A program that waits at the port.
+    fn program(&mut self, place: usize) -> Option<TcpStream> {
+        let (mut stream, _) = self.listener.accept().ok()?;
+        self.prepare(&mut stream, place).ok()?;
+        Some(stream)
+    }
 }
 
 impl Wire for Sockets {
@@ -70,37 +161,42 @@ impl Wire for Sockets {
 
     fn let_in(&mut self, client: u8) -> bool {
         let place = usize::from(client);
-        let Ok((mut stream, _)) = self.listener.accept() else {
-            return false;
+        let joined = match self.joined() {
+            Some(page) => Some(Client::Page(page, Board::new())),
+            None => self.program(place).map(Client::Program),
         };
-        if self.prepare(&mut stream, place).is_err() {
-            return false;
-        }
-        self.streams[place] = Some(stream);
-        true
+        self.clients[place] = joined;
+        self.clients[place].is_some()
     }
 
     fn turn_away(&mut self) -> bool {
+        let mut text = Text::new();
+        push_no_place(&mut text);
+        if let Some(mut page) = self.joined() {
+            // Whoever has gone already need not be told.
+            let _ = page.write(text.as_slice());
+            page.close();
+            return true;
+        }
         let Ok((mut stream, _)) = self.listener.accept() else {
             return false;
         };
-        let mut text = Text::new();
-        push_no_place(&mut text);
-        // Whoever has gone already need not be told.
         let _ = stream.write(text.as_slice());
         true
     }
 
     fn read(&mut self, client: u8, room: &mut [u8]) -> Heard {
         let place = usize::from(client);
-        let Some(stream) = &mut self.streams[place] else {
-            return Heard::Nothing;
+        let heard = match &mut self.clients[place] {
+            Some(Client::Program(stream)) => stream.read(room),
+            Some(Client::Page(page, _)) => read_page(page, room, &mut self.is_behind),
+            None => return Heard::Nothing,
         };
-        match stream.read(room) {
+        match heard {
             Ok(count) if count > 0 => Heard::Bytes(count),
             Err(error) if is_only_late(&error) => Heard::Nothing,
             _ => {
-                self.streams[place] = None;
+                self.clients[place] = None;
                 Heard::Gone
             }
         }
@@ -108,25 +204,75 @@ impl Wire for Sockets {
 
     fn write(&mut self, client: u8, bytes: &[u8]) -> Wrote {
         let place = usize::from(client);
-        let Some(stream) = &mut self.streams[place] else {
-            return Wrote::Later;
+        let wrote = match &mut self.clients[place] {
+            Some(Client::Program(stream)) => stream.write(bytes),
+            Some(Client::Page(page, _)) => page.write(bytes),
+            None => return Wrote::Later,
         };
-        match stream.write(bytes) {
+        match wrote {
             Ok(count) if count > 0 => Wrote::Taken(count),
             Err(error) if is_only_late(&error) => Wrote::Later,
             _ => {
-                self.streams[place] = None;
+                self.clients[place] = None;
                 Wrote::Broken
             }
         }
     }
 
     fn close(&mut self, client: u8) {
-        self.streams[usize::from(client)] = None;
+        self.clients[usize::from(client)] = None;
     }
 }
 
-/// Whether a read or a write only has to be tried again later.
-fn is_only_late(error: &Error) -> bool {
-    matches!(error.kind(), ErrorKind::WouldBlock | ErrorKind::Interrupted)
+/// Reads what a page sent. What it sends that is no text is passed over for a while; where more may be there,
+/// `is_behind` is set.
+fn read_page(
+    page: &mut Page<TcpStream>,
+    room: &mut [u8],
+    is_behind: &mut bool,
+) -> io::Result<usize> {
+    for _try in 0..MOST_TRIES {
+        match page.read(room) {
+            Err(error) if error.kind() == ErrorKind::Interrupted => {}
+            heard => return heard,
+        }
+    }
+    *is_behind = true;
+    Err(io::Error::from(ErrorKind::WouldBlock))
+}
+
+/// Tells a page the decoders that it was not told as they stand, as far as there is room.
+fn tell_page<O: Write>(
+    page: &mut Page<TcpStream>,
+    board: &mut Board,
+    printer: &Printer<'_, O>,
+    world: &World,
+)
+    requires { map spec_of world.now.nodes ≡ specs_of (entries_of printer.now.roster) }
+{
+    // Whoever has gone is let go at its next read.
+    let _ = page.flush();
+    for _decoder in 0..world.nodes() {
+        let Some(decoder) = board.due(world) else {
+            return;
+        };
+        let mut message = Line::new();
+        // There is room: a line of a decoder has less than 100 bytes.
+        let _ = message.try_push_str("NODE ");
+        let _ = message.try_push_str(printer.line(decoder, world).as_str());
+        if page.tell(message.as_str()).is_err() {
+            return;
+        }
+        board.note(decoder, world);
+    }
+}
+
+/// The shorter of two times, of which each may be without end.
+fn shorter(one: Option<Duration>, micros: Option<u64>) -> Option<Duration> {
+    let other = micros.map(Duration::from_micros);
+    match (one, other) {
+        (Some(one), Some(other)) => Some(one.min(other)),
+        (Some(time), None) | (None, Some(time)) => Some(time),
+        (None, None) => None,
+    }
 }

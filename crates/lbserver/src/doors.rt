@@ -1,0 +1,159 @@
+//! The door of the page: who asks by HTTP, until the answer is out or until it has become a client.
+
+use crate::visitor::{Next, Visitor};
+use mio::net::{TcpListener, TcpStream};
+use mio::{Interest, Registry, Token};
+use pages::{Head, Page, push_page_head};
+use std::alloc::{AllocError, Global};
+use std::mem;
+
+/// The most connections of HTTP at once. Whoever else asks waits until one of them has ended.
+pub(crate) const DOORS: usize = 16;
+
+/// A place for one who asks.
+#[derive(Drop)]
+enum Door {
+    /// Nobody is there.
+    Free,
+    /// Somebody asks.
+    Asked(Visitor),
+    /// Somebody has joined the bus, and waits for a place there.
+    Joined(Page<TcpStream>),
+}
+
+/// A port for browsers, and who asks there.
+#[derive(Drop)]
+pub(crate) struct Doors {
+    alloc: Global,
+    listener: TcpListener,
+    /// What the page is replied, whole.
+    page: Vec<u8>,
+    doors: [Door; DOORS],
+    /// Somebody was heard or told in the last round, and there may be more to do.
+    is_behind: bool,
+}
+
+impl Doors {
+    /// Doors at this listener, where this page is served.
+    ///
+    /// # Errors
+    ///
+    /// Want of memory. Those who ask take none.
+    pub(crate) fn new(
+        alloc: Global,
+        listener: TcpListener,
+        page: &[u8],
+    ) -> Result<Doors, AllocError> {
+        let mut head = Head::new();
+        push_page_head(&mut head, u32::try_from(page.len()).unwrap_or(u32::MAX));
+        let mut whole = Vec::new(alloc);
+        whole.extend_from_slice(head.as_slice())?;
+        whole.extend_from_slice(page)?;
+        Ok(Doors {
+            alloc,
+            listener,
+            page: whole,
+            doors: [
+                Door::Free,
+                Door::Free,
+                Door::Free,
+                Door::Free,
+                Door::Free,
+                Door::Free,
+                Door::Free,
+                Door::Free,
+                Door::Free,
+                Door::Free,
+                Door::Free,
+                Door::Free,
+                Door::Free,
+                Door::Free,
+                Door::Free,
+                Door::Free,
+            ],
+            is_behind: false,
+        })
+    }
+
+    /// The listener.
+    pub(crate) fn listener(&self) -> &TcpListener {
+        &self.listener
+    }
+
+    /// How long the next round may be waited for, in microseconds: not where there may be more to do, and else until
+    /// somebody's time is over, if somebody is there.
+    pub(crate) fn patience(&self, now: u64) -> Option<u64> {
+        if self.is_behind {
+            return Some(0);
+        }
+        let mut least = None;
+        for door in &self.doors {
+            if let Door::Asked(visitor) = door {
+                let patience = visitor.patience(now);
+                least = Some(least.map_or(patience, |least: u64| least.min(patience)));
+            }
+        }
+        least
+    }
+
+    /// Lets in who waits, and goes on with each who is there. `now`: microseconds since the start.
+    ///
+    /// Each is read once or written to once, so a round is bounded.
+    pub(crate) fn round(&mut self, registry: &Registry, token: Token, now: u64) {
+        self.is_behind = false;
+        for door in &mut self.doors {
+            if let Door::Free = door {
+                let_in(&self.listener, door, registry, token, now);
+            }
+            self.is_behind |= go_on(door, self.alloc, self.page.as_slice(), now);
+        }
+    }
+
+    /// Who has joined the bus, and waits for a place there.
+    pub(crate) fn take_joined(&mut self) -> Option<Page<TcpStream>> {
+        for door in &mut self.doors {
+            if let Door::Joined(_) = door {
+                if let Door::Joined(page) = mem::replace(door, Door::Free) {
+                    return Some(page);
+                }
+            }
+        }
+        None
+    }
+}
+
+/// Lets in who waits at a free door.
+fn let_in(listener: &TcpListener, door: &mut Door, registry: &Registry, token: Token, now: u64) {
+    let Ok((mut stream, _)) = listener.accept() else {
+        return;
+    };
+    // What cannot be registered is closed.
+    let both = Interest::READABLE | Interest::WRITABLE;
+    if stream.set_nodelay(true).is_ok() && registry.register(&mut stream, token, both).is_ok() {
+        *door = Door::Asked(Visitor::new(stream, now));
+    }
+}
+
+/// Goes on with who is at a door. Whether there may be more to do.
+fn go_on(door: &mut Door, alloc: Global, page: &[u8], now: u64) -> bool {
+    let Door::Asked(visitor) = door else {
+        return false;
+    };
+    let next = visitor.go_on(page, now);
+    if next == Next::Joins || next == Next::Ends {
+        leave(door, alloc, next);
+    }
+    next != Next::Waits
+}
+
+/// Lets go who was at a door, or lets it wait for a place on the bus.
+fn leave(door: &mut Door, alloc: Global, next: Next) {
+    let Door::Asked(visitor) = mem::replace(door, Door::Free) else {
+        return;
+    };
+    if next == Next::Joins {
+        if let Ok(page) = visitor.into_page(alloc) {
+            *door = Door::Joined(page);
+        }
+    }
+}
