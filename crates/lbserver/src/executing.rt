@@ -76,7 +76,7 @@ fn run<O: Write>(rt: &HostRuntime, words: &[&str], output: &mut O) -> Result<(),
 }
 
 /// The decoders of a roster; none without one.
-fn decoders(roster: Option<&Roster>) -> NodeList
+pub(crate) fn decoders(roster: Option<&Roster>) -> NodeList
     ensures { result.items ≡ specs_of (entries_of roster.entry) }
 {
     match roster {

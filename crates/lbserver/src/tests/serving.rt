@@ -1,94 +1,9 @@
 //! Clients on loopback, in one thread with the server.
-ghost use Rattle.bus_lines.specs.Decoders.{entries_of, specs_of};
-ghost use Rattle.hub.specs.Hubs.{Watches};
 
-use crate::sockets::Sockets;
-use bus_lines::Printer;
-use decoder_node::NodeList;
-use hub::{Losses, Server};
+use crate::tests::desk::{Desk, OK, POWER_OFF, POWER_ON, SLOT_1, TAKE_3, hears, hears_the_end};
 use std::io::{Read, Write};
-use std::net::{Ipv4Addr, Net, Shutdown, SocketAddr, TcpListener, TcpStream};
-use std::process::Abort;
+use std::net::{Shutdown, TcpStream};
 use std::test::Fail;
-
-/// What a client is told when it joins.
-const VERSION: &'static str = "VERSION lbserver station\r\n";
-
-/// A server on a port of its own, with turns behind messages and not in time.
-#[derive(Drop)]
-struct Desk {
-    server: Server,
-    sockets: Sockets,
-    printer: Printer<'static, Vec<u8>>,
-    ghost watched: { Watches (specs_of (entries_of printer.roster)) server.hub },
-}
-
-impl Desk {
-    fn new(rt: &HostRuntime, turns: u8) -> Result<Desk, Fail> {
-        let server = Server::new(rt.alloc(), NodeList::new(), Some(turns), Losses::new(0, 0))?;
-        let printer = Printer::new(Vec::new(rt.alloc()), None, true, server.world());
-        Ok(Desk {
-            server,
-            sockets: Sockets::bind(rt, SocketAddr::from((Ipv4Addr::LOCALHOST, 0)))?,
-            printer,
-        })
-    }
-
-    /// A client, which is told the version.
-    fn client<R: Net<Listener = TcpListener, Stream = TcpStream> + AllocGlobal + Abort>(
-        &mut self,
-        rt: &R,
-    ) -> Result<TcpStream, Fail> {
-        let mut client = TcpStream::connect(rt, self.sockets.address()?)?;
-        client.set_nodelay(true)?;
-        self.rounds(4)?;
-        hears(rt, &mut client, &[VERSION])?;
-        Ok(client)
-    }
-
-    /// So many rounds.
-    fn rounds(&mut self, count: u32) -> Result<(), Fail> {
-        for _round in 0..count {
-            self.server.round(&mut self.sockets, &mut self.printer)?;
-        }
-        Ok(())
-    }
-
-    /// A client says this, and it is heard.
-    fn say(&mut self, client: &mut TcpStream, text: &[u8]) -> Result<(), Fail> {
-        client.write_all(text)?;
-        self.rounds(4)
-    }
-}
-
-/// A client is told just these lines next.
-fn hears<R: AllocGlobal + Abort>(
-    rt: &R,
-    client: &mut TcpStream,
-    lines: &[&str],
-) -> Result<(), Fail> {
-    for line in lines {
-        let mut told = Vec::from_elem(rt.alloc(), 0, line.len())?;
-        client.read_exact(told.as_mut_slice())?;
-        assert!(rt; told.as_slice() == line.as_bytes(), "{line}");
-    }
-    Ok(())
-}
-
-/// A client is told nothing more: its next byte is behind the end.
-fn hears_the_end(client: &mut TcpStream) -> Result<bool, Fail> {
-    Ok(client.read(&mut [0; 1])? == 0)
-}
-
-const TAKE_3: &'static str = "RECEIVE BF 00 03 43\r\n";
-
-const SLOT_1: &'static str = "RECEIVE E7 0E 01 23 03 00 00 06 00 00 00 00 00 31\r\n";
-
-const POWER_ON: &'static str = "RECEIVE 83 7C\r\n";
-
-const POWER_OFF: &'static str = "RECEIVE 82 7D\r\n";
-
-const OK: &'static str = "SENT OK\r\n";
 
 #[test]
 fn two_clients_speak_in_each_others_lines(rt: HostRuntime) -> Result<(), Fail> {

@@ -15,6 +15,7 @@ struct Held {
     turns: Option<u8>,
     clients: Option<u32>,
     track: bool,
+    page: Option<u16>,
     lose: u8,
     seed: u32,
 }
@@ -26,12 +27,13 @@ const DEFAULTS: Held = Held {
     turns: None,
     clients: None,
     track: false,
+    page: None,
     lose: 0,
     seed: 0,
 };
 
 /// Words, the roster that they name, and what else they hold.
-const ORDERS: [(&'static [&'static str], Option<&'static str>, Held); 4] = [
+const ORDERS: [(&'static [&'static str], Option<&'static str>, Held); 5] = [
     (&[], None, DEFAULTS),
     (
         &["--roster", "a b.toml", "--port", "1", "--turns", "0"],
@@ -39,6 +41,14 @@ const ORDERS: [(&'static [&'static str], Option<&'static str>, Held); 4] = [
         Held {
             port: 1,
             turns: Some(0),
+            ..DEFAULTS
+        },
+    ),
+    (
+        &["--page", "8080", "--page-file", "a b.html"],
+        None,
+        Held {
+            page: Some(8080),
             ..DEFAULTS
         },
     ),
@@ -80,6 +90,7 @@ fn values_of(order: &ServerOrder) -> Held {
         turns: order.turns,
         clients: order.clients,
         track: order.track,
+        page: order.page,
         lose: order.lose,
         seed: order.seed,
     }
@@ -92,13 +103,15 @@ fn orders(rt: HostRuntime) -> Result<(), Fail> {
         assert!(rt; values_of(&order) == wanted, "of {words:?}");
         let roster = order.roster.as_ref().map(|roster| roster.as_str());
         assert!(rt; roster == file, "of {words:?}");
+        let page = order.page_file.as_ref().map(|page| page.as_str());
+        assert!(rt; page == order.page.map(|_| "a b.html"), "of {words:?}");
     }
     Ok(())
 }
 
 #[test]
 fn words_that_are_no_order(rt: HostRuntime) {
-    let rows: [&[&str]; 17] = [
+    let rows: [&[&str]; 20] = [
         &["--help"],
         &["help"],
         &["1234"],
@@ -112,6 +125,9 @@ fn words_that_are_no_order(rt: HostRuntime) {
         &["--clients", "-1"],
         &["--clients", "4294967296"],
         &["--track", "on"],
+        &["--page", "0"],
+        &["--page", "65536"],
+        &["--page-file"],
         &["--lose", "100"],
         &["--seed", "4294967296"],
         &["--seed", "-1"],
@@ -126,7 +142,7 @@ fn words_that_are_no_order(rt: HostRuntime) {
 }
 
 /// Words, and parts of what standard error is told.
-const TOLD: [(&'static [&'static str], &'static [&'static str]); 4] = [
+const TOLD: [(&'static [&'static str], &'static [&'static str]); 5] = [
     (
         &["--help"],
         &[
@@ -135,6 +151,8 @@ const TOLD: [(&'static [&'static str], &'static [&'static str]); 4] = [
             "--port <P>",
             "--clients <C>",
             "--track",
+            "--page <PORT>",
+            "--page-file <FILE>",
             "--lose <N>",
             "--seed <S>",
             "lbserver --roster layout.toml",
@@ -148,6 +166,10 @@ const TOLD: [(&'static [&'static str], &'static [&'static str]); 4] = [
     (
         &["--roster", "no such folder/layout.toml"],
         &["lbserver: cannot read no such folder/layout.toml\n"],
+    ),
+    (
+        &["--port", "47124", "--page", "47125", "--page-file", "no such folder/page.html"],
+        &["lbserver: cannot read no such folder/page.html\n"],
     ),
 ];
 
