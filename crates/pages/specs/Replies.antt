@@ -35,17 +35,33 @@ abbrev pub allow_of : Refusal → List ℕ
 allow_of MethodNotAllowed = codes "Allow: GET\r\n"
 allow_of r = []
 
+abbrev pub version_text : List ℕ
+version_text = codes "HTTP/1.1 "
+
+abbrev pub plain_text : List ℕ
+plain_text = codes "\r\nContent-Type: text/plain; charset=utf-8\r\nContent-Length: "
+
+abbrev pub ends_behind : List ℕ
+ends_behind = codes "\r\nConnection: close\r\n"
+
 -- a reply with its reason, behind which the connection ends
 abbrev pub refusal_text : Refusal → List ℕ
 refusal_text r =
-    codes "HTTP/1.1 " ++ decimal (status_of r) ++ codes " " ++ name_of r
-    ++ codes "\r\nContent-Type: text/plain; charset=utf-8\r\nContent-Length: " ++ decimal (length (reason_of r))
-    ++ codes "\r\nConnection: close\r\n" ++ allow_of r ++ codes "\r\n" ++ reason_of r
+    version_text ++ decimal (status_of r) ++ codes " " ++ name_of r
+    ++ plain_text ++ decimal (length (reason_of r))
+    ++ ends_behind ++ allow_of r ++ codes "\r\n" ++ reason_of r
 
--- the head before a page of so many bytes, which may load nothing and connect to its own server alone
+abbrev pub page_start : List ℕ
+page_start = codes "HTTP/1.1 200 OK\r\nContent-Type: text/html; charset=utf-8\r\nContent-Length: "
+
+-- a page is read anew each time, and only as what it is; whom it leads to is not told of it
+abbrev pub page_rules : List ℕ
+page_rules = codes "Cache-Control: no-store\r\nX-Content-Type-Options: nosniff\r\nReferrer-Policy: no-referrer\r\n"
+
+-- a page runs what stands in it alone, loads nothing, and connects to its own server alone (Content Security Policy 3)
+abbrev pub page_policy : List ℕ
+page_policy = codes "Content-Security-Policy: default-src 'none'; style-src 'unsafe-inline'; script-src 'unsafe-inline'; connect-src 'self'; img-src data:; base-uri 'none'; form-action 'none'; frame-ancestors 'none'\r\n\r\n"
+
+-- the head before a page of so many bytes
 abbrev pub page_head_text : ℕ → List ℕ
-page_head_text len =
-    codes "HTTP/1.1 200 OK\r\nContent-Type: text/html; charset=utf-8\r\nContent-Length: " ++ decimal len
-    ++ codes "\r\nConnection: close\r\nCache-Control: no-store\r\nX-Content-Type-Options: nosniff\r\nReferrer-Policy: no-referrer\r\n"
-    ++ codes "Content-Security-Policy: default-src 'none'; style-src 'unsafe-inline'; script-src 'unsafe-inline'; "
-    ++ codes "connect-src 'self'; img-src data:; base-uri 'none'; form-action 'none'; frame-ancestors 'none'\r\n\r\n"
+page_head_text len = page_start ++ decimal len ++ ends_behind ++ page_rules ++ page_policy

@@ -21,7 +21,7 @@ impl Model for HeardLine {
 
     ghost view = { λ h. drop h.at h.line.items };
 
-    ghost invariant = { λ h. h.at ≤ array_vec_len h.line };
+    ghost invariant = { λ h. (h.at ≤ array_vec_len h.line) × (array_vec_len h.line ≤ 513) };
 }
 
 impl HeardLine {
@@ -53,13 +53,22 @@ impl HeardLine {
         self.line.push(b'\n');
     }
 
+    /// What is still to be handed on.
+    #[tactic(auto, using(crate::proofs::Pieces::rests))]
+    fn rest(&self) -> &[u8]
+        ensures bytes { result.now ≡ self.now }
+        ensures few { length result.now ≤ 513 }
+    {
+        &self.line.as_slice()[self.at..]
+    }
+
     /// Hands on as many bytes as there are, and as there is room for.
     pub fn give(&mut self, room: &mut [u8]) -> usize
         ensures count { result ≡ min (length self.old) (length room.new) }
         ensures given { self.old ≡ take result room.new ++ self.new }
         ensures len { length room.new ≡ length room.old }
     {
-        let rest = &self.line.as_slice()[self.at..];
+        let rest = self.rest();
         let count = rest.len().min(room.len());
         room[..count].copy_from_slice(&rest[..count]);
         self.at += count;
@@ -108,12 +117,13 @@ impl UnfinishedLine {
     }
 
     /// The line, where a line feed comes now: what is held, without a carriage return at its end.
+    #[tactic(auto, using(crate::proofs::Pieces::ends))]
     pub fn line(&self) -> &[u8]
         ensures { result.now ≡ without_return self.now }
     {
-        match self.line.as_slice() {
-            [line @ .., b'\r'] => line,
-            line => line,
+        match self.line.as_slice().split_last() {
+            Some((b'\r', line)) => line,
+            _ => self.line.as_slice(),
         }
     }
 

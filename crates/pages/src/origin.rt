@@ -2,6 +2,9 @@
 ghost use Rattle.std.specs.Prelude.{◌≡◌, ◌↔◌, length, All, IsTrue, option_map};
 ghost use Rattle.std.specs.List.{list_all};
 ghost use Rattle.std.specs.Char.{is_ascii_digit};
+ghost use Rattle.std.specs.Net.Grammar.{IsIpv4Text, IsSocketV4Text};
+ghost use Rattle.std.specs.declared.net.ipv4_addr.Ipv4Addr.{Ipv4Addr};
+ghost use Rattle.std.specs.declared.net.socket_addr.SocketAddrV4.{SocketAddrV4};
 ghost use Rattle.httparse.specs.Spans.{IsHeaderWithin};
 ghost use Rattle.websocket.specs.Headers.{eq_ignore_case, fields_of};
 ghost use Rattle.pages.specs.Origins.{IsHere, IsOwnOrigin, is_localhost, is_port, only, values_of};
@@ -51,9 +54,19 @@ fn has_name(a: &[u8], b: &[u8]) -> bool
 fn is_here(host: &[u8]) -> bool
     ensures { IsTrue result ↔ IsHere host.now }
 {
+    is_ipv4(host) || is_ipv4_with_port(host) || is_localhost(host)
+}
+
+fn is_ipv4(host: &[u8]) -> bool
+    ensures { IsTrue result ↔ ((a : Ipv4Addr) × IsIpv4Text host.now a) }
+{
     Ipv4Addr::parse_ascii(host).is_ok()
-        || SocketAddrV4::parse_ascii(host).is_ok()
-        || is_localhost(host)
+}
+
+fn is_ipv4_with_port(host: &[u8]) -> bool
+    ensures { IsTrue result ↔ ((a : SocketAddrV4) × IsSocketV4Text host.now a) }
+{
+    SocketAddrV4::parse_ascii(host).is_ok()
 }
 
 fn is_localhost(host: &[u8]) -> bool

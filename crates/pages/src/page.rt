@@ -1,4 +1,6 @@
 //! A page that joined, as a stream of lines.
+ghost use Rattle.std.specs.Prelude.{◌≤◌, IfOk, length};
+
 use crate::gate::Gate;
 use crate::lines::{HeardLine, LONGEST_LINE, UnfinishedLine};
 use std::alloc::{AllocError, Global};
@@ -124,7 +126,9 @@ impl<S: Read + Write + Drop> Page<S> {
     }
 
     /// Takes bytes from the front, each line that ends becoming a message, until too much waits.
-    fn take(&mut self, bytes: &[u8]) -> io::Result<usize> {
+    fn take(&mut self, bytes: &[u8]) -> io::Result<usize>
+        ensures bound { IfOk result (λ n. n ≤ length bytes.now) }
+    {
         for (taken, byte) in bytes.iter().enumerate() {
             if *byte != b'\n' {
                 self.unfinished.hold(*byte);

@@ -13,6 +13,16 @@ use websocket::handshake::server::write_response;
 /// A reply, or the head of one, of at most 640 bytes.
 pub type Head = ArrayVec<u8, 640>;
 
+/// The connection ends behind the reply.
+const ENDS_BEHIND: &[u8] = b"\r\nConnection: close\r\n";
+
+/// A page is read anew each time, and only as what it is; whom it leads to is not told of it.
+const PAGE_RULES: &[u8] =
+    b"Cache-Control: no-store\r\nX-Content-Type-Options: nosniff\r\nReferrer-Policy: no-referrer\r\n";
+
+/// A page runs what stands in it alone, loads nothing, and connects to its own server alone.
+const PAGE_POLICY: &[u8] = b"Content-Security-Policy: default-src 'none'; style-src 'unsafe-inline'; script-src 'unsafe-inline'; connect-src 'self'; img-src data:; base-uri 'none'; form-action 'none'; frame-ancestors 'none'\r\n\r\n";
+
 impl Refusal {
     /// The status, three digits (RFC 9110, section 15).
     pub fn status(self) -> u16
@@ -84,7 +94,7 @@ pub fn push_refusal(head: &mut Head, refusal: Refusal)
     push_text(head, refusal.name());
     push_text(head, b"\r\nContent-Type: text/plain; charset=utf-8\r\nContent-Length: ");
     push_number(head, reason.len() as u32);
-    push_text(head, b"\r\nConnection: close\r\n");
+    push_text(head, ENDS_BEHIND);
     push_text(head, refusal.allow());
     push_text(head, b"\r\n");
     push_text(head, reason);
@@ -99,9 +109,9 @@ pub fn push_page_head(head: &mut Head, length: u32)
 {
     push_text(head, b"HTTP/1.1 200 OK\r\nContent-Type: text/html; charset=utf-8\r\nContent-Length: ");
     push_number(head, length);
-    push_text(head, b"\r\nConnection: close\r\nCache-Control: no-store\r\nX-Content-Type-Options: nosniff\r\nReferrer-Policy: no-referrer\r\n");
-    push_text(head, b"Content-Security-Policy: default-src 'none'; style-src 'unsafe-inline'; script-src 'unsafe-inline'; ");
-    push_text(head, b"connect-src 'self'; img-src data:; base-uri 'none'; form-action 'none'; frame-ancestors 'none'\r\n\r\n");
+    push_text(head, ENDS_BEHIND);
+    push_text(head, PAGE_RULES);
+    push_text(head, PAGE_POLICY);
 }
 
 /// Appends the reply to a good handshake, 129 bytes. What follows is the WebSocket's.
@@ -110,11 +120,12 @@ pub fn push_joining(head: &mut Head, joined: &Joined)
     ensures text { head.new.items ≡ head.old.items ++ response_bytes joined.now.accept_key [] }
     ensures len { array_vec_len head.new ≤ array_vec_len head.old + 129 }
 {
-    let mut bytes = [0; 129];
+    let mut bytes = [0; 160];
     let mut reply = Cursor::new(bytes.as_mut_slice());
     // There is room, and the key is one piece of its line.
     let _fits = write_response(&joined.accept_key, &[], &mut reply);
-    push_text(head, &bytes);
+    let end = (reply.position() as usize).min(reply.get_ref().len());
+    push_text(head, &reply.get_ref()[..end]);
 }
 
 fn push_text(head: &mut Head, text: &[u8])

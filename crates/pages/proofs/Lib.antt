@@ -1,0 +1,4 @@
+mod Cutting
+mod Joining
+mod Pieces
+mod Standing
