@@ -5,6 +5,7 @@ mod doors;
 mod executing;
 mod sockets;
 mod visitor;
+mod watcher;
 
 use command_line::no_server_text;
 use console::{RunFault, read_words, tell_as, texts};

@@ -5,30 +5,27 @@ ghost use Rattle.layout_core.specs.Nodes.{spec_of};
 
 use crate::doors::{DOORS, Doors};
 use crate::visitor::is_only_late;
-use bus_lines::{Board, Printer};
+use crate::watcher::Watcher;
+use bus_lines::Printer;
 use hub::{Heard, PLACES, Wire, Wrote};
 use layout_core::World;
 use mio::net::{TcpListener, TcpStream};
 use mio::{Events, Interest, Poll, Token};
 use over_tcp::{Text, push_no_place};
 use pages::Page;
-use show_text::Line;
 use std::alloc::AllocGlobal;
 use std::io;
 use std::io::{ErrorKind, Read, Write};
 use std::net::{Net, SocketAddr};
 use std::time::Duration;
 
-/// The most that a page sends in one read where none of it is text yet.
-const MOST_TRIES: u8 = 4;
-
 /// Who has a place on the bus.
 #[derive(Drop)]
 enum Client {
     /// A program, by LocoNet over TCP.
     Program(TcpStream),
-    /// A page, by the same text over a WebSocket, and what it was told of the decoders.
-    Page(Page<TcpStream>, Board),
+    /// A page, by the same text over a WebSocket.
+    Page(Watcher),
 }
 
 /// The ports, and the streams of the clients that were let in, each at its place.
@@ -122,8 +119,8 @@ impl Sockets {
         requires { map spec_of world.now.nodes ≡ specs_of (entries_of printer.now.roster) }
     {
         for client in &mut self.clients {
-            if let Some(Client::Page(page, board)) = client {
-                tell_page(page, board, printer, world);
+            if let Some(Client::Page(watcher)) = client {
+                watcher.tell(printer, world);
             }
         }
     }
@@ -162,7 +159,7 @@ impl Wire for Sockets {
     fn let_in(&mut self, client: u8) -> bool {
         let place = usize::from(client);
         let joined = match self.joined() {
-            Some(page) => Some(Client::Page(page, Board::new())),
+            Some(page) => Some(Client::Page(Watcher::new(page))),
             None => self.program(place).map(Client::Program),
         };
         self.clients[place] = joined;
@@ -189,7 +186,7 @@ impl Wire for Sockets {
         let place = usize::from(client);
         let heard = match &mut self.clients[place] {
             Some(Client::Program(stream)) => stream.read(room),
-            Some(Client::Page(page, _)) => read_page(page, room, &mut self.is_behind),
+            Some(Client::Page(watcher)) => watcher.read(room, &mut self.is_behind),
             None => return Heard::Nothing,
         };
         match heard {
@@ -206,7 +203,7 @@ impl Wire for Sockets {
         let place = usize::from(client);
         let wrote = match &mut self.clients[place] {
             Some(Client::Program(stream)) => stream.write(bytes),
-            Some(Client::Page(page, _)) => page.write(bytes),
+            Some(Client::Page(watcher)) => watcher.write(bytes),
             None => return Wrote::Later,
         };
         match wrote {
@@ -221,49 +218,6 @@ impl Wire for Sockets {
 
     fn close(&mut self, client: u8) {
         self.clients[usize::from(client)] = None;
-    }
-}
-
-/// Reads what a page sent. What it sends that is no text is passed over for a while; where more may be there,
-/// `is_behind` is set.
-fn read_page(
-    page: &mut Page<TcpStream>,
-    room: &mut [u8],
-    is_behind: &mut bool,
-) -> io::Result<usize> {
-    for _try in 0..MOST_TRIES {
-        match page.read(room) {
-            Err(error) if error.kind() == ErrorKind::Interrupted => {}
-            heard => return heard,
-        }
-    }
-    *is_behind = true;
-    Err(io::Error::from(ErrorKind::WouldBlock))
-}
-
-/// Tells a page the decoders that it was not told as they stand, as far as there is room.
-fn tell_page<O: Write>(
-    page: &mut Page<TcpStream>,
-    board: &mut Board,
-    printer: &Printer<'_, O>,
-    world: &World,
-)
-    requires { map spec_of world.now.nodes ≡ specs_of (entries_of printer.now.roster) }
-{
-    // Whoever has gone is let go at its next read.
-    let _ = page.flush();
-    for _decoder in 0..world.nodes() {
-        let Some(decoder) = board.due(world) else {
-            return;
-        };
-        let mut message = Line::new();
-        // There is room: a line of a decoder has less than 100 bytes.
-        let _ = message.try_push_str("NODE ");
-        let _ = message.try_push_str(printer.line(decoder, world).as_str());
-        if page.tell(message.as_str()).is_err() {
-            return;
-        }
-        board.note(decoder, world);
     }
 }
 

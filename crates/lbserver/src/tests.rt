@@ -1,6 +1,6 @@
-//! What no clause says: words and what is told of them, and clients over loopback.
+//! What no clause says: words and what is told of them, and clients and browsers over loopback.
 
+mod browsers;
 mod desk;
-mod pages;
 mod serving;
 mod words;

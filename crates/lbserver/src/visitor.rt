@@ -4,6 +4,7 @@ use arrayvec::ArrayVec;
 use mio::net::TcpStream;
 use pages::{Answer, Head, LONGEST, Page, Refusal, answer, push_joining, push_refusal};
 use std::alloc::{AllocError, Global};
+use std::io;
 use std::io::{Error, ErrorKind, Read, Write};
 use std::net::Shutdown;
 
@@ -47,6 +48,17 @@ enum Reply {
     Refusal(Head),
     /// This, and then the connection goes on as a WebSocket behind so many bytes of what came.
     Joining(Head, usize),
+}
+
+impl Reply {
+    /// Its text, where this is that of the page.
+    fn text<'a>(&'a self, page: &'a [u8]) -> &'a [u8] {
+        match self {
+            Reply::Page => page,
+            Reply::Refusal(head) => head.as_slice(),
+            Reply::Joining(head, _) => head.as_slice(),
+        }
+    }
 }
 
 /// What became of a visitor.
@@ -93,13 +105,7 @@ impl Visitor {
 
     /// The page that it has become.
     pub(crate) fn into_page(self, alloc: Global) -> Result<Page<TcpStream>, AllocError> {
-        let taken = match &self.stage {
-            Stage::IsTold {
-                reply: Reply::Joining(_, taken),
-                ..
-            } => *taken,
-            _ => 0,
-        };
+        let taken = self.taken().unwrap_or(0);
         let behind = self.heard.as_slice().get(taken..).unwrap_or(&[]);
         Page::new(alloc, self.stream, behind)
     }
@@ -152,23 +158,45 @@ impl Visitor {
 
     /// Writes what is left of the reply.
     fn tell(&mut self, page: &[u8], now: u64) -> Next {
-        let Stage::IsTold { reply, told } = &mut self.stage else {
-            return Next::Ends;
-        };
-        let whole = match reply {
-            Reply::Page => page,
-            Reply::Refusal(head) | Reply::Joining(head, _) => head.as_slice(),
-        };
-        let left = whole.get(*told..).unwrap_or(&[]);
-        match self.stream.write(left) {
-            Ok(count) if count < left.len() => {
-                *told = told.saturating_add(count);
+        let (wrote, left) = self.write_left(page);
+        match wrote {
+            Ok(count) if count < left => {
+                self.note_told(count);
                 Next::GoesOn
             }
-            Ok(_) if matches!(reply, Reply::Joining(..)) => Next::Joins,
+            Ok(_) if self.taken().is_some() => Next::Joins,
             Ok(_) => self.leave(now),
             Err(error) if is_only_late(&error) => Next::Waits,
             Err(_) => Next::Ends,
+        }
+    }
+
+    /// What a write of what is left of the reply came to, and how many bytes were left.
+    fn write_left(&mut self, page: &[u8]) -> (io::Result<usize>, usize) {
+        match &self.stage {
+            Stage::IsTold { reply, told } => {
+                let left = reply.text(page).get(*told..).unwrap_or(&[]);
+                (self.stream.write(left), left.len())
+            }
+            _ => (Ok(0), 0),
+        }
+    }
+
+    /// Notes that so many bytes more of the reply were written.
+    fn note_told(&mut self, count: usize) {
+        if let Stage::IsTold { told, .. } = &mut self.stage {
+            *told = told.saturating_add(count);
+        }
+    }
+
+    /// How many bytes of what came are the head of a handshake that was replied to.
+    fn taken(&self) -> Option<usize> {
+        match &self.stage {
+            Stage::IsTold {
+                reply: Reply::Joining(_, taken),
+                ..
+            } => Some(*taken),
+            _ => None,
         }
     }
 
