@@ -65,7 +65,12 @@ fn run<O: Write>(rt: &HostRuntime, words: &[&str], output: &mut O) -> Result<(),
         return Err(RunFault::Network);
     };
     if let Some(page) = page {
-        bind_page(rt, &mut sockets, SocketAddr::from((address, page)), page_file)?;
+        bind_page(
+            rt,
+            &mut sockets,
+            SocketAddr::from((address, page)),
+            page_file,
+        )?;
     }
     let Ok(mut lines) = BufWriter::new(rt.alloc(), output) else {
         return Err(RunFault::NoMemory);
@@ -130,7 +135,9 @@ fn print_listening<O: Write>(sockets: &Sockets, output: &mut O) -> Result<(), Ru
 /// Tells where the page is, if one is served.
 fn print_page<O: Write>(sockets: &Sockets, output: &mut O) -> Result<(), RunFault> {
     match sockets.page_address() {
-        Some(Ok(address)) => writeln!(output, "page http://{address}/").map_err(|_| RunFault::Output),
+        Some(Ok(address)) => writeln!(output, "page http://{address}/").map_err(
+            |_| RunFault::Output,
+        ),
         Some(Err(_)) => Err(RunFault::Network),
         None => Ok(()),
     }

@@ -1,5 +1,6 @@
 //! The sockets of a server: its ports, and the streams of up to eight clients.
 ghost use Rattle.std.specs.Prelude.{◌≡◌, None, map};
+ghost use Rattle.std.specs.Io.{ReadsAtMost, WritesAtMost};
 ghost use Rattle.bus_lines.specs.Decoders.{entries_of, specs_of};
 ghost use Rattle.layout_core.specs.Nodes.{spec_of};
 
@@ -26,6 +27,28 @@ enum Client {
     Program(TcpStream),
     /// A page, by the same text over a WebSocket.
     Page(Watcher),
+}
+
+impl Client {
+    /// Reads what the client sent, as `Read` does. Where it may have sent more than was looked at, `is_behind` is set.
+    fn read(&mut self, room: &mut [u8], is_behind: &mut bool) -> io::Result<usize>
+        ensures { ReadsAtMost result room.new }
+    {
+        match self {
+            Client::Program(stream) => stream.read(room),
+            Client::Page(watcher) => watcher.read(room, is_behind),
+        }
+    }
+
+    /// Writes to the client, as `Write` does.
+    fn write(&mut self, bytes: &[u8]) -> io::Result<usize>
+        ensures { WritesAtMost result bytes.now }
+    {
+        match self {
+            Client::Program(stream) => stream.write(bytes),
+            Client::Page(watcher) => watcher.write(bytes),
+        }
+    }
 }
 
 /// The ports, and the streams of the clients that were let in, each at its place.
@@ -184,12 +207,10 @@ impl Wire for Sockets {
 
     fn read(&mut self, client: u8, room: &mut [u8]) -> Heard {
         let place = usize::from(client);
-        let heard = match &mut self.clients[place] {
-            Some(Client::Program(stream)) => stream.read(room),
-            Some(Client::Page(watcher)) => watcher.read(room, &mut self.is_behind),
-            None => return Heard::Nothing,
+        let Some(known) = &mut self.clients[place] else {
+            return Heard::Nothing;
         };
-        match heard {
+        match known.read(room, &mut self.is_behind) {
             Ok(count) if count > 0 => Heard::Bytes(count),
             Err(error) if is_only_late(&error) => Heard::Nothing,
             _ => {
@@ -201,12 +222,10 @@ impl Wire for Sockets {
 
     fn write(&mut self, client: u8, bytes: &[u8]) -> Wrote {
         let place = usize::from(client);
-        let wrote = match &mut self.clients[place] {
-            Some(Client::Program(stream)) => stream.write(bytes),
-            Some(Client::Page(watcher)) => watcher.write(bytes),
-            None => return Wrote::Later,
+        let Some(known) = &mut self.clients[place] else {
+            return Wrote::Later;
         };
-        match wrote {
+        match known.write(bytes) {
             Ok(count) if count > 0 => Wrote::Taken(count),
             Err(error) if is_only_late(&error) => Wrote::Later,
             _ => {

@@ -1,5 +1,6 @@
 //! A page that is a client of the bus, and watches the layout.
 ghost use Rattle.std.specs.Prelude.{◌≡◌, map};
+ghost use Rattle.std.specs.Io.{ReadsAtMost, WritesAtMost};
 ghost use Rattle.bus_lines.specs.Decoders.{entries_of, specs_of};
 ghost use Rattle.layout_core.specs.Nodes.{spec_of};
 
@@ -31,7 +32,9 @@ impl Watcher {
     }
 
     /// Reads what the page sent, as `Read` does. Where it may have sent more, and none of it was text, `is_behind` is set.
-    pub(crate) fn read(&mut self, room: &mut [u8], is_behind: &mut bool) -> io::Result<usize> {
+    pub(crate) fn read(&mut self, room: &mut [u8], is_behind: &mut bool) -> io::Result<usize>
+        ensures { ReadsAtMost result room.new }
+    {
         for _try in 0..MOST_TRIES {
             match self.page.read(room) {
                 Err(error) if error.kind() == ErrorKind::Interrupted => {}
@@ -43,7 +46,9 @@ impl Watcher {
     }
 
     /// Tells the page text of the bus, as `Write` does.
-    pub(crate) fn write(&mut self, bytes: &[u8]) -> io::Result<usize> {
+    pub(crate) fn write(&mut self, bytes: &[u8]) -> io::Result<usize>
+        ensures { WritesAtMost result bytes.now }
+    {
         self.page.write(bytes)
     }
 

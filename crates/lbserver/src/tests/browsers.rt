@@ -9,13 +9,16 @@ use std::test::Fail;
 const PAGE: &'static str = "<!DOCTYPE html><title>Station</title>";
 
 /// What the page is replied.
-const PAGE_REPLY: &'static str = "HTTP/1.1 200 OK\r\nContent-Type: text/html; charset=utf-8\r\nContent-Length: 37\r\nConnection: close\r\nCache-Control: no-store\r\nX-Content-Type-Options: nosniff\r\nReferrer-Policy: no-referrer\r\nContent-Security-Policy: default-src 'none'; style-src 'unsafe-inline'; script-src 'unsafe-inline'; connect-src 'self'; img-src data:; base-uri 'none'; form-action 'none'; frame-ancestors 'none'\r\n\r\n<!DOCTYPE html><title>Station</title>";
+const PAGE_REPLY: &'static str =
+    "HTTP/1.1 200 OK\r\nContent-Type: text/html; charset=utf-8\r\nContent-Length: 37\r\nConnection: close\r\nCache-Control: no-store\r\nX-Content-Type-Options: nosniff\r\nReferrer-Policy: no-referrer\r\nContent-Security-Policy: default-src 'none'; style-src 'unsafe-inline'; script-src 'unsafe-inline'; connect-src 'self'; img-src data:; base-uri 'none'; form-action 'none'; frame-ancestors 'none'\r\n\r\n<!DOCTYPE html><title>Station</title>";
 
 /// The handshake of RFC 6455, section 1.3, of a page of this server.
-const JOINS: &'static str = "GET /bus HTTP/1.1\r\nHost: 127.0.0.1:8080\r\nUpgrade: websocket\r\nConnection: Upgrade\r\nSec-WebSocket-Key: dGhlIHNhbXBsZSBub25jZQ==\r\nOrigin: http://127.0.0.1:8080\r\nSec-WebSocket-Version: 13\r\n\r\n";
+const JOINS: &'static str =
+    "GET /bus HTTP/1.1\r\nHost: 127.0.0.1:8080\r\nUpgrade: websocket\r\nConnection: Upgrade\r\nSec-WebSocket-Key: dGhlIHNhbXBsZSBub25jZQ==\r\nOrigin: http://127.0.0.1:8080\r\nSec-WebSocket-Version: 13\r\n\r\n";
 
 /// What it is replied there.
-const JOINED: &'static str = "HTTP/1.1 101 Switching Protocols\r\nConnection: Upgrade\r\nUpgrade: websocket\r\nSec-WebSocket-Accept: s3pPLMBiTxaQ9kYGzzhZRbK+xOo=\r\n\r\n";
+const JOINED: &'static str =
+    "HTTP/1.1 101 Switching Protocols\r\nConnection: Upgrade\r\nUpgrade: websocket\r\nSec-WebSocket-Accept: s3pPLMBiTxaQ9kYGzzhZRbK+xOo=\r\n\r\n";
 
 /// A desk that serves the page.
 fn desk<'a>(rt: &HostRuntime) -> Result<Desk<'a>, Fail> {
@@ -46,7 +49,10 @@ fn is_told(rt: &HostRuntime, page: &mut TcpStream, messages: &[&str]) -> Result<
     for message in messages {
         let mut head = [0; 2];
         page.read_exact(&mut head)?;
-        assert!(rt; head[0] == 0x81 && usize::from(head[1]) == message.len(), "{message}");
+        assert!(rt;
+            head[0] == 0x81 && usize::from(head[1]) == message.len(),
+            "{message}"
+        );
         hears(rt, page, &[message])?;
     }
     Ok(())
@@ -62,10 +68,22 @@ fn says(desk: &mut Desk<'_>, page: &mut TcpStream, message: &str) -> Result<(), 
 const REPLIES: [(&'static str, &'static str); 9] = [
     ("GET / HTTP/1.1\r\nHost: 127.0.0.1:8080\r\n\r\n", PAGE_REPLY),
     ("GET / HTTP/1.0\r\n\r\n", PAGE_REPLY),
-    ("GET /index.html HTTP/1.1\r\n\r\n", "HTTP/1.1 404 Not Found\r\n"),
-    ("GET /pages/throttle.html HTTP/1.1\r\n\r\n", "HTTP/1.1 404 Not Found\r\n"),
-    ("POST / HTTP/1.1\r\nContent-Length: 2\r\n\r\n{}", "HTTP/1.1 405 Method Not Allowed\r\n"),
-    ("GET /bus HTTP/1.1\r\nHost: 127.0.0.1:8080\r\n\r\n", "HTTP/1.1 403 Forbidden\r\n"),
+    (
+        "GET /index.html HTTP/1.1\r\n\r\n",
+        "HTTP/1.1 404 Not Found\r\n",
+    ),
+    (
+        "GET /pages/throttle.html HTTP/1.1\r\n\r\n",
+        "HTTP/1.1 404 Not Found\r\n",
+    ),
+    (
+        "POST / HTTP/1.1\r\nContent-Length: 2\r\n\r\n{}",
+        "HTTP/1.1 405 Method Not Allowed\r\n",
+    ),
+    (
+        "GET /bus HTTP/1.1\r\nHost: 127.0.0.1:8080\r\n\r\n",
+        "HTTP/1.1 403 Forbidden\r\n",
+    ),
     (
         "GET /bus HTTP/1.1\r\nHost: 127.0.0.1:8080\r\nOrigin: http://example.com\r\nUpgrade: websocket\r\nConnection: Upgrade\r\nSec-WebSocket-Key: dGhlIHNhbXBsZSBub25jZQ==\r\nSec-WebSocket-Version: 13\r\n\r\n",
         "HTTP/1.1 403 Forbidden\r\n",
@@ -129,7 +147,11 @@ fn slow_and_long_heads(rt: HostRuntime) -> Result<(), Fail> {
     for _piece in 0..8u8 {
         desk.say(&mut long, &[b'x'; 1_024])?;
     }
-    hears(&rt, &mut long, &["HTTP/1.1 431 Request Header Fields Too Large\r\n"])
+    hears(
+        &rt,
+        &mut long,
+        &["HTTP/1.1 431 Request Header Fields Too Large\r\n"],
+    )
 }
 
 /// Sixteen connections are heard at once. A seventeenth waits for its turn, and has it when one of them has ended.
@@ -182,7 +204,8 @@ fn a_page_is_a_client(rt: HostRuntime) -> Result<(), Fail> {
 /// A page is told each decoder when it joins, and then the one that has changed.
 #[test]
 fn a_page_is_told_the_decoders(rt: HostRuntime) -> Result<(), Fail> {
-    let text = b"version = 2\n[[node]]\nname = \"shunter\"\nkind = \"loco\"\ncvs = [[1, 3], [29, 2]]\n[[node]]\nname = \"yard\"\nkind = \"accessory\"\nmodule = 1\n";
+    let text =
+        b"version = 2\n[[node]]\nname = \"shunter\"\nkind = \"loco\"\ncvs = [[1, 3], [29, 2]]\n[[node]]\nname = \"yard\"\nkind = \"accessory\"\nmodule = 1\n";
     let roster = roster::read(rt.alloc(), text)?;
     let mut desk = Desk::of(&rt, 20, Some(&roster))?;
     desk.sockets.bind_page(&rt, loopback(), PAGE.as_bytes())?;

@@ -168,7 +168,14 @@ const TOLD: [(&'static [&'static str], &'static [&'static str]); 5] = [
         &["lbserver: cannot read no such folder/layout.toml\n"],
     ),
     (
-        &["--port", "47124", "--page", "47125", "--page-file", "no such folder/page.html"],
+        &[
+            "--port",
+            "47124",
+            "--page",
+            "47125",
+            "--page-file",
+            "no such folder/page.html",
+        ],
         &["lbserver: cannot read no such folder/page.html\n"],
     ),
 ];
