@@ -4,10 +4,11 @@ ghost use Rattle.std.specs.Prelude.{◌≤◌, IfOk, length};
 use crate::gate::Gate;
 use crate::lines::{HeardLine, LONGEST_LINE, UnfinishedLine};
 use std::alloc::{AllocError, Global};
-use std::io;
 use std::io::{ErrorKind, Read, Write};
-use std::str;
-use tungstenite::{CloseCode, CloseFrame, Error, Message, NoMask, Role, Utf8Bytes, WebSocket, WebSocketConfig};
+use std::{io, str};
+use tungstenite::{
+    CloseCode, CloseFrame, Error, Message, NoMask, Role, Utf8Bytes, WebSocket, WebSocketConfig,
+};
 
 /// The most bytes that are read of the stream at once.
 const READ_AT_ONCE: usize = 4_096;
@@ -66,6 +67,11 @@ impl<S: Read + Write + Drop> Page<S> {
     /// The stream below.
     pub fn stream(&self) -> &S {
         self.socket.get_ref().get_ref()
+    }
+
+    /// The stream below.
+    pub fn stream_mut(&mut self) -> &mut S {
+        self.socket.get_mut().get_mut()
     }
 
     /// Tells the page one message beside the lines, whole or not at all, and never within a line.
