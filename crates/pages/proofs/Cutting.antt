@@ -28,9 +28,9 @@ lines_to (b ∷ body) tail h =
 nowhere-open : (text : List ℕ) (from : ℕ) → ((k : ℕ) → from ≤ k → k < length text → ¬ ((slice_index text k == 10) ≡ true)) → is_open (drop from text) ≡ true
 nowhere-open text from none =
     list_all-from_AllPass (λ b. not (b == 10)) (drop from text) (λ i d l.
-      let inside : from + i < length text = omega (arith, l, length-drop from text) in
-      let read : get_or (drop from text) i d ≡ get_or text (from + i) 0 = get_or-drop from text i d ∙ get_or_default_zero text (from + i) d inside in
-      rw read (ap not (false_from_ne_true (slice_index text (from + i) == 10) (none (from + i) (omega arith) inside))))
+    let inside : from + i < length text = omega (arith, l, length-drop from text) in
+    let read : get_or (drop from text) i d ≡ get_or text (from + i) 0 = get_or-drop from text i d ∙ get_or_default_zero text (from + i) d inside in
+    rw read (ap not (false_from_ne_true (slice_index text (from + i) == 10) (none (from + i) (omega arith) inside))))
 
 split-at : (text : List ℕ) (at : ℕ) → at < length text → (slice_index text at == 10) ≡ true → text ≡ take at text ++ 10 ∷ drop (at + 1) text
 split-at text at inside is =

@@ -2,3 +2,4 @@ mod Cutting
 mod Joining
 mod Pieces
 mod Standing
+mod Telling

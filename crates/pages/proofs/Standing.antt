@@ -59,8 +59,8 @@ whole-more (b ∷ text) more = elim (cases_Bool (is_open (b ∷ text))) [
       let rest = whole-more text more in (
         rest.0,
         ap (λ c. if c then [] else b ∷ whole_lines (text ++ more)) (closed-more (b ∷ text) more e)
-        ∙ ap (λ (t : List ℕ). b ∷ t) rest.1
-        ∙ sym (ap (λ (t : List ℕ). t ++ rest.0) (ap (λ c. if c then [] else b ∷ whole_lines text) e)),
+            ∙ ap (λ (t : List ℕ). b ∷ t) rest.1
+            ∙ sym (ap (λ (t : List ℕ). t ++ rest.0) (ap (λ c. if c then [] else b ∷ whole_lines text) e)),
       )
 ]
 

@@ -4,3 +4,4 @@ pub mod Lines
 pub mod Messages
 pub mod Origins
 pub mod Replies
+pub mod Telling

@@ -1,13 +1,18 @@
 //! A page that joined, as a stream of lines.
-ghost use Rattle.std.specs.Prelude.{◌≤◌, IfOk, length};
+ghost use Rattle.std.specs.Prelude.{◌≡◌, ◌≤◌, [], IfErr, IfOk, OnOk, length, take};
+ghost use Rattle.tungstenite.specs.Socket.{Flushed};
+ghost use Rattle.tungstenite.specs.declared.error.Error.TheVariants.{WriteBufferFull};
+ghost use Rattle.pages.specs.Messages.{held_along, messages_along, without_return};
+ghost use Rattle.pages.specs.Telling.{IsTold, Says, Tells};
 
 use crate::gate::Gate;
 use crate::lines::{HeardLine, LONGEST_LINE, UnfinishedLine};
 use std::alloc::{AllocError, Global};
-use std::io;
 use std::io::{ErrorKind, Read, Write};
-use std::str;
-use tungstenite::{CloseCode, CloseFrame, Error, Message, NoMask, Role, Utf8Bytes, WebSocket, WebSocketConfig};
+use std::{io, str};
+use tungstenite::{
+    CloseCode, CloseFrame, Error, Message, NoMask, Role, Utf8Bytes, WebSocket, WebSocketConfig,
+};
 
 /// The most bytes that are read of the stream at once.
 const READ_AT_ONCE: usize = 4_096;
@@ -68,6 +73,11 @@ impl<S: Read + Write + Drop> Page<S> {
         self.socket.get_ref().get_ref()
     }
 
+    /// The stream below.
+    pub fn stream_mut(&mut self) -> &mut S {
+        self.socket.get_mut().get_mut()
+    }
+
     /// Tells the page one message beside the lines, whole or not at all, and never within a line.
     ///
     /// # Errors
@@ -79,8 +89,27 @@ impl<S: Read + Write + Drop> Page<S> {
             return Err(io::Error::from(ErrorKind::WouldBlock));
         }
         self.send_waiting()?;
-        say(&mut self.socket, self.alloc, message)?;
+        say(&mut self.socket, self.alloc, message).map_err(io_error)?;
         self.send_waiting()
+    }
+
+    /// Takes bytes of lines: each line that ends becomes a message, without its carriage return and line feed. How the bytes
+    /// are cut changes nothing. Answers how many bytes were taken.
+    ///
+    /// # Errors
+    ///
+    /// `WouldBlock` where too much waits to be sent: none were taken then. Any other error where the page has gone, for want
+    /// of memory, or where a line is no UTF-8.
+    pub fn tell_lines(&mut self, bytes: &[u8]) -> io::Result<usize>
+        ensures bound { IfOk result (λ n. n ≤ length bytes.now) }
+        ensures held { IfOk result (λ n. self.new.unfinished ≡ held_along self.old.unfinished (take n bytes.now)) }
+        ensures told { IfOk result (λ n. IsTold (λ gate. S.contents gate.stream)
+            (messages_along self.old.unfinished (take n bytes.now)) self.old.socket self.new.socket) }
+    {
+        self.send_waiting()?;
+        let taken = self.take(bytes)?;
+        self.send_waiting()?;
+        Ok(taken)
     }
 
     /// Tells the page that the server goes, where it can be told, and ends the stream.
@@ -128,24 +157,34 @@ impl<S: Read + Write + Drop> Page<S> {
     /// Takes bytes from the front, each line that ends becoming a message, until too much waits.
     fn take(&mut self, bytes: &[u8]) -> io::Result<usize>
         ensures bound { IfOk result (λ n. n ≤ length bytes.now) }
+        ensures held { IfOk result (λ n. self.new.unfinished ≡ held_along self.old.unfinished (take n bytes.now)) }
+        ensures told { IfOk result (λ n. Tells (λ gate. S.contents gate.stream)
+            (messages_along self.old.unfinished (take n bytes.now)) self.old.socket self.new.socket) }
     {
         for (taken, byte) in bytes.iter().enumerate() {
             if *byte != b'\n' {
                 self.unfinished.hold(*byte);
-            } else if let Err(error) = self.say_line() {
-                if taken > 0 && error.kind() == ErrorKind::WouldBlock {
-                    return Ok(taken);
-                }
-                return Err(error);
+                continue;
+            }
+            match self.say_line() {
+                Ok(()) => {}
+                Err(Error::WriteBufferFull) if taken > 0 => return Ok(taken),
+                Err(error) => return Err(io_error(error)),
             }
         }
         Ok(bytes.len())
     }
 
     /// Puts the line that ends now among what waits to be sent.
-    fn say_line(&mut self) -> io::Result<()> {
+    fn say_line(&mut self) -> Result<(), Error>
+        ensures held { OnOk result (self.new.unfinished ≡ []) }
+        ensures told { OnOk result (Says (λ gate. S.contents gate.stream)
+            (without_return self.old.unfinished) self.old.socket self.new.socket) }
+        ensures full { IfErr result (λ e. e ≡ WriteBufferFull → (self.new.socket ≡ self.old.socket)
+            × (self.new.unfinished ≡ self.old.unfinished)) }
+    {
         let Ok(line) = str::from_utf8(self.unfinished.line()) else {
-            return Err(io::Error::from(ErrorKind::InvalidData));
+            return Err(Error::Utf8);
         };
         say(&mut self.socket, self.alloc, line)?;
         self.unfinished.end();
@@ -153,7 +192,10 @@ impl<S: Read + Write + Drop> Page<S> {
     }
 
     /// Sends what waits, as far as it is taken now.
-    fn send_waiting(&mut self) -> io::Result<()> {
+    fn send_waiting(&mut self) -> io::Result<()>
+        ensures sent { Flushed (λ gate. S.contents gate.stream) self.old.socket self.new.socket }
+        ensures unfinished { self.new.unfinished ≡ self.old.unfinished }
+    {
         match self.socket.flush() {
             Err(error) => {
                 let error = io_error(error);
@@ -191,10 +233,7 @@ impl<S: Read + Write + Drop> Write for Page<S> {
     ///
     /// `WouldBlock` where too much waits to be sent.
     fn write(&mut self, bytes: &[u8]) -> io::Result<usize> {
-        self.send_waiting()?;
-        let taken = self.take(bytes)?;
-        self.send_waiting()?;
-        Ok(taken)
+        self.tell_lines(bytes)
     }
 
     /// Sends what waits, as far as it is taken now.
@@ -203,15 +242,22 @@ impl<S: Read + Write + Drop> Write for Page<S> {
     }
 }
 
-/// Puts a message among what waits to be sent. `WouldBlock` where too much waits: then it was not taken.
+/// Puts a message among what waits to be sent. `WriteBufferFull` where too much waits: then it was not taken.
 fn say<S: Read + Write + Drop>(
     socket: &mut WebSocket<Gate<S>, NoMask>,
     alloc: Global,
     text: &str,
-) -> io::Result<()> {
-    match Message::text(alloc, text) {
-        Ok(message) => socket.write(message).map_err(io_error),
-        Err(_) => Err(io::Error::from(ErrorKind::OutOfMemory)),
+) -> Result<(), Error>
+    ensures told { OnOk result (Says (λ gate. S.contents gate.stream) text.now socket.old socket.new) }
+    ensures full { IfErr result (λ e. e ≡ WriteBufferFull → socket.new ≡ socket.old) }
+{
+    let Ok(message) = Message::text(alloc, text) else {
+        return Err(Error::OutOfMemory);
+    };
+    match socket.write(message) {
+        // It waits; only the stream takes nothing now.
+        Err(Error::Io(error)) if error.kind() == ErrorKind::WouldBlock => Ok(()),
+        other => other,
     }
 }
 

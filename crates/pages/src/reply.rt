@@ -21,7 +21,8 @@ const PAGE_RULES: &[u8] =
     b"Cache-Control: no-store\r\nX-Content-Type-Options: nosniff\r\nReferrer-Policy: no-referrer\r\n";
 
 /// A page runs what stands in it alone, loads nothing, and connects to its own server alone.
-const PAGE_POLICY: &[u8] = b"Content-Security-Policy: default-src 'none'; style-src 'unsafe-inline'; script-src 'unsafe-inline'; connect-src 'self'; img-src data:; base-uri 'none'; form-action 'none'; frame-ancestors 'none'\r\n\r\n";
+const PAGE_POLICY: &[u8] =
+    b"Content-Security-Policy: default-src 'none'; style-src 'unsafe-inline'; script-src 'unsafe-inline'; connect-src 'self'; img-src data:; base-uri 'none'; form-action 'none'; frame-ancestors 'none'\r\n\r\n";
 
 impl Refusal {
     /// The status, three digits (RFC 9110, section 15).
@@ -92,7 +93,10 @@ pub fn push_refusal(head: &mut Head, refusal: Refusal)
     push_number(head, u32::from(refusal.status()));
     push_text(head, b" ");
     push_text(head, refusal.name());
-    push_text(head, b"\r\nContent-Type: text/plain; charset=utf-8\r\nContent-Length: ");
+    push_text(
+        head,
+        b"\r\nContent-Type: text/plain; charset=utf-8\r\nContent-Length: ",
+    );
     push_number(head, reason.len() as u32);
     push_text(head, ENDS_BEHIND);
     push_text(head, refusal.allow());
@@ -107,7 +111,10 @@ pub fn push_page_head(head: &mut Head, length: u32)
     ensures text { head.new.items ≡ head.old.items ++ page_head_text length }
     ensures len { array_vec_len head.new ≤ array_vec_len head.old + 500 }
 {
-    push_text(head, b"HTTP/1.1 200 OK\r\nContent-Type: text/html; charset=utf-8\r\nContent-Length: ");
+    push_text(
+        head,
+        b"HTTP/1.1 200 OK\r\nContent-Type: text/html; charset=utf-8\r\nContent-Length: ",
+    );
     push_number(head, length);
     push_text(head, ENDS_BEHIND);
     push_text(head, PAGE_RULES);

@@ -1,1 +1,6 @@
-//! Tests.
+//! What no clause says: requests, replies and frames from outside, streams that fail, and growths that are refused.
+
+mod memory;
+mod pages;
+mod replies;
+mod requests;
