@@ -18,7 +18,7 @@ const JOINS: &'static str =
 
 /// What it is replied there.
 const JOINED: &'static str =
-    "HTTP/1.1 101 Switching Protocols\r\nConnection: Upgrade\r\nUpgrade: websocket\r\nSec-WebSocket-Accept: s3pPLMBiTxaQ9kYGzzhZRbK+xOo=\r\n\r\n";
+    "HTTP/1.1 101 Switching Protocols\r\nconnection: Upgrade\r\nupgrade: websocket\r\nsec-websocket-accept: s3pPLMBiTxaQ9kYGzzhZRbK+xOo=\r\n\r\n";
 
 /// A desk that serves the page.
 fn desk<'a>(rt: &HostRuntime) -> Result<Desk<'a>, Fail> {
