@@ -11,6 +11,10 @@ pub tells-nothing : {S : Type 0} (contents : S → Option (List ℕ)) (socket : 
 unfolding Tells
 tells-nothing contents socket = refl
 
+pub tells-one : {S : Type 0} (contents : S → Option (List ℕ)) (message : List ℕ) (old new : Socket S) → Says contents message old new → Tells contents (message ∷ []) old new
+unfolding Tells
+tells-one contents message old new says = (new, says, refl)
+
 pub tells-one-more : {S : Type 0} (contents : S → Option (List ℕ)) (messages : List (List ℕ)) (message : List ℕ) (old mid new : Socket S)
     → Tells contents messages old mid → Says contents message mid new → Tells contents (messages ++ message ∷ []) old new
 unfolding Tells

@@ -1,5 +1,6 @@
 pub mod Answers
 pub mod Heads
+pub mod Hearing
 pub mod Lines
 pub mod Messages
 pub mod Origins

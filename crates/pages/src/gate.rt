@@ -1,4 +1,6 @@
 //! A stream that is read once, and then has to be asked again.
+ghost use Rattle.std.specs.Prelude.{◌≡◌};
+
 use std::io;
 use std::io::{Error, ErrorKind, Read, Write};
 
@@ -13,7 +15,9 @@ pub struct Gate<S> {
 
 impl<S: Drop> Gate<S> {
     /// A stream that may be read.
-    pub fn new(stream: S) -> Self {
+    pub fn new(stream: S) -> Self
+        ensures { result.stream ≡ stream }
+    {
         Gate {
             stream,
             is_shut: false,

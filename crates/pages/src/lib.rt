@@ -16,8 +16,7 @@ mod reply;
 
 pub use answering::{LONGEST, MOST_FIELDS, answer};
 pub use asked::{Answer, Joined, Refusal};
-pub use gate::Gate;
-pub use lines::{HeardLine, LONGEST_LINE, UnfinishedLine};
+pub use lines::LONGEST_LINE;
 pub use page::Page;
 pub use reply::{Head, push_joining, push_page_head, push_refusal};
 

@@ -1,7 +1,8 @@
 //! A page that joined, as a stream of lines.
-ghost use Rattle.std.specs.Prelude.{◌≡◌, ◌≤◌, [], IfErr, IfOk, OnOk, length, take};
+ghost use Rattle.std.specs.Prelude.{◌≡◌, ◌<◌, ◌≤◌, ◌∷◌, ◌++◌, [], IfErr, IfOk, List, OnOk, length, take, true, false, ℕ};
 ghost use Rattle.tungstenite.specs.Socket.{Flushed};
 ghost use Rattle.tungstenite.specs.declared.error.Error.TheVariants.{WriteBufferFull};
+ghost use Rattle.pages.specs.Hearing.{Hears};
 ghost use Rattle.pages.specs.Messages.{held_along, messages_along, without_return};
 ghost use Rattle.pages.specs.Telling.{IsTold, Says, Tells};
 
@@ -19,9 +20,6 @@ const READ_AT_ONCE: usize = 4_096;
 
 /// The most bytes that wait to be sent, but for the heads of frames.
 const MOST_WAITING: usize = 65_536;
-
-/// The most messages without text that are passed over in one read.
-const MOST_PASSED: u8 = 64;
 
 /// A page that joined the bus: each message is a line, either way.
 ///
@@ -43,7 +41,11 @@ impl<S: Read + Write + Drop> Page<S> {
     /// # Errors
     ///
     /// Want of memory, of which 16 KiB are taken here.
-    pub fn new(alloc: Global, stream: S, behind: &[u8]) -> Result<Self, AllocError> {
+    pub fn new(alloc: Global, stream: S, behind: &[u8]) -> Result<Self, AllocError>
+        ensures behind { IfOk result (λ page. page.socket.input ≡ behind.now) }
+        ensures stream { IfOk result (λ page. page.socket.stream.stream ≡ stream) }
+        ensures nothing { IfOk result (λ page. (page.heard ≡ []) × (page.unfinished ≡ []) × (page.socket.output ≡ [])) }
+    {
         let mut input = Vec::with_capacity(alloc, 4 * READ_AT_ONCE)?;
         input.extend_from_slice(behind)?;
         let config = WebSocketConfig::default()
@@ -84,13 +86,51 @@ impl<S: Read + Write + Drop> Page<S> {
     ///
     /// `WouldBlock` where a line is not at its end, or where too much waits to be sent: nothing was told then. Any other
     /// error where the page has gone, or for want of memory.
-    pub fn tell(&mut self, message: &str) -> io::Result<()> {
+    pub fn tell(&mut self, message: &str) -> io::Result<()>
+        ensures told { OnOk result (IsTold (λ gate. S.contents gate.stream) (message.now ∷ []) self.old.socket self.new.socket) }
+        ensures between { OnOk result (self.old.unfinished ≡ []) }
+        ensures kept { self.new.unfinished ≡ self.old.unfinished }
+    {
         if !self.unfinished.is_empty() {
             return Err(io::Error::from(ErrorKind::WouldBlock));
         }
         self.send_waiting()?;
-        say(&mut self.socket, self.alloc, message).map_err(io_error)?;
-        self.send_waiting()
+        match say(&mut self.socket, self.alloc, message) {
+            Ok(()) => {}
+            Err(error) => return Err(io_error(error)),
+        }
+        self.send_waiting()?;
+        Ok(())
+    }
+
+    /// Reads what the page sent: the text of its messages, a line feed behind each. It never waits, and reads the stream
+    /// once at most.
+    ///
+    /// `Ok(0)` where the page has closed, or has broken the protocol: then it has gone for good. `WouldBlock` where nothing
+    /// is there. `Interrupted` where nothing is there yet and the stream may have more: ask again without waiting for it.
+    ///
+    /// # Errors
+    ///
+    /// Those, and any other of the stream: then the page has gone.
+    pub fn hear_lines(&mut self, room: &mut [u8]) -> io::Result<usize>
+        ensures bound { IfOk result (λ n. n ≤ length room.new) }
+        ensures len { length room.new ≡ length room.old }
+        // What is left of a message goes on,
+        ensures goes_on { IfOk result (λ n. 0 < n → 0 < length self.old.heard
+            → self.old.heard ≡ take n room.new ++ self.new.heard) }
+        // and where nothing is left, the next message begins.
+        ensures begins { IfOk result (λ n. 0 < n → self.old.heard ≡ [] → (line : List ℕ)
+            × Hears (λ gate. S.remaining gate.stream) line self.old.socket self.new.socket
+            × (line ++ 10 ∷ [] ≡ take n room.new ++ self.new.heard)) }
+    {
+        if self.has_gone {
+            return Ok(0);
+        }
+        if self.heard.is_empty() && !self.hear()? {
+            self.has_gone = true;
+            return Ok(0);
+        }
+        Ok(self.heard.give(room))
     }
 
     /// Takes bytes of lines: each line that ends becomes a message, without its carriage return and line feed. How the bytes
@@ -122,22 +162,26 @@ impl<S: Read + Write + Drop> Page<S> {
         }));
     }
 
-    /// Reads until a message of text came. False where the page has gone.
-    fn hear(&mut self) -> io::Result<bool> {
-        for _ in 0..MOST_PASSED {
-            match self.socket.read() {
-                Ok(Message::Text(text)) => return Ok(self.hear_text(text.as_bytes())),
-                Ok(Message::Binary(_)) => return Ok(self.refuse(CloseCode::Unsupported)),
-                Ok(_) => {}
-                Err(Error::Io(error)) => return Err(error),
-                Err(_) => return Ok(false),
-            }
+    /// Reads the next message. False where the page has gone; `Interrupted` where it was none of text.
+    fn hear(&mut self) -> io::Result<bool>
+        ensures heard { IfOk result (λ is_text. is_text ≡ true → (line : List ℕ)
+            × Hears (λ gate. S.remaining gate.stream) line self.old.socket self.new.socket
+            × (self.new.heard ≡ line ++ 10 ∷ [])) }
+    {
+        match self.socket.read() {
+            Ok(Message::Text(text)) => Ok(self.hear_text(text.as_bytes())),
+            Ok(Message::Binary(_)) => Ok(self.refuse(CloseCode::Unsupported)),
+            Ok(_) => Err(io::Error::from(ErrorKind::Interrupted)),
+            Err(Error::Io(error)) => Err(error),
+            Err(_) => Ok(false),
         }
-        Err(io::Error::from(ErrorKind::Interrupted))
     }
 
     /// Takes the text of a message. False where it is too long.
-    fn hear_text(&mut self, text: &[u8]) -> bool {
+    fn hear_text(&mut self, text: &[u8]) -> bool
+        ensures heard { result ≡ true → self.new.heard ≡ text.now ++ 10 ∷ [] }
+        ensures socket { result ≡ true → self.new.socket ≡ self.old.socket }
+    {
         if text.len() > LONGEST_LINE {
             return self.refuse(CloseCode::Size);
         }
@@ -146,7 +190,9 @@ impl<S: Read + Write + Drop> Page<S> {
     }
 
     /// Ends the WebSocket for this reason: false.
-    fn refuse(&mut self, code: CloseCode) -> bool {
+    fn refuse(&mut self, code: CloseCode) -> bool
+        ensures { result ≡ false }
+    {
         let _ = self.socket.close(Some(CloseFrame {
             code,
             reason: Utf8Bytes::from_static(""),
@@ -211,27 +257,14 @@ impl<S: Read + Write + Drop> Page<S> {
 }
 
 impl<S: Read + Write + Drop> Read for Page<S> {
-    /// Reads what the page sent: the text of its messages, a line feed behind each. It never waits, and reads the stream
-    /// once at most.
-    ///
-    /// `Ok(0)` where the page has closed, or has broken the protocol: then it has gone for good. `WouldBlock` where nothing
-    /// is there. `Interrupted` where nothing is there yet and the stream may have more: ask again without waiting for it.
+    /// The same as [`Page::hear_lines`].
     fn read(&mut self, room: &mut [u8]) -> io::Result<usize> {
-        if self.has_gone {
-            return Ok(0);
-        }
-        if self.heard.is_empty() && !self.hear()? {
-            self.has_gone = true;
-            return Ok(0);
-        }
-        Ok(self.heard.give(room))
+        self.hear_lines(room)
     }
 }
 
 impl<S: Read + Write + Drop> Write for Page<S> {
-    /// Takes bytes of lines: each that ends becomes a message, without its carriage return and line feed. It never waits.
-    ///
-    /// `WouldBlock` where too much waits to be sent.
+    /// The same as [`Page::tell_lines`].
     fn write(&mut self, bytes: &[u8]) -> io::Result<usize> {
         self.tell_lines(bytes)
     }

@@ -11,7 +11,7 @@ use std::test::Fail;
 fn read_all(rt: &HostRuntime, page: &mut Page<Memory>) -> Result<(Vec<u8>, bool), Fail> {
     let mut text = Vec::new(rt.alloc());
     let mut room = [0; 7];
-    for _ in 0..10_000 {
+    for _ in 0..100_000 {
         match page.read(&mut room) {
             Ok(0) => return Ok((text, true)),
             Ok(count) => text.extend_from_slice(room.get(..count).unwrap_or(&[]))?,

@@ -243,9 +243,10 @@ fn a_head_has_so_many_fields(rt: HostRuntime) -> Result<(), Fail> {
 fn a_head_has_so_many_bytes(rt: HostRuntime) -> Result<(), Fail> {
     let mut text = Vec::new(rt.alloc());
     text.extend_from_slice(b"GET / HTTP/1.1\r\nA: ")?;
-    while text.len() < LONGEST - 1 {
+    for _ in 0..8_172 {
         text.push(b'a')?;
     }
+    assert_eq!(rt; text.len(), LONGEST - 1);
     assert_eq!(rt; status(text.as_slice()), 0);
     text.push(b'a')?;
     assert_eq!(rt; status(text.as_slice()), 431);
