@@ -20,6 +20,8 @@ const MOST_TRIES: u8 = 4;
 pub(crate) struct Watcher {
     page: Page<TcpStream>,
     board: Board,
+    /// Text of the bus was told: the first is the version, before which nothing is told.
+    is_greeted: bool,
 }
 
 impl Watcher {
@@ -28,6 +30,7 @@ impl Watcher {
         Watcher {
             page,
             board: Board::new(),
+            is_greeted: false,
         }
     }
 
@@ -49,6 +52,7 @@ impl Watcher {
     pub(crate) fn write(&mut self, bytes: &[u8]) -> io::Result<usize>
         ensures { WritesAtMost result bytes.now }
     {
+        self.is_greeted = true;
         self.page.write(bytes)
     }
 
@@ -58,6 +62,9 @@ impl Watcher {
     {
         // Whoever has gone is let go at its next read.
         let _ = self.page.flush();
+        if !self.is_greeted {
+            return;
+        }
         for _decoder in 0..world.nodes() {
             let Some(decoder) = self.board.due(world) else {
                 return;
