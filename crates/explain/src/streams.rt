@@ -1,7 +1,7 @@
 //! The program on its streams.
-ghost use Rattle.std.specs.Prelude.{◌≡◌, ◌⊎◌, ◌<◌, ◌^◌, ◌==◌, IfErr, IfOk, None, OnErr, OnOk, Some, false};
+ghost use Rattle.std.specs.Prelude.{◌≡◌, ◌⊎◌, ◌<◌, ◌^◌, IfErr, IfOk, None, OnErr, OnOk, Some, false, true};
 ghost use Rattle.std.specs.Io.KnownBytes.{Appends, IsAtEnd};
-ghost use Rattle.explain.specs.Ends.{has_unread, has_unread_yet};
+ghost use Rattle.explain.specs.Ends.{has_unread, has_unread_yet, is_unread};
 ghost use Rattle.explain.specs.Fault.{status_of};
 ghost use Rattle.explain.specs.Streams.{AppendsFront, Begins, Explains, ExplainsFront, Follows};
 
@@ -28,8 +28,9 @@ where
     ensures status { (result ≡ 0) ⊎ (result ≡ 2) ⊎ (result ≡ 4) ⊎ (result ≡ 6) }
     ensures explained { result ≡ 0 → Explains (I.left input.old) (I.left input.new) (O.contents output.old) (O.contents output.new) }
     ensures end { result ≡ 0 → IsAtEnd (I.left input.new) }
-    // The status is 2 exactly where a read failed, and then all that was read before is explained.
-    ensures failed { I.failed input.new ≡ (result == 2) }
+    // No read failed where the status is 0. Where it is 2 one did, and all that was read before is explained.
+    ensures read { result ≡ 0 → I.failed input.new ≡ false }
+    ensures failed { result ≡ 2 → I.failed input.new ≡ true }
     ensures unread { result ≡ 2 → Explains (I.left input.old) (I.left input.new) (O.contents output.old) (O.contents output.new) }
     // Whatever fails, nothing is made up.
     ensures begun { ExplainsFront (I.left input.old) (I.left input.new) (O.contents output.old) (O.contents output.new) }
@@ -59,7 +60,7 @@ fn explain_input<I: Input, O: Write>(
     requires { I.failed input.old ≡ false }
     ensures explained { OnOk result (Explains (I.left input.old) (I.left input.new) (O.contents output.old) (O.contents output.new)) }
     ensures end { IfOk result (λ end. end ≡ End.Whole → IsAtEnd (I.left input.new)) }
-    ensures failed { I.failed input.new ≡ has_unread result }
+    ensures failed { IfOk result (λ end. I.failed input.new ≡ is_unread end) }
     ensures begun { ExplainsFront (I.left input.old) (I.left input.new) (O.contents output.old) (O.contents output.new) }
     ensures fault { IfErr result (λ e. (e ≡ ExplainFault.Output) ⊎ (e ≡ ExplainFault.NoMemory)) }
 {
