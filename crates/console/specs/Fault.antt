@@ -1,5 +1,6 @@
 -- The exit status of a fault, and the numbers of faults.
-use Rattle.std.specs.Prelude.{ℕ}
+use Rattle.std.specs.Prelude.{ℕ, Bool, true, false, Result, Ok, Err}
+use Rattle.clap.specs.Words.{Text}
 use Rattle.show_text.specs.declared.command.Why.{Why as ScriptWhy}
 use Rattle.show_text.specs.declared.command.Why.TheVariants as script
 use Rattle.show_text.specs.declared.command.ScriptFault.{ScriptFault}
@@ -9,8 +10,8 @@ use Rattle.show_text.specs.declared.hex.HexFault.{HexFault}
 use Rattle.roster.specs.declared.fault.Why.{Why as RosterWhy}
 use Rattle.roster.specs.declared.fault.Why.TheVariants as roster
 use Rattle.roster.specs.declared.fault.RosterFault.{RosterFault}
-use Rattle.console.specs.declared.input.ReadFault.{ReadFault}
-use Rattle.console.specs.declared.input.ReadFault.TheVariants as read
+use Rattle.input_text.specs.declared.input.ReadFault.{ReadFault}
+use Rattle.input_text.specs.declared.input.ReadFault.TheVariants as read
 use Rattle.command_line.specs.declared.orders.OrderFault.{OrderFault}
 use Rattle.command_line.specs.declared.orders.OrderFault.TheVariants as order
 use Rattle.console.specs.declared.fault.RunFault.{RunFault}
@@ -35,6 +36,46 @@ status_of NoMemory = 6
 abbrev pub of_read : ReadFault → RunFault
 of_read read.Failed = UnreadableInput
 of_read read.NoMemory = NoMemory
+
+-- of a file
+abbrev pub of_file : Text → ReadFault → RunFault
+of_file file read.Failed = Unreadable file
+of_file file read.NoMemory = NoMemory
+
+-- a file could not be read
+abbrev pub is_unread_file : RunFault → Bool
+is_unread_file (Usage error) = false
+is_unread_file Lines = false
+is_unread_file (Unreadable file) = true
+is_unread_file UnreadableInput = false
+is_unread_file (TooLong file) = false
+is_unread_file (Roster number node) = false
+is_unread_file Network = false
+is_unread_file Output = false
+is_unread_file (Serve number) = false
+is_unread_file (Script number line) = false
+is_unread_file (Hex number at) = false
+is_unread_file NoMemory = false
+
+-- standard input could not be read
+abbrev pub is_unread_input : RunFault → Bool
+is_unread_input (Usage error) = false
+is_unread_input Lines = false
+is_unread_input (Unreadable file) = false
+is_unread_input UnreadableInput = true
+is_unread_input (TooLong file) = false
+is_unread_input (Roster number node) = false
+is_unread_input Network = false
+is_unread_input Output = false
+is_unread_input (Serve number) = false
+is_unread_input (Script number line) = false
+is_unread_input (Hex number at) = false
+is_unread_input NoMemory = false
+
+-- whether a run ended in such a fault
+abbrev pub ended_by : {A : Type 0} → (RunFault → Bool) → Result A RunFault → Bool
+ended_by is (Ok a) = false
+ended_by is (Err fault) = is fault
 
 abbrev pub of_order : OrderFault → RunFault
 of_order (order.Usage error) = Usage error

@@ -1,10 +1,11 @@
 //! Why a run ends with a status other than 0.
 ghost use Rattle.std.specs.Prelude.{◌≡◌};
 ghost use Rattle.console.specs.declared.fault.RunFault.TheVariants.{NoMemory, Output};
-ghost use Rattle.console.specs.Fault.{of_hex, of_order, of_roster, of_script, status_of};
+ghost use Rattle.console.specs.Fault.{of_hex, of_order, of_read, of_roster, of_script, status_of};
 
 use crate::output::Unwritten;
 use command_line::{FileName, OrderFault};
+use input_text::ReadFault;
 use roster::RosterFault;
 use show_text::{HexFault, HexWhy, ScriptFault};
 use std::alloc::AllocError;
@@ -92,6 +93,18 @@ impl From<Unwritten> for RunFault {
 
     fn from(_error: Unwritten) -> RunFault {
         RunFault::Output
+    }
+}
+
+/// Of standard input.
+impl From<ReadFault> for RunFault {
+    ghost from_gives = { λ read run. run ≡ of_read read };
+
+    fn from(fault: ReadFault) -> RunFault {
+        match fault {
+            ReadFault::Failed => RunFault::UnreadableInput,
+            ReadFault::NoMemory => RunFault::NoMemory,
+        }
     }
 }
 

@@ -11,9 +11,8 @@ mod telling;
 mod words;
 
 pub use fault::RunFault;
-pub use input::{ReadFault, read_most};
-pub use monitoring::monitor;
+pub use monitoring::{monitor, monitor_from};
 pub use output::{Lent, Unwritten, flush_after, print, print_ended};
-pub use roster_file::read_roster;
+pub use roster_file::{read_roster, roster_from};
 pub use telling::{tell, tell_as};
 pub use words::{read_words, texts};

@@ -1,16 +1,16 @@
 //! `station monitor`: the messages in captured bytes.
-ghost use Rattle.std.specs.Prelude.{ℕ, ◌≡◌, ◌≢◌, ◌<◌, ◌⊎◌, List, Err, IfErr, Ok, OnOk};
+ghost use Rattle.std.specs.Prelude.{ℕ, ◌≡◌, ◌≢◌, List, IfErr, None, OnOk, false};
 ghost use Rattle.std.specs.Io.KnownBytes.{Appends};
 ghost use Rattle.ln_frame.specs.Stream.{messages_of};
-ghost use Rattle.show_text.specs.Hex.{hex_of};
-ghost use Rattle.show_text.specs.declared.hex.HexFault.{HexFault};
-ghost use Rattle.console.specs.Fault.{of_hex};
+ghost use Rattle.console.specs.Fault.{ended_by, is_unread_file};
+ghost use Rattle.console.specs.Monitored.{FailsHex, FailsMonitor, MonitorsInput};
 ghost use Rattle.console.specs.Printed.{PrintsMessages, messages_text};
 
 use crate::fault::RunFault;
-use crate::input::read_file;
+use crate::input::{not_read, open};
 use crate::output::{Lent, Unwritten, flush_after, print};
 use command_line::FileName;
+use input_text::{Input, read_most};
 use ln_frame::{Framer, any_cut};
 use show_text::{LONGEST_TEXT, message_line, read_hex};
 use std::alloc::Global;
@@ -31,17 +31,46 @@ pub fn monitor<R: Files + AllocGlobal, O: Write>(
 ) -> Result<(), RunFault>
     // What a file holds is not known, but that there is a text.
     ensures printed { OnOk result ((text : List ℕ) × PrintsMessages text (O.contents output.old) (O.contents output.new)) }
+    ensures fault { IfErr result (FailsMonitor file None None) }
     // Where neither memory ran out nor the output failed, a fault prints nothing.
     ensures untouched { IfErr result (λ e. e ≢ RunFault.NoMemory → e ≢ RunFault.Output → output.new ≡ output.old) }
 {
-    let text = match read_file(rt, &file, LONGEST_TEXT + 1) {
+    match open(rt, &file) {
+        Ok(mut input) => monitor_from(rt.alloc(), file, &mut input, output),
+        Err(fault) => Err(not_read(fault, file)),
+    }
+}
+
+/// The same of an input, which is the file of this name: `Unreadable` comes exactly where a read failed.
+pub fn monitor_from<I: Input, O: Write>(
+    alloc: Global,
+    file: FileName,
+    input: &mut I,
+    output: &mut O,
+) -> Result<(), RunFault>
+    requires { I.failed input.old ≡ false }
+    ensures printed { OnOk result (MonitorsInput (I.left input.old) (I.left input.new) (O.contents output.old) (O.contents output.new)) }
+    ensures fault { IfErr result (FailsMonitor file (I.left input.old) (I.left input.new)) }
+    ensures failed { I.failed input.new ≡ ended_by is_unread_file result }
+    ensures untouched { IfErr result (λ e. e ≢ RunFault.NoMemory → e ≢ RunFault.Output → output.new ≡ output.old) }
+{
+    let text = match read_most(alloc, input, LONGEST_TEXT + 1) {
         Ok(text) => text,
-        Err(fault) => return Err(fault.of_file(file)),
+        Err(fault) => return Err(not_read(fault, file)),
     };
-    let Ok(mut buffered) = BufWriter::new(rt.alloc(), Lent::new(output)) else {
+    print_hex(alloc, text.as_slice(), output)
+}
+
+/// Prints each message in the bytes of a hex text, by a buffer.
+fn print_hex<O: Write>(alloc: Global, text: &[u8], output: &mut O) -> Result<(), RunFault>
+    ensures printed { OnOk result (PrintsMessages text.now (O.contents output.old) (O.contents output.new)) }
+    ensures fault { IfErr result (FailsHex text.now) }
+    ensures untouched { IfErr result (λ e. e ≢ RunFault.NoMemory → e ≢ RunFault.Output → output.new ≡ output.old) }
+{
+    let Ok(mut buffered) = BufWriter::new(alloc, Lent::new(output)) else {
         return Err(RunFault::NoMemory);
     };
-    let done = monitor_text(rt.alloc(), text.as_slice(), &mut buffered);
+    let done = monitor_text(alloc, text, &mut buffered);
     let done = flush_after(done, &mut buffered);
     let (lent, _rest) = buffered.into_parts();
     let Lent { writer: _writer } = lent;
@@ -51,9 +80,8 @@ pub fn monitor<R: Files + AllocGlobal, O: Write>(
 /// Prints each message in the bytes of a hex text.
 fn monitor_text<O: Write>(alloc: Global, text: &[u8], output: &mut O) -> Result<(), RunFault>
     ensures printed { OnOk result (PrintsMessages text.now (O.contents output.old) (O.contents output.new)) }
-    // A text with a fault prints nothing, and the fault is told.
-    ensures refused { (fault : HexFault) → hex_of text.now ≡ Err fault → (O.contents output.new ≡ O.contents output.old) × IfErr result (λ e. (e ≡ of_hex fault) ⊎ (e ≡ RunFault.NoMemory)) }
-    ensures faults { (bytes : List ℕ) → hex_of text.now ≡ Ok bytes → IfErr result (λ e. (e ≡ RunFault.Output) ⊎ (e ≡ RunFault.NoMemory)) }
+    ensures fault { IfErr result (FailsHex text.now) }
+    // A text with a fault prints nothing.
     ensures untouched { IfErr result (λ e. e ≢ RunFault.Output → output.new ≡ output.old) }
 {
     let bytes = read_hex(alloc, text)?;

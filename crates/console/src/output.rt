@@ -1,13 +1,14 @@
 //! Printing lines.
-ghost use Rattle.std.specs.Prelude.{◌≡◌, IfErr, OnOk, ◌<◌, ◌++◌, ◌∷◌, [], Err, is_ok, length, true};
+ghost use Rattle.std.specs.Prelude.{◌≡◌, IfErr, IfOk, OnErr, OnOk, ◌<◌, ◌≤◌, ◌++◌, ◌∷◌, [], Err, is_ok, length, true};
 ghost use Rattle.std.specs.Io.Buffered.{writer_buffer};
-ghost use Rattle.std.specs.Io.KnownBytes.{Appends, Keeps};
+ghost use Rattle.std.specs.Io.KnownBytes.{Appends, Keeps, WriteAppends};
 ghost use Rattle.console.specs.Lent.{buffered_contents, lent_contents};
+ghost use Rattle.console.specs.Printed.{AppendsFront};
 
 use crate::fault::RunFault;
 use show_text::Line;
 use std::io;
-use std::io::{BufWriter, Write};
+use std::io::{BufWriter, ErrorKind, Write};
 
 /// The output could not be written.
 ///
@@ -74,9 +75,10 @@ pub fn flush_after<O: Write>(
 ///
 /// # Errors
 ///
-/// `Unwritten` where a write fails. How much of the line was written is not known.
+/// `Unwritten` where a write fails. Then a front of the line is written, and not its line feed.
 pub fn print<O: Write>(output: &mut O, line: &Line) -> Result<(), Unwritten>
     ensures printed { OnOk result (Appends (O.contents output.old) (O.contents output.new) (line.now.bytes ++ 10 ∷ [])) }
+    ensures front { OnErr result (AppendsFront (O.contents output.old) (O.contents output.new) (line.now.bytes ++ 10 ∷ [])) }
 {
     print_all(output, line.as_str().as_bytes())?;
     print_all(output, b"\n")
@@ -86,17 +88,45 @@ pub fn print<O: Write>(output: &mut O, line: &Line) -> Result<(), Unwritten>
 ///
 /// # Errors
 ///
-/// `Unwritten` where the write fails. How much of the line was written is not known.
+/// `Unwritten` where the write fails. Then a front of the line is written, and not its line feed.
 pub fn print_ended<O: Write>(output: &mut O, line: &mut Line) -> Result<(), Unwritten>
     requires { length line.old.bytes < 640 }
     ensures printed { OnOk result (Appends (O.contents output.old) (O.contents output.new) (line.old.bytes ++ 10 ∷ [])) }
+    ensures front { OnErr result (AppendsFront (O.contents output.old) (O.contents output.new) (line.old.bytes ++ 10 ∷ [])) }
 {
     line.push_str("\n");
     print_all(output, line.as_str().as_bytes())
 }
 
+/// Writes all bytes, or, where a write fails, a front of them that is not all.
 fn print_all<O: Write>(output: &mut O, bytes: &[u8]) -> Result<(), Unwritten>
     ensures printed { OnOk result (Appends (O.contents output.old) (O.contents output.new) bytes.now) }
+    ensures front { OnErr result (AppendsFront (O.contents output.old) (O.contents output.new) bytes.now) }
 {
-    output.write_all(bytes).map_err(|_| Unwritten)
+    let mut rest = bytes;
+    while !rest.is_empty() {
+        let count = print_some(output, rest)?;
+        rest = &rest[count..];
+    }
+    Ok(())
+}
+
+/// Writes as many bytes as are taken at once, at least 1. A write that was only interrupted is tried again.
+fn print_some<O: Write>(output: &mut O, bytes: &[u8]) -> Result<usize, Unwritten>
+    requires { 0 < length bytes.now }
+    ensures bound { IfOk result (λ n. (0 < n) × (n ≤ length bytes.now)) }
+    ensures bytes { WriteAppends (O.contents output.old) (O.contents output.new) result bytes.now }
+{
+    for _ in 0..u64::MAX {
+        match output.write(bytes) {
+            Ok(0) => return Err(Unwritten),
+            Ok(count) => return Ok(count),
+            Err(error) => {
+                if error.kind() != ErrorKind::Interrupted {
+                    return Err(Unwritten);
+                }
+            }
+        }
+    }
+    Err(Unwritten)
 }

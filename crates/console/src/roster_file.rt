@@ -1,11 +1,14 @@
 //! A roster that is read from its file.
-ghost use Rattle.std.specs.Prelude.{IfOk};
-ghost use Rattle.console.specs.Files.{IsRosterOf};
+ghost use Rattle.std.specs.Prelude.{◌≡◌, None, false, IfErr, IfOk};
+ghost use Rattle.console.specs.Fault.{ended_by, is_unread_file};
+ghost use Rattle.console.specs.Files.{FailsRoster, HasNoRoster, IsRosterOf, ReadsRoster};
 
 use crate::fault::RunFault;
-use crate::input::read_file;
+use crate::input::{not_read, open};
 use command_line::FileName;
+use input_text::{Input, read_most};
 use roster::Roster;
+use std::alloc::Global;
 use std::rt::Files;
 
 /// The longest roster, in bytes.
@@ -22,17 +25,37 @@ pub fn read_roster<R: Files + AllocGlobal>(
     rt: &R,
     file: Option<FileName>,
 ) -> Result<Option<Roster>, RunFault>
-    ensures { IfOk result (λ roster. IsRosterOf file roster) }
+    ensures roster { IfOk result (λ roster. IsRosterOf file roster) }
+    ensures fault { IfErr result (HasNoRoster file) }
 {
     let Some(file) = file else {
         return Ok(None);
     };
-    let text = match read_file(rt, &file, LONGEST_ROSTER + 1) {
+    let mut input = match open(rt, &file) {
+        Ok(input) => input,
+        Err(fault) => return Err(not_read(fault, file)),
+    };
+    Ok(Some(roster_from(rt.alloc(), file, &mut input)?))
+}
+
+/// The roster that an input is, which is the file of this name. The faults are those of [`read_roster`]: `Unreadable`
+/// comes exactly where a read failed.
+pub fn roster_from<I: Input>(
+    alloc: Global,
+    file: FileName,
+    input: &mut I,
+) -> Result<Roster, RunFault>
+    requires { I.failed input.old ≡ false }
+    ensures read { IfOk result (ReadsRoster (I.left input.old) (I.left input.new)) }
+    ensures fault { IfErr result (FailsRoster file (I.left input.old) (I.left input.new)) }
+    ensures failed { I.failed input.new ≡ ended_by is_unread_file result }
+{
+    let text = match read_most(alloc, input, LONGEST_ROSTER + 1) {
         Ok(text) => text,
-        Err(fault) => return Err(fault.of_file(file)),
+        Err(fault) => return Err(not_read(fault, file)),
     };
     if text.len() > LONGEST_ROSTER {
         return Err(RunFault::TooLong(file));
     }
-    Ok(Some(roster::read(rt.alloc(), text.as_slice())?))
+    Ok(roster::read(alloc, text.as_slice())?)
 }

@@ -1,3 +1,4 @@
+pub mod Ends
 pub mod Explained
 pub mod Fault
 pub mod Lines

@@ -1,6 +1,7 @@
 //! `explain`: the lines that it reads, and behind those of messages and packets what they say in plain words.
 #![tactic(auto)]
 
+mod end;
 mod explainer;
 mod fault;
 mod laws;
@@ -10,6 +11,7 @@ mod subjects;
 
 pub use explainer::Explainer;
 pub use fault::ExplainFault;
+use input_text::Noting;
 pub use laws::told_is_explained;
 use std::io;
 use std::process::ExitCode;
@@ -21,7 +23,7 @@ mod tests;
 fn main(rt: HostRuntime) -> ExitCode {
     ExitCode::from(execute(
         rt.alloc(),
-        &mut rt.reader(),
+        &mut Noting::new(rt.reader()),
         &mut io::writer(&rt),
         &mut rt.stderr(),
     ))

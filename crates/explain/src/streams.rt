@@ -1,25 +1,19 @@
 //! The program on its streams.
-ghost use Rattle.std.specs.Prelude.{◌≡◌, ◌⊎◌, ◌<◌, ◌≤◌, IfErr, IfOk, IfSome, MatchOption, OnErr, OnOk, Some, length, take};
-ghost use Rattle.std.specs.Io.KnownBytes.{Appends, Consumes, IsAtEnd, Keeps};
+ghost use Rattle.std.specs.Prelude.{◌≡◌, ◌⊎◌, ◌<◌, ◌^◌, IfErr, IfOk, None, OnErr, OnOk, Some, false, true};
+ghost use Rattle.std.specs.Io.KnownBytes.{Appends, IsAtEnd};
+ghost use Rattle.explain.specs.Ends.{has_unread, has_unread_yet, is_unread};
 ghost use Rattle.explain.specs.Fault.{status_of};
 ghost use Rattle.explain.specs.Streams.{AppendsFront, Begins, Explains, ExplainsFront, Follows};
 
+use crate::end::End;
 use crate::explainer::Explainer;
 use crate::fault::ExplainFault;
+use input_text::{Input, ReadFault};
 use std::alloc::Global;
-use std::io::{ErrorKind, Read, Write};
+use std::io::{ErrorKind, Write};
 
 /// How many bytes are asked of a reader at a time.
 const CHUNK: usize = 4096;
-
-/// How an input ended.
-#[derive(Clone, Copy)]
-enum End {
-    /// All of it was read.
-    Whole,
-    /// A read failed.
-    Unreadable,
-}
 
 /// Explains the lines that `input` gives, to its end, and answers the exit status: 0, 2, 4 or 6.
 ///
@@ -27,16 +21,19 @@ enum End {
 /// line `explain: ..`.
 pub fn execute<I, O, E>(alloc: Global, input: &mut I, output: &mut O, faults: &mut E) -> u8
 where
-    I: Read,
+    I: Input,
     O: Write,
     E: Write,
+    requires { I.failed input.old ≡ false }
     ensures status { (result ≡ 0) ⊎ (result ≡ 2) ⊎ (result ≡ 4) ⊎ (result ≡ 6) }
-    ensures explained { result ≡ 0 → Explains (I.remaining input.old) (I.remaining input.new) (O.contents output.old) (O.contents output.new) }
-    ensures end { result ≡ 0 → IsAtEnd (I.remaining input.new) }
-    // Where a read fails, all that was read before is explained.
-    ensures unread { result ≡ 2 → Explains (I.remaining input.old) (I.remaining input.new) (O.contents output.old) (O.contents output.new) }
+    ensures explained { result ≡ 0 → Explains (I.left input.old) (I.left input.new) (O.contents output.old) (O.contents output.new) }
+    ensures end { result ≡ 0 → IsAtEnd (I.left input.new) }
+    // No read failed where the status is 0. Where it is 2 one did, and all that was read before is explained.
+    ensures read { result ≡ 0 → I.failed input.new ≡ false }
+    ensures failed { result ≡ 2 → I.failed input.new ≡ true }
+    ensures unread { result ≡ 2 → Explains (I.left input.old) (I.left input.new) (O.contents output.old) (O.contents output.new) }
     // Whatever fails, nothing is made up.
-    ensures begun { ExplainsFront (I.remaining input.old) (I.remaining input.new) (O.contents output.old) (O.contents output.new) }
+    ensures begun { ExplainsFront (I.left input.old) (I.left input.new) (O.contents output.old) (O.contents output.new) }
     ensures quiet { result ≡ 0 → faults.new ≡ faults.old }
 {
     match explain_input(alloc, input, output) {
@@ -55,14 +52,16 @@ fn tell<E: Write>(fault: ExplainFault, faults: &mut E) -> u8
 }
 
 /// Explains the lines of the input, to its end or to a read that fails.
-fn explain_input<I: Read, O: Write>(
+fn explain_input<I: Input, O: Write>(
     alloc: Global,
     input: &mut I,
     output: &mut O,
 ) -> Result<End, ExplainFault>
-    ensures explained { OnOk result (Explains (I.remaining input.old) (I.remaining input.new) (O.contents output.old) (O.contents output.new)) }
-    ensures end { IfOk result (λ end. end ≡ End.Whole → IsAtEnd (I.remaining input.new)) }
-    ensures begun { ExplainsFront (I.remaining input.old) (I.remaining input.new) (O.contents output.old) (O.contents output.new) }
+    requires { I.failed input.old ≡ false }
+    ensures explained { OnOk result (Explains (I.left input.old) (I.left input.new) (O.contents output.old) (O.contents output.new)) }
+    ensures end { IfOk result (λ end. end ≡ End.Whole → IsAtEnd (I.left input.new)) }
+    ensures failed { IfOk result (λ end. I.failed input.new ≡ is_unread end) }
+    ensures begun { ExplainsFront (I.left input.old) (I.left input.new) (O.contents output.old) (O.contents output.new) }
     ensures fault { IfErr result (λ e. (e ≡ ExplainFault.Output) ⊎ (e ≡ ExplainFault.NoMemory)) }
 {
     let mut explainer = Explainer::new();
@@ -75,71 +74,51 @@ fn explain_input<I: Read, O: Write>(
 }
 
 /// Hears all that a reader gives, to its end or to a read that fails, and writes each line as its end is read.
-fn hear_all<I: Read, O: Write>(
+fn hear_all<I: Input, O: Write>(
     explainer: &mut Explainer,
     text: &mut Vec<u8>,
     input: &mut I,
     output: &mut O,
 ) -> Result<End, ExplainFault>
-    ensures followed { OnOk result (Follows (I.remaining input.old) (I.remaining input.new) (O.contents output.old) (O.contents output.new) explainer.old.is_long explainer.old.line.items explainer.new.is_long explainer.new.line.items) }
-    ensures end { IfOk result (λ end. end ≡ End.Whole → IsAtEnd (I.remaining input.new)) }
-    ensures begun { OnErr result (Begins (I.remaining input.old) (I.remaining input.new) (O.contents output.old) (O.contents output.new) explainer.old.is_long explainer.old.line.items) }
+    requires { I.failed input.old ≡ false }
+    ensures followed { OnOk result (Follows (I.left input.old) (I.left input.new) (O.contents output.old) (O.contents output.new) explainer.old.is_long explainer.old.line.items explainer.new.is_long explainer.new.line.items) }
+    ensures end { IfOk result (λ end. end ≡ End.Whole → IsAtEnd (I.left input.new)) }
+    ensures failed { I.failed input.new ≡ has_unread result }
+    ensures begun { OnErr result (Begins (I.left input.old) (I.left input.new) (O.contents output.old) (O.contents output.new) explainer.old.is_long explainer.old.line.items) }
     ensures fault { IfErr result (λ e. (e ≡ ExplainFault.Output) ⊎ (e ≡ ExplainFault.NoMemory)) }
 {
-    for _ in 0..u64::MAX {
+    loop {
         if let Some(end) = hear_some(explainer, text, input, output)? {
             return Ok(end);
         }
     }
-    Ok(End::Unreadable)
 }
 
 /// Hears what one read gives, and writes the lines that end in it. None where more may come.
-fn hear_some<I: Read, O: Write>(
+fn hear_some<I: Input, O: Write>(
     explainer: &mut Explainer,
     text: &mut Vec<u8>,
     input: &mut I,
     output: &mut O,
 ) -> Result<Option<End>, ExplainFault>
-    ensures followed { OnOk result (Follows (I.remaining input.old) (I.remaining input.new) (O.contents output.old) (O.contents output.new) explainer.old.is_long explainer.old.line.items explainer.new.is_long explainer.new.line.items) }
-    ensures end { IfOk result (λ end. end ≡ Some End.Whole → IsAtEnd (I.remaining input.new)) }
-    ensures begun { OnErr result (Begins (I.remaining input.old) (I.remaining input.new) (O.contents output.old) (O.contents output.new) explainer.old.is_long explainer.old.line.items) }
+    requires { I.failed input.old ≡ false }
+    ensures followed { OnOk result (Follows (I.left input.old) (I.left input.new) (O.contents output.old) (O.contents output.new) explainer.old.is_long explainer.old.line.items explainer.new.is_long explainer.new.line.items) }
+    ensures end { IfOk result (λ end. end ≡ Some End.Whole → IsAtEnd (I.left input.new)) }
+    ensures failed { I.failed input.new ≡ has_unread_yet result }
+    ensures gives { IfOk result (λ end. end ≡ None → (I.given input.old < I.given input.new) × (I.given input.new < 2 ^ 64)) }
+    ensures begun { OnErr result (Begins (I.left input.old) (I.left input.new) (O.contents output.old) (O.contents output.new) explainer.old.is_long explainer.old.line.items) }
     ensures fault { IfErr result (λ e. (e ≡ ExplainFault.Output) ⊎ (e ≡ ExplainFault.NoMemory)) }
 {
     let mut chunk = [0u8; CHUNK];
-    let Some(count) = read_chunk(input, &mut chunk)? else {
-        return Ok(Some(End::Unreadable));
+    let count = match input.get(&mut chunk) {
+        Ok(0) => return Ok(Some(End::Whole)),
+        Ok(count) => count,
+        Err(ReadFault::Failed) => return Ok(Some(End::Unreadable)),
+        Err(ReadFault::NoMemory) => return Err(ExplainFault::NoMemory),
     };
-    if count == 0 {
-        return Ok(Some(End::Whole));
-    }
     text.clear();
     explainer.hear(&chunk[..count], text)?;
     write_text(text.as_slice(), output)?;
-    Ok(None)
-}
-
-/// Reads some bytes, as many as come at once, and none at the end. A read that was only interrupted is tried again; None
-/// is one that failed.
-fn read_chunk<I: Read>(input: &mut I, chunk: &mut [u8]) -> Result<Option<usize>, ExplainFault>
-    requires { 0 < length chunk.old }
-    ensures len { length chunk.new ≡ length chunk.old }
-    ensures within { IfOk result (λ read. IfSome read (λ count. count ≤ length chunk.new)) }
-    ensures taken { IfOk result (λ read. MatchOption read (Keeps (I.remaining input.old) (I.remaining input.new)) (λ count. Consumes (I.remaining input.old) (I.remaining input.new) (take count chunk.new))) }
-    ensures end { IfOk result (λ read. read ≡ Some 0 → IsAtEnd (I.remaining input.new)) }
-    ensures kept { OnErr result (Keeps (I.remaining input.old) (I.remaining input.new)) }
-    ensures fault { IfErr result (λ e. e ≡ ExplainFault.NoMemory) }
-{
-    for _ in 0..u64::MAX {
-        match input.read(chunk) {
-            Ok(count) => return Ok(Some(count)),
-            Err(error) => match error.kind() {
-                ErrorKind::Interrupted => {}
-                ErrorKind::OutOfMemory => return Err(ExplainFault::NoMemory),
-                _ => return Ok(None),
-            },
-        }
-    }
     Ok(None)
 }
 

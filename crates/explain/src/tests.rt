@@ -5,6 +5,7 @@ mod lines;
 mod memory;
 
 use crate::execute;
+use input_text::Noting;
 use std::io::Read;
 
 /// What a run answers, writes and tells.
@@ -19,7 +20,8 @@ struct Ran {
 fn run_from<I: Read>(rt: &HostRuntime, input: &mut I) -> Ran {
     let mut output = Vec::new(rt.alloc());
     let mut faults = Vec::new(rt.alloc());
-    let status = execute(rt.alloc(), input, &mut output, &mut faults);
+    let mut input = Noting::new(input);
+    let status = execute(rt.alloc(), &mut input, &mut output, &mut faults);
     Ran {
         status,
         output,

@@ -2,24 +2,26 @@
 use Rattle.std.proofs.Common.{◌≡◌, inl, inr, ◌<◌, ◌≤◌, ℕ, ◌+◌, List, [], ◌∷◌, ◌++◌, Option, length, length-append, take, refl, ap, sym, subst, ◌∙◌, append_assoc, arith}
 use Rattle.std.specs.Prelude.{Result, Ok, Err, IfErr, OnOk}
 use Rattle.std.proofs.lemmas.List.{append-nil}
-use Rattle.std.specs.Io.KnownBytes.{Appends}
+use Rattle.std.specs.Io.KnownBytes.{Appends, IsAtEnd}
 use Rattle.layout_core.specs.declared.engine.Limits.{Limits}
 use Rattle.layout_core.specs.declared.engine.ServeFault.{ServeFault}
 use Rattle.layout_core.specs.declared.engine.Summary.{Summary}
 use Rattle.layout_core.specs.declared.engine.ServeFault.TheVariants.{Read, Write, Trace, TooManyReads}
 use Rattle.layout_core.specs.declared.event.Event.{Event}
 use Rattle.layout_core.specs.declared.world.World.{World}
-use Rattle.layout_core.specs.Faults.{HasFaulted, Leaves, StopsAfter}
+use Rattle.layout_core.specs.Faults.{HasFaulted, Leaves, StopsAfter, is_read, is_write}
 use Rattle.layout_core.specs.Played.{answers_to}
 use Rattle.layout_core.specs.Served.{HasServed as EngineHasServed, Input, Moment, Serves as EngineServes, moment_of, served_events, traced_from}
 use Rattle.console.specs.declared.fault.RunFault.{RunFault}
-use Rattle.program.specs.Connections.{AreServed, GivesUp, HasGivenUp, HasServed, IsServed, Serves, ServesPart, StopsPrinting, events_of_all, next_line, nodes_text, trace_text}
+use Rattle.console.specs.declared.fault.RunFault.TheVariants.{Serve}
+use Rattle.program.specs.Connections.{AreServed, GivesUp, HasGivenUp, HasServed, IsServed, Serves, ServesPart, ServesSource, StopsPrinting, StopsShowing, events_of_all, is_serve, next_line, nodes_text, trace_text}
 use Rattle.layout_core.specs.declared.node.Node.{Node}
 use Rattle.layout_core.specs.Cycle.{RunsAsWanted}
 use Rattle.layout_core.specs.World.{HaveHeard}
 use Rattle.station_core.specs.Powered.{HasDesk}
 use Rattle.station_core.specs.Seen.{Seen, known_of}
 use Rattle.console.specs.Fault.{status_of}
+use Rattle.console.specs.Printed.{AppendsFront as PrintedFront}
 use Rattle.program.specs.Fault.{of_serve}
 use Rattle.program.specs.Replayed.{HasDone}
 use Rattle.roster.specs.Entry.{Entry}
@@ -45,15 +47,45 @@ leaves_part TooManyReads turns bytes done old new leaves = whole_part turns byte
 leaves_part Write turns bytes done old new leaves = stopped_part Write turns bytes done old new leaves
 leaves_part Trace turns bytes done old new leaves = stopped_part Trace turns bytes done old new leaves
 
--- a connection that was served, as the engine says it: at most as many reads as the limits give, of at most 64 bytes
+-- A connection that was served, as the engine says it: at most as many reads as the limits give, of at most 64 bytes.
+is_served : (limits : Limits) (summary : Summary) (input input' : Input) (old new : Moment) → (has : EngineHasServed 0 limits.turns summary input input' old new) → input'.reads ≤ input.reads + limits.reads → IsServed limits has.0 old.world new.world
+is_served limits summary input input' old new has most = record {
+  done = done_whole (served_events 0 limits.turns has.0) old new has.3;
+  few = omega (arith, has.1.few, has.1.counted, most);
+}
+
+is_traced : (limits : Limits) (summary : Summary) (input input' : Input) (old new : Moment) → (has : EngineHasServed 0 limits.turns summary input input' old new) → old.turns ≡ 0 → Appends old.traced new.traced (trace_text old.world.station (served_events 0 limits.turns has.0))
+is_traced limits summary input input' old new has first =
+    subst (λ (turns : ℕ). Appends old.traced new.traced (traced_from 0 (turns + 1) (answers_to old.world.station (served_events 0 limits.turns has.0)))) first has.3.traced
+
 pub served_whole : (limits : Limits) (summary : Summary) (input input' : Input) (old new : Moment) → EngineHasServed 0 limits.turns summary input input' old new → old.turns ≡ 0 → input'.reads ≤ input.reads + limits.reads
     → Serves limits old.world new.world old.traced new.traced
-served_whole limits summary input input' old new has first most =
-    let bytes : List ℕ = has.0 in (
-      bytes,
-      record { done = done_whole (served_events 0 limits.turns bytes) old new has.3; few = omega (arith, has.1.few, has.1.counted, most) },
-      subst (λ (turns : ℕ). Appends old.traced new.traced (traced_from 0 (turns + 1) (answers_to old.world.station (served_events 0 limits.turns bytes)))) first has.3.traced,
-    )
+served_whole limits summary input input' old new has first most = (has.0, is_served limits summary input input' old new has most, is_traced limits summary input input' old new has first)
+
+-- and of a source, whose end was found
+pub source_whole : (limits : Limits) (summary : Summary) (input input' : Input) (old new : Moment) → EngineHasServed 0 limits.turns summary input input' old new → old.turns ≡ 0 → input'.reads ≤ input.reads + limits.reads → IsAtEnd input'.left
+    → ServesSource limits old.world new.world input.left input'.left old.written new.written old.traced new.traced
+source_whole limits summary input input' old new has first most end =
+    (has.0, has.1.consumed, end, is_served limits summary input input' old new has most, has.3.written, is_traced limits summary input input' old new has first)
+
+-- each fault of the engine has its number
+pub serve_1 : (fault : ServeFault) → is_serve 1 (of_serve fault) ≡ is_read fault
+serve_1 Read = refl
+serve_1 Write = refl
+serve_1 Trace = refl
+serve_1 TooManyReads = refl
+
+pub serve_2 : (fault : ServeFault) → is_serve 2 (of_serve fault) ≡ is_write fault
+serve_2 Read = refl
+serve_2 Write = refl
+serve_2 Trace = refl
+serve_2 TooManyReads = refl
+
+pub serve_4 : (fault : ServeFault) → of_serve fault ≡ Serve 4 → fault ≡ TooManyReads
+serve_4 Read is = cc
+serve_4 Write is = cc
+serve_4 Trace is = cc
+serve_4 TooManyReads is = refl
 
 -- a connection that was given up
 pub faulted_part : (fault : ServeFault) (turns : ℕ) (input input' : Input) (old : Moment) (world : World) (written traced : Option (List ℕ)) → HasFaulted fault 0 turns input input' old world written traced → ServesPart turns old.world world
@@ -125,7 +157,7 @@ served_after (Err e) limits count entries old new front output told shown before
 
 -- and one that was given up
 pub given_up : (e : RunFault) (limits : Limits) (count all : ℕ) (entries : List Entry) (old mid new : World) (output so_far shown : Option (List ℕ)) → HasServedSoFar limits count entries old mid output so_far → count < all
-    → ServesPart limits.turns mid new → StopsPrinting e limits mid new so_far shown → HasGivenUp e limits all entries old new output shown
+    → ServesPart limits.turns mid new → StopsPrinting e limits entries mid new so_far shown → HasGivenUp e limits all entries old new output shown
 given_up e limits count all entries old mid new output so_far shown has few part stops =
     (has.0, mid, omega (arith, has.1, few), has.2, part, has.3, so_far, has.4, has.5, stops)
 
@@ -136,15 +168,15 @@ served_status Write = refl
 served_status Trace = refl
 served_status TooManyReads = refl
 
-stops_status : (e : RunFault) (limits : Limits) (old new : World) (output shown : Option (List ℕ)) → StopsPrinting e limits old new output shown → status_of e ≡ 4
-stops_status e limits old new output shown (inl refused) = ap status_of refused.0
-stops_status e limits old new output shown (inr (inl given_up)) = ap status_of given_up.1 ∙ served_status given_up.0
-stops_status e limits old new output shown (inr (inr not_shown)) = ap status_of not_shown.0
+stops_status : (e : RunFault) (limits : Limits) (entries : List Entry) (old new : World) (output shown : Option (List ℕ)) → StopsPrinting e limits entries old new output shown → status_of e ≡ 4
+stops_status e limits entries old new output shown (inl refused) = ap status_of refused.0
+stops_status e limits entries old new output shown (inr (inl given_up)) = ap status_of given_up.1 ∙ served_status given_up.0
+stops_status e limits entries old new output shown (inr (inr not_shown)) = ap status_of not_shown.0
 
 pub given_up_status : {A : Type 0} (r : Result A RunFault) (limits : Limits) (count : ℕ) (entries : List Entry) (old new : World) (output shown : Option (List ℕ)) → IfErr r (λ e. HasGivenUp e limits count entries old new output shown)
     → IfErr r (λ e. status_of e ≡ 4)
 given_up_status (Ok a) limits count entries old new output shown has = tt
-given_up_status (Err e) limits count entries old new output shown has = stops_status e limits has.1 new has.6 shown has.9
+given_up_status (Err e) limits count entries old new output shown has = stops_status e limits entries has.1 new has.6 shown has.9
 
 -- none of it came
 pub part_none : (turns : ℕ) (world : World) → HasDone [] world world → ServesPart turns world world
@@ -192,3 +224,9 @@ gives_up e fault limits input input' old new written written' traced traced' is 
 pub passed_up : {A E : Type 0} (r : Result A E) (told : E) (P : E → Type 0) → IfErr r (λ e. e ≡ told) → P told → IfErr r P
 passed_up (Ok a) told P is p = tt
 passed_up (Err e) told P is p = subst P (sym is) p
+
+-- behind the trace of a connection a front of the decoders' lines was printed
+pub stops_showing : (limits : Limits) (entries : List Entry) (old new : World) (output traced shown : Option (List ℕ)) → Serves limits old new output traced → PrintedFront traced shown (nodes_text entries new)
+    → StopsShowing limits entries old new output shown
+stops_showing limits entries old new output traced shown one front =
+    (one.0, one.1, (front.0, front.1, appends_more output traced shown (trace_text old.station (served_events 0 limits.turns one.0)) (take front.0 (nodes_text entries new)) one.2 front.2))

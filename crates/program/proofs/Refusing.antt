@@ -13,7 +13,7 @@ use Rattle.show_text.specs.Script.{commands_of, fault_at, script_of}
 use Rattle.console.specs.declared.fault.RunFault.{RunFault}
 use Rattle.console.specs.declared.fault.RunFault.TheVariants.{NoMemory}
 use Rattle.console.specs.Fault.{of_script, script_fault}
-use Rattle.console.specs.Input.{ReadsMost}
+use Rattle.input_text.specs.Read.{ReadsMost}
 use Rattle.program.specs.Scripts.{FailsInput, IsBroken, IsRefusal, RefusesInput}
 
 too_long : (count nodes : ℕ) (text : List ℕ) → 1048576 < length text → script_of count nodes text ≡ Err (fault_at script.TooLong 0)

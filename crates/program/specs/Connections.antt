@@ -1,20 +1,21 @@
 -- What served connections do to a layout, and what is printed of them. What came on a socket is not known, but that there
 -- are bytes whose events were done and traced.
-use Rattle.std.specs.Prelude.{ℕ, ◌≡◌, ◌+◌, ◌*◌, ◌<◌, ◌≤◌, ◌⊎◌, List, [], ◌∷◌, ◌++◌, Option, codes, length, map, take}
+use Rattle.std.specs.Prelude.{ℕ, ◌≡◌, ◌+◌, ◌*◌, ◌<◌, ◌≤◌, ◌⊎◌, ◌==◌, Bool, false, List, [], ◌∷◌, ◌++◌, Option, codes, length, map, take}
 use Rattle.std.specs.Fmt.{decimal}
-use Rattle.std.specs.Io.KnownBytes.{Appends}
+use Rattle.std.specs.Io.KnownBytes.{Appends, Consumes, IsAtEnd}
 use Rattle.layout_core.specs.declared.engine.Limits.{Limits}
 use Rattle.layout_core.specs.declared.engine.ServeFault.{ServeFault}
 use Rattle.layout_core.specs.declared.engine.ServeFault.TheVariants.{Read, Write, Trace, TooManyReads}
 use Rattle.layout_core.specs.declared.event.Event.{Event}
 use Rattle.layout_core.specs.declared.world.World.{World}
 use Rattle.layout_core.specs.Cycle.{RunsAsWanted}
+use Rattle.layout_core.specs.Faults.{AppendsFront}
 use Rattle.layout_core.specs.Played.{after_events, answer_to, answers_to}
-use Rattle.layout_core.specs.Served.{line_of_answer, served_events, traced_from, turns_in}
+use Rattle.layout_core.specs.Served.{line_of_answer, served_events, traced_from, turns_in, written_for}
 use Rattle.roster.specs.Entry.{Entry}
 use Rattle.station_core.specs.Seen.{Seen, known_of}
 use Rattle.console.specs.declared.fault.RunFault.{RunFault}
-use Rattle.console.specs.declared.fault.RunFault.TheVariants.{Network, Output}
+use Rattle.console.specs.declared.fault.RunFault.TheVariants.{Usage, Lines, Unreadable, UnreadableInput, TooLong, Roster, Network, Output, Serve, Script, Hex, NoMemory}
 use Rattle.program.specs.Fault.{of_serve}
 use Rattle.console.specs.Printed.{lines_text}
 use Rattle.layout_core.specs.Standings.{standing_of}
@@ -56,6 +57,28 @@ abbrev pub Serves : Limits → (old new : World) → (old_output new_output : Op
 Serves limits old new old_output new_output =
     (bytes : List ℕ) × IsServed limits bytes old new × Appends old_output new_output (trace_text old.station (served_events 0 limits.turns bytes))
 
+-- All bytes of a source were served, to its end: the replies to them were written, and the trace was printed.
+abbrev pub ServesSource : Limits → (old new : World) → (source source' written written' old_output new_output : Option (List ℕ)) → Type 0
+ServesSource limits old new source source' written written' old_output new_output =
+    (bytes : List ℕ) × Consumes source source' bytes × IsAtEnd source' × IsServed limits bytes old new
+    × Appends written written' (written_for (answers_to old.station (served_events 0 limits.turns bytes)))
+    × Appends old_output new_output (trace_text old.station (served_events 0 limits.turns bytes))
+
+-- whether a run ended in the fault of serving with this number
+abbrev pub is_serve : ℕ → RunFault → Bool
+is_serve n (Serve number) = n == number
+is_serve n (Usage error) = false
+is_serve n Lines = false
+is_serve n (Unreadable file) = false
+is_serve n UnreadableInput = false
+is_serve n (TooLong file) = false
+is_serve n (Roster number node) = false
+is_serve n Network = false
+is_serve n Output = false
+is_serve n (Script number line) = false
+is_serve n (Hex number at) = false
+is_serve n NoMemory = false
+
 -- the line that tells the port
 abbrev pub listening_text : (port : ℕ) → List ℕ
 listening_text port = codes "listening 127.0.0.1:" ++ (decimal port ++ 10 ∷ [])
@@ -96,12 +119,18 @@ GivesUp e limits old new old_output new_output =
     × (served_events 0 limits.turns bytes ≡ done ++ later) × HasDone done old new
     × IsTraceAt fault old.station (served_events 0 limits.turns bytes) done text × Appends old_output new_output text
 
+-- the decoders could not be shown: of their lines a proper front is printed, behind the whole trace of the connection
+abbrev pub StopsShowing : Limits → List Entry → (old new : World) → (old_output new_output : Option (List ℕ)) → Type 0
+StopsShowing limits entries old new old_output new_output =
+    (bytes : List ℕ) × IsServed limits bytes old new
+    × AppendsFront old_output new_output (trace_text old.station (served_events 0 limits.turns bytes)) (nodes_text entries new)
+
 -- Why no more was printed: no connection was accepted, the engine gave one up, or the decoders could not be shown.
-abbrev pub StopsPrinting : RunFault → Limits → (old new : World) → (old_output new_output : Option (List ℕ)) → Type 0
-StopsPrinting e limits old new old_output new_output =
+abbrev pub StopsPrinting : RunFault → Limits → List Entry → (old new : World) → (old_output new_output : Option (List ℕ)) → Type 0
+StopsPrinting e limits entries old new old_output new_output =
     ((e ≡ Network) × (new ≡ old) × (new_output ≡ old_output))
     ⊎ GivesUp e limits old new old_output new_output
-    ⊎ ((e ≡ Output) × ((bytes : List ℕ) × IsServed limits bytes old new))
+    ⊎ ((e ≡ Output) × StopsShowing limits entries old new old_output new_output)
 
 -- Fewer were served, and the next one was not, or not whole. Behind what is printed of those that were served stands what
 -- is printed of it.
@@ -109,4 +138,4 @@ abbrev pub HasGivenUp : RunFault → Limits → (count : ℕ) → List Entry →
 HasGivenUp e limits count entries old new old_output new_output =
     (connections : List (List ℕ)) × (mid : World) × (length connections < count) × HasDone (events_of_all limits.turns connections) old mid × ServesPart limits.turns mid new
     × (text : List ℕ) × (mid_output : Option (List ℕ)) × AreServed limits entries connections old mid text × Appends old_output mid_output text
-    × StopsPrinting e limits mid new mid_output new_output
+    × StopsPrinting e limits entries mid new mid_output new_output

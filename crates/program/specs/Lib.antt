@@ -1,4 +1,5 @@
 pub mod Connections
+pub mod Ends
 pub mod Fault
 pub mod Headline
 pub mod Layout

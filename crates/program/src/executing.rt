@@ -1,6 +1,7 @@
 //! The program on its words and streams.
-ghost use Rattle.std.specs.Prelude.{◌≡◌, ◌≢◌, ◌≤◌, IfErr, OnOk, map};
-ghost use Rattle.console.specs.Fault.{status_of};
+ghost use Rattle.std.specs.Prelude.{◌≡◌, ◌≢◌, ◌≤◌, IfErr, OnOk, false, map, true};
+ghost use Rattle.console.specs.Fault.{ended_by, is_unread_input, status_of};
+ghost use Rattle.program.specs.Ends.{EndsAs, FailsOrder, FailsReplayNew, FailsServe};
 ghost use Rattle.program.specs.Runs.{CarriesOut, ReplaysNew, Runs, ServesNew};
 
 use crate::layout::new_world;
@@ -8,8 +9,9 @@ use crate::replay::replay;
 use crate::serving::serve_at;
 use command_line::{FileName, Order, order};
 use console::{RunFault, monitor, read_roster, tell};
+use input_text::Input;
 use layout_core::Limits;
-use std::io::{Read, Write};
+use std::io::Write;
 use std::net::{Net, TcpListener, TcpStream};
 use std::rt::Files;
 
@@ -26,12 +28,16 @@ pub fn execute<R, I, O, E>(
 ) -> u8
 where
     R: Files + AllocGlobal + Net<Listener = TcpListener, Stream = TcpStream>,
-    I: Read,
+    I: Input,
     O: Write,
     E: Write,
+    requires { I.failed input.old ≡ false }
     ensures most { result ≤ 6 }
     // The words are an order, and it was carried out.
-    ensures done { result ≡ 0 → Runs (map (λ word. word.now) words.entry.now) (I.remaining input.old) (I.remaining input.new) (O.contents output.old) (O.contents output.new) }
+    ensures done { result ≡ 0 → Runs (map (λ word. word.now) words.entry.now) (I.left input.old) (I.left input.new) (O.contents output.old) (O.contents output.new) }
+    // Else it was not, and the status tells why.
+    ensures ends { result ≢ 0 → EndsAs (map (λ word. word.now) words.entry.now) (I.left input.old) (I.left input.new) (I.failed input.new) result }
+    ensures unread { I.failed input.new ≡ true → result ≡ 2 }
     // A fault of the words, of what is read, of a roster, a script or a hex text prints nothing.
     ensures untouched { result ≢ 0 → result ≢ 4 → result ≢ 6 → output.new ≡ output.old }
 {
@@ -45,9 +51,12 @@ where
 fn run<R, I, O>(rt: &R, words: &[&str], input: &mut I, output: &mut O) -> Result<(), RunFault>
 where
     R: Files + AllocGlobal + Net<Listener = TcpListener, Stream = TcpStream>,
-    I: Read,
+    I: Input,
     O: Write,
-    ensures done { OnOk result (Runs (map (λ word. word.now) words.entry.now) (I.remaining input.old) (I.remaining input.new) (O.contents output.old) (O.contents output.new)) }
+    requires { I.failed input.old ≡ false }
+    ensures done { OnOk result (Runs (map (λ word. word.now) words.entry.now) (I.left input.old) (I.left input.new) (O.contents output.old) (O.contents output.new)) }
+    ensures ends { IfErr result (λ e. EndsAs (map (λ word. word.now) words.entry.now) (I.left input.old) (I.left input.new) (I.failed input.new) (status_of e)) }
+    ensures unread { I.failed input.new ≡ ended_by is_unread_input result }
     ensures untouched { IfErr result (λ e. status_of e ≢ 4 → status_of e ≢ 6 → output.new ≡ output.old) }
 {
     let order = order(rt.alloc(), words)?;
@@ -58,9 +67,12 @@ where
 fn carry_out<R, I, O>(rt: &R, order: Order, input: &mut I, output: &mut O) -> Result<(), RunFault>
 where
     R: Files + AllocGlobal + Net<Listener = TcpListener, Stream = TcpStream>,
-    I: Read,
+    I: Input,
     O: Write,
-    ensures done { OnOk result (CarriesOut order (I.remaining input.old) (I.remaining input.new) (O.contents output.old) (O.contents output.new)) }
+    requires { I.failed input.old ≡ false }
+    ensures done { OnOk result (CarriesOut order (I.left input.old) (I.left input.new) (O.contents output.old) (O.contents output.new)) }
+    ensures fails { IfErr result (FailsOrder order (I.left input.old) (I.left input.new) (I.failed input.new)) }
+    ensures unread { I.failed input.new ≡ ended_by is_unread_input result }
     ensures untouched { IfErr result (λ e. status_of e ≢ 4 → status_of e ≢ 6 → output.new ≡ output.old) }
 {
     match order {
@@ -89,9 +101,12 @@ fn replay_new<R, I, O>(
 ) -> Result<(), RunFault>
 where
     R: Files + AllocGlobal,
-    I: Read,
+    I: Input,
     O: Write,
-    ensures done { OnOk result (ReplaysNew lines roster (I.remaining input.old) (I.remaining input.new) (O.contents output.old) (O.contents output.new)) }
+    requires { I.failed input.old ≡ false }
+    ensures done { OnOk result (ReplaysNew lines roster (I.left input.old) (I.left input.new) (O.contents output.old) (O.contents output.new)) }
+    ensures fails { IfErr result (FailsReplayNew lines roster (I.left input.old) (I.left input.new) (I.failed input.new)) }
+    ensures unread { I.failed input.new ≡ ended_by is_unread_input result }
     ensures untouched { IfErr result (λ e. status_of e ≢ 4 → status_of e ≢ 6 → output.new ≡ output.old) }
 {
     let roster = read_roster(rt, roster)?;
@@ -112,6 +127,7 @@ where
     R: Files + AllocGlobal + Net<Listener = TcpListener, Stream = TcpStream>,
     O: Write,
     ensures done { OnOk result (ServesNew port roster limits connections (O.contents output.old) (O.contents output.new)) }
+    ensures fails { IfErr result (FailsServe roster) }
     ensures untouched { IfErr result (λ e. status_of e ≢ 4 → status_of e ≢ 6 → output.new ≡ output.old) }
 {
     let roster = read_roster(rt, roster)?;

@@ -1,11 +1,11 @@
 //! The layout that a run works on, and the lines of its decoders.
-ghost use Rattle.std.specs.Prelude.{◌≡◌, Err, IfErr, IfOk, OnOk, Some, false, length, map, true};
+ghost use Rattle.std.specs.Prelude.{◌≡◌, Err, IfErr, IfOk, OnErr, OnOk, Some, false, length, map, true};
 ghost use Rattle.std.specs.Io.KnownBytes.{Appends};
 ghost use Rattle.station_core.specs.Seen.{is_line_count};
 ghost use Rattle.program.specs.Fault.{of_station};
 ghost use Rattle.program.specs.Layout.{AreBetween, IsWorldOf, entries_in, roster_value};
 ghost use Rattle.program.specs.Runs.{IsNew};
-ghost use Rattle.console.specs.Printed.{lines_text};
+ghost use Rattle.console.specs.Printed.{AppendsFront, lines_text};
 ghost use Rattle.layout_core.specs.Standings.{standing_of};
 ghost use Rattle.program.specs.Printed.{decoder_lines};
 
@@ -55,6 +55,7 @@ pub(crate) fn print_nodes<O: Write>(
 ) -> Result<(), Unwritten>
     requires { IsWorldOf (roster_value roster) world.now.nodes }
     ensures printed { OnOk result (Appends (O.contents output.old) (O.contents output.new) (lines_text (decoder_lines (entries_in (roster_value roster.entry)) (map standing_of world.now.nodes)))) }
+    ensures front { OnErr result (AppendsFront (O.contents output.old) (O.contents output.new) (lines_text (decoder_lines (entries_in (roster_value roster.entry)) (map standing_of world.now.nodes)))) }
 {
     match roster {
         Some(roster) => print_decoders(world, roster, output),
@@ -66,6 +67,7 @@ pub(crate) fn print_nodes<O: Write>(
 fn print_decoders<O: Write>(world: &World, roster: &Roster, output: &mut O) -> Result<(), Unwritten>
     requires { IsWorldOf (Some roster.now) world.now.nodes }
     ensures printed { OnOk result (Appends (O.contents output.old) (O.contents output.new) (lines_text (decoder_lines roster.now (map standing_of world.now.nodes)))) }
+    ensures front { OnErr result (AppendsFront (O.contents output.old) (O.contents output.new) (lines_text (decoder_lines roster.now (map standing_of world.now.nodes)))) }
 {
     for (i, spec) in roster.nodes().as_slice().iter().enumerate() {
         let line = world.standing(i).line(roster.name(i), spec);

@@ -9,7 +9,7 @@ mod serving;
 
 pub use executing::execute;
 pub use layout::new_world;
-pub use serving::serve_on;
+pub use serving::{serve_connection, serve_on};
 
 // What the contracts of these speak of, and what tells it.
 pub use console::{RunFault, tell};

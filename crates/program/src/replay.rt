@@ -1,5 +1,5 @@
 //! `station replay`: a script, and what the layout makes of it.
-ghost use Rattle.std.specs.Prelude.{◌≡◌, ◌≢◌, ◌<◌, ◌+◌, ◌^◌, [], ◌∷◌, IfErr, IfOk, IsTrue, None, OnOk, Some, length, map, replicate};
+ghost use Rattle.std.specs.Prelude.{◌≡◌, ◌≢◌, ◌<◌, ◌+◌, ◌^◌, [], ◌∷◌, IfErr, IfOk, IsTrue, None, OnOk, Some, false, length, map, replicate};
 ghost use Rattle.std.specs.Io.KnownBytes.{Appends};
 ghost use Rattle.ln_ops.specs.Reply.{IsSendable};
 ghost use Rattle.layout_core.specs.Nodes.{spec_of};
@@ -7,36 +7,43 @@ ghost use Rattle.layout_core.specs.Played.{answer_to, answers_to, is_event};
 ghost use Rattle.layout_core.specs.Served.{IsSendableAnswer, line_of_answer, traced_from};
 ghost use Rattle.show_text.specs.Lines.{off_text, reply_text, track_text};
 ghost use Rattle.show_text.specs.Script.{AreOnLines, is_on_line};
+ghost use Rattle.console.specs.Fault.{ended_by, is_unread_input};
 ghost use Rattle.console.specs.Printed.{ended};
+ghost use Rattle.program.specs.Ends.{FailsReplay};
 ghost use Rattle.program.specs.Layout.{AreBetween, IsWorldOf, entries_in, roster_value};
 ghost use Rattle.program.specs.Replayed.{HasDone, command_text, events_in, events_of, scene_of, turns_among};
 ghost use Rattle.program.specs.Scripts.{FailsInput, RefusesInput, Replays, ReplaysInput};
 
 use crate::layout::print_nodes;
-use console::{Lent, RunFault, Unwritten, flush_after, print, print_ended, read_most};
+use console::{Lent, RunFault, Unwritten, flush_after, print, print_ended};
 use dcc_packet::Packet;
+use input_text::{Input, read_most};
 use layout_core::{Event, World, events_add_up, headline};
 use ln_ops::Reply;
 use roster::Roster;
 use show_text::{Command, LONGEST_TEXT, Line, push_off, push_track, read_script, reply_line};
 use station_core::{Step, calls_are_moves};
 use std::alloc::Global;
-use std::io::{BufWriter, Read, Write};
+use std::io::{BufWriter, Write};
 
 /// Reads a script from standard input, whole, and then prints the replies to its bytes, its turns, and the decoders
 /// that it shows.
-pub(crate) fn replay<I: Read, O: Write>(
+pub(crate) fn replay<I: Input, O: Write>(
     alloc: Global,
     world: &mut World,
     roster: Option<&Roster>,
     input: &mut I,
     output: &mut O,
 ) -> Result<(), RunFault>
+    requires works { I.failed input.old ≡ false }
     requires nodes { IsWorldOf (roster_value roster) world.old.nodes }
     requires between { AreBetween world.old.nodes }
-    ensures printed { OnOk result (ReplaysInput (I.remaining input.old) (I.remaining input.new) world.old (entries_in (roster_value roster.entry)) world.new (O.contents output.old) (O.contents output.new)) }
-    ensures refused { RefusesInput (I.remaining input.old) result world.old world.new None None }
-    ensures failed { FailsInput (I.remaining input.old) result world.old }
+    ensures printed { OnOk result (ReplaysInput (I.left input.old) (I.left input.new) world.old (entries_in (roster_value roster.entry)) world.new (O.contents output.old) (O.contents output.new)) }
+    ensures refused { RefusesInput (I.left input.old) result world.old world.new None None }
+    ensures failed { FailsInput (I.left input.old) result world.old }
+    // It could not be read exactly where a read failed.
+    ensures unread { I.failed input.new ≡ ended_by is_unread_input result }
+    ensures fault { IfErr result (FailsReplay world.old (I.left input.old) (I.left input.new) (I.failed input.new)) }
     // Where neither memory ran out nor the output failed, a fault prints nothing.
     ensures untouched { IfErr result (λ e. e ≢ RunFault.NoMemory → e ≢ RunFault.Output → output.new ≡ output.old) }
 {
@@ -52,21 +59,24 @@ pub(crate) fn replay<I: Read, O: Write>(
 
 /// The same, on an output that is written as it comes. Every clause is of any output: where its bytes are known, they
 /// are those that are promised.
-fn replay_to<I: Read, O: Write>(
+fn replay_to<I: Input, O: Write>(
     alloc: Global,
     world: &mut World,
     roster: Option<&Roster>,
     input: &mut I,
     output: &mut O,
 ) -> Result<(), RunFault>
+    requires works { I.failed input.old ≡ false }
     requires nodes { IsWorldOf (roster_value roster) world.old.nodes }
     requires between { AreBetween world.old.nodes }
-    ensures printed { OnOk result (ReplaysInput (I.remaining input.old) (I.remaining input.new) world.old (entries_in (roster_value roster.entry)) world.new (O.contents output.old) (O.contents output.new)) }
-    ensures refused { RefusesInput (I.remaining input.old) result world.old world.new (O.contents output.old) (O.contents output.new) }
-    ensures failed { FailsInput (I.remaining input.old) result world.old }
+    ensures printed { OnOk result (ReplaysInput (I.left input.old) (I.left input.new) world.old (entries_in (roster_value roster.entry)) world.new (O.contents output.old) (O.contents output.new)) }
+    ensures refused { RefusesInput (I.left input.old) result world.old world.new (O.contents output.old) (O.contents output.new) }
+    ensures failed { FailsInput (I.left input.old) result world.old }
+    ensures unread { I.failed input.new ≡ ended_by is_unread_input result }
+    ensures fault { IfErr result (FailsReplay world.old (I.left input.old) (I.left input.new) (I.failed input.new)) }
     ensures untouched { IfErr result (λ e. e ≢ RunFault.Output → output.new ≡ output.old) }
 {
-    let text = read_most(alloc, input, LONGEST_TEXT + 1).map_err(|fault| fault.of_input())?;
+    let text = read_most(alloc, input, LONGEST_TEXT + 1)?;
     let lines = world.station().lines();
     let nodes = world.nodes() as u8;
     let commands = read_script(alloc, text.as_slice(), lines, nodes)?;

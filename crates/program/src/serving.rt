@@ -1,15 +1,15 @@
 //! `station serve`: throttles over TCP.
-ghost use Rattle.std.specs.Prelude.{◌≡◌, [], IfErr, OnErr, OnOk, false, map};
+ghost use Rattle.std.specs.Prelude.{◌≡◌, ◌+◌, [], IfErr, OnErr, OnOk, false, map};
 ghost use Rattle.std.specs.Io.KnownBytes.{Appends};
-ghost use Rattle.console.specs.Fault.{status_of};
+ghost use Rattle.console.specs.Fault.{ended_by, status_of};
 ghost use Rattle.layout_core.specs.Nodes.{spec_of};
-ghost use Rattle.program.specs.Connections.{GivesUp, HasGivenUp, HasServed, Serves, ServesPart, listening_text};
+ghost use Rattle.program.specs.Connections.{GivesUp, HasGivenUp, HasServed, Serves, ServesPart, ServesSource, is_serve, listening_text};
 ghost use Rattle.program.specs.Fault.{of_serve};
 ghost use Rattle.program.specs.Layout.{IsWorldOf, entries_in, roster_value};
 
 use crate::layout::print_nodes;
 use console::{Lent, RunFault};
-use layout_core::{Limits, Port, ServeFault, Sink, World, events_add_up, headline, serve};
+use layout_core::{Limits, Port, ServeFault, Sink, Source, World, events_add_up, headline, serve};
 use roster::Roster;
 use std::io::Write;
 use std::net::{Net, TcpListener, TcpStream};
@@ -76,45 +76,66 @@ pub fn serve_on<O: Write>(
         let Ok((stream, _)) = listener.accept() else {
             return Err(RunFault::Network);
         };
-        serve_stream(&stream, world, limits, output)?;
+        let (mut source, mut sink) = (Port::new(&stream), Port::new(&stream));
+        serve_connection(&mut source, &mut sink, world, limits, output)?;
         print_nodes(world, roster, output)?;
     }
     Ok(())
 }
 
-/// Serves one connection, and prints its trace.
-fn serve_stream<O: Write>(
-    stream: &TcpStream,
+/// Serves one connection, and prints its trace: what comes from the source is heard to its end, and the replies go to the
+/// sink.
+///
+/// # Errors
+///
+/// `Serve` where the connection was given up: 1 exactly where the source failed, 2 exactly where the sink did, 3 where the
+/// trace could not be printed, 4 where all reads that the limits allow were made and none found the end.
+pub fn serve_connection<S: Source, K: Sink, O: Write>(
+    source: &mut S,
+    sink: &mut K,
     world: &mut World,
     limits: Limits,
     output: &mut O,
 ) -> Result<(), RunFault>
+    requires open { S.ended source.old ≡ false }
+    requires source_works { S.failed source.old ≡ false }
+    requires sink_works { K.failed sink.old ≡ false }
     ensures specs { map spec_of world.new.nodes ≡ map spec_of world.old.nodes }
+    ensures whole { OnOk result (ServesSource limits world.old world.new (S.left source.old) (S.left source.new) (K.held sink.old) (K.held sink.new) (O.contents output.old) (O.contents output.new)) }
     ensures served { OnOk result (Serves limits world.old world.new (O.contents output.old) (O.contents output.new)) }
     ensures part { OnErr result (ServesPart limits.turns world.old world.new) }
     ensures given_up { IfErr result (λ e. GivesUp e limits world.old world.new (O.contents output.old) (O.contents output.new)) }
+    ensures source_failed { S.failed source.new ≡ ended_by (is_serve 1) result }
+    ensures sink_failed { K.failed sink.new ≡ ended_by (is_serve 2) result }
+    ensures too_many { IfErr result (λ e. e ≡ RunFault.Serve 4 → S.reads source.new ≡ S.reads source.old + limits.reads) }
 {
     let mut trace = Port::new(Lent::new(output));
-    serve_traced(stream, world, limits, &mut trace)
+    serve_traced(source, sink, world, limits, &mut trace)
 }
 
 /// Serves one connection, with any sink for its trace.
-fn serve_traced<T: Sink>(
-    stream: &TcpStream,
+fn serve_traced<S: Source, K: Sink, T: Sink>(
+    source: &mut S,
+    sink: &mut K,
     world: &mut World,
     limits: Limits,
     trace: &mut T,
 ) -> Result<(), RunFault>
-    requires { T.failed trace.old ≡ false }
+    requires open { S.ended source.old ≡ false }
+    requires source_works { S.failed source.old ≡ false }
+    requires sink_works { K.failed sink.old ≡ false }
+    requires trace_works { T.failed trace.old ≡ false }
     ensures specs { map spec_of world.new.nodes ≡ map spec_of world.old.nodes }
+    ensures whole { OnOk result (ServesSource limits world.old world.new (S.left source.old) (S.left source.new) (K.held sink.old) (K.held sink.new) (T.held trace.old) (T.held trace.new)) }
     ensures served { OnOk result (Serves limits world.old world.new (T.held trace.old) (T.held trace.new)) }
     ensures part { OnErr result (ServesPart limits.turns world.old world.new) }
     ensures given_up { IfErr result (λ e. GivesUp e limits world.old world.new (T.held trace.old) (T.held trace.new)) }
+    ensures source_failed { S.failed source.new ≡ ended_by (is_serve 1) result }
+    ensures sink_failed { K.failed sink.new ≡ ended_by (is_serve 2) result }
+    ensures too_many { IfErr result (λ e. e ≡ RunFault.Serve 4 → S.reads source.new ≡ S.reads source.old + limits.reads) }
 {
     world.station().always_legal();
-    let mut source = Port::new(stream);
-    let mut sink = Port::new(stream);
-    match serve(world, 0, &mut source, &mut sink, trace, limits) {
+    match serve(world, 0, source, sink, trace, limits) {
         Ok(_summary) => Ok(()),
         Err(fault) => Err(given_up(fault)),
     }

@@ -5,6 +5,7 @@
 use command_line::no_text;
 pub use command_line::{FileName, Order, OrderFault, order};
 use console::{read_words, texts};
+use input_text::Noting;
 use program::tell;
 pub use program::{RunFault, execute, serve_on};
 use std::io;
@@ -32,7 +33,7 @@ fn run_words(rt: &HostRuntime) -> Result<u8, RunFault> {
     Ok(execute(
         rt,
         texts.as_slice(),
-        &mut rt.reader(),
+        &mut Noting::new(rt.reader()),
         &mut io::writer(rt),
         &mut rt.stderr(),
     ))

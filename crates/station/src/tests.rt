@@ -10,6 +10,7 @@ mod sockets;
 mod words;
 
 use crate::execute;
+use input_text::Noting;
 use std::fs;
 use std::process::Abort;
 use std::test::Fail;
@@ -24,7 +25,7 @@ struct Ran {
 
 /// Runs the program on these words and this standard input.
 fn run(rt: &HostRuntime, words: &[&str], text: &[u8]) -> Ran {
-    let mut input = text;
+    let mut input = Noting::new(text);
     let mut output = Vec::new(rt.alloc());
     let mut faults = Vec::new(rt.alloc());
     let status = execute(rt, words, &mut input, &mut output, &mut faults);

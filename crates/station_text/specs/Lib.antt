@@ -1,4 +1,3 @@
-pub mod Input
 pub mod Node
 pub mod Told
 pub mod Traffic

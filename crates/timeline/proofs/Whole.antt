@@ -10,7 +10,7 @@ use Rattle.timeline.specs.declared.fault.TimelineFault.TheVariants.{Unreadable, 
 use Rattle.timeline.specs.Drawn.{DrawsInput, FailsInput, IsBroken, IsRefusal, RefusesInput}
 use Rattle.timeline.specs.Picture.{picture_of}
 use Rattle.timeline.specs.Fault.{Refuses}
-use Rattle.station_text.specs.Input.{ReadsMost}
+use Rattle.input_text.specs.Read.{ReadsMost}
 use Rattle.timeline.specs.Run.{IsRun}
 use Rattle.station_text.specs.Told.{FailsAt}
 use Rattle.timeline.specs.Run.{Shows}

@@ -1,5 +1,7 @@
 -- Which fault a text has, and the exit status of a fault.
-use Rattle.std.specs.Prelude.{ℕ, ◌<◌, ◌≤◌, List, length}
+use Rattle.std.specs.Prelude.{ℕ, ◌<◌, ◌≤◌, Bool, true, false, List, Result, Ok, Err, length}
+use Rattle.input_text.specs.declared.input.ReadFault.{ReadFault}
+use Rattle.input_text.specs.declared.input.ReadFault.TheVariants as read
 use Rattle.std.specs.Str.Lines.{lines}
 use Rattle.timeline.specs.declared.fault.TimelineFault.{TimelineFault}
 use Rattle.timeline.specs.declared.fault.TimelineFault.TheVariants.{Unreadable, Output, BadLine, TooLong, NoMemory}
@@ -12,6 +14,20 @@ status_of Output = 4
 status_of (BadLine number) = 5
 status_of TooLong = 5
 status_of NoMemory = 6
+
+-- of standard input
+abbrev pub of_read : ReadFault → TimelineFault
+of_read read.Failed = Unreadable
+of_read read.NoMemory = NoMemory
+
+-- whether a run ended since its input could not be read
+abbrev pub is_unread : {A : Type 0} → Result A TimelineFault → Bool
+is_unread (Ok a) = false
+is_unread (Err Unreadable) = true
+is_unread (Err Output) = false
+is_unread (Err (BadLine number)) = false
+is_unread (Err TooLong) = false
+is_unread (Err NoMemory) = false
 
 -- the text has this fault
 abbrev pub Refuses : List ℕ → TimelineFault → Type 0

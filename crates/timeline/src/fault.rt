@@ -2,7 +2,7 @@
 ghost use Rattle.std.specs.Prelude.{◌≡◌};
 ghost use Rattle.timeline.specs.Fault.{status_of};
 
-use station_text::InputFault;
+use input_text::ReadFault;
 use std::alloc::{AllocError, AllocFailed};
 use thiserror::Error;
 
@@ -26,16 +26,16 @@ pub enum TimelineFault {
     NoMemory,
 }
 
-impl From<InputFault> for TimelineFault {
-    ghost use Rattle.std.specs.Prelude.{◌≡◌, ◌⊎◌};
-    ghost use Rattle.timeline.specs.declared.fault.TimelineFault.TheVariants.{NoMemory, Unreadable};
+impl From<ReadFault> for TimelineFault {
+    ghost use Rattle.std.specs.Prelude.{◌≡◌};
+    ghost use Rattle.timeline.specs.Fault.{of_read};
 
-    ghost from_gives = { λ _ fault. (fault ≡ Unreadable) ⊎ (fault ≡ NoMemory) };
+    ghost from_gives = { λ read fault. fault ≡ of_read read };
 
-    fn from(fault: InputFault) -> TimelineFault {
+    fn from(fault: ReadFault) -> TimelineFault {
         match fault {
-            InputFault::Unreadable => TimelineFault::Unreadable,
-            InputFault::NoMemory => TimelineFault::NoMemory,
+            ReadFault::Failed => TimelineFault::Unreadable,
+            ReadFault::NoMemory => TimelineFault::NoMemory,
         }
     }
 }

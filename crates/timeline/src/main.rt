@@ -14,6 +14,7 @@ mod run;
 
 pub use event::Event;
 pub use fault::TimelineFault;
+use input_text::Noting;
 pub use mark::Mark;
 pub use row::{Kind, Part, Row};
 pub use run::execute;
@@ -26,7 +27,7 @@ mod tests;
 fn main(rt: HostRuntime) -> ExitCode {
     ExitCode::from(execute(
         rt.alloc(),
-        &mut rt.reader(),
+        &mut Noting::new(rt.reader()),
         &mut io::writer(&rt),
         &mut rt.stderr(),
     ))

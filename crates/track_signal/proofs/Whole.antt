@@ -9,7 +9,7 @@ use Rattle.track_signal.specs.declared.fault.SignalFault.TheVariants.{Unreadable
 use Rattle.track_signal.specs.Drawn.{DrawsInput, FailsInput, IsBroken, IsRefusal, RefusesInput}
 use Rattle.track_signal.specs.Dump.{dump_of}
 use Rattle.track_signal.specs.Fault.{Refuses}
-use Rattle.station_text.specs.Input.{ReadsMost}
+use Rattle.input_text.specs.Read.{ReadsMost}
 use Rattle.track_signal.specs.Traffic.{IsTraffic}
 use Rattle.station_text.specs.Told.{FailsAt}
 use Rattle.station_text.specs.Traffic.{Tells}

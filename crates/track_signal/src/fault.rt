@@ -2,7 +2,7 @@
 ghost use Rattle.std.specs.Prelude.{◌≡◌};
 ghost use Rattle.track_signal.specs.Fault.{status_of};
 
-use station_text::InputFault;
+use input_text::ReadFault;
 use thiserror::Error;
 
 /// Why a run ends with a status other than 0. Its text is what follows `track_signal: ` on standard error.
@@ -25,16 +25,16 @@ pub enum SignalFault {
     NoMemory,
 }
 
-impl From<InputFault> for SignalFault {
-    ghost use Rattle.std.specs.Prelude.{◌≡◌, ◌⊎◌};
-    ghost use Rattle.track_signal.specs.declared.fault.SignalFault.TheVariants.{NoMemory, Unreadable};
+impl From<ReadFault> for SignalFault {
+    ghost use Rattle.std.specs.Prelude.{◌≡◌};
+    ghost use Rattle.track_signal.specs.Fault.{of_read};
 
-    ghost from_gives = { λ _ fault. (fault ≡ Unreadable) ⊎ (fault ≡ NoMemory) };
+    ghost from_gives = { λ read fault. fault ≡ of_read read };
 
-    fn from(fault: InputFault) -> SignalFault {
+    fn from(fault: ReadFault) -> SignalFault {
         match fault {
-            InputFault::Unreadable => SignalFault::Unreadable,
-            InputFault::NoMemory => SignalFault::NoMemory,
+            ReadFault::Failed => SignalFault::Unreadable,
+            ReadFault::NoMemory => SignalFault::NoMemory,
         }
     }
 }

@@ -8,6 +8,7 @@ mod reading;
 mod signal;
 
 pub use fault::SignalFault;
+use input_text::Noting;
 pub use signal::execute;
 use std::io;
 use std::process::ExitCode;
@@ -18,7 +19,7 @@ mod tests;
 fn main(rt: HostRuntime) -> ExitCode {
     ExitCode::from(execute(
         rt.alloc(),
-        &mut rt.reader(),
+        &mut Noting::new(rt.reader()),
         &mut io::writer(&rt),
         &mut rt.stderr(),
     ))

@@ -5,6 +5,7 @@ mod lines;
 mod memory;
 
 use crate::execute;
+use input_text::Noting;
 
 /// What a run answers, writes and tells.
 #[derive(Drop)]
@@ -16,7 +17,7 @@ struct Ran {
 
 /// Runs the program on this standard input.
 fn run(rt: &HostRuntime, text: &[u8]) -> Ran {
-    let mut input = text;
+    let mut input = Noting::new(text);
     let mut output = Vec::new(rt.alloc());
     let mut faults = Vec::new(rt.alloc());
     let status = execute(rt.alloc(), &mut input, &mut output, &mut faults);

@@ -2,6 +2,7 @@
 
 use super::run_from;
 use crate::execute;
+use input_text::Noting;
 use std::alloc::Global;
 use std::io;
 use std::io::{ErrorKind, Read, Write};
@@ -140,7 +141,7 @@ fn a_read_wants_memory(rt: HostRuntime) {
 fn a_line_goes_out_when_its_end_is_read(rt: HostRuntime) {
     let mut output = Outward::new(rt.alloc());
     let mut faults = Vec::new(rt.alloc());
-    let mut input = two_lines(ErrorKind::Other);
+    let mut input = Noting::new(two_lines(ErrorKind::Other));
     assert_eq!(rt;
         execute(rt.alloc(), &mut input, &mut output, &mut faults),
         2
@@ -158,7 +159,7 @@ fn standard_output_cannot_be_written(rt: HostRuntime) {
         b"track 1 FF 00 FF\n".as_slice(),
         b"track 1 FF 00 FF".as_slice(),
     ] {
-        let mut input = text;
+        let mut input = Noting::new(text);
         let mut faults = Vec::new(rt.alloc());
         assert_eq!(rt;
             execute(rt.alloc(), &mut input, &mut Broken, &mut faults),
@@ -170,7 +171,7 @@ fn standard_output_cannot_be_written(rt: HostRuntime) {
 
 #[test]
 fn standard_output_cannot_go_out(rt: HostRuntime) {
-    let mut input: &[u8] = b"track 1 FF 00 FF\n";
+    let mut input = Noting::new(b"track 1 FF 00 FF\n".as_slice());
     let mut faults = Vec::new(rt.alloc());
     assert_eq!(rt; execute(rt.alloc(), &mut input, &mut Stuck, &mut faults), 4);
     assert_eq!(rt; faults.as_slice(), b"explain: output\n".as_slice());
@@ -180,7 +181,12 @@ fn standard_output_cannot_go_out(rt: HostRuntime) {
 fn standard_error_cannot_be_written(rt: HostRuntime) {
     let mut output = Vec::new(rt.alloc());
     assert_eq!(rt;
-        execute(rt.alloc(), &mut Broken, &mut output, &mut Broken),
+        execute(
+            rt.alloc(),
+            &mut Noting::new(Broken),
+            &mut output,
+            &mut Broken
+        ),
         2
     );
 }

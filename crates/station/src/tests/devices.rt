@@ -2,6 +2,7 @@
 
 use super::{Ran, look};
 use crate::execute;
+use input_text::Noting;
 use std::io;
 use std::io::{ErrorKind, Read, Write};
 
@@ -83,7 +84,13 @@ fn standard_input_cannot_be_read(rt: HostRuntime) {
     for (kind, wanted, told) in rows {
         let mut output = Vec::new(rt.alloc());
         let mut faults = Vec::new(rt.alloc());
-        let status = execute(&rt, &[], &mut Broken { kind }, &mut output, &mut faults);
+        let status = execute(
+            &rt,
+            &[],
+            &mut Noting::new(Broken { kind }),
+            &mut output,
+            &mut faults,
+        );
         let ran = Ran {
             status,
             output,
@@ -95,10 +102,10 @@ fn standard_input_cannot_be_read(rt: HostRuntime) {
 
 #[test]
 fn standard_input_is_interrupted_once(rt: HostRuntime) {
-    let mut input = Interrupted {
+    let mut input = Noting::new(Interrupted {
         is_first: true,
         text: b"turn 1",
-    };
+    });
     let mut output = Vec::new(rt.alloc());
     let mut faults = Vec::new(rt.alloc());
     let status = execute(&rt, &[], &mut input, &mut output, &mut faults);
@@ -118,7 +125,7 @@ fn standard_output_cannot_be_written(rt: HostRuntime) {
         (b"turn 1", ErrorKind::OutOfMemory),
     ];
     for (text, kind) in rows {
-        let mut input = text;
+        let mut input = Noting::new(text);
         let mut broken = Broken { kind };
         let mut faults = Vec::new(rt.alloc());
         assert_eq!(rt; execute(&rt, &[], &mut input, &mut broken, &mut faults), 4);
@@ -128,7 +135,7 @@ fn standard_output_cannot_be_written(rt: HostRuntime) {
 
 #[test]
 fn standard_output_cannot_be_flushed(rt: HostRuntime) {
-    let mut input: &[u8] = b"turn 1";
+    let mut input = Noting::new(b"turn 1".as_slice());
     let mut faults = Vec::new(rt.alloc());
     assert_eq!(rt;
         execute(&rt, &[], &mut input, &mut Unflushed, &mut faults),
@@ -139,7 +146,7 @@ fn standard_output_cannot_be_flushed(rt: HostRuntime) {
 
 #[test]
 fn standard_error_cannot_be_written(rt: HostRuntime) {
-    let mut input: &[u8] = b"turn 0";
+    let mut input = Noting::new(b"turn 0".as_slice());
     let mut output = Vec::new(rt.alloc());
     let mut broken = Broken {
         kind: ErrorKind::Other,
@@ -150,9 +157,10 @@ fn standard_error_cannot_be_written(rt: HostRuntime) {
 #[test]
 fn a_long_script_is_read_one_byte_past_the_limit(rt: HostRuntime) {
     let mut spaces = Spaces { read: 0 };
+    let mut input = Noting::new(&mut spaces);
     let mut output = Vec::new(rt.alloc());
     let mut faults = Vec::new(rt.alloc());
-    assert_eq!(rt; execute(&rt, &[], &mut spaces, &mut output, &mut faults), 5);
+    assert_eq!(rt; execute(&rt, &[], &mut input, &mut output, &mut faults), 5);
     assert_eq!(rt;
         faults.as_slice(),
         b"station: script fault 6 at line 0\n".as_slice()

@@ -2,6 +2,7 @@
 
 use super::{look, run, run_on};
 use crate::execute;
+use input_text::Noting;
 use std::alloc::Global;
 use std::io::{ErrorKind, Write};
 use std::test::Fail;
@@ -163,7 +164,7 @@ fn files_at_their_limit(rt: HostRuntime) -> Result<(), Fail> {
 fn a_monitor_that_cannot_print(rt: HostRuntime) -> Result<(), Fail> {
     let file = "station-test-unprinted.hex";
     fs::write(&rt, file, b"83 7C".as_slice())?;
-    let mut input: &[u8] = b"";
+    let mut input = Noting::new(b"".as_slice());
     let mut faults = Vec::new(rt.alloc());
     assert_eq!(rt;
         execute(&rt, &["monitor", file], &mut input, &mut Full, &mut faults),

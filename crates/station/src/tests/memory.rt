@@ -5,6 +5,7 @@
 
 use crate::{OrderFault, execute, order};
 use decoder_node::NodeList;
+use input_text::Noting;
 use layout_core::World;
 use refresh_ring::{BitRing, Schedule};
 use show_text::{Command, HexWhy, read_hex, read_script};
@@ -55,7 +56,7 @@ struct Run<'a> {
 impl<'a> Run<'a> {
     /// Whether the run is the ordinary one. None where it says that there is no memory, and prints nothing.
     fn answer(self, rt: &HostRuntime, pages: &mut Pages) -> Option<bool> {
-        let mut input = self.text;
+        let mut input = Noting::new(self.text);
         let found = execute(
             rt,
             self.words,

@@ -2,6 +2,7 @@
 
 use super::Ran;
 use crate::execute;
+use input_text::Noting;
 use std::alloc::{Allocator, Global};
 use std::cell::{Cell, RefCell};
 use std::fs::{Files, Metadata, OpenOptions};
@@ -110,7 +111,7 @@ fn serve(rt: &HostRuntime, words: &[&str], sent: &[&[u8]]) -> (Ran, Option<Socke
         asked: Cell::new(None),
         clients: RefCell::new(Vec::new(rt.alloc())),
     };
-    let mut input: &[u8] = b"";
+    let mut input = Noting::new(b"".as_slice());
     let mut output = Vec::new(rt.alloc());
     let mut faults = Vec::new(rt.alloc());
     let status = execute(&host, words, &mut input, &mut output, &mut faults);

@@ -2,6 +2,7 @@
 
 use super::Ran;
 use crate::execute;
+use input_text::Noting;
 use std::io;
 use std::io::{ErrorKind, Read, Write};
 
@@ -66,7 +67,8 @@ impl Read for Spaces {
 fn run_from<I: Read>(rt: &HostRuntime, input: &mut I) -> Ran {
     let mut output = Vec::new(rt.alloc());
     let mut faults = Vec::new(rt.alloc());
-    let status = execute(rt.alloc(), input, &mut output, &mut faults);
+    let mut input = Noting::new(input);
+    let status = execute(rt.alloc(), &mut input, &mut output, &mut faults);
     Ran {
         status,
         output,
@@ -115,7 +117,7 @@ fn a_long_input_is_read_one_byte_past_the_limit(rt: HostRuntime) {
 
 #[test]
 fn standard_output_cannot_be_written(rt: HostRuntime) {
-    let mut input: &[u8] = b"track 1 FF 00 FF\n";
+    let mut input = Noting::new(b"track 1 FF 00 FF\n".as_slice());
     let mut faults = Vec::new(rt.alloc());
     assert_eq!(rt;
         execute(rt.alloc(), &mut input, &mut Broken, &mut faults),
@@ -126,7 +128,7 @@ fn standard_output_cannot_be_written(rt: HostRuntime) {
 
 #[test]
 fn standard_error_cannot_be_written(rt: HostRuntime) {
-    let mut input: &[u8] = b"track\n";
+    let mut input = Noting::new(b"track\n".as_slice());
     let mut output = Vec::new(rt.alloc());
     assert_eq!(rt;
         execute(rt.alloc(), &mut input, &mut output, &mut Broken),

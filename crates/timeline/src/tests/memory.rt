@@ -4,6 +4,7 @@
 //! This test takes the memory of the process, and so needs the allocator of the C library: `rt test`, and not `rt try`.
 
 use crate::execute;
+use input_text::Noting;
 use std::alloc::Global;
 use std::test::Fail;
 
@@ -45,7 +46,7 @@ fn is_ordinary(rt: &HostRuntime, room: usize) -> Result<Option<bool>, Fail> {
     let left: Vec<u8> = Vec::with_capacity(alloc, room)?;
     take_all(alloc, &mut held);
     drop(left);
-    let mut input = IDLES;
+    let mut input = Noting::new(IDLES);
     let status = execute(alloc, &mut input, &mut output, &mut faults);
     drop(held);
     let told = faults.as_slice();

@@ -6,14 +6,14 @@ use Rattle.explain.proofs.streams.explain_input.Goals as goal
 pub returns-in_err-end-clause-begun : goal.returns-in_err-end-clause-begun
 returns-in_err-end-clause-begun g c =
     let new = c.new-explainer in
-    explains-front (g.I.Read.remaining c.args.input.now) (g.I.Read.remaining c.hear_all.new.input) (g.O.Write.contents c.args.output.now) (g.O.Write.contents c.hear_all.new.output)
+    explains-front (g.I.Input.left c.args.input.now) (g.I.Input.left c.hear_all.new.input) (g.O.Write.contents c.args.output.now) (g.O.Write.contents c.hear_all.new.output)
     new.result.is_long new.result.line.items new.ensures.is_long new.ensures.held c.in_err-end.ensures.begun
 
 pub returns-in_err-finish-clause-begun : goal.returns-in_err-finish-clause-begun
 returns-in_err-finish-clause-begun g c =
     let new = c.new-explainer in
     let heard = c.hear_all.new.explainer in
-    explains-heard (g.I.Read.remaining c.args.input.now) (g.I.Read.remaining c.hear_all.new.input) (g.O.Write.contents c.args.output.now) (g.O.Write.contents c.hear_all.new.output)
+    explains-heard (g.I.Input.left c.args.input.now) (g.I.Input.left c.hear_all.new.input) (g.O.Write.contents c.args.output.now) (g.O.Write.contents c.hear_all.new.output)
     new.result.is_long heard.is_long new.result.line.items heard.line.items new.ensures.is_long new.ensures.held c.in_ok-end.ensures.followed
 
 pub returns-in_err-write_text-clause-begun : goal.returns-in_err-write_text-clause-begun
@@ -21,7 +21,7 @@ returns-in_err-write_text-clause-begun g c =
     let new = c.new-explainer in
     let heard = c.hear_all.new.explainer in
     let left = to_write heard.is_long heard.line.items [] in
-    explains-most (g.I.Read.remaining c.args.input.now) (g.I.Read.remaining c.hear_all.new.input) (g.O.Write.contents c.args.output.now) (g.O.Write.contents c.hear_all.new.output) (g.O.Write.contents c.write_text.new.output)
+    explains-most (g.I.Input.left c.args.input.now) (g.I.Input.left c.hear_all.new.input) (g.O.Write.contents c.args.output.now) (g.O.Write.contents c.hear_all.new.output) (g.O.Write.contents c.write_text.new.output)
     new.result.is_long heard.is_long new.result.line.items heard.line.items c.as_slice.result.now new.ensures.is_long new.ensures.held c.in_ok-end.ensures.followed
     (c.as_slice.ensures.value ∙ from_nothing c.clear.new.self.items c.finish.new.text.items left c.clear.ensures.items c.in_ok-finish.ensures) c.in_err-write_text.ensures.front
 
@@ -30,7 +30,7 @@ returns-clause-explained g c =
     let new = c.new-explainer in
     let heard = c.hear_all.new.explainer in
     let left = to_write heard.is_long heard.line.items [] in
-    explains-all (g.I.Read.remaining c.args.input.now) (g.I.Read.remaining c.hear_all.new.input) (g.O.Write.contents c.args.output.now) (g.O.Write.contents c.hear_all.new.output) (g.O.Write.contents c.write_text.new.output)
+    explains-all (g.I.Input.left c.args.input.now) (g.I.Input.left c.hear_all.new.input) (g.O.Write.contents c.args.output.now) (g.O.Write.contents c.hear_all.new.output) (g.O.Write.contents c.write_text.new.output)
     new.result.is_long heard.is_long new.result.line.items heard.line.items c.as_slice.result.now new.ensures.is_long new.ensures.held c.in_ok-end.ensures.followed
     (c.as_slice.ensures.value ∙ from_nothing c.clear.new.self.items c.finish.new.text.items left c.clear.ensures.items c.in_ok-finish.ensures) c.in_ok-write_text.ensures.written
 
@@ -39,6 +39,6 @@ returns-clause-begun g c =
     let new = c.new-explainer in
     let heard = c.hear_all.new.explainer in
     let left = to_write heard.is_long heard.line.items [] in
-    explains-most (g.I.Read.remaining c.args.input.now) (g.I.Read.remaining c.hear_all.new.input) (g.O.Write.contents c.args.output.now) (g.O.Write.contents c.hear_all.new.output) (g.O.Write.contents c.write_text.new.output)
+    explains-most (g.I.Input.left c.args.input.now) (g.I.Input.left c.hear_all.new.input) (g.O.Write.contents c.args.output.now) (g.O.Write.contents c.hear_all.new.output) (g.O.Write.contents c.write_text.new.output)
     new.result.is_long heard.is_long new.result.line.items heard.line.items c.as_slice.result.now new.ensures.is_long new.ensures.held c.in_ok-end.ensures.followed
     (c.as_slice.ensures.value ∙ from_nothing c.clear.new.self.items c.finish.new.text.items left c.clear.ensures.items c.in_ok-finish.ensures) c.in_ok-write_text.ensures.front

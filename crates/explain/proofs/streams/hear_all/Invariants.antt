@@ -1,8 +1,15 @@
+use Rattle.std.proofs.Common.{◌≡◌, ◌≤◌, ◌-◌, ◌^◌, false}
 use Rattle.explain.specs.Streams.{Follows}
 use Rattle.explain.proofs.streams.hear_all.Given as goal
 
 -- what was heard so far
-abbrev pub invariant-loop : goal.invariant-loop
-invariant-loop g l =
-    Follows (g.I.Read.remaining l.initial.input) (g.I.Read.remaining l.input) (g.O.Write.contents l.initial.output) (g.O.Write.contents l.output)
-    l.initial.explainer.is_long l.initial.explainer.line.items l.explainer.is_long l.explainer.line.items
+abbrev pub invariant-loop-end : goal.invariant-loop-end
+invariant-loop-end g l = record {
+  followed : Follows (g.I.Input.left l.initial.input) (g.I.Input.left l.input) (g.O.Write.contents l.initial.output) (g.O.Write.contents l.output)
+      l.initial.explainer.is_long l.initial.explainer.line.items l.explainer.is_long l.explainer.line.items;
+  works : g.I.Input.failed l.input ≡ false;
+}
+
+-- an input gives less than 2^64 bytes
+abbrev pub decreases-loop-end : goal.decreases-loop-end
+decreases-loop-end g l = 2 ^ 64 - g.I.Input.given l.input

@@ -1,19 +1,19 @@
 use Rattle.std.proofs.Common.{ℕ, List, take, subst}
 use Rattle.explain.specs.Streams.{AppendsFront, Begins}
-use Rattle.explain.proofs.Passing.{begins-written, passed_up, taken_of}
+use Rattle.explain.proofs.Passing.{begins-written, passed_up}
 use Rattle.explain.proofs.streams.hear_some.Goals as goal
 
 pub returns-in_err-write_text-clause-begun : goal.returns-in_err-write_text-clause-begun
 returns-in_err-write_text-clause-begun g c =
-    let a = g.I.Read.remaining c.args.input.now in
-    let b = g.I.Read.remaining c.read_chunk.new.input in
+    let a = g.I.Input.left c.args.input.now in
+    let b = g.I.Input.left c.get.new.self in
     let o = g.O.Write.contents c.args.output.now in
     let p = g.O.Write.contents c.write_text.new.output in
     let before = c.args.explainer.now in
     let after = c.hear.new.self in
-    let heard = take c.in-Some.count c.read_chunk.new.chunk in
+    let heard = take c.in-Ok.count c.get.new.buf in
     passed_up c.from_residual-in_err-write_text.result c.in_err-write_text.field-0.0 (Begins a b o p before.is_long before.line.items) c.from_residual-in_err-write_text.ensures.1
     (begins-written a b o p before.is_long after.is_long before.line.items after.line.items heard c.clear.new.self.items c.hear.new.text.items
-    (taken_of a b c.read_chunk.new.chunk c.in_ok-count.field-0 c.in-Some.count c.in-Some.is c.in_ok-count.ensures.taken)
+    c.in-Ok.ensures.bytes.0
     c.clear.ensures.items c.in_ok-hear.ensures.further
     (subst (λ (bs : List ℕ). AppendsFront o p bs) c.as_slice.ensures.value c.in_err-write_text.ensures.front))

@@ -7,4 +7,4 @@ pub returns-clause-done : goal.returns-clause-done
 returns-clause-done g c =
     served_new c.serve_at.result c.args.port c.args.roster c.args.limits c.args.connections c.in_ok-roster.roster (roster_value c.as_ref.result) (roster_value c.as_ref-2.result) c.in_ok-world.world c.serve_at.new.world
     (g.O.Write.contents c.args.output.now) (g.O.Write.contents c.serve_at.new.output)
-    (search rules) (search rules) c.in_ok-roster.ensures c.in_ok-world.ensures.new c.serve_at.ensures.served
+    (search rules) (search rules) c.in_ok-roster.ensures.roster c.in_ok-world.ensures.new c.serve_at.ensures.served

@@ -9,7 +9,8 @@ use Rattle.layout_core.specs.Standings.{standing_of}
 use Rattle.show_text.specs.Nodes.{IsToldOf}
 use Rattle.std.specs.List.{slice_index_or}
 use Rattle.program.specs.Printed.{decoder_lines}
-use Rattle.program.proofs.Printing.{one_line_more}
+use Rattle.program.proofs.Printing.{front_of_line, one_line_more}
+use Rattle.console.proofs.Fronts.{on_err}
 use Rattle.program.proofs.Told.{length-decoder_lines, told_line}
 use Rattle.program.proofs.layout.print_decoders.Goals as goal
 
@@ -36,6 +37,25 @@ loop-i-preserved g c =
     (told_line entries nodes specs c.loop-i.i c.name.result.now c.spec-item.result c.standing.result are below count c.spec-item.is c.name.ensures.value c.standing.ensures.standing ∙ sym c.line-line.ensures)
     c.loop-i.invariant c.in_ok-print.ensures.printed
 
+pub returns-in_err-print-clause-front : goal.returns-in_err-print-clause-front
+returns-in_err-print-clause-front g c =
+    let nodes = c.args.world.now.nodes in
+    let entries = c.args.roster.now in
+    let specs : List NodeSpec = c.as_slice-spec-items.result.now in
+    let are : specs ≡ map spec_of_entry entries = c.as_slice-spec-items.ensures.value ∙ c.nodes.ensures.nodes in
+    let below : c.loop-i.i < length specs = c.loop-i-test.true in
+    let same : map spec_of nodes ≡ specs = c.requires ∙ sym are in
+    let count : length nodes ≡ length specs = sym (length-map nodes spec_of) ∙ ap length same in
+    let as_many : length (map standing_of nodes) ≡ length entries = length-map nodes standing_of ∙ count ∙ ap length are ∙ length-map entries spec_of_entry in
+    let so_many : length (decoder_lines entries (map standing_of nodes)) ≡ length entries = length-decoder_lines entries (map standing_of nodes) as_many in
+    let same_length : length specs ≡ length entries = ap length are ∙ length-map entries spec_of_entry in
+    let inside : c.loop-i.i < length entries = omega (arith, below, same_length) in
+    on_err c.from_residual.result _
+    (front_of_line (decoder_lines entries (map standing_of nodes)) c.loop-i.i c.line-line.result.bytes (g.O.Write.contents c.args.output.now) (g.O.Write.contents c.loop-i.output) (g.O.Write.contents c.print.new.output)
+    (omega (arith, inside, so_many))
+    (told_line entries nodes specs c.loop-i.i c.name.result.now c.spec-item.result c.standing.result are below count c.spec-item.is c.name.ensures.value c.standing.ensures.standing ∙ sym c.line-line.ensures)
+    c.loop-i.invariant c.in_err-print.ensures.front)
+
 pub returns : goal.returns
 returns g c =
     let nodes = c.args.world.now.nodes in
@@ -48,4 +68,5 @@ returns g c =
     let all : length (decoder_lines entries (map standing_of nodes)) ≤ c.loop-i.i = omega (arith, over, so_many, ap length are, length-map entries spec_of_entry) in
     record {
       printed = subst (λ (lines : List (List ℕ)). Appends (g.O.Write.contents c.args.output.now) (g.O.Write.contents c.loop-i.output) (lines_text lines)) (take_all c.loop-i.i (decoder_lines entries (map standing_of nodes)) all) c.loop-i.invariant;
+      front = tt;
     }

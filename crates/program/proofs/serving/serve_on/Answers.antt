@@ -1,5 +1,5 @@
 use Rattle.std.proofs.Common.{◌≡◌, ◌∙◌, refl, subst, inl, inr, arith, rules}
-use Rattle.program.proofs.Connecting.{given_up, part_none, part_whole, passed_up, served_all, served_more, served_none}
+use Rattle.program.proofs.Connecting.{given_up, part_none, part_whole, passed_up, served_all, served_more, served_none, stops_showing}
 use Rattle.program.proofs.Replaying.{done_none}
 use Rattle.console.specs.declared.fault.RunFault.{RunFault}
 use Rattle.console.specs.declared.fault.RunFault.TheVariants.{Network, Output}
@@ -10,11 +10,11 @@ use Rattle.program.proofs.serving.serve_on.Goals as goal
 
 pub loop-served-preserved : goal.loop-served-preserved
 loop-served-preserved g c = record {
-  nodes = c.serve_stream.ensures.specs ∙ c.loop-served.invariant.nodes;
+  nodes = c.serve_connection.ensures.specs ∙ c.loop-served.invariant.nodes;
   served =
-      served_more c.events_add_up.ensures.more c.args.limits c.loop-served._served (entries_in (roster_value c.args.roster)) c.args.world.now c.loop-served.world c.serve_stream.new.world
-      (g.O.Write.contents c.args.output.now) (g.O.Write.contents c.loop-served.output) (g.O.Write.contents c.serve_stream.new.output) (g.O.Write.contents c.print_nodes.new.output)
-      c.loop-served.invariant.served c.in_ok-serve_stream.ensures.served c.in_ok-print_nodes.ensures.printed;
+      served_more c.events_add_up.ensures.more c.args.limits c.loop-served._served (entries_in (roster_value c.args.roster)) c.args.world.now c.loop-served.world c.serve_connection.new.world
+      (g.O.Write.contents c.args.output.now) (g.O.Write.contents c.loop-served.output) (g.O.Write.contents c.serve_connection.new.output) (g.O.Write.contents c.print_nodes.new.output)
+      c.loop-served.invariant.served c.in_ok-serve_connection.ensures.served c.in_ok-print_nodes.ensures.printed;
 }
 
 pub returns-in_default-clause-given_up : goal.returns-in_default-clause-given_up
@@ -23,21 +23,21 @@ returns-in_default-clause-given_up g c =
     (g.O.Write.contents c.args.output.now) (g.O.Write.contents c.loop-served.output) (g.O.Write.contents c.loop-served.output) c.loop-served.invariant.served c.loop-served-test.true
     (part_none c.args.limits.turns c.loop-served.world (done_none c.events_add_up.ensures.none c.loop-served.world)) (inl (refl, refl, refl))
 
-pub returns-in_err-serve_stream-clause-given_up : goal.returns-in_err-serve_stream-clause-given_up
-returns-in_err-serve_stream-clause-given_up g c =
-    let fault : RunFault = c.in_err-serve_stream.field-0.0 in
+pub returns-in_err-serve_connection-clause-given_up : goal.returns-in_err-serve_connection-clause-given_up
+returns-in_err-serve_connection-clause-given_up g c =
+    let fault : RunFault = c.in_err-serve_connection.field-0.0 in
     passed_up c.from_residual.result fault _ (search rules)
-    (given_up fault c.args.limits c.loop-served._served c.args.connections (entries_in (roster_value c.args.roster)) c.args.world.now c.loop-served.world c.serve_stream.new.world
-    (g.O.Write.contents c.args.output.now) (g.O.Write.contents c.loop-served.output) (g.O.Write.contents c.serve_stream.new.output) c.loop-served.invariant.served c.loop-served-test.true
-    c.in_err-serve_stream.ensures.part (inr (inl c.in_err-serve_stream.ensures.given_up)))
+    (given_up fault c.args.limits c.loop-served._served c.args.connections (entries_in (roster_value c.args.roster)) c.args.world.now c.loop-served.world c.serve_connection.new.world
+    (g.O.Write.contents c.args.output.now) (g.O.Write.contents c.loop-served.output) (g.O.Write.contents c.serve_connection.new.output) c.loop-served.invariant.served c.loop-served-test.true
+    c.in_err-serve_connection.ensures.part (inr (inl c.in_err-serve_connection.ensures.given_up)))
 
 pub returns-in_err-print_nodes-clause-given_up : goal.returns-in_err-print_nodes-clause-given_up
 returns-in_err-print_nodes-clause-given_up g c =
-    let served = c.in_ok-serve_stream.ensures.served in
+    let served = c.in_ok-serve_connection.ensures.served in
     passed_up c.from_residual-in_err-print_nodes.result Output _ (search rules)
-    (given_up Output c.args.limits c.loop-served._served c.args.connections (entries_in (roster_value c.args.roster)) c.args.world.now c.loop-served.world c.serve_stream.new.world
+    (given_up Output c.args.limits c.loop-served._served c.args.connections (entries_in (roster_value c.args.roster)) c.args.world.now c.loop-served.world c.serve_connection.new.world
     (g.O.Write.contents c.args.output.now) (g.O.Write.contents c.loop-served.output) (g.O.Write.contents c.print_nodes.new.output) c.loop-served.invariant.served c.loop-served-test.true
-    (part_whole c.args.limits c.loop-served.world c.serve_stream.new.world _ _ served) (inr (inr (refl, (served.0, served.1)))))
+    (part_whole c.args.limits c.loop-served.world c.serve_connection.new.world _ _ served) (inr (inr (refl, stops_showing c.args.limits (entries_in (roster_value c.args.roster)) c.loop-served.world c.serve_connection.new.world _ _ _ served c.in_err-print_nodes.ensures.front))))
 
 pub returns-clause-served : goal.returns-clause-served
 returns-clause-served g c =

@@ -1,6 +1,6 @@
 use Rattle.std.proofs.Common.{rules}
 use Rattle.program.proofs.Lending.{gives_up_through}
-use Rattle.program.proofs.serving.serve_stream.Goals as goal
+use Rattle.program.proofs.serving.serve_connection.Goals as goal
 
 pub returns-clause-given_up : goal.returns-clause-given_up
 returns-clause-given_up g c =
