@@ -1,11 +1,11 @@
 //! Files that are read.
-ghost use Rattle.std.specs.Prelude.{◌≡◌, false, IfOk};
+ghost use Rattle.std.specs.Prelude.{◌≡◌, ◌<◌, ◌≤◌, ◌+◌, ◌^◌, false, length, IfOk};
 ghost use Rattle.console.specs.Fault.{of_file};
 ghost use Rattle.input_text.specs.Noting.{noting_failed};
 
 use crate::fault::RunFault;
 use command_line::FileName;
-use input_text::{Noting, ReadFault};
+use input_text::{Noting, ReadFault, read_most};
 use std::fs;
 use std::io::ErrorKind;
 use std::rt::Files;
@@ -30,5 +30,29 @@ pub(crate) fn open<R: Files>(rt: &R, file: &FileName) -> Result<Noting<R::File>,
             ErrorKind::OutOfMemory => Err(ReadFault::NoMemory),
             _ => Err(ReadFault::Failed),
         },
+    }
+}
+
+/// The bytes of a file that has at most so many, below 2^32 - 1. Of a longer one no more than one byte past them is read.
+///
+/// # Errors
+///
+/// `Unreadable` where the file is not opened or a read fails, `TooLong`, and `NoMemory`.
+pub fn read_whole<R: Files + AllocGlobal>(
+    rt: &R,
+    file: FileName,
+    most: usize,
+) -> Result<Vec<u8>, RunFault>
+    requires { most + 1 < 2 ^ 32 }
+    ensures { IfOk result (λ v. length v.items ≤ most) }
+{
+    let read = match open(rt, &file) {
+        Ok(mut input) => read_most(rt.alloc(), &mut input, most + 1),
+        Err(fault) => Err(fault),
+    };
+    match read {
+        Ok(bytes) if bytes.len() <= most => Ok(bytes),
+        Ok(_) => Err(RunFault::TooLong(file)),
+        Err(fault) => Err(not_read(fault, file)),
     }
 }

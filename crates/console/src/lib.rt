@@ -11,6 +11,7 @@ mod telling;
 mod words;
 
 pub use fault::RunFault;
+pub use input::read_whole;
 pub use monitoring::{monitor, monitor_from};
 pub use output::{Lent, Unwritten, flush_after, print, print_ended};
 pub use roster_file::{read_roster, roster_from};

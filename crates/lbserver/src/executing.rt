@@ -6,11 +6,10 @@ ghost use Rattle.hub.specs.Hubs.{Watches};
 use crate::sockets::Sockets;
 use bus_lines::Printer;
 use command_line::{FileName, ServerOrder, server_order};
-use console::{ReadFault, RunFault, Unwritten, read_most, read_roster, tell_as};
+use console::{RunFault, Unwritten, read_roster, read_whole, tell_as};
 use decoder_node::NodeList;
 use hub::{Losses, Server};
 use roster::Roster;
-use std::fs;
 use std::io::{BufWriter, ErrorKind, Write};
 use std::net::SocketAddr;
 use std::time::{Duration, Instant};
@@ -111,15 +110,7 @@ fn read_page(rt: &HostRuntime, file: Option<FileName>) -> Result<Vec<u8>, RunFau
         Some(file) => file,
         None => FileName::new(rt.alloc(), PAGE_FILE)?,
     };
-    let Ok(mut opened) = fs::open(rt, file.as_str()) else {
-        return Err(RunFault::Unreadable(file));
-    };
-    match read_most(rt.alloc(), &mut opened, LONGEST_PAGE + 1) {
-        Ok(page) if page.len() <= LONGEST_PAGE => Ok(page),
-        Ok(_) => Err(RunFault::TooLong(file)),
-        Err(ReadFault::Failed) => Err(RunFault::Unreadable(file)),
-        Err(ReadFault::NoMemory) => Err(RunFault::NoMemory),
-    }
+    read_whole(rt, file, LONGEST_PAGE)
 }
 
 /// Tells the addresses and the ports that are bound, at once.
