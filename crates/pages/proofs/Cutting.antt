@@ -1,8 +1,7 @@
 -- The whole lines of a text, and of a longer one.
-use Rattle.std.proofs.Common.{◌≡◌, ℕ, ◌+◌, ◌<◌, ◌≤◌, ◌==◌, ◌&&◌, Bool, true, false, List, [], ◌∷◌, ◌++◌, suc, length, not, take, drop, append_assoc, append-nil, refl, ap, ap₂, sym, subst, inl, inr, ◌∙◌, arith, slice_index, Option, Some, None, eqb-true, take-append-drop, length-take, get_or}
+use Rattle.std.proofs.Common.{◌≡◌, ℕ, ◌+◌, ◌<◌, ◌≤◌, ◌==◌, true, false, List, [], ◌∷◌, ◌++◌, suc, length, not, take, drop, refl, ap, sym, subst, inl, inr, ◌∙◌, arith, slice_index, Option, Some, None, eqb-true, take-append-drop, length-take, get_or}
 use Rattle.std.specs.Prelude.{if◌then◌else◌}
-use Rattle.std.specs.List.{list_all, AllPass}
-use Rattle.std.proofs.lemmas.Bool.{and_parts, not-true, cases_Bool, false_from_ne_true}
+use Rattle.std.proofs.lemmas.Bool.{cases_Bool, false_from_ne_true}
 use Rattle.std.proofs.lemmas.List.{get_or-drop, drop_more, length-drop}
 use Rattle.std.proofs.lemmas.List.Sums.{list_all-from_AllPass}
 use Rattle.std.proofs.lemmas.Grind.{get_or_default_zero}

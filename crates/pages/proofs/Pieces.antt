@@ -1,6 +1,6 @@
 -- Pieces of lines.
-use Rattle.std.proofs.Common.{◌≡◌, ℕ, ◌+◌, ◌≤◌, ◌==◌, ◌&&◌, Bool, true, false, List, [], ◌∷◌, ◌++◌, length, take, drop, append_assoc, append-nil, refl, ap, sym, inl, inr, ◌∙◌, arith, take-append-drop, ap₂, Result, Ok, Err, is_ok}
-use Rattle.std.specs.Prelude.{if◌then◌else◌, IsTrue, MatchResult}
+use Rattle.std.proofs.Common.{◌≡◌, ℕ, ◌≤◌, ◌==◌, Bool, true, false, List, [], ◌∷◌, ◌++◌, length, take, drop, append_assoc, refl, ap, sym, inl, inr, ◌∙◌, arith, take-append-drop, ap₂, Result, Ok, Err, is_ok}
+use Rattle.std.specs.Prelude.{IsTrue, MatchResult}
 use Rattle.std.proofs.Math.Seq.{take-append_seam}
 use Rattle.std.proofs.lemmas.List.{length-take-le, take_rest}
 use Rattle.std.proofs.lemmas.Bool.{cases_Bool}

@@ -1,7 +1,7 @@
 -- The lines so far and those of a longer text, and the answers to them.
-use Rattle.std.proofs.Common.{◌≡◌, ◌≢◌, ℕ, zero, suc, ◌+◌, ◌*◌, ◌-◌, ◌<◌, ◌≤◌, ◌==◌, ◌&&◌, Bool, true, false, min, List, [], ◌∷◌, ◌++◌, length, not, map, take, drop, append_assoc, append-nil, length-append, length-take, get_or, refl, ap, sym, subst, inl, inr, ◌⊎◌, ◌∙◌, arith, eqb-true, Ok, Err, Result}
+use Rattle.std.proofs.Common.{◌≡◌, ◌≢◌, ℕ, zero, suc, ◌+◌, ◌*◌, ◌<◌, ◌≤◌, ◌==◌, Bool, true, false, min, List, [], ◌∷◌, ◌++◌, length, not, take, append_assoc, length-append, length-take, get_or, refl, ap, sym, subst, inl, inr, ◌⊎◌, ◌∙◌, arith, eqb-true, Ok, Err, Result}
 use Rattle.std.specs.Prelude.{if◌then◌else◌, All, IsTrue, nat_lt}
-use Rattle.std.specs.List.{list_all, flat_map}
+use Rattle.std.specs.List.{flat_map}
 use Rattle.std.proofs.lemmas.Bool.{and_parts, cases_Bool, ltb-true, le-ltb, lt-ltb}
 use Rattle.std.proofs.lemmas.List.{take_min, take-append-le}
 use Rattle.std.proofs.lemmas.List.Folds.{list_all-append}
@@ -14,7 +14,7 @@ use Rattle.httparse.specs.declared.Status.TheVariants.{Complete, Partial}
 use Rattle.httparse.specs.Outcome.{IfComplete, OnPartial}
 use Rattle.httparse.specs.declared.spans.RequestSpans.{RequestSpans}
 use Rattle.httparse.specs.Grammar.{RequestHead, ReadsRequest, HasNoRequest, NeverHasRequest, MayBecomeRequest, EndsInTarget, Field, IsField, LineEnd, crlf, lf, print_blank, print_end, print_field, print_request, print_section, print_version, is_uri_byte, AllPass}
-use Rattle.httparse.specs.Spans.{RequestExceeds, name_and_value}
+use Rattle.httparse.specs.Spans.{RequestExceeds}
 use Rattle.httparse.proofs.GrammarLemmas.{ReadsRequest-append, request_unique}
 use Rattle.websocket.specs.Headers.{Fields}
 use Rattle.pages.specs.declared.asked.Answer.{Answer}

@@ -1,10 +1,10 @@
 -- What a request is answered, by the parts of its head (RFC 9112, section 2.1).
-use Rattle.std.specs.Prelude.{◌≡◌, ℕ, Bool, ◌&&◌, ◌||◌, not, if◌then◌else◌, nat_lt, List, length, codes, bytes_eq, Option, Some, None, IfSome, Result, Ok, Err}
+use Rattle.std.specs.Prelude.{◌≡◌, ℕ, Bool, ◌&&◌, not, if◌then◌else◌, nat_lt, List, length, codes, bytes_eq, Option, Some, None, IfSome, Result, Ok, Err}
 use Rattle.websocket.specs.Headers.{Fields}
 use Rattle.websocket.specs.Handshake.{Answers, requested_key}
 use Rattle.websocket.specs.declared.handshake.failure.HandshakeError.{HandshakeError}
 use Rattle.pages.specs.declared.asked.Answer.{Answer}
-use Rattle.pages.specs.declared.asked.Answer.TheVariants.{Later, Page, Joins, Refused}
+use Rattle.pages.specs.declared.asked.Answer.TheVariants.{Page, Joins, Refused}
 use Rattle.pages.specs.declared.asked.Joined.{Joined}
 use Rattle.pages.specs.declared.asked.Refusal.TheVariants.{BadRequest, Forbidden, NotFound, MethodNotAllowed, TooLong}
 use Rattle.pages.specs.Origins.{IsOwnOrigin}

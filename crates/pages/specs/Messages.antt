@@ -1,5 +1,5 @@
 -- Lines of text, and messages that hold one each.
-use Rattle.std.specs.Prelude.{ℕ, Bool, ◌==◌, if◌then◌else◌, nat_lt, List, [], ◌∷◌, ◌++◌, length, map, take, bytes_eq}
+use Rattle.std.specs.Prelude.{ℕ, ◌==◌, if◌then◌else◌, nat_lt, List, [], ◌∷◌, ◌++◌, length, map, take, bytes_eq}
 
 -- what is held of a line behind its next byte: its first 512 bytes
 abbrev pub held_after : List ℕ → ℕ → List ℕ

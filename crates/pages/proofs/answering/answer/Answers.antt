@@ -1,7 +1,5 @@
-use Rattle.std.proofs.Common.{◌≡◌, ◌++◌, [], refl, ap, sym, ◌∙◌, arith, append-nil}
-use Rattle.httparse.specs.Outcome.{IfComplete, OnInvalid, OnPartial, OnTooManyHeaders}
+use Rattle.std.proofs.Common.{◌++◌, [], ap, sym, ◌∙◌, arith, append-nil}
 use Rattle.httparse.specs.Spans.{IsRequestOf}
-use Rattle.pages.specs.Lines.{lines_so_far}
 use Rattle.pages.proofs.Standing.{answer_by_parts, complete-of, head_answered, lines_are, lines_more, never_answered, never_by_error, partial-of, unfinished-long, unfinished-short, waiting_answered, waiting_stands}
 use Rattle.pages.proofs.answering.answer.Goals as goal
 

@@ -1,4 +1,4 @@
-use Rattle.std.proofs.Common.{refl, arith, sym, ◌∙◌, ap, subst}
+use Rattle.std.proofs.Common.{refl, arith, ◌∙◌, subst}
 use Rattle.pages.specs.Telling.{Tells}
 use Rattle.pages.proofs.Telling.{end-held, end-tells, step-held, step-messages, tells-nothing}
 use Rattle.pages.proofs.page.Page.take.Goals as goal
