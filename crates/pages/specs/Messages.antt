@@ -1,5 +1,5 @@
 -- Lines of text, and messages that hold one each.
-use Rattle.std.specs.Prelude.{ℕ, ◌==◌, if◌then◌else◌, nat_lt, List, [], ◌∷◌, ◌++◌, length, map, take, bytes_eq}
+use Rattle.std.specs.Prelude.{ℕ, ◌==◌, if◌then◌else◌, nat_lt, List, [], ◌∷◌, ◌++◌, length, bytes_eq}
 
 -- what is held of a line behind its next byte: its first 512 bytes
 abbrev pub held_after : List ℕ → ℕ → List ℕ
@@ -9,20 +9,6 @@ held_after held b = if nat_lt (length held) 512 then held ++ b ∷ [] else held
 abbrev pub without_return : List ℕ → List ℕ
 without_return [] = []
 without_return (b ∷ line) = if bytes_eq (b ∷ line) (13 ∷ []) then [] else b ∷ without_return line
-
--- a byte before the first line; before no line that ends, nothing
-abbrev pub onto_line : ℕ → List (List ℕ) → List (List ℕ)
-onto_line b [] = []
-onto_line b (line ∷ lines) = (b ∷ line) ∷ lines
-
--- the lines that end in a text, in order, each without its line feed
-abbrev pub lines_of : List ℕ → List (List ℕ)
-lines_of [] = []
-lines_of (b ∷ text) = if b == 10 then [] ∷ lines_of text else onto_line b (lines_of text)
-
--- the messages that tell the lines of a text: a message for each that ends
-abbrev pub messages_of : List ℕ → List (List ℕ)
-messages_of text = map (λ line. without_return (take 512 line)) (lines_of text)
 
 -- the messages that bytes make behind what is held of a line, and what is held then
 abbrev pub messages_along : (held : List ℕ) → List ℕ → List (List ℕ)
