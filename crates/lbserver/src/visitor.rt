@@ -11,8 +11,11 @@ use std::net::Shutdown;
 /// How long a head may take until it is whole, in microseconds.
 const HEAD_TIME: u64 = 5_000_000;
 
-/// How long an answer may take to go out, and then its reader to end the connection, in microseconds.
+/// How long an answer may take to go out, in microseconds.
 const ANSWER_TIME: u64 = 10_000_000;
+
+/// How long its reader may then take to end the connection, in microseconds.
+const LEAVE_TIME: u64 = 1_000_000;
 
 /// The most bytes that are read at once.
 const READ_AT_ONCE: usize = 1_024;
@@ -203,7 +206,7 @@ impl Visitor {
     /// Says that nothing more comes.
     fn leave(&mut self, now: u64) -> Next {
         self.stage = Stage::Leaves;
-        self.ends = now.saturating_add(ANSWER_TIME);
+        self.ends = now.saturating_add(LEAVE_TIME);
         match self.stream.shutdown(Shutdown::Write) {
             Ok(()) => Next::GoesOn,
             Err(_) => Next::Ends,
