@@ -2,7 +2,8 @@
 
 use crate::tests::desk::{Desk, OK, hears, hears_the_end, loopback};
 use std::io::{Read, Write};
-use std::net::{Shutdown, TcpStream};
+use std::net::{Net, Shutdown, TcpListener, TcpStream};
+use std::process::Abort;
 use std::test::Fail;
 
 /// What is served as the page.
@@ -28,7 +29,11 @@ fn desk<'a>(rt: &HostRuntime) -> Result<Desk<'a>, Fail> {
 }
 
 /// A browser that has connected, and says this.
-fn browser(rt: &HostRuntime, desk: &mut Desk<'_>, text: &str) -> Result<TcpStream, Fail> {
+fn browser<R: Net<Listener = TcpListener, Stream = TcpStream>>(
+    rt: &R,
+    desk: &mut Desk<'_>,
+    text: &str,
+) -> Result<TcpStream, Fail> {
     let address = desk.sockets.page_address().ok_or("no page")??;
     let mut browser = TcpStream::connect(rt, address)?;
     browser.set_nodelay(true)?;
@@ -37,7 +42,10 @@ fn browser(rt: &HostRuntime, desk: &mut Desk<'_>, text: &str) -> Result<TcpStrea
 }
 
 /// A page that has joined, and is told the version.
-fn page(rt: &HostRuntime, desk: &mut Desk<'_>) -> Result<TcpStream, Fail> {
+fn page<R: Net<Listener = TcpListener, Stream = TcpStream> + AllocGlobal + Abort>(
+    rt: &R,
+    desk: &mut Desk<'_>,
+) -> Result<TcpStream, Fail> {
     let mut page = browser(rt, desk, JOINS)?;
     hears(rt, &mut page, &[JOINED])?;
     is_told(rt, &mut page, &["VERSION lbserver station"])?;
@@ -45,7 +53,11 @@ fn page(rt: &HostRuntime, desk: &mut Desk<'_>) -> Result<TcpStream, Fail> {
 }
 
 /// A page is told just these messages next: frames of text, not masked (RFC 6455, section 5.2).
-fn is_told(rt: &HostRuntime, page: &mut TcpStream, messages: &[&str]) -> Result<(), Fail> {
+fn is_told<R: AllocGlobal + Abort>(
+    rt: &R,
+    page: &mut TcpStream,
+    messages: &[&str],
+) -> Result<(), Fail> {
     for message in messages {
         let mut head = [0; 2];
         page.read_exact(&mut head)?;
