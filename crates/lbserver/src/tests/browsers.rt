@@ -72,7 +72,8 @@ fn is_told<R: AllocGlobal + Abort>(
 
 /// A page says this: a frame of text, masked with zeros.
 fn says(desk: &mut Desk<'_>, page: &mut TcpStream, message: &str) -> Result<(), Fail> {
-    page.write_all(&[0x81, 0x80 | message.len() as u8, 0, 0, 0, 0])?;
+    let length = u8::try_from(message.len()).ok().ok_or("too long")?;
+    page.write_all(&[0x81, 0x80 | length, 0, 0, 0, 0])?;
     desk.say(page, message.as_bytes())
 }
 
