@@ -437,3 +437,29 @@ fn says_that_there_is_no_memory(rt: HostRuntime) -> Result<(), Fail> {
     }
     Err("it is never made".into())
 }
+
+/// How many of a thousand layouts were made, each ended before the next, where so much memory is left.
+fn made_in_turn(alloc: Global, layout: &mut Layout, room: usize) -> Result<u32, Fail> {
+    let mut held: Vec<Vec<u8>> = Vec::with_capacity(alloc, 60_000)?;
+    let left: Vec<u8> = Vec::with_capacity(alloc, room)?;
+    take_all(alloc, &mut held);
+    drop(left);
+    let mut made = 0u32;
+    for _ in 0..1000u32 {
+        if station_new(alloc, layout, 1, &[SHUNTER, YARD]) == 0 {
+            made = made.saturating_add(1);
+        }
+        station_free(alloc, layout);
+    }
+    drop(held);
+    Ok(made)
+}
+
+/// A layout takes some ten thousand bytes, so that few stand in this room side by side, and a thousand only in turn.
+#[test]
+fn what_is_ended_leaves_its_memory(rt: HostRuntime) -> Result<(), Fail> {
+    let alloc = rt.alloc();
+    let mut layout = Layout::none(alloc);
+    assert!(rt; made_in_turn(alloc, &mut layout, 65_536)? == 1000);
+    Ok(())
+}
