@@ -194,7 +194,7 @@ impl Wire for Sockets {
         push_no_place(&mut text);
         if let Some(mut page) = self.joined() {
             // Whoever has gone already need not be told.
-            let _ = page.write(text.as_slice());
+            let _ = page.tell_lines(text.as_slice());
             page.close();
             return true;
         }

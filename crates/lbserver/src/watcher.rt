@@ -10,7 +10,7 @@ use mio::net::TcpStream;
 use pages::Page;
 use show_text::Line;
 use std::io;
-use std::io::{ErrorKind, Read, Write};
+use std::io::{ErrorKind, Write};
 
 /// How often a page is read at once that sends no text, as its pings are none.
 const MOST_TRIES: u8 = 4;
@@ -39,7 +39,7 @@ impl Watcher {
         ensures { ReadsAtMost result room.new }
     {
         for _try in 0..MOST_TRIES {
-            match self.page.read(room) {
+            match self.page.hear_lines(room) {
                 Err(error) if error.kind() == ErrorKind::Interrupted => {}
                 heard => return heard,
             }
@@ -53,7 +53,7 @@ impl Watcher {
         ensures { WritesAtMost result bytes.now }
     {
         self.is_greeted = true;
-        self.page.write(bytes)
+        self.page.tell_lines(bytes)
     }
 
     /// Tells the page each decoder that it was not told as it stands, as far as there is room.
