@@ -3,3 +3,4 @@ mod Joining
 mod Pieces
 mod Standing
 mod Telling
+mod Wholes

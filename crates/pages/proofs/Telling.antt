@@ -1,5 +1,5 @@
 -- Messages one behind the other, and bytes one behind the other.
-use Rattle.std.proofs.Common.{◌≡◌, ◌≢◌, slice_index, ne_eqb, ℕ, ◌+◌, ◌<◌, ◌==◌, false, List, [], ◌∷◌, ◌++◌, length, take, refl, ap, sym, subst, ◌∙◌, inl, inr, Option}
+use Rattle.std.proofs.Common.{◌≡◌, ◌≢◌, slice_index, ne_eqb, ℕ, ◌+◌, ◌<◌, ◌==◌, false, List, [], ◌∷◌, ◌++◌, zero, suc, length, take, refl, ap, sym, subst, ◌∙◌, inl, inr, arith, Option}
 use Rattle.std.specs.Prelude.{if◌then◌else◌}
 use Rattle.std.proofs.lemmas.Bool.{cases_Bool}
 use Rattle.std.proofs.lemmas.List.{take_more}
@@ -21,6 +21,13 @@ unfolding Tells
 tells-one-more contents [] message old mid new told says = (new, subst (λ s. Says contents message s new) told says, refl)
 tells-one-more contents (m ∷ messages) message old mid new told says =
     (told.0, told.1, tells-one-more contents messages message told.0 mid new told.2 says)
+
+-- where no byte was taken, nothing was told
+pub nothing-told : {S : Type 0} (contents : S → Option (List ℕ)) (start held text : List ℕ) (i : ℕ) (old new : Socket S) → i ≡ 0
+    → held ≡ held_along start (take i text) → Tells contents (messages_along start (take i text)) old new → (held ≡ start) × (new ≡ old)
+unfolding Tells
+nothing-told contents start held text zero old new none is told = (is, told)
+nothing-told contents start held text (suc i) old new none is told = absurd (omega arith)
 
 -- what a byte adds that ends no line, and one that ends one
 pub held-open : (held text : List ℕ) (b : ℕ) → (b == 10) ≡ false → held_along held (text ++ b ∷ []) ≡ held_after (held_along held text) b

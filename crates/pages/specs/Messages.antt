@@ -1,5 +1,5 @@
 -- Lines of text, and messages that hold one each.
-use Rattle.std.specs.Prelude.{ℕ, ◌==◌, if◌then◌else◌, nat_lt, List, [], ◌∷◌, ◌++◌, length, bytes_eq}
+use Rattle.std.specs.Prelude.{ℕ, ◌==◌, if◌then◌else◌, nat_lt, List, [], ◌∷◌, ◌++◌, length, map, take, bytes_eq}
 
 -- what is held of a line behind its next byte: its first 512 bytes
 abbrev pub held_after : List ℕ → ℕ → List ℕ
@@ -19,3 +19,21 @@ messages_along held (b ∷ text) =
 abbrev pub held_along : (held : List ℕ) → List ℕ → List ℕ
 held_along held [] = held
 held_along held (b ∷ text) = if b == 10 then held_along [] text else held_along (held_after held b) text
+
+-- a byte before the first line; before no line that ends, nothing
+abbrev pub onto_line : ℕ → List (List ℕ) → List (List ℕ)
+onto_line b [] = []
+onto_line b (line ∷ lines) = (b ∷ line) ∷ lines
+
+-- the lines that end in a text, in order, each without its line feed
+abbrev pub ended_lines : List ℕ → List (List ℕ)
+ended_lines [] = []
+ended_lines (b ∷ text) = if b == 10 then [] ∷ ended_lines text else onto_line b (ended_lines text)
+
+-- the message of a line: its first 512 bytes, without a carriage return at their end
+abbrev pub message_of : List ℕ → List ℕ
+message_of line = without_return (take 512 line)
+
+-- the messages of a text: one for each line that ends in it
+abbrev pub messages_of : List ℕ → List (List ℕ)
+messages_of text = map message_of (ended_lines text)

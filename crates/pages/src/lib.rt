@@ -9,6 +9,7 @@
 mod answering;
 mod asked;
 mod gate;
+mod laws;
 mod lines;
 mod origin;
 mod page;
@@ -16,6 +17,7 @@ mod reply;
 
 pub use answering::{LONGEST, MOST_FIELDS, answer};
 pub use asked::{Answer, Joined, Refusal};
+pub use laws::lines_are_messages;
 pub use lines::LONGEST_LINE;
 pub use page::Page;
 pub use reply::{Head, push_joining, push_page_head, push_refusal};

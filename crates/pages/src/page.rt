@@ -1,7 +1,7 @@
 //! A page that joined, as a stream of lines.
-ghost use Rattle.std.specs.Prelude.{◌≡◌, ◌<◌, ◌≤◌, ◌∷◌, ◌++◌, [], IfErr, IfOk, List, OnOk, length, take, true, false, ℕ};
+ghost use Rattle.std.specs.Prelude.{◌≡◌, ◌≢◌, ◌<◌, ◌≤◌, ◌∷◌, ◌++◌, [], IfErr, IfOk, List, OnOk, length, take, true, false, ℕ};
+ghost use Rattle.std.specs.IoError.{error_kind};
 ghost use Rattle.tungstenite.specs.Socket.{Flushed};
-ghost use Rattle.tungstenite.specs.declared.error.Error.TheVariants.{WriteBufferFull};
 ghost use Rattle.pages.specs.Hearing.{Hears};
 ghost use Rattle.pages.specs.Messages.{held_along, messages_along, without_return};
 ghost use Rattle.pages.specs.Telling.{IsTold, Says, Tells};
@@ -90,15 +90,15 @@ impl<S: Read + Write + Drop> Page<S> {
         ensures told { OnOk result (IsTold (λ gate. S.contents gate.stream) (message.now ∷ []) self.old.socket self.new.socket) }
         ensures between { OnOk result (self.old.unfinished ≡ []) }
         ensures kept { self.new.unfinished ≡ self.old.unfinished }
+        // Else some of what waited was sent, and nothing joined it.
+        ensures full { IfErr result (λ e. error_kind e ≡ ErrorKind.WouldBlock
+            → Flushed (λ gate. S.contents gate.stream) self.old.socket self.new.socket) }
     {
+        self.send_waiting()?;
         if !self.unfinished.is_empty() {
             return Err(io::Error::from(ErrorKind::WouldBlock));
         }
-        self.send_waiting()?;
-        match say(&mut self.socket, self.alloc, message) {
-            Ok(()) => {}
-            Err(error) => return Err(io_error(error)),
-        }
+        say(&mut self.socket, self.alloc, message)?;
         self.send_waiting()?;
         Ok(())
     }
@@ -142,9 +142,13 @@ impl<S: Read + Write + Drop> Page<S> {
     /// of memory, or where a line is no UTF-8.
     pub fn tell_lines(&mut self, bytes: &[u8]) -> io::Result<usize>
         ensures bound { IfOk result (λ n. n ≤ length bytes.now) }
+        ensures some { IfOk result (λ n. 0 < length bytes.now → 0 < n) }
         ensures held { IfOk result (λ n. self.new.unfinished ≡ held_along self.old.unfinished (take n bytes.now)) }
         ensures told { IfOk result (λ n. IsTold (λ gate. S.contents gate.stream)
             (messages_along self.old.unfinished (take n bytes.now)) self.old.socket self.new.socket) }
+        // Else some of what waited was sent, and nothing joined it: these bytes may be told again.
+        ensures full { IfErr result (λ e. error_kind e ≡ ErrorKind.WouldBlock → (self.new.unfinished ≡ self.old.unfinished)
+            × Flushed (λ gate. S.contents gate.stream) self.old.socket self.new.socket) }
     {
         self.send_waiting()?;
         let taken = self.take(bytes)?;
@@ -203,9 +207,12 @@ impl<S: Read + Write + Drop> Page<S> {
     /// Takes bytes from the front, each line that ends becoming a message, until too much waits.
     fn take(&mut self, bytes: &[u8]) -> io::Result<usize>
         ensures bound { IfOk result (λ n. n ≤ length bytes.now) }
+        ensures some { IfOk result (λ n. 0 < length bytes.now → 0 < n) }
         ensures held { IfOk result (λ n. self.new.unfinished ≡ held_along self.old.unfinished (take n bytes.now)) }
         ensures told { IfOk result (λ n. Tells (λ gate. S.contents gate.stream)
             (messages_along self.old.unfinished (take n bytes.now)) self.old.socket self.new.socket) }
+        ensures full { IfErr result (λ e. error_kind e ≡ ErrorKind.WouldBlock
+            → (self.new.unfinished ≡ self.old.unfinished) × (self.new.socket ≡ self.old.socket)) }
     {
         for (taken, byte) in bytes.iter().enumerate() {
             if *byte != b'\n' {
@@ -214,23 +221,25 @@ impl<S: Read + Write + Drop> Page<S> {
             }
             match self.say_line() {
                 Ok(()) => {}
-                Err(Error::WriteBufferFull) if taken > 0 => return Ok(taken),
-                Err(error) => return Err(io_error(error)),
+                Err(error) if taken > 0 && error.kind() == ErrorKind::WouldBlock => {
+                    return Ok(taken);
+                }
+                Err(error) => return Err(error),
             }
         }
         Ok(bytes.len())
     }
 
-    /// Puts the line that ends now among what waits to be sent.
-    fn say_line(&mut self) -> Result<(), Error>
+    /// Puts the line that ends now among what waits to be sent. `WouldBlock` where too much waits: then it was not taken.
+    fn say_line(&mut self) -> io::Result<()>
         ensures held { OnOk result (self.new.unfinished ≡ []) }
         ensures told { OnOk result (Says (λ gate. S.contents gate.stream)
             (without_return self.old.unfinished) self.old.socket self.new.socket) }
-        ensures full { IfErr result (λ e. e ≡ WriteBufferFull → (self.new.socket ≡ self.old.socket)
-            × (self.new.unfinished ≡ self.old.unfinished)) }
+        ensures full { IfErr result (λ e. error_kind e ≡ ErrorKind.WouldBlock
+            → (self.new.unfinished ≡ self.old.unfinished) × (self.new.socket ≡ self.old.socket)) }
     {
         let Ok(line) = str::from_utf8(self.unfinished.line()) else {
-            return Err(Error::Utf8);
+            return Err(io::Error::from(ErrorKind::BrokenPipe));
         };
         say(&mut self.socket, self.alloc, line)?;
         self.unfinished.end();
@@ -241,17 +250,13 @@ impl<S: Read + Write + Drop> Page<S> {
     fn send_waiting(&mut self) -> io::Result<()>
         ensures sent { Flushed (λ gate. S.contents gate.stream) self.old.socket self.new.socket }
         ensures unfinished { self.new.unfinished ≡ self.old.unfinished }
+        ensures prompt { IfErr result (λ e. error_kind e ≢ ErrorKind.WouldBlock) }
     {
         match self.socket.flush() {
-            Err(error) => {
-                let error = io_error(error);
-                if error.kind() == ErrorKind::WouldBlock {
-                    Ok(())
-                } else {
-                    Err(error)
-                }
-            }
             Ok(()) => Ok(()),
+            Err(Error::Io(error)) if error.kind() == ErrorKind::WouldBlock => Ok(()),
+            Err(Error::Io(error)) => Err(error),
+            Err(error) => Err(broken(&error)),
         }
     }
 }
@@ -275,30 +280,33 @@ impl<S: Read + Write + Drop> Write for Page<S> {
     }
 }
 
-/// Puts a message among what waits to be sent. `WriteBufferFull` where too much waits: then it was not taken.
+/// Puts a message among what waits to be sent. `WouldBlock` where too much waits: then it was not taken.
 fn say<S: Read + Write + Drop>(
     socket: &mut WebSocket<Gate<S>, NoMask>,
     alloc: Global,
     text: &str,
-) -> Result<(), Error>
+) -> io::Result<()>
     ensures told { OnOk result (Says (λ gate. S.contents gate.stream) text.now socket.old socket.new) }
-    ensures full { IfErr result (λ e. e ≡ WriteBufferFull → socket.new ≡ socket.old) }
+    ensures full { IfErr result (λ e. error_kind e ≡ ErrorKind.WouldBlock → socket.new ≡ socket.old) }
 {
     let Ok(message) = Message::text(alloc, text) else {
-        return Err(Error::OutOfMemory);
+        return Err(io::Error::from(ErrorKind::OutOfMemory));
     };
     match socket.write(message) {
+        Ok(()) => Ok(()),
         // It waits; only the stream takes nothing now.
         Err(Error::Io(error)) if error.kind() == ErrorKind::WouldBlock => Ok(()),
-        other => other,
+        Err(Error::WriteBufferFull) => Err(io::Error::from(ErrorKind::WouldBlock)),
+        Err(Error::Io(error)) => Err(error),
+        Err(error) => Err(broken(&error)),
     }
 }
 
-/// A failure of the WebSocket as one of a stream.
-fn io_error(error: Error) -> io::Error {
+/// A failure of the WebSocket, other than of its stream, as one of a stream.
+fn broken(error: &Error) -> io::Error
+    ensures { error_kind result ≢ ErrorKind.WouldBlock }
+{
     match error {
-        Error::Io(error) => error,
-        Error::WriteBufferFull => io::Error::from(ErrorKind::WouldBlock),
         Error::OutOfMemory => io::Error::from(ErrorKind::OutOfMemory),
         _ => io::Error::from(ErrorKind::BrokenPipe),
     }

@@ -1,7 +1,8 @@
-use Rattle.std.proofs.Common.{refl, arith, ◌∙◌, subst}
+use Rattle.std.proofs.Common.{rules, refl, arith, ◌∙◌, subst}
 use Rattle.pages.specs.Telling.{Tells}
-use Rattle.pages.proofs.Telling.{end-held, end-tells, step-held, step-messages, tells-nothing}
+use Rattle.pages.proofs.Telling.{end-held, end-tells, nothing-told, step-held, step-messages, tells-nothing}
 use Rattle.pages.proofs.page.Page.take.Goals as goal
+use Rattle.pages.proofs.page.Page.take.Goals.{then-taken-gt0+else-eq, else-taken-gt0}
 
 pub loop-taken-init : goal.loop-taken-init
 loop-taken-init g c = record { held = refl; told = tells-nothing _ c.args.self.now.socket }
@@ -25,3 +26,13 @@ loop-taken-preserved g c =
       told = end-tells _ start c.loop-taken.self.unfinished text c.loop-taken.taken c.args.self.now.socket c.loop-taken.self.socket c.say_line.new.self.socket
           (omega arith) (omega arith) c.loop-taken.invariant.held c.loop-taken.invariant.told c.in-Ok.ensures.told;
     }
+
+pub returns-in-Err-2-clause-full : goal.returns-in-Err-2-clause-full
+returns-in-Err-2-clause-full g c = λ full. elim c.if-taken-gt0.branch [
+  | then-taken-gt0+else-eq w ↦ search rules
+  | else-taken-gt0 w ↦
+      let none = nothing-told _ c.args.self.now.unfinished c.loop-taken.self.unfinished c.args.bytes.now c.loop-taken.taken c.args.self.now.socket c.loop-taken.self.socket
+      (omega (arith, w.if-taken-gt0)) c.loop-taken.invariant.held c.loop-taken.invariant.told in
+      let kept = c.in-Err.ensures.full full in
+      (kept.0 ∙ none.0, kept.1 ∙ none.1)
+]

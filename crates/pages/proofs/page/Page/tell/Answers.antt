@@ -6,6 +6,6 @@ returns-clause-told g c = (
   c.send_waiting.new.self.socket,
   c.say.new.socket,
   c.in_ok-send_waiting.ensures.sent,
-  tells-one _ c.args.message.now c.send_waiting.new.self.socket c.say.new.socket c.in-Ok.ensures.told,
+  tells-one _ c.args.message.now c.send_waiting.new.self.socket c.say.new.socket c.in_ok-say.ensures.told,
   c.in_ok-send_waiting-2.ensures.sent,
 )
