@@ -165,7 +165,9 @@ fn play_turns<O: Write>(
     Ok(next)
 }
 
-/// Does an event, and prints the line of its answer, where a turn has this number.
+/// Does an event, and prints the line of its answer, where a turn has this number. Always inlined: its two callers know
+/// what event it is, so that no answer is moved, and a byte without a reply costs no more than hearing it.
+#[inline(always)]
 fn play_event<O: Write>(
     world: &mut World,
     event: Event,
