@@ -1,6 +1,6 @@
 -- The first line of a text, and the first piece of a line.
-use Rattle.std.proofs.Common.{◌≡◌, ℕ, zero, suc, ◌+◌, ◌<◌, ◌≤◌, Bool, true, false, List, [], ◌∷◌, length, length-drop, take, drop, drop-drop, Option, Some, None, position, ◌&&◌, ◌||◌, fold, filter, ◌==◌, Ok, codes, ◌++◌, ◌-◌, cond, refl, sym, ap, ap₂, ◌∙◌, take-append-drop, arith, not, nat_lt, slice_index}
-use Rattle.std.specs.List.{list_all, list_any, slice_split, onto_first, position_or_len}
+use Rattle.std.proofs.Common.{◌≡◌, ℕ, ◌+◌, ◌<◌, ◌≤◌, Bool, true, false, List, [], ◌∷◌, length, take, drop, Option, Some, None, position, ◌&&◌, filter, ◌==◌, cond, refl, sym, ap, ◌∙◌, arith, not, nat_lt, slice_index}
+use Rattle.std.specs.List.{list_all, slice_split, onto_first, position_or_len}
 use Rattle.std.specs.Str.Lines.{lines, lines_of_parts, strip_carriage_return}
 use Rattle.std.proofs.lemmas.Grind.{common_steps}
 use Rattle.std.proofs.lemmas.Bool.{ltb-true, ltb-false, lt-ltb, le-ltb, false_from_ne_true}
@@ -9,12 +9,7 @@ use Rattle.std.proofs.lemmas.List.Splits.{slice_split_first, length-slice_split}
 use Rattle.std.proofs.lemmas.List.{take_rest}
 use Rattle.std.proofs.lemmas.List.Sums.{count_by-le-length, position_or_len_is}
 use Rattle.memchr.specs.Find.{IsFirstByte, is_byte}
-use Rattle.std.specs.Prelude.{IfSome}
-use Rattle.std.specs.Char.{is_ascii_digit}
-use Rattle.std.specs.Str.{bytes_eq}
-use Rattle.std.proofs.lemmas.Slice.Eq.{bytes_eq-Decides}
-use Rattle.show_text.specs.Script.{number_of}
-use Rattle.show_text.specs.Words.{is_blank, is_word, is_empty, words_of, with_piece, decimal_of, digit_of, both, pair_of}
+use Rattle.show_text.specs.Words.{is_blank, is_word, is_empty, words_of, with_piece}
 
 split_whole : {X : Type 0} (p : X → Bool) (xs : List X) → length xs ≤ position_or_len p xs → slice_split p xs ≡ xs ∷ []
 split_whole p [] h = refl

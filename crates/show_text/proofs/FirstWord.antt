@@ -1,5 +1,5 @@
 -- The first word of a line, and what a line says by it.
-use Rattle.std.proofs.Common.{◌≡◌, ℕ, Bool, true, false, ◌&&◌, ◌==◌, List, [], ◌∷◌, ◌++◌, length, take, drop, Result, Ok, Err, Option, Some, None, append-nil, get_or, codes, cond, filter, not, nat_lt, ◌-◌, refl, sym, ap, ap₂, ◌∙◌, take-append-drop, arith, ◌≤◌}
+use Rattle.std.proofs.Common.{◌≡◌, ℕ, Bool, true, false, ◌&&◌, List, [], ◌∷◌, ◌++◌, length, take, drop, Ok, Err, Option, Some, None, append-nil, get_or, codes, filter, not, nat_lt, ◌-◌, refl, sym, ap, ◌∙◌, take-append-drop, arith, ◌≤◌}
 use Rattle.std.specs.List.{list_all, slice_split, onto_first}
 use Rattle.std.specs.Char.{is_ascii_digit}
 use Rattle.std.specs.Prelude.{MatchOption, if◌then◌else◌}
@@ -8,7 +8,6 @@ use Rattle.std.proofs.lemmas.Grind.{common_steps}
 use Rattle.std.proofs.lemmas.List.{take_rest}
 use Rattle.std.proofs.lemmas.Bool.Decides.{nat_tests}
 use Rattle.std.proofs.lemmas.Slice.Eq.{bytes_eq-Decides}
-use Rattle.show_text.specs.declared.command.Command.{Command}
 use Rattle.show_text.specs.declared.command.Why.{Why}
 use Rattle.show_text.specs.declared.command.Why.TheVariants.{BadLine, BadNumber, BadWord}
 use Rattle.show_text.specs.declared.command.Command.TheVariants.{Turns}
@@ -29,7 +28,7 @@ some_first (b ∷ bs) h = omega arith
 pub ruleset blank_steps = (blank_first, some_first, take_rest)
 
 -- the first piece of a text
-head : List (List ℕ) → List ℕ
+abbrev head : List (List ℕ) → List ℕ
 head [] = []
 head (piece ∷ pieces) = piece
 
@@ -159,22 +158,22 @@ digit_first (digit ∷ bs) behind rest n some same h is ends =
 
 -- what a line says by its first word
 
-no_words_say_nothing : (lines nodes : ℕ) (words : List (List ℕ)) → is_empty words ≡ true → command_of lines nodes words ≡ Ok []
+pub no_words_say_nothing : (lines nodes : ℕ) (words : List (List ℕ)) → is_empty words ≡ true → command_of lines nodes words ≡ Ok []
 no_words_say_nothing lines nodes [] h = refl
 no_words_say_nothing lines nodes (word ∷ words) h = cc
 
-other_word : (lines nodes : ℕ) (words : List (List ℕ)) → is_empty words ≡ false → is_first (codes "line") words ≡ false → is_first (codes "turn") words ≡ false → is_first (codes "show") words ≡ false
+pub other_word : (lines nodes : ℕ) (words : List (List ℕ)) → is_empty words ≡ false → is_first (codes "line") words ≡ false → is_first (codes "turn") words ≡ false → is_first (codes "show") words ≡ false
     → command_of lines nodes words ≡ Err BadWord
 other_word lines nodes [] h line turn show = cc
 other_word lines nodes (word ∷ words) h line turn show = rw (line, turn, show) refl
 
 pub ruleset command_steps = (no_words_say_nothing, other_word)
 
-none_missed : (nodes : ℕ) (words : List (List ℕ)) → is_empty words ≡ true → missed_of nodes words ≡ Ok 0
+pub none_missed : (nodes : ℕ) (words : List (List ℕ)) → is_empty words ≡ true → missed_of nodes words ≡ Ok 0
 none_missed nodes [] h = refl
 none_missed nodes (word ∷ words) h = cc
 
-other_than_miss : (nodes : ℕ) (words : List (List ℕ)) → is_empty words ≡ false → is_first (codes "miss") words ≡ false → missed_of nodes words ≡ Err BadWord
+pub other_than_miss : (nodes : ℕ) (words : List (List ℕ)) → is_empty words ≡ false → is_first (codes "miss") words ≡ false → missed_of nodes words ≡ Err BadWord
 other_than_miss nodes [] h other = cc
 other_than_miss nodes (word ∷ words) h other = rw other refl
 
@@ -182,22 +181,22 @@ pub ruleset missed_steps = (none_missed, other_than_miss)
 
 -- what follows the number of a line, or of turns
 
-line_faults : (lines : ℕ) (words : List (List ℕ)) (why : Why) → first_number_of words ≡ Err why → line_of lines words ≡ Err why
+pub line_faults : (lines : ℕ) (words : List (List ℕ)) (why : Why) → first_number_of words ≡ Err why → line_of lines words ≡ Err why
 line_faults lines [] why h = cc
 line_faults lines (word ∷ words) why h = rw h refl
 
-line_known : (lines n : ℕ) (words : List (List ℕ)) → first_number_of words ≡ Ok n
+pub line_known : (lines n : ℕ) (words : List (List ℕ)) → first_number_of words ≡ Ok n
     → line_of lines words ≡ ((if nat_lt n lines then Ok n else Err BadLine) >>= (λ l. some_bytes l (drop 1 words)))
 line_known lines n [] h = cc
 line_known lines n (word ∷ words) h = rw h refl
 
 pub ruleset line_steps = (line_faults, line_known)
 
-turns_fault : (nodes : ℕ) (words : List (List ℕ)) (why : Why) → first_number_of words ≡ Err why → turn_of nodes words ≡ Err why
+pub turns_fault : (nodes : ℕ) (words : List (List ℕ)) (why : Why) → first_number_of words ≡ Err why → turn_of nodes words ≡ Err why
 turns_fault nodes [] why h = cc
 turns_fault nodes (word ∷ words) why h = rw h refl
 
-turns_known : (nodes n : ℕ) (words : List (List ℕ)) → first_number_of words ≡ Ok n
+pub turns_known : (nodes n : ℕ) (words : List (List ℕ)) → first_number_of words ≡ Ok n
     → turn_of nodes words ≡ ((if is_count n then Ok n else Err BadNumber) >>= (λ n. missed_of nodes (drop 1 words) >>= (λ missed. Ok (Turns n missed ∷ []))))
 turns_known nodes n [] h = cc
 turns_known nodes n (word ∷ words) h = rw h refl

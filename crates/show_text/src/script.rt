@@ -26,7 +26,7 @@ fn count(number: u32) -> Result<u32, Why>
 }
 
 /// A number below `limit`, which else is `why`.
-fn checked(number: u32, limit: u8, why: Why) -> Result<u8, Why>
+fn number_below(number: u32, limit: u8, why: Why) -> Result<u8, Why>
     ensures { result ≡ (if nat_lt number limit then Ok number else Err why) }
 {
     if number < u32::from(limit) {
@@ -37,13 +37,13 @@ fn checked(number: u32, limit: u8, why: Why) -> Result<u8, Why>
 }
 
 /// The number of a node.
-fn node(word: &[u8], nodes: u8) -> Result<u8, Why>
+fn node_number(word: &[u8], nodes: u8) -> Result<u8, Why>
     ensures { result ≡ below nodes Why.BadNode word.now }
 {
     let Some(number) = decimal(word) else {
         return Err(Why::BadNumber);
     };
-    checked(number, nodes, Why::BadNode)
+    number_below(number, nodes, Why::BadNode)
 }
 
 /// Puts a command after the others.
@@ -79,7 +79,7 @@ fn push_some_bytes(line: u8, words: Words<'_>, commands: &mut Vec<Command>) -> R
 fn push_line(mut words: Words<'_>, lines: u8, commands: &mut Vec<Command>) -> Result<(), Why>
     ensures { Adds commands.old.items commands.new.items result (line_of lines (words_of words.entry.0.now)) }
 {
-    let line = checked(words.next_number()?, lines, Why::BadLine)?;
+    let line = number_below(words.next_number()?, lines, Why::BadLine)?;
     push_some_bytes(line, words, commands)
 }
 
@@ -91,7 +91,7 @@ fn named_nodes(words: Words<'_>, nodes: u8) -> Result<u64, Why>
 {
     let mut named = 0u64;
     for word in words {
-        named |= 1 << node(word, nodes)?;
+        named |= 1 << node_number(word, nodes)?;
     }
     Ok(named)
 }
