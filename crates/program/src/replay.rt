@@ -187,7 +187,9 @@ fn play_event<O: Write>(
     print_answer(answer, line, turn, text, output)
 }
 
-/// Prints the line of an answer, where a turn has this number. A byte without a reply has none.
+/// Prints the line of an answer, where a turn has this number. A byte without a reply has none. Always inlined, for the
+/// same reason.
+#[inline(always)]
 fn print_answer<O: Write>(
     answer: Step,
     line: u8,
