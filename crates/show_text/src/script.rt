@@ -146,15 +146,14 @@ fn push_commands(
     requires { nodes ≤ 64 }
     ensures { Adds commands.old.items commands.new.items result (command_of lines nodes (words_of words.entry.0.now)) }
 {
-    if words.is_empty() {
-        return Ok(());
-    }
     if words.take_word("line") {
         push_line(words, lines, commands)
     } else if words.take_word("turn") {
         push_turns(words, nodes, commands)
     } else if words.take_word("show") {
         push_show(words, commands)
+    } else if words.is_empty() {
+        Ok(())
     } else {
         Err(Why::BadWord)
     }
