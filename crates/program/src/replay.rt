@@ -165,7 +165,9 @@ fn play_turns<O: Write>(
     Ok(next)
 }
 
-/// Does an event, and prints the line of its answer, where a turn has this number.
+/// Does an event, and prints the line of its answer, where a turn has this number. Always inlined: its two callers know
+/// what event it is, so that no answer is moved, and a byte without a reply costs no more than hearing it.
+#[inline(always)]
 fn play_event<O: Write>(
     world: &mut World,
     event: Event,
@@ -185,7 +187,9 @@ fn play_event<O: Write>(
     print_answer(answer, line, turn, text, output)
 }
 
-/// Prints the line of an answer, where a turn has this number. A byte without a reply has none.
+/// Prints the line of an answer, where a turn has this number. A byte without a reply has none. Always inlined, for the
+/// same reason.
+#[inline(always)]
 fn print_answer<O: Write>(
     answer: Step,
     line: u8,

@@ -1,19 +1,15 @@
 -- The first line of a text, and the first piece of a line.
-use Rattle.std.proofs.Common.{◌≡◌, ℕ, zero, suc, ◌+◌, ◌<◌, ◌≤◌, Bool, true, false, List, [], ◌∷◌, length, length-drop, get_or, take, drop, drop-drop, Option, Some, None, position, ◌&&◌, ◌||◌, fold, filter, ◌==◌, Ok, codes, ◌++◌, ◌-◌, cond, refl, sym, ap, ap₂, ◌∙◌, take-append-drop, arith, not, nat_lt}
-use Rattle.std.specs.List.{list_all, list_any, slice_split, onto_first, position_or_len}
+use Rattle.std.proofs.Common.{◌≡◌, ℕ, ◌+◌, ◌<◌, ◌≤◌, Bool, true, false, List, [], ◌∷◌, length, take, drop, Option, Some, None, position, ◌&&◌, filter, ◌==◌, cond, refl, sym, ap, ◌∙◌, arith, not, nat_lt, slice_index}
+use Rattle.std.specs.List.{list_all, slice_split, onto_first, position_or_len}
 use Rattle.std.specs.Str.Lines.{lines, lines_of_parts, strip_carriage_return}
 use Rattle.std.proofs.lemmas.Grind.{common_steps}
-use Rattle.std.proofs.lemmas.Bool.{ltb-true, ltb-false}
+use Rattle.std.proofs.lemmas.Bool.{ltb-true, ltb-false, lt-ltb, le-ltb, false_from_ne_true}
 use Rattle.std.proofs.lemmas.Bool.Decides.{nat_tests}
 use Rattle.std.proofs.lemmas.List.Splits.{slice_split_first, length-slice_split}
 use Rattle.std.proofs.lemmas.List.{take_rest}
-use Rattle.std.proofs.lemmas.List.Sums.{count_by-le-length}
-use Rattle.std.specs.Prelude.{IfSome}
-use Rattle.std.specs.Char.{is_ascii_digit}
-use Rattle.std.specs.Str.{bytes_eq}
-use Rattle.std.proofs.lemmas.Slice.Eq.{bytes_eq-Decides}
-use Rattle.show_text.specs.Script.{number_of}
-use Rattle.show_text.specs.Words.{is_blank, is_word, is_empty, words_of, with_piece, decimal_of, digit_of, both, pair_of}
+use Rattle.std.proofs.lemmas.List.Sums.{count_by-le-length, position_or_len_is}
+use Rattle.memchr.specs.Find.{IsFirstByte, is_byte}
+use Rattle.show_text.specs.Words.{is_blank, is_word, is_empty, words_of, with_piece}
 
 split_whole : {X : Type 0} (p : X → Bool) (xs : List X) → length xs ≤ position_or_len p xs → slice_split p xs ≡ xs ∷ []
 split_whole p [] h = refl
@@ -95,117 +91,15 @@ few_lines text =
     let feeds : ℕ → Bool = λ b. b == 10 in
     omega (arith, few_parts (slice_split feeds text), length-slice_split feeds text, count_by-le-length feeds text)
 
--- a pair of digits holds no blank
-digit-not_blank : (b n : ℕ) → digit_of b ≡ Some n → is_blank b ≡ false
-digit-not_blank b n h = grind (arith, nat_tests)
+-- what a search of memory finds
+at-place : (text : List ℕ) (at : ℕ) → position_or_len (λ b. b == 10) text ≡ at → at < length text → Some at ≡ position (λ b. b == 10) text
+at-place text at is within = sym (ap (λ k. cond (nat_lt k (length text)) (Some k) None) is ∙ rw (lt-ltb at (length text) within) refl)
 
-both_digits : (high low n : ℕ) → both (digit_of high) (digit_of low) ≡ Some n → (is_blank high ≡ false) × (is_blank low ≡ false)
-both_digits high low n h = parts (digit_of high) (digit_of low) refl refl h
-  where
-    parts : (x y : Option ℕ) → digit_of high ≡ x → digit_of low ≡ y → both x y ≡ Some n → (is_blank high ≡ false) × (is_blank low ≡ false)
-    parts (Some i) (Some j) e f k = (digit-not_blank high i e, digit-not_blank low j f)
-    parts (Some i) None e f k = cc
-    parts None y e f k = cc
+at-no_place : (text : List ℕ) → position_or_len (λ b. b == 10) text ≡ length text → None ≡ position (λ b. b == 10) text
+at-no_place text is = sym (ap (λ k. cond (nat_lt k (length text)) (Some k) None) is ∙ rw (le-ltb (length text) (length text) (omega arith)) refl)
 
-pair_first : (high low blank n : ℕ) (rest : List ℕ) → both (digit_of high) (digit_of low) ≡ Some n → is_blank blank ≡ true → words_of (high ∷ low ∷ blank ∷ rest) ≡ (high ∷ low ∷ []) ∷ words_of rest
-unfolding words_of
-pair_first high low blank n rest h e =
-    let p = both_digits high low n h in
-    rw (p.0, p.1, e) refl
-
-pair_last : (high low n : ℕ) → both (digit_of high) (digit_of low) ≡ Some n → words_of (high ∷ low ∷ []) ≡ (high ∷ low ∷ []) ∷ words_of []
-unfolding words_of
-pair_last high low n h =
-    let p = both_digits high low n h in
-    rw (p.0, p.1) refl
-
--- what a text says that begins with the pair of a byte, and what follows that word
-abbrev BeginsWith : ℕ → List ℕ → List ℕ → Type 0
-BeginsWith byte text rest = (word : List ℕ) × (words_of text ≡ word ∷ words_of rest) × (pair_of word ≡ Some byte)
-
-pub pair_before_blank : (text : List ℕ) (byte : ℕ) → 3 ≤ length text → both (digit_of (get_or text 0 0)) (digit_of (get_or text 1 0)) ≡ Some byte → is_blank (get_or (drop 2 text) 0 0) ≡ true
-    → BeginsWith byte text (drop 1 (drop 2 text))
-pair_before_blank [] byte some h blank = absurd (omega arith)
-pair_before_blank (high ∷ []) byte some h blank = absurd (omega arith)
-pair_before_blank (high ∷ low ∷ []) byte some h blank = absurd (omega arith)
-pair_before_blank (high ∷ low ∷ b ∷ rest) byte some h blank = (high ∷ low ∷ [], pair_first high low b byte rest h blank, h)
-
-pub pair_alone : (text : List ℕ) (byte : ℕ) → length text ≡ 2 → both (digit_of (get_or text 0 0)) (digit_of (get_or text 1 0)) ≡ Some byte → BeginsWith byte text (drop 2 text)
-pair_alone [] byte some h = absurd (omega arith)
-pair_alone (high ∷ []) byte some h = absurd (omega arith)
-pair_alone (high ∷ low ∷ []) byte some h = (high ∷ low ∷ [], pair_last high low byte h, h)
-pair_alone (high ∷ low ∷ b ∷ rest) byte some h = absurd (omega arith)
-
--- the place of the first element that passes, behind elements that do not
-pub skip_clear : {X : Type 0} (p : X → Bool) (xs : List X) (n : ℕ) → n ≤ length xs → list_any p (take n xs) ≡ false → position_or_len p xs ≡ n + position_or_len p (drop n xs)
-skip_clear p xs zero within clear = omega arith
-skip_clear p [] (suc n) within clear = absurd (omega arith)
-skip_clear p (x ∷ xs) (suc n) within clear = grind (arith, common_steps, skip_clear p xs n)
-
-any_folded : {X : Type 0} (p : X → Bool) (found : Bool) (xs : List X) → fold (λ f x. f || p x) found xs ≡ (found || list_any p xs)
-any_folded p true [] = refl
-any_folded p false [] = refl
-any_folded p true (x ∷ xs) = any_folded p true xs
-any_folded p false (x ∷ xs) = any_folded p (p x) xs
-
--- one more stretch without such an element
-pub clear_more : {X : Type 0} (p : X → Bool) (xs : List X) (i n : ℕ) → i + n ≤ length xs → position_or_len p xs ≡ i + position_or_len p (drop i xs)
-    → fold (λ f x. f || p x) false (take n (drop i xs)) ≡ false → position_or_len p xs ≡ i + n + position_or_len p (drop (i + n) xs)
-clear_more p xs i n within so_far clear =
-    let none = sym (any_folded p false (take n (drop i xs))) ∙ clear in
-    let more = skip_clear p (drop i xs) n (omega (arith, length-drop i xs)) none in
-    rw (← drop-drop n i xs) (omega (arith, so_far, more))
-
-number_of_digit : (digit : ℕ) → is_ascii_digit digit ≡ true → number_of (digit ∷ []) ≡ Ok (digit - 48)
-number_of_digit digit h = rw h (ap Ok (grind (arith, nat_tests)))
-
-line_first_words : (digit blank : ℕ) (rest : List ℕ) → is_ascii_digit digit ≡ true → is_blank blank ≡ true → words_of (codes "line " ++ digit ∷ blank ∷ rest) ≡ codes "line" ∷ (digit ∷ []) ∷ words_of rest
-unfolding words_of
-line_first_words digit blank rest h e =
-    let no : is_blank digit ≡ false = grind (arith, nat_tests) in
-    rw (no, e) refl
-
--- what a text says that begins with `line L `, and what follows those words
-abbrev BeginsOnLine : ℕ → List ℕ → List ℕ → Type 0
-BeginsOnLine n text rest = (word : List ℕ) × (words_of text ≡ codes "line" ∷ word ∷ words_of rest) × (number_of word ≡ Ok n)
-
-begins : (rest : List ℕ) → 2 ≤ length rest → is_ascii_digit (get_or rest 0 0) ≡ true → is_blank (get_or rest 1 0) ≡ true → BeginsOnLine (get_or rest 0 0 - 48) (codes "line " ++ rest) (drop 2 rest)
-begins [] some h e = absurd (omega arith)
-begins (digit ∷ []) some h e = absurd (omega arith)
-begins (digit ∷ blank ∷ rest) some h e = (digit ∷ [], line_first_words digit blank rest h e, number_of_digit digit h)
-
-joined : (text rest prefix : List ℕ) → bytes_eq (take (length prefix) text) prefix ≡ true → rest ≡ drop (length prefix) text → prefix ++ rest ≡ text
-joined text rest prefix first back =
-    let front : take (length prefix) text ≡ prefix = (bytes_eq-Decides (take (length prefix) text) prefix).0 first in
-    ap₂ ◌++◌ (sym front) back ∙ take-append-drop (length prefix) text
-
-pub line_begins : (text rest prefix : List ℕ) → prefix ≡ codes "line " → bytes_eq (take (length prefix) text) prefix ≡ true → rest ≡ drop (length prefix) text
-    → 2 ≤ length rest → is_ascii_digit (get_or rest 0 0) ≡ true → is_blank (get_or rest 1 0) ≡ true → BeginsOnLine (get_or rest 0 0 - 48) text (drop 2 rest)
-line_begins text rest prefix e first back some h blank =
-    let same : codes "line " ++ rest ≡ text = ap (λ p. p ++ rest) (sym e) ∙ joined text rest prefix first back in
-    rw (← same) (begins rest some h blank)
-
-digits_split : (word : List ℕ) → list_all is_ascii_digit word ≡ true → slice_split is_blank word ≡ word ∷ []
-digits_split [] h = refl
-digits_split (b ∷ bs) h = grind (arith, common_steps, nat_tests, digits_split bs)
-
-turn_word : (b : ℕ) (bs : List ℕ) → list_all is_ascii_digit (b ∷ bs) ≡ true → words_of (codes "turn " ++ b ∷ bs) ≡ codes "turn" ∷ (b ∷ bs) ∷ []
-unfolding words_of
-turn_word b bs h = rw (digits_split (b ∷ bs) h) refl
-
--- what a text says that is `turn N`
-abbrev IsTurns : ℕ → List ℕ → Type 0
-IsTurns n text = (word : List ℕ) × (words_of text ≡ codes "turn" ∷ word ∷ []) × (number_of word ≡ Ok n)
-
-turns : (n : ℕ) (rest : List ℕ) → decimal_of rest ≡ Some n → IsTurns n (codes "turn " ++ rest)
-turns n [] h = cc
-turns n (b ∷ bs) h =
-    let digits : list_all is_ascii_digit (b ∷ bs) ≡ true = grind (arith, nat_tests) in
-    (b ∷ bs, turn_word b bs digits, rw h refl)
-
-pub if_turns : (text rest prefix : List ℕ) (number : Option ℕ) → prefix ≡ codes "turn " → bytes_eq (take (length prefix) text) prefix ≡ true → rest ≡ drop (length prefix) text
-    → number ≡ decimal_of rest → IfSome number (λ n. IsTurns n text)
-if_turns text rest prefix None e first back number = tt
-if_turns text rest prefix (Some n) e first back number =
-    let same : codes "turn " ++ rest ≡ text = ap (λ p. p ++ rest) (sym e) ∙ joined text rest prefix first back in
-    rw (← same) (turns n rest (sym number))
+pub first_is_position : (text : List ℕ) (found : Option ℕ) → IsFirstByte (is_byte 10) text found → found ≡ position (λ b. b == 10) text
+first_is_position text None nowhere =
+    at-no_place text (position_or_len_is (λ b. b == 10) text (length text) 0 (omega arith) (λ k l. false_from_ne_true (slice_index text k == 10) (nowhere k (omega arith) l)) (λ l. absurd (omega (arith, l))))
+first_is_position text (Some at) first =
+    at-place text at (position_or_len_is (λ b. b == 10) text at 0 (omega (arith, first.0.high)) (λ k l. false_from_ne_true (slice_index text k == 10) (first.0.before k (omega arith) l)) (λ l. first.1)) first.0.high

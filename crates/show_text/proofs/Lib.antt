@@ -1,5 +1,6 @@
 pub mod Cuts
 pub mod Decimals
+pub mod FirstWord
 pub mod HexPieces
 pub mod NodeSets
 pub mod Reading

@@ -30,6 +30,11 @@ below limit why word = do
   n ← number_of word
   if nat_lt n limit then Ok n else Err why
 
+-- the number of the first word
+abbrev pub first_number_of : List (List ℕ) → Result ℕ Why
+first_number_of [] = Err BadWord
+first_number_of (word ∷ words) = number_of word
+
 -- of turns
 abbrev pub is_count : ℕ → Bool
 is_count n = nat_le 1 n && nat_le n 1000000

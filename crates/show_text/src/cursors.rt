@@ -1,16 +1,14 @@
 //! The lines of a text, and the words of a line.
-ghost use Rattle.std.specs.Prelude.{◌≡◌, ◌<◌, ◌==◌, ◌+◌, ◌≤◌, ◌∷◌, [], ℕ, List, position, length, drop, fold, false, ◌||◌, Some, Ok, IfSome};
+ghost use Rattle.std.specs.Prelude.{◌≡◌, ◌<◌, ◌==◌, ◌∷◌, ◌++◌, [], ℕ, List, position, length, drop, true, false, Some, Ok, IfSome, MatchOption};
 ghost use Rattle.std.specs.Iterator.{YieldsFirstRef, item_count};
-ghost use Rattle.std.specs.List.{list_all, position_or_len};
+ghost use Rattle.std.specs.List.{list_all};
 ghost use Rattle.std.specs.Str.Lines.{lines, strip_carriage_return};
-ghost use Rattle.show_text.specs.Words.{is_blank, is_empty, pair_of, words_of, with_piece};
-ghost use Rattle.show_text.specs.Script.{first_byte_of};
+ghost use Rattle.show_text.specs.Words.{begins_blank, decimal_of, ends_word, is_blank, is_empty, is_first, is_name, pair_of, words_of, with_piece};
+ghost use Rattle.show_text.specs.Script.{first_byte_of, first_number_of};
 
 use crate::command::Why;
-use crate::words::{hex_byte, hex_pair};
-
-/// How many bytes are tested for a line feed at a time.
-const CHUNK: usize = 16;
+use crate::words::{decimal, hex_byte, hex_pair};
+use memchr::memchr;
 
 fn is_blank(byte: u8) -> bool
     ensures { result ≡ is_blank byte }
@@ -30,40 +28,11 @@ fn blank_at(bytes: &[u8]) -> Option<usize>
     bytes.iter().position(|byte| is_blank(*byte))
 }
 
-fn first_line_feed(bytes: &[u8]) -> Option<usize>
-    ensures { result ≡ position (λ b. b == 10) bytes.now }
-{
-    bytes.iter().position(|byte| *byte == b'\n')
-}
-
-// Looks at every byte, so that the compiler may look at a whole chunk at once.
-fn has_line_feed(bytes: &[u8]) -> bool
-    ensures { result ≡ fold (λ found b. found || b == 10) false bytes.now }
-{
-    bytes
-        .iter()
-        .fold(false, |found, byte| found | (*byte == b'\n'))
-}
-
-/// The length of the chunks that stand before the first chunk with a line feed.
-fn clear_len(bytes: &[u8]) -> usize
-    ensures within { result ≤ length bytes.now }
-    ensures clear { position_or_len (λ b. b == 10) bytes.now ≡ result + position_or_len (λ b. b == 10) (drop result bytes.now) }
-{
-    let mut clear = 0;
-    while bytes.len() - clear >= CHUNK && !has_line_feed(&bytes[clear..clear + CHUNK]) {
-        clear += CHUNK;
-    }
-    clear
-}
-
-/// The place of the first line feed. Whole chunks are tested first, which costs much less than byte after byte.
+#[tactic(auto, using(crate::proofs::Cuts::first_is_position))]
 fn line_feed_at(bytes: &[u8]) -> Option<usize>
     ensures { result ≡ position (λ b. b == 10) bytes.now }
 {
-    let clear = clear_len(bytes);
-    let at = first_line_feed(&bytes[clear..])?;
-    Some(clear + at)
+    memchr(b'\n', bytes)
 }
 
 fn without_carriage_return(line: &[u8]) -> &[u8]
@@ -97,6 +66,49 @@ fn cut_piece(text: &[u8]) -> (&[u8], &[u8])
     }
 }
 
+fn begins_blank(text: &[u8]) -> bool
+    ensures { result ≡ begins_blank text.now }
+{
+    match text {
+        [first, ..] => is_blank(*first),
+        [] => false,
+    }
+}
+
+/// The text without the blanks before its first word.
+#[tactic(auto, using(crate::proofs::FirstWord::blank_steps))]
+fn from_word(text: &[u8]) -> &[u8]
+    ensures words { words_of result.now ≡ words_of text.now }
+    ensures first { begins_blank result.now ≡ false }
+{
+    let mut rest = text;
+    while begins_blank(rest) {
+        rest = &rest[1..];
+    }
+    rest
+}
+
+/// What follows the blank behind a word, and nothing behind the last word. `None` where the word goes on.
+#[tactic(auto, using(crate::proofs::FirstWord::word_ends))]
+fn behind_blank(text: &[u8]) -> Option<&[u8]>
+    ensures { MatchOption result (ends_word text.now ≡ false) (λ rest. (word : List ℕ) → is_name word ≡ true → words_of (word ++ text.now) ≡ word ∷ words_of rest.now) }
+{
+    match text {
+        [] => Some(text),
+        [blank, rest @ ..] if is_blank(*blank) => Some(rest),
+        _ => None,
+    }
+}
+
+/// What follows a word of that name that the text begins with, and the blank behind it.
+fn behind_word<'a>(text: &'a [u8], name: &str) -> Option<&'a [u8]>
+    requires name { is_name name.now ≡ true }
+    requires first { begins_blank text.now ≡ false }
+    ensures { MatchOption result (is_first name.now (words_of text.now) ≡ false) (λ rest. words_of text.now ≡ name.now ∷ words_of rest.now) }
+{
+    behind_blank(text.strip_prefix(name.as_bytes())?)
+}
+
 /// The byte of a pair of digits that the text begins with, and what follows it and the blank behind it.
 fn cut_byte(text: &[u8]) -> Option<(u8, &[u8])>
     ensures { IfSome result (λ cut. (word : List ℕ) × (words_of text.now ≡ word ∷ words_of cut.1.now) × (pair_of word ≡ Some cut.0)) }
@@ -105,11 +117,20 @@ fn cut_byte(text: &[u8]) -> Option<(u8, &[u8])>
         return None;
     };
     let byte = hex_byte(*high, *low)?;
-    match behind {
-        [] => Some((byte, behind)),
-        [blank, rest @ ..] if is_blank(*blank) => Some((byte, rest)),
-        _ => None,
+    Some((byte, behind_blank(behind)?))
+}
+
+/// The number of a single digit that the text begins with, and what follows it and the blank behind it.
+fn cut_digit(text: &[u8]) -> Option<(u32, &[u8])>
+    ensures { IfSome result (λ cut. (word : List ℕ) × (words_of text.now ≡ word ∷ words_of cut.1.now) × (decimal_of word ≡ Some cut.0)) }
+{
+    let [digit, behind @ ..] = text else {
+        return None;
+    };
+    if !digit.is_ascii_digit() {
+        return None;
     }
+    Some((u32::from(*digit - b'0'), behind_blank(behind)?))
 }
 
 /// The lines still to come. Each ends with a line feed, but for the last, which may lack it.
@@ -143,6 +164,41 @@ impl<'a> Words<'a> {
         ensures { result ≡ is_empty (words_of self.now.0.now) }
     {
         are_blank(self.0)
+    }
+
+    /// Takes the next word where it is the one of that name.
+    pub(crate) fn take_word(&mut self, name: &str) -> bool
+        requires { is_name name.now ≡ true }
+        ensures taken { result ≡ true → words_of self.old.0.now ≡ name.now ∷ words_of self.new.0.now }
+        ensures left { result ≡ false → words_of self.new.0.now ≡ words_of self.old.0.now }
+        ensures other { result ≡ false → is_first name.now (words_of self.old.0.now) ≡ false }
+    {
+        match behind_word(from_word(self.0), name) {
+            Some(rest) => {
+                self.0 = rest;
+                true
+            }
+            None => false,
+        }
+    }
+
+    /// The number of the next word.
+    pub(crate) fn next_number(&mut self) -> Result<u32, Why>
+        ensures number { result ≡ first_number_of (words_of self.old.0.now) }
+        ensures rest { words_of self.new.0.now ≡ drop 1 (words_of self.old.0.now) }
+    {
+        // Nearly all numbers are one digit with one space behind it: they need no search for their end.
+        if let Some((number, rest)) = cut_digit(self.0) {
+            self.0 = rest;
+            return Ok(number);
+        }
+        let Some(word) = self.next() else {
+            return Err(Why::BadWord);
+        };
+        match decimal(word) {
+            Some(number) => Ok(number),
+            None => Err(Why::BadNumber),
+        }
     }
 
     /// The byte of the next word, or `None` behind the last.

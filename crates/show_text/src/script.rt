@@ -1,12 +1,12 @@
 //! Scripts, line by line.
-ghost use Rattle.std.specs.Prelude.{◌≡◌, ◌≢◌, ◌≤◌, ◌∷◌, [], IfOk, IfErr, Ok, Err};
+ghost use Rattle.std.specs.Prelude.{◌≡◌, ◌≢◌, ◌≤◌, ◌∷◌, [], IfOk, IfErr, Ok, Err, if◌then◌else◌, nat_lt};
 ghost use Rattle.show_text.specs.declared.command.Why.TheVariants.{NoMemory};
 ghost use Rattle.show_text.specs.Words.{words_of};
-ghost use Rattle.show_text.specs.Script.{Adds, AreCounted, AreOnLines, count_of, below, bytes_of, some_bytes, line_of, nodes_of, set_with, missed_of, turn_of, show_of, command_of, line_commands, fault_at, script_of};
+ghost use Rattle.show_text.specs.Script.{Adds, AreCounted, AreOnLines, below, is_count, bytes_of, some_bytes, line_of, nodes_of, set_with, missed_of, turn_of, show_of, command_of, line_commands, fault_at, script_of};
 
 use crate::command::{Command, ScriptFault, Why};
 use crate::cursors::{Lines, Words};
-use crate::words::{decimal, is_word};
+use crate::words::decimal;
 use std::alloc::Global;
 
 /// The longest script or hex text, in bytes.
@@ -16,24 +16,34 @@ pub const LONGEST_TEXT: usize = 1_048_576;
 const MOST_TURNS: u32 = 1_000_000;
 
 /// A number of turns.
-fn count(word: &[u8]) -> Result<u32, Why>
-    ensures { result ≡ count_of word.now }
+fn count(number: u32) -> Result<u32, Why>
+    ensures { result ≡ (if is_count number then Ok number else Err Why.BadNumber) }
 {
-    match decimal(word) {
-        Some(count @ 1..=MOST_TURNS) => Ok(count),
+    match number {
+        1..=MOST_TURNS => Ok(number),
         _ => Err(Why::BadNumber),
     }
 }
 
 /// A number below `limit`, which else is `why`.
-fn number_below(word: &[u8], limit: u8, why: Why) -> Result<u8, Why>
-    ensures { result ≡ below limit why word.now }
+fn number_below(number: u32, limit: u8, why: Why) -> Result<u8, Why>
+    ensures { result ≡ (if nat_lt number limit then Ok number else Err why) }
 {
-    match decimal(word) {
-        None => Err(Why::BadNumber),
-        Some(number) if number < u32::from(limit) => Ok(number as u8),
-        Some(_) => Err(why),
+    if number < u32::from(limit) {
+        Ok(number as u8)
+    } else {
+        Err(why)
     }
+}
+
+/// The number of a node.
+fn node_number(word: &[u8], nodes: u8) -> Result<u8, Why>
+    ensures { result ≡ below nodes Why.BadNode word.now }
+{
+    let Some(number) = decimal(word) else {
+        return Err(Why::BadNumber);
+    };
+    number_below(number, nodes, Why::BadNode)
 }
 
 /// Puts a command after the others.
@@ -65,13 +75,11 @@ fn push_some_bytes(line: u8, words: Words<'_>, commands: &mut Vec<Command>) -> R
 }
 
 /// The number of a line, and its bytes.
+#[tactic(auto, using(crate::proofs::FirstWord::line_steps))]
 fn push_line(mut words: Words<'_>, lines: u8, commands: &mut Vec<Command>) -> Result<(), Why>
     ensures { Adds commands.old.items commands.new.items result (line_of lines (words_of words.entry.0.now)) }
 {
-    let Some(word) = words.next() else {
-        return Err(Why::BadWord);
-    };
-    let line = number_below(word, lines, Why::BadLine)?;
+    let line = number_below(words.next_number()?, lines, Why::BadLine)?;
     push_some_bytes(line, words, commands)
 }
 
@@ -83,21 +91,21 @@ fn named_nodes(words: Words<'_>, nodes: u8) -> Result<u64, Why>
 {
     let mut named = 0u64;
     for word in words {
-        let node = number_below(word, nodes, Why::BadNode)?;
-        named |= 1 << node;
+        named |= 1 << node_number(word, nodes)?;
     }
     Ok(named)
 }
 
 /// The nodes that the words behind a number of turns name.
+#[tactic(auto, using(crate::proofs::FirstWord::missed_steps))]
 fn missing_nodes(mut words: Words<'_>, nodes: u8) -> Result<u64, Why>
     requires { nodes ≤ 64 }
     ensures { result ≡ missed_of nodes (words_of words.entry.0.now) }
 {
-    let Some(word) = words.next() else {
+    if words.is_empty() {
         return Ok(0);
-    };
-    if is_word(word, "miss") && !words.is_empty() {
+    }
+    if words.take_word("miss") && !words.is_empty() {
         named_nodes(words, nodes)
     } else {
         Err(Why::BadWord)
@@ -105,14 +113,13 @@ fn missing_nodes(mut words: Words<'_>, nodes: u8) -> Result<u64, Why>
 }
 
 /// A number of turns, and the nodes that miss them.
+#[tactic(auto, using(crate::proofs::FirstWord::turn_steps))]
 fn push_turns(mut words: Words<'_>, nodes: u8, commands: &mut Vec<Command>) -> Result<(), Why>
     requires { nodes ≤ 64 }
     ensures { Adds commands.old.items commands.new.items result (turn_of nodes (words_of words.entry.0.now)) }
 {
-    let Some(word) = words.next() else {
-        return Err(Why::BadWord);
-    };
-    match (count(word), missing_nodes(words, nodes)) {
+    let number = words.next_number()?;
+    match (count(number), missing_nodes(words, nodes)) {
         (Ok(count), Ok(missed)) => push_command(commands, Command::Turns { count, missed }),
         (Err(why), _) | (_, Err(why)) => Err(why),
     }
@@ -129,6 +136,7 @@ fn push_show(words: Words<'_>, commands: &mut Vec<Command>) -> Result<(), Why>
 }
 
 /// Puts what a line says after the commands, by its first word.
+#[tactic(auto, using(crate::proofs::FirstWord::command_steps))]
 fn push_commands(
     mut words: Words<'_>,
     lines: u8,
@@ -138,15 +146,14 @@ fn push_commands(
     requires { nodes ≤ 64 }
     ensures { Adds commands.old.items commands.new.items result (command_of lines nodes (words_of words.entry.0.now)) }
 {
-    let Some(word) = words.next() else {
-        return Ok(());
-    };
-    if is_word(word, "line") {
+    if words.take_word("line") {
         push_line(words, lines, commands)
-    } else if is_word(word, "turn") {
+    } else if words.take_word("turn") {
         push_turns(words, nodes, commands)
-    } else if is_word(word, "show") {
+    } else if words.take_word("show") {
         push_show(words, commands)
+    } else if words.is_empty() {
+        Ok(())
     } else {
         Err(Why::BadWord)
     }
