@@ -14,11 +14,12 @@ use Rattle.ln_ops.specs.declared.row.Row.{Row}
 use Rattle.ln_ops.specs.Slot.{is_slot, is_stat}
 use Rattle.refresh_ring.specs.declared.pick.Power.TheVariants.{Running}
 use Rattle.slot_table.specs.Changes.{entered, unmarked, without}
+use Rattle.slot_table.specs.declared.field.Field.TheVariants.{Stat}
 use Rattle.slot_table.specs.Desk.{Desk}
 use Rattle.slot_table.specs.Entry.{Entry, row_with, state_of_number}
 use Rattle.slot_table.specs.Moves.{after_shift, may_move, move_place}
 use Rattle.slot_table.specs.Reading.{all_slots, entry_at, is_same, row_at, row_of}
-use Rattle.slot_table.specs.Writes.{after_stat, after_take, new_entry, take_at}
+use Rattle.slot_table.specs.Writes.{after_field, after_take, new_entry, take_at}
 use Rattle.station_core.specs.declared.call.Call.{Call}
 use Rattle.station_core.specs.Known.{Known, told}
 use Rattle.station_core.specs.Moments.{AtEveryMoment, IsLive, ever_refreshed, slots_refreshed, turns_in}
@@ -272,10 +273,10 @@ fourth_asked = is_asked fourth_shows refl (λ n. by_tests (n == 5) (n == 2) (n =
     by_tests false false true not_5 not_2 = refl
     by_tests false false false not_5 not_2 = refl
 
-frees : after_stat third 5 0 ≡ fourth
+frees : after_field third 5 (Stat 0) ≡ fourth
 frees =
     ap₂ (λ (can : Bool) (o : Option ℕ). if can then record { place = remove third.place 5; asked = without third.asked o; mark = unmarked None 5 } else third)
-    (ap (λ (o : Option ℕ). is_some o && is_stat 0) (third_shows.places 5)) (third_shows.places 5)
+    (ap (λ (o : Option ℕ). is_stat 0 && is_some o) (third_shows.places 5)) (third_shows.places 5)
 
 -- address 4 is taken, its slot 2 is moved to 5 and freed, and a switch is asked to close
 abbrev others : List ℕ
@@ -291,7 +292,7 @@ at_busy =
     let one = first_asked in
     let two = subst (λ (desk : Desk). IsAsked (running desk)) (sym takes) second_asked in
     let three = subst (λ (desk : Desk). IsAsked (running desk)) (sym (ap (λ (desk : Desk). after_shift desk 2 5) takes ∙ moves)) third_asked in
-    let four = subst (λ (desk : Desk). IsAsked (running desk)) (sym (ap (λ (desk : Desk). after_stat (after_shift desk 2 5) 5 0) takes ∙ ap (λ (desk : Desk). after_stat desk 5 0) moves ∙ frees)) fourth_asked in
+    let four = subst (λ (desk : Desk). IsAsked (running desk)) (sym (ap (λ (desk : Desk). after_field (after_shift desk 2 5) 5 (Stat 0)) takes ∙ ap (λ (desk : Desk). after_field desk 5 (Stat 0)) moves ∙ frees)) fourth_asked in
     (one, (one, (one, (one, (one, (one, (one, (two, (two, (two, (two, (two, (two, (two, (two, (three, (three, (three, (three, (three, (three, (three, (three, (four, (four, (four, (four, (four, (four, (four, (four, (four, four))))))))))))))))))))))))))))))))
 
 none_missed_of : (bytes : List ℕ) → MissesNone 0 (served_events 0 1 bytes)

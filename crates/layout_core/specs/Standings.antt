@@ -1,5 +1,5 @@
 -- How decoders stand, as their lines tell it.
-use Rattle.std.specs.Prelude.{ℕ, ◌==◌, ◌&&◌, Bool, true, false, not, if◌then◌else◌, List, Option, Some, None}
+use Rattle.std.specs.Prelude.{ℕ, ◌==◌, ◌&&◌, Bool, true, false, not, if◌then◌else◌, List}
 use Rattle.std.specs.Option.{option_eq}
 use Rattle.dcc_packet.specs.declared.steps.Motion.{Motion}
 use Rattle.dcc_packet.specs.declared.steps.Motion.TheVariants.{Stop, Emergency, Step}

@@ -3,12 +3,13 @@ use Rattle.std.proofs.Common.{◌≡◌, ◌≢◌, ℕ, ◌==◌, ◌&&◌, not
 use Rattle.std.proofs.lemmas.Bool.{and_parts, cond_both}
 use Rattle.std.specs.FinMap.{get}
 use Rattle.ln_ops.specs.Fields.{SlotBytes}
-use Rattle.ln_ops.specs.Slot.{is_held, is_address, is_slot, state_of, kind_of, address_of}
+use Rattle.ln_ops.specs.Slot.{is_held, is_address, is_slot, state_of, address_of}
+use Rattle.slot_table.specs.declared.field.Field.{Field}
 use Rattle.slot_table.specs.Entry.{Entry}
 use Rattle.slot_table.specs.Desk.{Desk}
 use Rattle.slot_table.specs.Reading.{row_of, row_at, entry_at, slot_of, free_slot, is_placed}
 use Rattle.slot_table.specs.Changes.{entered, changed, change_at, change_entry, cleared, unmarked}
-use Rattle.slot_table.specs.Writes.{take_at, after_take, can_stat, after_stat, write_answer, written_entry, after_write}
+use Rattle.slot_table.specs.Writes.{take_at, after_take, keeps_slot, with_field, can_field, after_field, write_answer, written_entry, after_write}
 use Rattle.slot_table.specs.Moves.{dispatch_get_at, after_dispatch_get, may_move, can_shift, move_place, moved_mark, after_shift}
 use Rattle.slot_table.specs.Laws.{LosesMark, MarkFollows}
 
@@ -59,13 +60,11 @@ kept None src dest ne = refl
 kept (Some k) src dest ne = rw (other_mark k src ne) refl
 
 module _ (desk : Desk) where
-  mark-stat : (n stat : ℕ) → is_held (state_of stat) ≡ true → (after_stat desk n stat).mark ≡ desk.mark
-  mark-stat n stat held = rw held (cond_both (can_stat desk n stat) (changed desk n (λ e. record e { state = state_of stat; kind = kind_of stat })) desk (λ d. d.mark ≡ desk.mark)
-      (λ can. mark-changed desk n (λ e. record e { state = state_of stat; kind = kind_of stat }))
-      (λ not. refl))
+  mark-field : (n : ℕ) (field : Field) → keeps_slot field ≡ true → (after_field desk n field).mark ≡ desk.mark
+  mark-field n field keeps = rw keeps (cond_both (can_field desk n field) (changed desk n (with_field field)) desk (λ d. d.mark ≡ desk.mark) (λ can. mark-changed desk n (with_field field)) (λ not. refl))
 
-  mark-stat_free : (n stat : ℕ) → can_stat desk n stat ≡ true → is_held (state_of stat) ≡ false → LosesMark desk (after_stat desk n stat) n
-  mark-stat_free n stat can free = rw (can, free) (loses desk n)
+  mark-field_free : (n : ℕ) (field : Field) → can_field desk n field ≡ true → keeps_slot field ≡ false → LosesMark desk (after_field desk n field) n
+  mark-field_free n field can free = rw (can, free) (loses desk n)
 
   mark-write : (f : SlotBytes) → is_ok (write_answer desk f) ≡ true → LosesMark desk (after_write desk f) f.slot
   mark-write f ok = rw ok (by_state (is_held (state_of f.stat)))
@@ -92,12 +91,8 @@ module _ (desk : Desk) where
   pub mark_follows : MarkFollows desk
   mark_follows = record {
     take = mark-take desk;
-    speed = λ n spd. mark-changed desk n _;
-    dirf = λ n dirf. mark-changed desk n _;
-    snd = λ n snd. mark-changed desk n _;
-    more = λ n more. mark-changed desk n _;
-    stat = mark-stat;
-    stat_free = mark-stat_free;
+    field = mark-field;
+    field_free = mark-field_free;
     write = mark-write;
     null_move = λ n. mark-changed desk n _;
     dispatch_put = λ n placed. rw placed refl;

@@ -1,17 +1,19 @@
 -- What a call makes of the rows of its own slots.
-use Rattle.std.proofs.Common.{◌≡◌, ◌≢◌, ℕ, ◌&&◌, ◌%◌, not, Bool, true, false, Option, Some, None, is_ok, is_some, refl, ap, sym, subst, ◌∙◌}
+use Rattle.std.proofs.Common.{◌≡◌, ◌≢◌, ℕ, ◌&&◌, not, Bool, true, false, Option, Some, None, is_ok, is_some, refl, ap, sym, subst, ◌∙◌}
 use Rattle.std.proofs.lemmas.Bool.{and_parts, both_ways}
 use Rattle.std.specs.Ordering.{nat_cmp}
 use Rattle.std.specs.FinMap.{FinMap, get, insert, remove}
 use Rattle.ln_ops.specs.declared.row.Row.{Row}
 use Rattle.ln_ops.specs.declared.row.State.TheVariants.{Common, InUse}
 use Rattle.ln_ops.specs.Fields.{SlotBytes}
-use Rattle.ln_ops.specs.Slot.{is_held, is_slot, is_address, is_stat, state_of, kind_of, address_of, free_row}
-use Rattle.slot_table.specs.Entry.{Entry, row_with}
+use Rattle.ln_ops.specs.Slot.{is_held, is_slot, is_address, state_of, address_of, free_row}
+use Rattle.slot_table.specs.declared.field.Field.{Field}
+use Rattle.slot_table.specs.declared.field.Field.TheVariants.{Speed, Dirf, Snd, More, Stat}
+use Rattle.slot_table.specs.Entry.{Entry, entry_of, row_with}
 use Rattle.slot_table.specs.Desk.{Desk, IsDesk}
 use Rattle.slot_table.specs.Reading.{row_of, row_at, entry_at, slot_of, free_slot, is_placed}
 use Rattle.slot_table.specs.Changes.{entered, cleared, changed}
-use Rattle.slot_table.specs.Writes.{after_take, new_entry, after_speed, after_dirf, after_snd, after_more, can_stat, after_stat, write_answer, written_entry, after_write}
+use Rattle.slot_table.specs.Writes.{after_take, new_entry, is_legal_field, keeps_slot, with_field, can_field, after_field, write_answer, written_entry, after_write}
 use Rattle.slot_table.specs.Moves.{after_null_move, after_dispatch_put, dispatch_get_at, after_dispatch_get, may_move, can_shift, after_shift}
 use Rattle.slot_table.specs.Laws.{Becomes, Holds, OwnSlots}
 use Rattle.slot_table.proofs.Maps.{insert_at, insert_off, remove_at}
@@ -57,27 +59,15 @@ module _ (desk : Desk) (is : IsDesk desk) where
         ),
       )
 
-  own-speed : (n spd : ℕ) → is_placed desk n ≡ true → Becomes desk (after_speed desk n spd) n (λ row. record row { spd = spd })
-  own-speed n spd some = let k = row-changed n (λ e. record e { spd = spd }) some in k.1.1.1 ∙ ap (λ (row : Row). record row { spd = spd }) (sym k.1.1.0)
-
-  own-dirf : (n dirf : ℕ) → is_placed desk n ≡ true → Becomes desk (after_dirf desk n dirf) n (λ row. record row { dirf = dirf % 64 })
-  own-dirf n dirf some = let k = row-changed n (λ e. record e { dirf = dirf % 64 }) some in k.1.1.1 ∙ ap (λ (row : Row). record row { dirf = dirf % 64 }) (sym k.1.1.0)
-
-  own-snd : (n snd : ℕ) → is_placed desk n ≡ true → Becomes desk (after_snd desk n snd) n (λ row. record row { snd = snd % 16 })
-  own-snd n snd some = let k = row-changed n (λ e. record e { snd = snd % 16 }) some in k.1.1.1 ∙ ap (λ (row : Row). record row { snd = snd % 16 }) (sym k.1.1.0)
-
-  own-more : (n more : ℕ) → is_placed desk n ≡ true → Becomes desk (after_more desk n more) n (λ row. record row { more = more })
-  own-more n more some = let k = row-changed n (λ e. record e { more = more }) some in k.1.1.1 ∙ ap (λ (row : Row). record row { more = more }) (sym k.1.1.0)
+  own-field : (n : ℕ) (field : Field) → can_field desk n field ≡ true → keeps_slot field ≡ true → Becomes desk (after_field desk n field) n (λ row. row_with row.address (with_field field (entry_of row)))
+  own-field n field can keeps =
+      let k = row-changed n (with_field field) (and_parts (is_legal_field field) (is_placed desk n) can).1 in
+      rw (can, keeps) (k.1.1.1 ∙ ap (λ (row : Row). row_with row.address (with_field field (entry_of row))) (sym k.1.1.0))
 
   own-null_move : (n : ℕ) → is_placed desk n ≡ true → Becomes desk (after_null_move desk n) n (λ row. record row { state = InUse })
   own-null_move n some = let k = row-changed n (λ e. record e { state = InUse }) some in k.1.1.1 ∙ ap (λ (row : Row). record row { state = InUse }) (sym k.1.1.0)
 
-  own-stat : (n stat : ℕ) → can_stat desk n stat ≡ true → is_held (state_of stat) ≡ true → Becomes desk (after_stat desk n stat) n (λ row. record row { state = state_of stat; kind = kind_of stat })
-  own-stat n stat can held =
-      let k = row-changed n (λ e. record e { state = state_of stat; kind = kind_of stat }) (and_parts (is_placed desk n) (is_stat stat) can).0 in
-      rw (can, held) (k.1.1.1 ∙ ap (λ (row : Row). record row { state = state_of stat; kind = kind_of stat }) (sym k.1.1.0))
-
-  own-stat_free : (n stat : ℕ) → can_stat desk n stat ≡ true → is_held (state_of stat) ≡ false → row_of (after_stat desk n stat) n ≡ free_row
+  own-stat_free : (n stat : ℕ) → can_field desk n (Stat stat) ≡ true → is_held (state_of stat) ≡ false → row_of (after_field desk n (Stat stat)) n ≡ free_row
   own-stat_free n stat can free = rw (can, free) (row_free (cleared desk n) n (cleared-none desk n))
 
   own-dispatch_put : (n : ℕ) → is_placed desk n ≡ true → Becomes desk (after_dispatch_put desk n) n (λ row. record row { state = Common })
@@ -152,11 +142,11 @@ module _ (desk : Desk) (is : IsDesk desk) where
   own_slots = record {
     take_held = own-take_held;
     take_new = own-take_new;
-    speed = own-speed;
-    dirf = own-dirf;
-    snd = own-snd;
-    more = own-more;
-    stat = own-stat;
+    speed = λ n spd placed. own-field n (Speed spd) placed refl;
+    dirf = λ n dirf placed. own-field n (Dirf dirf) placed refl;
+    snd = λ n snd placed. own-field n (Snd snd) placed refl;
+    more = λ n more placed. own-field n (More more) placed refl;
+    stat = λ n stat. own-field n (Stat stat);
     stat_free = own-stat_free;
     write = own-write;
     write_free = own-write_free;

@@ -1,12 +1,14 @@
 -- What a throttle asks of a slot by OPC_LOCO_ADR, OPC_LOCO_SPD, OPC_LOCO_DIRF, OPC_LOCO_SND, OPC_IMM_PACKET, OPC_SLOT_STAT1
 -- and OPC_WR_SL_DATA.
 -- Each refusal is this project's own profile.
-use Rattle.std.specs.Prelude.{ℕ, ◌==◌, ◌&&◌, ◌||◌, ◌%◌, Bool, false, not, if◌then◌else◌, Option, Some, None, Result, Ok, Err, is_ok}
+use Rattle.std.specs.Prelude.{ℕ, ◌==◌, ◌&&◌, ◌||◌, ◌%◌, Bool, true, false, not, if◌then◌else◌, Option, Some, None, Result, Ok, Err, is_ok}
 use Rattle.ln_ops.specs.declared.row.State.TheVariants.{Idle}
 use Rattle.ln_ops.specs.Fields.{SlotBytes}
 use Rattle.ln_ops.specs.Slot.{is_held, is_slot, is_address, is_stat, state_of, kind_of, address_of}
 use Rattle.slot_table.specs.declared.fault.SlotFault.{SlotFault}
 use Rattle.slot_table.specs.declared.fault.SlotFault.TheVariants.{NoFree, Illegal, Held}
+use Rattle.slot_table.specs.declared.field.Field.{Field}
+use Rattle.slot_table.specs.declared.field.Field.TheVariants.{Speed, Dirf, Snd, More, Stat}
 use Rattle.slot_table.specs.Entry.{Entry}
 use Rattle.slot_table.specs.Desk.{Desk}
 use Rattle.slot_table.specs.Reading.{row_of, slot_of, free_slot, is_placed}
@@ -35,34 +37,34 @@ take_at desk a None None = desk
 abbrev pub after_take : Desk → ℕ → Desk
 after_take desk a = if is_address a then take_at desk a (slot_of desk a) (free_slot desk) else desk
 
--- ---- OPC_LOCO_SPD, OPC_LOCO_DIRF, OPC_LOCO_SND, F9 to F12 of OPC_IMM_PACKET: one field of a slot that is not free
+-- ---- OPC_LOCO_SPD, OPC_LOCO_DIRF, OPC_LOCO_SND, F9 to F12 of OPC_IMM_PACKET, OPC_SLOT_STAT1: one field of a slot that
+-- is not free
 
-abbrev pub after_speed : Desk → ℕ → ℕ → Desk
-after_speed desk n spd = changed desk n (λ e. record e { spd = spd })
+-- a STAT1 that a slot may not have is refused
+abbrev pub is_legal_field : Field → Bool
+is_legal_field (Stat stat) = is_stat stat
+is_legal_field _ = true
 
--- DIRF keeps its low six bits (own)
-abbrev pub after_dirf : Desk → ℕ → ℕ → Desk
-after_dirf desk n dirf = changed desk n (λ e. record e { dirf = dirf % 64 })
+abbrev pub can_field : Desk → ℕ → Field → Bool
+can_field desk n field = is_legal_field field && is_placed desk n
 
--- SND keeps its low four bits (own)
-abbrev pub after_snd : Desk → ℕ → ℕ → Desk
-after_snd desk n snd = changed desk n (λ e. record e { snd = snd % 16 })
+-- the entry with the field written: DIRF keeps its low six bits, and SND its low four (own)
+abbrev pub with_field : Field → Entry → Entry
+with_field (Speed spd) e = record e { spd = spd }
+with_field (Dirf dirf) e = record e { dirf = dirf % 64 }
+with_field (Snd snd) e = record e { snd = snd % 16 }
+with_field (More more) e = record e { more = more }
+with_field (Stat stat) e = record e { state = state_of stat; kind = kind_of stat }
 
--- F9 to F12
-abbrev pub after_more : Desk → ℕ → ℕ → Desk
-after_more desk n more = changed desk n (λ e. record e { more = more })
+-- a slot that gets the state free is free
+abbrev pub keeps_slot : Field → Bool
+keeps_slot (Stat stat) = is_held (state_of stat)
+keeps_slot _ = true
 
--- ---- OPC_SLOT_STAT1: state and decoder type of a slot that is not free
-
-abbrev pub can_stat : Desk → ℕ → ℕ → Bool
-can_stat desk n stat = is_placed desk n && is_stat stat
-
--- the state free clears the slot and a mark on it; any other leaves the mark
-abbrev pub after_stat : Desk → ℕ → ℕ → Desk
-after_stat desk n stat =
-    if can_stat desk n stat then
-    (if is_held (state_of stat) then changed desk n (λ e. record e { state = state_of stat; kind = kind_of stat }) else cleared desk n)
-    else desk
+-- the state free clears the slot and a mark on it; any other field leaves the mark
+abbrev pub after_field : Desk → ℕ → Field → Desk
+after_field desk n field =
+    if can_field desk n field then (if keeps_slot field then changed desk n (with_field field) else cleared desk n) else desk
 
 -- ---- OPC_WR_SL_DATA: a whole slot
 

@@ -1,14 +1,16 @@
 //! What a throttle loads and writes: an address, one field, or a whole slot.
 ghost use Rattle.std.specs.Prelude.{◌≡◌, ◌<◌, IfOk, OnOk, OnErr};
 ghost use Rattle.slot_table.specs.{address_of};
-ghost use Rattle.slot_table.specs.Entry.{IsSlot, row_with};
+ghost use Rattle.slot_table.specs.Entry.{IsSlot, entry_of, row_with};
 ghost use Rattle.slot_table.specs.Desk.{IsDesk};
 ghost use Rattle.slot_table.specs.Reading.{is_placed};
 ghost use Rattle.slot_table.specs.Changes.{done_if};
-ghost use Rattle.slot_table.specs.Writes.{take_answer, after_take, after_speed, after_dirf, after_snd, after_more, can_stat, after_stat, kept_more, entry_from, is_elsewhere, write_answer, after_write};
+ghost use Rattle.slot_table.specs.Values.{IsValue};
+ghost use Rattle.slot_table.specs.Writes.{take_answer, after_take, is_legal_field, keeps_slot, with_field, can_field, after_field, kept_more, entry_from, is_elsewhere, write_answer, after_write};
 
 use crate::bytes::{is_address, is_held, is_slot, is_stat, state_of};
 use crate::fault::SlotFault;
+use crate::field::Field;
 use crate::rows::FREE;
 use crate::table::SlotTable;
 use ln_ops::{Row, SlotFields, State};
@@ -50,13 +52,11 @@ impl SlotTable {
         requires { spd < 128 }
         ensures answer { result ≡ done_if (is_placed self.old n) }
         ensures slot { OnOk result (IsSlot n) }
-        ensures after { self.new ≡ after_speed self.old n spd }
+        ensures after { self.new ≡ after_field self.old n (Field.Speed spd) }
         ensures refused { OnErr result (self.new ≡ self.old) }
         ensures desk { IsDesk self.new }
     {
-        let row = self.held(n)?;
-        self.change(n, Row { spd, ..row });
-        Ok(())
+        self.set_field(n, Field::Speed(spd))
     }
 
     /// Sets direction and F0 to F4 (OPC_LOCO_DIRF), below 128, of which the low six bits are kept.
@@ -65,14 +65,11 @@ impl SlotTable {
         requires { dirf < 128 }
         ensures answer { result ≡ done_if (is_placed self.old n) }
         ensures slot { OnOk result (IsSlot n) }
-        ensures after { self.new ≡ after_dirf self.old n dirf }
+        ensures after { self.new ≡ after_field self.old n (Field.Dirf dirf) }
         ensures refused { OnErr result (self.new ≡ self.old) }
         ensures desk { IsDesk self.new }
     {
-        let row = self.held(n)?;
-        let dirf = dirf % 64;
-        self.change(n, Row { dirf, ..row });
-        Ok(())
+        self.set_field(n, Field::Dirf(dirf))
     }
 
     /// Sets F5 to F8 (OPC_LOCO_SND), below 128, of which the low four bits are kept.
@@ -81,14 +78,11 @@ impl SlotTable {
         requires { snd < 128 }
         ensures answer { result ≡ done_if (is_placed self.old n) }
         ensures slot { OnOk result (IsSlot n) }
-        ensures after { self.new ≡ after_snd self.old n snd }
+        ensures after { self.new ≡ after_field self.old n (Field.Snd snd) }
         ensures refused { OnErr result (self.new ≡ self.old) }
         ensures desk { IsDesk self.new }
     {
-        let row = self.held(n)?;
-        let snd = snd % 16;
-        self.change(n, Row { snd, ..row });
-        Ok(())
+        self.set_field(n, Field::Snd(snd))
     }
 
     /// Sets F9 to F12, below 16: bits 3 to 0 are F12 to F9. Refused as `Illegal` where the slot is free.
@@ -97,13 +91,11 @@ impl SlotTable {
         requires more { more < 16 }
         ensures answer { result ≡ done_if (is_placed self.old n) }
         ensures slot { OnOk result (IsSlot n) }
-        ensures after { self.new ≡ after_more self.old n more }
+        ensures after { self.new ≡ after_field self.old n (Field.More more) }
         ensures refused { OnErr result (self.new ≡ self.old) }
         ensures desk { IsDesk self.new }
     {
-        let row = self.held(n)?;
-        self.change(n, Row { more, ..row });
-        Ok(())
+        self.set_field(n, Field::More(more))
     }
 
     /// Sets state and decoder type (OPC_SLOT_STAT1), below 128. The state free clears the slot, and a mark on it.
@@ -111,20 +103,32 @@ impl SlotTable {
     /// Refused as `Illegal` unless the slot is in 1 to 119 and not free, and STAT1 is one that a slot may have.
     pub fn set_stat(&mut self, n: u8, stat: u8) -> Result<(), SlotFault>
         requires { stat < 128 }
-        ensures answer { result ≡ done_if (can_stat self.old n stat) }
+        ensures answer { result ≡ done_if (can_field self.old n (Field.Stat stat)) }
         ensures slot { OnOk result (IsSlot n) }
-        ensures after { self.new ≡ after_stat self.old n stat }
+        ensures after { self.new ≡ after_field self.old n (Field.Stat stat) }
+        ensures refused { OnErr result (self.new ≡ self.old) }
+        ensures desk { IsDesk self.new }
+    {
+        self.set_field(n, Field::Stat(stat))
+    }
+
+    /// Writes one field of a slot.
+    ///
+    /// Refused as `Illegal` unless the slot is in 1 to 119 and not free, and a STAT1 is one that a slot may have.
+    pub fn set_field(&mut self, n: u8, field: Field) -> Result<(), SlotFault>
+        requires { IsValue field }
+        ensures answer { result ≡ done_if (can_field self.old n field) }
+        ensures slot { OnOk result (IsSlot n) }
+        ensures after { self.new ≡ after_field self.old n field }
         ensures refused { OnErr result (self.new ≡ self.old) }
         ensures desk { IsDesk self.new }
     {
         let row = self.held(n)?;
-        if !is_stat(stat) {
+        if !is_legal_field(field) {
             return Err(SlotFault::Illegal);
         }
-        let state = state_of(stat);
-        let kind = stat % 8;
-        if is_held(state) {
-            self.change(n, Row { state, kind, ..row });
+        if keeps_slot(field) {
+            self.change(n, with_field(row, field));
         } else {
             self.clear(n);
         }
@@ -175,6 +179,49 @@ impl SlotTable {
     {
         let row = self.row(n);
         if row.address == address { row.more } else { 0 }
+    }
+}
+
+// Whether a slot may have what is written to the field.
+fn is_legal_field(field: Field) -> bool
+    ensures { result ≡ is_legal_field field }
+{
+    match field {
+        Field::Stat(stat) => is_stat(stat),
+        Field::Speed(_) | Field::Dirf(_) | Field::Snd(_) | Field::More(_) => true,
+    }
+}
+
+// Whether the slot is not free with the field written.
+fn keeps_slot(field: Field) -> bool
+    ensures { result ≡ keeps_slot field }
+{
+    match field {
+        Field::Stat(stat) => is_held(state_of(stat)),
+        Field::Speed(_) | Field::Dirf(_) | Field::Snd(_) | Field::More(_) => true,
+    }
+}
+
+// The row with the field written.
+fn with_field(row: Row, field: Field) -> Row
+    ensures { result ≡ row_with row.address (with_field field (entry_of row)) }
+{
+    match field {
+        Field::Speed(spd) => Row { spd, ..row },
+        Field::Dirf(dirf) => Row {
+            dirf: dirf % 64,
+            ..row
+        },
+        Field::Snd(snd) => Row {
+            snd: snd % 16,
+            ..row
+        },
+        Field::More(more) => Row { more, ..row },
+        Field::Stat(stat) => Row {
+            state: state_of(stat),
+            kind: stat % 8,
+            ..row
+        },
     }
 }
 

@@ -16,13 +16,15 @@ use Rattle.slot_table.specs.Entry.{Entry, entry_of, row_with}
 use Rattle.slot_table.specs.Laws.{OthersStay, OwnSlots, ReadsAs, Becomes}
 use Rattle.slot_table.specs.Moves.{after_null_move, after_dispatch_put, after_dispatch_get, after_shift, can_shift, dispatch_get_at, dispatch_get_answer}
 use Rattle.slot_table.specs.Reading.{is_placed, row_of, slot_of, free_slot}
-use Rattle.slot_table.specs.Writes.{after_take, after_speed, after_dirf, after_snd, after_more, after_stat, after_write, can_stat, new_entry, take_answer, write_answer}
+use Rattle.slot_table.specs.Writes.{after_take, after_field, after_write, can_field, new_entry, take_answer, write_answer}
+use Rattle.slot_table.specs.declared.field.Field.{Field}
+use Rattle.slot_table.specs.declared.field.Field.TheVariants as field
 use Rattle.slot_table.specs.declared.fault.SlotFault.{SlotFault}
 use Rattle.refresh_ring.specs.declared.kind.Kind.{Kind}
 use Rattle.refresh_ring.specs.declared.kind.Kind.TheVariants as kind
 use Rattle.station_core.specs.After.{after_move, desk_after}
 use Rattle.station_core.specs.Answer.{move_answer}
-use Rattle.station_core.specs.Asked.{changed_places, of_more, of_slot, of_write, places_with}
+use Rattle.station_core.specs.Asked.{change_of, changed_places, of_field, of_more, of_slot, of_write, places_with}
 use Rattle.station_core.specs.Asking.{functions_asked}
 use Rattle.station_core.specs.Immediate.{more_of, with_more}
 use Rattle.station_core.specs.Packets.{address_sent, entry_packet, place_packet}
@@ -93,11 +95,11 @@ module _ (desk : Desk) (slot : ℕ) (kind : Kind) where
     | inr ne ↦ inr (reads_same desk new slot kind (others ne))
   ]
 
-speed_told : (desk : Desk) (n spd : ℕ) (kind : Kind) → OwnSlots desk → is_placed desk n ≡ true → Told desk (after_speed desk n spd) n kind (places_with n SpeedAlone)
+speed_told : (desk : Desk) (n spd : ℕ) (kind : Kind) → OwnSlots desk → is_placed desk n ≡ true → Told desk (after_field desk n (field.Speed spd)) n kind (places_with n SpeedAlone)
 speed_told desk n spd kind.Speed own is = inl (0, omega arith, refl)
-speed_told desk n spd kind.GroupOne own is = inr (row_same desk (after_speed desk n spd) n kind.GroupOne (λ row. record row { spd = spd }) (own.speed n spd is) refl refl)
-speed_told desk n spd kind.GroupTwo own is = inr (row_same desk (after_speed desk n spd) n kind.GroupTwo (λ row. record row { spd = spd }) (own.speed n spd is) refl refl)
-speed_told desk n spd kind.GroupThree own is = inr (row_same desk (after_speed desk n spd) n kind.GroupThree (λ row. record row { spd = spd }) (own.speed n spd is) refl refl)
+speed_told desk n spd kind.GroupOne own is = inr (row_same desk (after_field desk n (field.Speed spd)) n kind.GroupOne (λ row. record row { spd = spd }) (own.speed n spd is) refl refl)
+speed_told desk n spd kind.GroupTwo own is = inr (row_same desk (after_field desk n (field.Speed spd)) n kind.GroupTwo (λ row. record row { spd = spd }) (own.speed n spd is) refl refl)
+speed_told desk n spd kind.GroupThree own is = inr (row_same desk (after_field desk n (field.Speed spd)) n kind.GroupThree (λ row. record row { spd = spd }) (own.speed n spd is) refl refl)
 
 -- packets of functions by their bits
 two_same : (a : ℕ) (d e : Entry) → d.snd ≡ e.snd → entry_packet kind.GroupTwo a d ≡ entry_packet kind.GroupTwo a e
@@ -109,40 +111,44 @@ three_same a d e h = ap (λ (n : ℕ). to_decoder (address_sent a) ((160 + n) �
 one_same : (a : ℕ) (d e : Entry) → d.dirf ≡ e.dirf → entry_packet kind.GroupOne a d ≡ entry_packet kind.GroupOne a e
 one_same a d e h = ap (λ (n : ℕ). to_decoder (address_sent a) ((128 + n) ∷ [])) (one_is d ∙ ap (λ (n : ℕ). 16 * (n / 16 % 2) + n % 16) h ∙ sym (one_is e))
 
-dirf_told : (desk : Desk) (n dirf : ℕ) (kind : Kind) → OwnSlots desk → is_placed desk n ≡ true → Told desk (after_dirf desk n dirf) n kind (places_with n SpeedAndGroupOne)
+dirf_told : (desk : Desk) (n dirf : ℕ) (kind : Kind) → OwnSlots desk → is_placed desk n ≡ true → Told desk (after_field desk n (field.Dirf dirf)) n kind (places_with n SpeedAndGroupOne)
 dirf_told desk n dirf kind.Speed own is = inl (0, omega arith, refl)
 dirf_told desk n dirf kind.GroupOne own is = inl (1, omega arith, refl)
 dirf_told desk n dirf kind.GroupTwo own is =
-    inr (row_same desk (after_dirf desk n dirf) n kind.GroupTwo (λ row. record row { dirf = dirf % 64 }) (own.dirf n dirf is) (two_same (row_of desk n).address (entry_of (record (row_of desk n) { dirf = dirf % 64 })) (entry_of (row_of desk n)) refl) refl)
+    inr (row_same desk (after_field desk n (field.Dirf dirf)) n kind.GroupTwo (λ row. record row { dirf = dirf % 64 }) (own.dirf n dirf is) (two_same (row_of desk n).address (entry_of (record (row_of desk n) { dirf = dirf % 64 })) (entry_of (row_of desk n)) refl) refl)
 dirf_told desk n dirf kind.GroupThree own is =
-    inr (row_same desk (after_dirf desk n dirf) n kind.GroupThree (λ row. record row { dirf = dirf % 64 }) (own.dirf n dirf is) (three_same (row_of desk n).address (entry_of (record (row_of desk n) { dirf = dirf % 64 })) (entry_of (row_of desk n)) refl) refl)
+    inr (row_same desk (after_field desk n (field.Dirf dirf)) n kind.GroupThree (λ row. record row { dirf = dirf % 64 }) (own.dirf n dirf is) (three_same (row_of desk n).address (entry_of (record (row_of desk n) { dirf = dirf % 64 })) (entry_of (row_of desk n)) refl) refl)
 
-snd_told : (desk : Desk) (n snd : ℕ) (kind : Kind) → OwnSlots desk → is_placed desk n ≡ true → Told desk (after_snd desk n snd) n kind (places_with n GroupTwo)
-snd_told desk n snd kind.Speed own is = inr (row_same desk (after_snd desk n snd) n kind.Speed (λ row. record row { snd = snd % 16 }) (own.snd n snd is) refl refl)
+snd_told : (desk : Desk) (n snd : ℕ) (kind : Kind) → OwnSlots desk → is_placed desk n ≡ true → Told desk (after_field desk n (field.Snd snd)) n kind (places_with n GroupTwo)
+snd_told desk n snd kind.Speed own is = inr (row_same desk (after_field desk n (field.Snd snd)) n kind.Speed (λ row. record row { snd = snd % 16 }) (own.snd n snd is) refl refl)
 snd_told desk n snd kind.GroupOne own is =
-    inr (row_same desk (after_snd desk n snd) n kind.GroupOne (λ row. record row { snd = snd % 16 }) (own.snd n snd is) (one_same (row_of desk n).address (entry_of (record (row_of desk n) { snd = snd % 16 })) (entry_of (row_of desk n)) refl) refl)
+    inr (row_same desk (after_field desk n (field.Snd snd)) n kind.GroupOne (λ row. record row { snd = snd % 16 }) (own.snd n snd is) (one_same (row_of desk n).address (entry_of (record (row_of desk n) { snd = snd % 16 })) (entry_of (row_of desk n)) refl) refl)
 snd_told desk n snd kind.GroupTwo own is = inl (0, omega arith, refl)
 snd_told desk n snd kind.GroupThree own is =
-    inr (row_same desk (after_snd desk n snd) n kind.GroupThree (λ row. record row { snd = snd % 16 }) (own.snd n snd is) (three_same (row_of desk n).address (entry_of (record (row_of desk n) { snd = snd % 16 })) (entry_of (row_of desk n)) refl) refl)
+    inr (row_same desk (after_field desk n (field.Snd snd)) n kind.GroupThree (λ row. record row { snd = snd % 16 }) (own.snd n snd is) (three_same (row_of desk n).address (entry_of (record (row_of desk n) { snd = snd % 16 })) (entry_of (row_of desk n)) refl) refl)
 
-more_told : (desk : Desk) (n more : ℕ) (kind : Kind) → OwnSlots desk → is_placed desk n ≡ true → Told desk (after_more desk n more) n kind (places_with n GroupThree)
-more_told desk n more kind.Speed own is = inr (row_same desk (after_more desk n more) n kind.Speed (λ row. record row { more = more }) (own.more n more is) refl refl)
+more_told : (desk : Desk) (n more : ℕ) (kind : Kind) → OwnSlots desk → is_placed desk n ≡ true → Told desk (after_field desk n (field.More more)) n kind (places_with n GroupThree)
+more_told desk n more kind.Speed own is = inr (row_same desk (after_field desk n (field.More more)) n kind.Speed (λ row. record row { more = more }) (own.more n more is) refl refl)
 more_told desk n more kind.GroupOne own is =
-    inr (row_same desk (after_more desk n more) n kind.GroupOne (λ row. record row { more = more }) (own.more n more is) (one_same (row_of desk n).address (entry_of (record (row_of desk n) { more = more })) (entry_of (row_of desk n)) refl) refl)
+    inr (row_same desk (after_field desk n (field.More more)) n kind.GroupOne (λ row. record row { more = more }) (own.more n more is) (one_same (row_of desk n).address (entry_of (record (row_of desk n) { more = more })) (entry_of (row_of desk n)) refl) refl)
 more_told desk n more kind.GroupTwo own is =
-    inr (row_same desk (after_more desk n more) n kind.GroupTwo (λ row. record row { more = more }) (own.more n more is) (two_same (row_of desk n).address (entry_of (record (row_of desk n) { more = more })) (entry_of (row_of desk n)) refl) refl)
+    inr (row_same desk (after_field desk n (field.More more)) n kind.GroupTwo (λ row. record row { more = more }) (own.more n more is) (two_same (row_of desk n).address (entry_of (record (row_of desk n) { more = more })) (entry_of (row_of desk n)) refl) refl)
 more_told desk n more kind.GroupThree own is = inl (0, omega arith, refl)
 
-module _ (desk : Desk) (slot : ℕ) (kind : Kind) (stay : OthersStay desk slot) (own : OwnSlots desk) where
-  asked_told : (asked : Option More) → Told desk (with_more desk asked) slot kind (of_more asked)
-  asked_told None = inr (refl, refl)
-  asked_told (Some more) = by_place (is_placed desk more.slot) refl where
-    by_place : (b : Bool) → is_placed desk more.slot ≡ b → Told desk (after_more desk more.slot more.bits) slot kind (places_with more.slot GroupThree)
-    by_place false is = inr (same_desk desk _ slot kind (unplaced desk more.slot _ is))
-    by_place true is = one desk slot kind (after_more desk more.slot more.bits) more.slot (places_with more.slot GroupThree) true (λ e. absurd cc) (stay.more more.slot more.bits) (λ e. more_told desk more.slot more.bits kind own is)
+field_told : (desk : Desk) (n : ℕ) (written : Field) (kind : Kind) → OwnSlots desk → can_field desk n written ≡ true → Told desk (after_field desk n written) n kind (places_with n (change_of written))
+field_told desk n (field.Speed spd) kind own is = speed_told desk n spd kind own is
+field_told desk n (field.Dirf dirf) kind own is = dirf_told desk n dirf kind own is
+field_told desk n (field.Snd snd) kind own is = snd_told desk n snd kind own is
+field_told desk n (field.More more) kind own is = more_told desk n more kind own is
+field_told desk n (field.Stat stat) kind own is = inl (all_of n kind)
 
-  stat_told : (n stat : ℕ) → Told desk (after_stat desk n stat) slot kind (if can_stat desk n stat then places_with n All else [])
-  stat_told n stat = one desk slot kind (after_stat desk n stat) n (places_with n All) (can_stat desk n stat) (λ e. rw e refl) (stay.stat n stat) (λ e. inl (all_of n kind))
+module _ (desk : Desk) (slot : ℕ) (kind : Kind) (stay : OthersStay desk slot) (own : OwnSlots desk) where
+  one_field : (n : ℕ) (written : Field) → Told desk (after_field desk n written) slot kind (of_field desk n written)
+  one_field n written = one desk slot kind (after_field desk n written) n (places_with n (change_of written)) (can_field desk n written) (λ e. rw e refl) (stay.field n written) (field_told desk n written kind own)
+
+  asked_told : (asked : Option More) → Told desk (with_more desk asked) slot kind (of_more desk asked)
+  asked_told None = inr (refl, refl)
+  asked_told (Some more) = one_field more.slot (field.More more.bits)
 
   write_told : (f : SlotBytes) → Told desk (after_write desk f) slot kind (of_write f.slot (write_answer desk f))
   write_told f = by_answer (write_answer desk f) refl where
@@ -204,13 +210,13 @@ module _ (desk : Desk) (slot : ℕ) (kind : Kind) (stay : OthersStay desk slot) 
   op_told PowerOff live = inr (refl, refl)
   op_told PowerOn live = inr (refl, refl)
   op_told ForceIdle live = inr (refl, refl)
-  op_told (Speed n spd) live = one desk slot kind (after_speed desk n spd) n (places_with n SpeedAlone) (is_placed desk n) (unplaced desk n _) (stay.speed n spd) (speed_told desk n spd kind own)
-  op_told (Dirf n dirf) live = one desk slot kind (after_dirf desk n dirf) n (places_with n SpeedAndGroupOne) (is_placed desk n) (unplaced desk n _) (stay.dirf n dirf) (dirf_told desk n dirf kind own)
-  op_told (Snd n snd) live = one desk slot kind (after_snd desk n snd) n (places_with n GroupTwo) (is_placed desk n) (unplaced desk n _) (stay.snd n snd) (snd_told desk n snd kind own)
+  op_told (Speed n spd) live = one_field n (field.Speed spd)
+  op_told (Dirf n dirf) live = one_field n (field.Dirf dirf)
+  op_told (Snd n snd) live = one_field n (field.Snd snd)
   op_told (SwReq number closed on) live = inr (refl, refl)
   op_told (SwAck number closed on) live = inr (refl, refl)
   op_told (LongAck opc ack) live = inr (refl, refl)
-  op_told (SlotStat n stat) live = stat_told n stat
+  op_told (SlotStat n stat) live = one_field n (field.Stat stat)
   op_told (Move src dest) live = move_told src dest live
   op_told (SlotRead n) live = inr (refl, refl)
   op_told (LocoAddr high low) live = take_told (address_with high low) live

@@ -10,6 +10,7 @@ use Rattle.ln_ops.specs.declared.op.Op.{Op}
 use Rattle.ln_ops.specs.declared.op.Op.TheVariants.{PowerOff, PowerOn, ForceIdle, Speed, Dirf, Snd, SwReq, SwAck, LongAck, SlotStat, Move, SlotRead, LocoAddr, SlotData, SlotWrite, Imm, Other}
 use Rattle.ln_ops.specs.Slot.{address_with}
 use Rattle.slot_table.specs.Desk.{Desk, IsDesk}
+use Rattle.slot_table.specs.declared.field.Field.TheVariants as field
 use Rattle.slot_table.specs.Laws.{LeavesDesk}
 use Rattle.slot_table.specs.Moves.{after_null_move, after_dispatch_put, after_dispatch_get, after_shift}
 use Rattle.station_core.specs.declared.call.Call.{Call}
@@ -137,19 +138,19 @@ one_desk false x y h k = k
 module _ (leaves : (desk : Desk) → IsDesk desk → LeavesDesk desk) where
   more_leaves : (desk : Desk) → IsDesk desk → (more : Option More) → IfSome more (λ m. m.bits < 16) → IsDesk (with_more desk more)
   more_leaves desk is None below = is
-  more_leaves desk is (Some more) below = (leaves desk is).more more.slot more.bits below
+  more_leaves desk is (Some more) below = (leaves desk is).field more.slot (field.More more.bits) below
 
   op_leaves : (desk : Desk) (op : Op) → IsDesk desk → Fits op → IsDesk (desk_after desk op)
   op_leaves desk PowerOff is fits = is
   op_leaves desk PowerOn is fits = is
   op_leaves desk ForceIdle is fits = is
-  op_leaves desk (Speed slot spd) is fits = (leaves desk is).speed slot spd (fits.speed slot spd refl)
-  op_leaves desk (Dirf slot dirf) is fits = (leaves desk is).dirf slot dirf
-  op_leaves desk (Snd slot snd) is fits = (leaves desk is).snd slot snd
+  op_leaves desk (Speed slot spd) is fits = (leaves desk is).field slot (field.Speed spd) (fits.speed slot spd refl)
+  op_leaves desk (Dirf slot dirf) is fits = (leaves desk is).field slot (field.Dirf dirf) tt
+  op_leaves desk (Snd slot snd) is fits = (leaves desk is).field slot (field.Snd snd) tt
   op_leaves desk (SwReq number closed on) is fits = is
   op_leaves desk (SwAck number closed on) is fits = is
   op_leaves desk (LongAck opc ack) is fits = is
-  op_leaves desk (SlotStat slot stat) is fits = (leaves desk is).stat slot stat
+  op_leaves desk (SlotStat slot stat) is fits = (leaves desk is).field slot (field.Stat stat) tt
   op_leaves desk (Move src dest) is fits =
       let left = leaves desk is in
       one_desk (src == 0) (after_dispatch_get desk) (if src == dest then after_null_move desk src else (if dest == 0 then after_dispatch_put desk src else after_shift desk src dest)) left.dispatch_get

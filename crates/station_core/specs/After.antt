@@ -4,8 +4,9 @@ use Rattle.ln_ops.specs.Slot.{address_with}
 use Rattle.ln_ops.specs.declared.op.Op.{Op}
 use Rattle.ln_ops.specs.declared.op.Op.TheVariants.{PowerOff, PowerOn, ForceIdle, Speed, Dirf, Snd, SwReq, SwAck, LongAck, SlotStat, Move, SlotRead, LocoAddr, SlotData, SlotWrite, Imm, Other}
 use Rattle.slot_table.specs.Desk.{Desk}
+use Rattle.slot_table.specs.declared.field.Field.TheVariants as field
 use Rattle.slot_table.specs.Moves.{after_null_move, after_dispatch_put, after_dispatch_get, after_shift}
-use Rattle.slot_table.specs.Writes.{after_take, after_speed, after_dirf, after_snd, after_stat, after_write}
+use Rattle.slot_table.specs.Writes.{after_take, after_field, after_write}
 use Rattle.refresh_ring.specs.declared.pick.Power.{Power}
 use Rattle.refresh_ring.specs.declared.pick.Power.TheVariants.{Off, Running, Paused}
 use Rattle.station_core.specs.Immediate.{more_of, with_more}
@@ -29,13 +30,13 @@ abbrev pub desk_after : Desk → Op → Desk
 desk_after desk PowerOff = desk
 desk_after desk PowerOn = desk
 desk_after desk ForceIdle = desk
-desk_after desk (Speed slot spd) = after_speed desk slot spd
-desk_after desk (Dirf slot dirf) = after_dirf desk slot dirf
-desk_after desk (Snd slot snd) = after_snd desk slot snd
+desk_after desk (Speed slot spd) = after_field desk slot (field.Speed spd)
+desk_after desk (Dirf slot dirf) = after_field desk slot (field.Dirf dirf)
+desk_after desk (Snd slot snd) = after_field desk slot (field.Snd snd)
 desk_after desk (SwReq number closed on) = desk
 desk_after desk (SwAck number closed on) = desk
 desk_after desk (LongAck opc ack) = desk
-desk_after desk (SlotStat slot stat) = after_stat desk slot stat
+desk_after desk (SlotStat slot stat) = after_field desk slot (field.Stat stat)
 desk_after desk (Move src dest) = after_move desk src dest
 desk_after desk (SlotRead slot) = desk
 desk_after desk (LocoAddr high low) = after_take desk (address_with high low)

@@ -4,8 +4,9 @@ use Rattle.dcc_packet.specs.Sent.{last_switch}
 use Rattle.ln_ops.specs.declared.op.Op.{Op}
 use Rattle.ln_ops.specs.declared.op.Op.TheVariants.{PowerOff, PowerOn, ForceIdle, Speed, Dirf, Snd, SwReq, SwAck, LongAck, SlotStat, Move, SlotRead, LocoAddr, SlotData, SlotWrite, Imm, Other}
 use Rattle.slot_table.specs.Desk.{Desk}
-use Rattle.slot_table.specs.Reading.{is_placed}
-use Rattle.slot_table.specs.Writes.{can_stat, write_answer}
+use Rattle.slot_table.specs.Writes.{can_field, write_answer}
+use Rattle.slot_table.specs.declared.field.Field.{Field}
+use Rattle.slot_table.specs.declared.field.Field.TheVariants as field
 use Rattle.slot_table.specs.declared.fault.SlotFault.{SlotFault}
 use Rattle.refresh_ring.specs.Scheduled.{Scheduled, after_changed, with_request}
 use Rattle.refresh_ring.specs.declared.kind.Kind.{Kind}
@@ -25,6 +26,17 @@ places_with n GroupTwo = (n, kind.GroupTwo) ∷ []
 places_with n GroupThree = (n, kind.GroupThree) ∷ []
 places_with n All = (n, kind.Speed) ∷ (n, kind.GroupOne) ∷ (n, kind.GroupTwo) ∷ (n, kind.GroupThree) ∷ []
 
+-- which packets are made of a field
+abbrev pub change_of : Field → Change
+change_of (field.Speed spd) = SpeedAlone
+change_of (field.Dirf dirf) = SpeedAndGroupOne
+change_of (field.Snd snd) = GroupTwo
+change_of (field.More more) = GroupThree
+change_of (field.Stat stat) = All
+
+abbrev pub of_field : Desk → ℕ → Field → List (ℕ × Kind)
+of_field desk n written = if can_field desk n written then places_with n (change_of written) else []
+
 abbrev pub of_slot : Result ℕ SlotFault → List (ℕ × Kind)
 of_slot (Ok n) = places_with n All
 of_slot (Err fault) = []
@@ -33,28 +45,28 @@ abbrev pub of_write : ℕ → Result (Unit {0}) SlotFault → List (ℕ × Kind)
 of_write n (Ok done) = places_with n All
 of_write n (Err fault) = []
 
-abbrev pub of_more : Option More → List (ℕ × Kind)
-of_more (Some more) = places_with more.slot GroupThree
-of_more None = []
+abbrev pub of_more : Desk → Option More → List (ℕ × Kind)
+of_more desk (Some more) = of_field desk more.slot (field.More more.bits)
+of_more desk None = []
 
 -- the places that a message changes, where it is accepted, in the order in which they are to wait (own)
 abbrev pub changed_places : Desk → Op → List (ℕ × Kind)
 changed_places desk PowerOff = []
 changed_places desk PowerOn = []
 changed_places desk ForceIdle = []
-changed_places desk (Speed slot spd) = if is_placed desk slot then places_with slot SpeedAlone else []
-changed_places desk (Dirf slot dirf) = if is_placed desk slot then places_with slot SpeedAndGroupOne else []
-changed_places desk (Snd slot snd) = if is_placed desk slot then places_with slot GroupTwo else []
+changed_places desk (Speed slot spd) = of_field desk slot (field.Speed spd)
+changed_places desk (Dirf slot dirf) = of_field desk slot (field.Dirf dirf)
+changed_places desk (Snd slot snd) = of_field desk slot (field.Snd snd)
 changed_places desk (SwReq number closed on) = []
 changed_places desk (SwAck number closed on) = []
 changed_places desk (LongAck opc ack) = []
-changed_places desk (SlotStat slot stat) = if can_stat desk slot stat then places_with slot All else []
+changed_places desk (SlotStat slot stat) = of_field desk slot (field.Stat stat)
 changed_places desk (Move src dest) = of_slot (move_answer desk src dest)
 changed_places desk (SlotRead slot) = []
 changed_places desk (LocoAddr high low) = []
 changed_places desk (SlotData fields) = []
 changed_places desk (SlotWrite fields) = of_write fields.slot (write_answer desk fields)
-changed_places desk (Imm count im1 im2 im3 im4 im5) = of_more (more_of desk count im1 im2 im3 im4 im5)
+changed_places desk (Imm count im1 im2 im3 im4 im5) = of_more desk (more_of desk count im1 im2 im3 im4 im5)
 changed_places desk Other = []
 
 -- the schedule after these places were changed: each waits, where its slot is refreshed

@@ -2,8 +2,9 @@
 -- locomotive that stands in a slot.
 use Rattle.std.specs.Prelude.{ℕ, ◌+◌, ◌-◌, ◌*◌, ◌/◌, ◌%◌, ◌==◌, ◌&&◌, Bool, nat_le, if◌then◌else◌, List, [], ◌∷◌, take, Option, Some, None}
 use Rattle.slot_table.specs.Desk.{Desk}
+use Rattle.slot_table.specs.declared.field.Field.TheVariants as field
 use Rattle.slot_table.specs.Reading.{slot_of}
-use Rattle.slot_table.specs.Writes.{after_more}
+use Rattle.slot_table.specs.Writes.{after_field}
 use Rattle.station_core.specs.declared.immediate.More.{More}
 
 -- S-9.2.1, 2.3.5: 1010DDDD, the bits being F12 to F9
@@ -32,4 +33,4 @@ more_of desk count im1 im2 im3 im4 im5 = more_asked desk (take count (im1 ∷ im
 -- the slots with those functions
 abbrev pub with_more : Desk → Option More → Desk
 with_more desk None = desk
-with_more desk (Some more) = after_more desk more.slot more.bits
+with_more desk (Some more) = after_field desk more.slot (field.More more.bits)

@@ -9,9 +9,10 @@ use Rattle.dcc_packet.specs.declared.instr.Instr.TheVariants.{GroupThree}
 use Rattle.dcc_packet.specs.Form.{with_check}
 use Rattle.dcc_packet.specs.Spells.{Spells}
 use Rattle.slot_table.specs.Desk.{Desk}
+use Rattle.slot_table.specs.declared.field.Field.TheVariants.{Stat}
 use Rattle.slot_table.specs.Entry.{Entry}
 use Rattle.slot_table.specs.Reading.{slot_of}
-use Rattle.slot_table.specs.Writes.{can_stat, write_answer}
+use Rattle.slot_table.specs.Writes.{can_field, write_answer}
 use Rattle.refresh_ring.specs.Jobs.{sends_ahead}
 use Rattle.refresh_ring.specs.declared.kind.Kind.{Kind}
 use Rattle.station_core.specs.After.{desk_after}
@@ -47,7 +48,7 @@ IsNew seen op slot kind =
 -- the messages that leave a whole slot: OPC_SLOT_STAT1, OPC_MOVE_SLOTS and OPC_WR_SL_DATA, where they are accepted
 abbrev pub LeavesSlot : Desk → Op → ℕ → Type 0
 LeavesSlot desk op slot =
-    ((stat : ℕ) × (op ≡ SlotStat slot stat) × (can_stat desk slot stat ≡ true))
+    ((stat : ℕ) × (op ≡ SlotStat slot stat) × (can_field desk slot (Stat stat) ≡ true))
     ⊎ (((src dest : ℕ) × (op ≡ Move src dest) × (move_answer desk src dest ≡ Ok slot))
     ⊎ ((fields : SlotBytes) × (op ≡ SlotWrite fields) × (slot ≡ fields.slot) × (write_answer desk fields ≡ Ok tt)))
 

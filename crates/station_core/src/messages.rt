@@ -8,20 +8,21 @@ ghost use Rattle.slot_table.specs.Changes.{slot_if};
 ghost use Rattle.slot_table.specs.Entry.{IsSlot};
 ghost use Rattle.slot_table.specs.Moves.{after_null_move, after_dispatch_put, after_dispatch_get, after_shift, can_shift, dispatch_get_answer};
 ghost use Rattle.slot_table.specs.Reading.{is_placed};
-ghost use Rattle.slot_table.specs.Writes.{after_take, take_answer};
+ghost use Rattle.slot_table.specs.Values.{IsValue};
+ghost use Rattle.slot_table.specs.Writes.{after_field, after_take, take_answer};
 ghost use Rattle.station_core.specs.After.{paused};
 ghost use Rattle.station_core.specs.Answer.{answer, is_taken, more_reply, slot_data, slot_or_refusal};
-ghost use Rattle.station_core.specs.Asked.{of_more, of_slot};
+ghost use Rattle.station_core.specs.Asked.{of_field, of_more, of_slot};
 ghost use Rattle.station_core.specs.Immediate.{more_asked, with_more};
 ghost use Rattle.station_core.specs.Moved.{after_change, after_op};
 
 use crate::immediate::{counted, more_asked};
-use crate::schedule::{Change, follow, note};
+use crate::schedule::{Change, change_of, follow, note};
 use crate::slot_data::slot_fields;
 use crate::station::Station;
 use ln_ops::{Op, Reply, SlotFields};
 use refresh_ring::Power;
-use slot_table::{SlotFault, others_stay};
+use slot_table::{Field, SlotFault, others_stay};
 
 // What OPC_LONG_ACK answers to: opcodes with bit 7 clear.
 const SW_REQ: u8 = 0x30;
@@ -59,10 +60,10 @@ impl Station {
             Op::PowerOff => self.set_power(Power::Off),
             Op::PowerOn => self.set_power(Power::Running),
             Op::ForceIdle => self.pause(),
-            Op::Speed { slot, spd } => self.set_speed(slot, spd),
-            Op::Dirf { slot, dirf } => self.set_dirf(slot, dirf),
-            Op::Snd { slot, snd } => self.set_snd(slot, snd),
-            Op::SlotStat { slot, stat } => self.set_stat(slot, stat),
+            Op::Speed { slot, spd } => self.set_field(slot, Field::Speed(spd)),
+            Op::Dirf { slot, dirf } => self.set_field(slot, Field::Dirf(dirf)),
+            Op::Snd { slot, snd } => self.set_field(slot, Field::Snd(snd)),
+            Op::SlotStat { slot, stat } => self.set_field(slot, Field::Stat(stat)),
             Op::Move { src, dest } => self.move_slot(src, dest),
             Op::LocoAddr { high, low } => self.load(high, low),
             Op::SlotWrite(fields) => self.write(&fields),
@@ -102,90 +103,34 @@ impl Station {
         None
     }
 
-    // OPC_LOCO_SPD.
-    fn set_speed(&mut self, slot: u8, spd: u8) -> Option<Reply>
-        requires { spd < 128 }
+    // One field of a slot. What it changes of the packets waits.
+    fn set_field(&mut self, slot: u8, field: Field) -> Option<Reply>
+        requires { IsValue field }
         ensures reply { result ≡ None }
-        ensures state { self.new ≡ after_op self.old (Op.Speed slot spd) }
+        ensures state { self.new ≡ after_change self.old (after_field self.old.powered.desk slot field) (of_field self.old.powered.desk slot field) }
     {
         others_stay();
-        if self.table.set_speed(slot, spd).is_err() {
+        if self.table.set_field(slot, field).is_err() {
             return None;
         }
-        note(&self.table, &mut self.schedule, slot, Change::Speed);
-        None
-    }
-
-    // OPC_LOCO_DIRF.
-    fn set_dirf(&mut self, slot: u8, dirf: u8) -> Option<Reply>
-        requires { dirf < 128 }
-        ensures reply { result ≡ None }
-        ensures state { self.new ≡ after_op self.old (Op.Dirf slot dirf) }
-    {
-        others_stay();
-        if self.table.set_dirf(slot, dirf).is_err() {
-            return None;
-        }
-        note(
-            &self.table,
-            &mut self.schedule,
-            slot,
-            Change::SpeedAndGroupOne,
-        );
-        None
-    }
-
-    // OPC_LOCO_SND.
-    fn set_snd(&mut self, slot: u8, snd: u8) -> Option<Reply>
-        requires { snd < 128 }
-        ensures reply { result ≡ None }
-        ensures state { self.new ≡ after_op self.old (Op.Snd slot snd) }
-    {
-        others_stay();
-        if self.table.set_snd(slot, snd).is_err() {
-            return None;
-        }
-        note(&self.table, &mut self.schedule, slot, Change::GroupTwo);
+        note(&self.table, &mut self.schedule, slot, change_of(field));
         None
     }
 
     // OPC_IMM_PACKET with these bytes of a packet: F9 to F12 of the slot that it is for.
     fn set_more(&mut self, bytes: &[u8]) -> Option<Reply>
         ensures reply { result ≡ Some (more_reply (more_asked self.old.powered.desk bytes.now)) }
-        ensures state { self.new ≡ after_change self.old (with_more self.old.powered.desk (more_asked self.old.powered.desk bytes.now)) (of_more (more_asked self.old.powered.desk bytes.now)) }
+        ensures state { self.new ≡ after_change self.old (with_more self.old.powered.desk (more_asked self.old.powered.desk bytes.now)) (of_more self.old.powered.desk (more_asked self.old.powered.desk bytes.now)) }
         ensures sendable { IfSome result IsSendable }
     {
-        others_stay();
         let Some(more) = more_asked(&self.table, bytes) else {
             return Some(refusal(IMM_PACKET));
         };
-        if self.table.set_more(more.slot, more.bits).is_err() {
-            return Some(refusal(IMM_PACKET));
-        }
-        note(
-            &self.table,
-            &mut self.schedule,
-            more.slot,
-            Change::GroupThree,
-        );
+        self.set_field(more.slot, Field::More(more.bits));
         Some(Reply::LongAck {
             opc: IMM_PACKET,
             ack: ACCEPTED,
         })
-    }
-
-    // OPC_SLOT_STAT1.
-    fn set_stat(&mut self, slot: u8, stat: u8) -> Option<Reply>
-        requires { stat < 128 }
-        ensures reply { result ≡ None }
-        ensures state { self.new ≡ after_op self.old (Op.SlotStat slot stat) }
-    {
-        others_stay();
-        if self.table.set_stat(slot, stat).is_err() {
-            return None;
-        }
-        note(&self.table, &mut self.schedule, slot, Change::All);
-        None
     }
 
     // OPC_MOVE_SLOTS: dispatch get, null move, dispatch put or move, tried in this order.

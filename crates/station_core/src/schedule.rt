@@ -4,11 +4,11 @@ ghost use Rattle.slot_table.specs.Entry.{IsSlot};
 ghost use Rattle.refresh_ring.specs.Scheduled.{after_refresh, IsScheduled};
 ghost use Rattle.station_core.specs.Refreshed.{is_driven, is_refreshed};
 ghost use Rattle.station_core.specs.Slots.{addresses, length-addresses};
-ghost use Rattle.station_core.specs.Asked.{after_places, places_with};
+ghost use Rattle.station_core.specs.Asked.{after_places, change_of, places_with};
 
 use ln_ops::State;
 use refresh_ring::{BitRing, Kind, Schedule, View};
-use slot_table::SlotTable;
+use slot_table::{Field, SlotTable};
 
 /// Which packets of a slot a message changes.
 #[derive(Clone, Copy)]
@@ -44,6 +44,19 @@ fn is_driven(state: State) -> bool
     match state {
         State::Common | State::InUse => true,
         State::Free | State::Idle => false,
+    }
+}
+
+// Which packets are made of a field.
+pub(crate) fn change_of(field: Field) -> Change
+    ensures { result ≡ change_of field }
+{
+    match field {
+        Field::Speed(_) => Change::Speed,
+        Field::Dirf(_) => Change::SpeedAndGroupOne,
+        Field::Snd(_) => Change::GroupTwo,
+        Field::More(_) => Change::GroupThree,
+        Field::Stat(_) => Change::All,
     }
 }
 
