@@ -20,7 +20,8 @@ use Rattle.hub.specs.declared.hub.Hub.{Hub}
 use Rattle.hub.specs.Hubs.{GoesOn, GoesOnCalmly, Watches, serving}
 use Rattle.hub.specs.Rounds.{Keeps}
 use Rattle.hub.specs.Served.{AreTurns, Does, HasPassed, HaveHappened, Serves, Serving, waiting_behind}
-use Rattle.hub.specs.Waiting.{Places, waiting_after, waits}
+use Rattle.outbox.specs.Waiting.{waits}
+use Rattle.hub.specs.Places.{Places, waiting_after}
 use Rattle.hub.specs.Wire.{Grows, Passed}
 use Rattle.hub.proofs.Keeping.{keeps_more, keeps_same}
 

@@ -15,7 +15,8 @@ use Rattle.bus.specs.Texts.{text_for}
 use Rattle.over_tcp.specs.Told.{version_text}
 use Rattle.hub.specs.Rounds.{HasMorePlaces, IsWrittenTo, Keeps, NothingWaits, is_heard, is_put, takes_later}
 use Rattle.hub.specs.Served.{AreTurns, Does, HaveHappened, Serves, Serving, has_place, is_late}
-use Rattle.hub.specs.Waiting.{Places, has_room, told_all, told_from, told_one, waits}
+use Rattle.outbox.specs.Waiting.{has_room, told_one, waits}
+use Rattle.hub.specs.Places.{Places, told_all, told_from}
 use Rattle.hub.specs.Wire.{Brought, Passed, Put, TurnedAway}
 
 -- What was done is done of a longer list.

@@ -1,4 +1,3 @@
-pub mod Missed
 pub mod Keeping
 pub mod Placing
 pub mod Going

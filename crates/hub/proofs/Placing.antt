@@ -15,7 +15,8 @@ use Rattle.bus.specs.declared.event.Told.{Told}
 use Rattle.bus.specs.declared.event.Told.TheVariants.{Nothing, Joined, Left, Refused, Sent, Turned}
 use Rattle.bus.specs.Bus.{SeenBus, ask_at, client_of, is_event, told_asked, told_by}
 use Rattle.bus.specs.Texts.{text_for}
-use Rattle.hub.specs.Waiting.{Places, has_room, is_placed, told_from, told_one, waiting_after, waits}
+use Rattle.outbox.specs.Waiting.{has_room, told_one, waits}
+use Rattle.hub.specs.Places.{Places, is_placed, told_from, waiting_after}
 use Rattle.hub.proofs.Keeping.{room_set}
 
 asked_placed : (station : Seen) (client : ℕ) (ask : Option Ask) → is_event (Joins client) ≡ true → is_placed (told_asked station client ask) ≡ true

@@ -1,6 +1,6 @@
 pub mod Drawn
 pub mod Hubs
+pub mod Places
 pub mod Rounds
 pub mod Served
-pub mod Waiting
 pub mod Wire

@@ -4,7 +4,7 @@ use Rattle.std.specs.List.{filter, list_any, slice_index_or}
 use Rattle.bus.specs.declared.event.Event.{Event}
 use Rattle.bus.specs.declared.event.Event.TheVariants.{Joins, Hears, Leaves, Passes, Turn}
 use Rattle.hub.specs.Served.{Serving, has_place, is_late}
-use Rattle.hub.specs.Waiting.{waits}
+use Rattle.outbox.specs.Waiting.{waits}
 use Rattle.hub.specs.Wire.{Brought, Closed, Full, Grows, NobodyWaits, Passed, Put, Quiet, TurnedAway}
 
 -- an event is a byte of this client, or that it has gone

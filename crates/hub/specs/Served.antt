@@ -12,7 +12,7 @@ use Rattle.bus.specs.declared.event.Told.TheVariants.{Nothing, Joined, Left, Ref
 use Rattle.bus.specs.Bus.{AreEvents, SeenBus, after_events, client_of, first_bus, told_by, told_of}
 use Rattle.bus.specs.Course.{is_time, micros_in}
 use Rattle.bus.specs.Layout.{layout_events}
-use Rattle.hub.specs.Waiting.{Places, waiting_after}
+use Rattle.hub.specs.Places.{Places, waiting_after}
 use Rattle.hub.specs.Wire.{Brought, Closed, Full, NobodyWaits, Passed, Put, Quiet, TurnedAway}
 
 -- what a server is: its bus, the decoders, and what waits for each client

@@ -1,12 +1,13 @@
 //! The bus, and what waits for its clients.
 ghost use Rattle.std.specs.Prelude.{◌≡◌, ◌<◌, ◌≤◌, ◌&&◌, ◌∷◌, [], IfOk, IsTrue, is_some, length, not, slice_index_or, slice_set, drop, take, map, replicate, None, Some, true};
 ghost use Rattle.std.specs.List.{list_all};
-ghost use Rattle.hub.specs.Waiting.{has_room, is_placed, told_all, waiting_after, waits};
+ghost use Rattle.outbox.specs.Waiting.{has_room, waits};
+ghost use Rattle.hub.specs.Places.{is_placed, told_all, waiting_after};
 
-use crate::waiting::Waiting;
 use crate::wire::{Wire, Wrote};
 use bus::{Bus, Event, Told};
 use layout_core::NodeList;
+use outbox::Waiting;
 use over_tcp::Text;
 use std::alloc::{AllocError, Global};
 

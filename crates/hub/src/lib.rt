@@ -3,16 +3,9 @@
 #![tactic(auto)]
 
 mod hub;
-mod losses;
-mod room;
 mod server;
-mod waiting;
 mod wire;
 
 pub use hub::PLACES;
-pub use losses::Losses;
 pub use server::Server;
 pub use wire::{Heard, Wire, Wrote};
-
-#[cfg(test)]
-mod tests;

@@ -13,10 +13,10 @@ ghost use Rattle.hub.specs.Hubs.{GoesOn, GoesOnCalmly, Seats, Watches, serving};
 ghost use Rattle.hub.specs.Rounds.{AllWrittenTo, IsRound, IsWrittenTo, LetsIn, TurnsAway, is_heard};
 
 use crate::hub::Hub;
-use crate::losses::Losses;
 use crate::wire::{Heard, Wire, Wrote};
 use bus::{Event, Told, Witness, headline};
 use layout_core::{NodeList, World, events_add_up};
+use losses::Losses;
 use std::alloc::{AllocError, Global};
 
 /// The most bytes that are read of a client before all are written to.

@@ -6,3 +6,5 @@ pub mod Messages
 pub mod Origins
 pub mod Replies
 pub mod Telling
+pub mod Visited
+pub mod Visits

@@ -1,5 +1,5 @@
 //! What a request is answered.
-ghost use Rattle.std.specs.Prelude.{◌≡◌, ◌≢◌, ◌++◌, List, ℕ, take, IsTrue};
+ghost use Rattle.std.specs.Prelude.{◌≡◌, ◌≢◌, ◌<◌, ◌++◌, List, ℕ, length, take, IsTrue};
 ghost use Rattle.httparse.specs.Spans.{IsRequestWithin, span_bytes};
 ghost use Rattle.websocket.specs.Headers.{fields_of};
 ghost use Rattle.pages.specs.declared.asked.Answer.TheVariants.{Later};
@@ -33,6 +33,8 @@ pub fn answer(text: &[u8]) -> Answer
     ensures answer { IsAnswered text.now result }
     // The first answer stands.
     ensures stands { result ≢ Later → (more : List ℕ) → IsAnswered (text.now ++ more) result }
+    // There is room for more of what is to be waited for.
+    ensures room { result ≡ Later → length text.now < 8192 }
 {
     let lines = whole_lines(&text[..text.len().min(LONGEST)]);
     let mut spans = [EMPTY_HEADER_SPAN; ROOM];
@@ -57,8 +59,9 @@ fn whole_lines(text: &[u8]) -> &[u8]
 /// What a whole head is answered.
 fn answer_to(lines: &[u8], request: &RequestSpans, spans: &[HeaderSpan]) -> Answer
     requires { IsRequestWithin lines.now spans.now request.now }
-    ensures { IsAnswerTo (span_bytes lines.now request.now.method) (span_bytes lines.now request.now.path)
+    ensures answer { IsAnswerTo (span_bytes lines.now request.now.method) (span_bytes lines.now request.now.path)
         request.now.version (fields_of lines.now (take request.now.headers spans.now)) request.now.len result }
+    ensures now { result ≢ Later }
 {
     let path = request.path.of(lines);
     if request.headers > MOST_FIELDS {
@@ -79,8 +82,9 @@ fn answer_to(lines: &[u8], request: &RequestSpans, spans: &[HeaderSpan]) -> Answ
 /// What a head is answered that asks for the bus.
 fn answer_handshake(lines: &[u8], request: &RequestSpans, spans: &[HeaderSpan]) -> Answer
     requires { IsRequestWithin lines.now spans.now request.now }
-    ensures { HasJoined (span_bytes lines.now request.now.method)
+    ensures joined { HasJoined (span_bytes lines.now request.now.method)
         request.now.version (fields_of lines.now (take request.now.headers spans.now)) request.now.len result }
+    ensures now { result ≢ Later }
 {
     match check_request(lines, request, spans) {
         Ok(accept_key) => Answer::Joins(Joined {

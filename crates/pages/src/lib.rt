@@ -14,6 +14,7 @@ mod lines;
 mod origin;
 mod page;
 mod reply;
+mod visit;
 
 pub use answering::{LONGEST, MOST_FIELDS, answer};
 pub use asked::{Answer, Joined, Refusal};
@@ -21,6 +22,7 @@ pub use laws::lines_are_messages;
 pub use lines::LONGEST_LINE;
 pub use page::Page;
 pub use reply::{Head, push_joining, push_page_head, push_refusal};
+pub use visit::{Stage, Visit};
 
 #[cfg(test)]
 mod tests;

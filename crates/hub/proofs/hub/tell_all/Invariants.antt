@@ -1,5 +1,5 @@
 use Rattle.std.proofs.Common.{◌≡◌, ◌++◌, take, drop, length}
-use Rattle.hub.specs.Waiting.{told_all, told_from}
+use Rattle.hub.specs.Places.{told_all, told_from}
 use Rattle.hub.proofs.hub.tell_all.Given as goal
 
 -- those before the place were told, and the others not yet

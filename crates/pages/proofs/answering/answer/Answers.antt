@@ -9,7 +9,7 @@ returns-in-Ok-Complete-clause-answer c =
     let is = lines_are c.args.text.now lines c.min.result c.min.ensures c.whole_lines-lines.ensures in
     let found = complete-of (IsRequestOf lines c.parse_request.new.headers) c.in-Ok-Complete.field-0 c.in-Ok-Complete.request c.in-Ok-Complete.field-0-is c.in-Ok-Complete.ensures.complete in
     head_answered c.args.text.now lines [] found.0 _ c.answer_to.result (sym is ∙ sym (append-nil lines)) found.1.reads
-    (answer_by_parts c.answer_to.result found.1.method found.1.path found.1.version found.1.fields found.1.len c.answer_to.ensures)
+    (answer_by_parts c.answer_to.result found.1.method found.1.path found.1.version found.1.fields found.1.len c.answer_to.ensures.answer)
 
 pub returns-in-Ok-Complete-clause-stands : goal.returns-in-Ok-Complete-clause-stands
 returns-in-Ok-Complete-clause-stands c = λ _ more.
@@ -18,7 +18,7 @@ returns-in-Ok-Complete-clause-stands c = λ _ more.
     let found = complete-of (IsRequestOf lines c.parse_request.new.headers) c.in-Ok-Complete.field-0 c.in-Ok-Complete.request c.in-Ok-Complete.field-0-is c.in-Ok-Complete.ensures.complete in
     let longer = lines_more c.args.text.now more in
     head_answered (c.args.text.now ++ more) lines longer.0 found.0 _ c.answer_to.result (longer.1 ∙ ap (λ l. l ++ longer.0) (sym is)) found.1.reads
-    (answer_by_parts c.answer_to.result found.1.method found.1.path found.1.version found.1.fields found.1.len c.answer_to.ensures)
+    (answer_by_parts c.answer_to.result found.1.method found.1.path found.1.version found.1.fields found.1.len c.answer_to.ensures.answer)
 
 pub returns-in-Ok-Partial-clause-answer : goal.returns-in-Ok-Partial-clause-answer
 returns-in-Ok-Partial-clause-answer c =

@@ -3,7 +3,8 @@ use Rattle.std.specs.List.{list_all}
 use Rattle.bus.specs.declared.event.Told.{Told}
 use Rattle.bus.specs.Seen.{seen_of}
 use Rattle.hub.specs.Hubs.{serving}
-use Rattle.hub.specs.Waiting.{has_room, is_placed, waiting_after}
+use Rattle.outbox.specs.Waiting.{has_room}
+use Rattle.hub.specs.Places.{is_placed, waiting_after}
 use Rattle.hub.proofs.Going.{happened_one}
 use Rattle.hub.proofs.Placing.{length-after, placed_by, room-after}
 use Rattle.hub.proofs.hub.Hub.step.Goals as goal

@@ -1,7 +1,8 @@
 use Rattle.std.proofs.Common.{ℕ, List, Option, None, Some, ap, drop, length, take, ◌∙◌}
 use Rattle.std.specs.List.{slice_index_or}
 use Rattle.hub.specs.Hubs.{serving}
-use Rattle.hub.specs.Waiting.{Places, has_room, waits}
+use Rattle.outbox.specs.Waiting.{has_room, waits}
+use Rattle.hub.specs.Places.{Places}
 use Rattle.std.specs.List.{list_all}
 use Rattle.std.proofs.lemmas.List.{length-set}
 use Rattle.hub.proofs.Keeping.{room_at, room_set}

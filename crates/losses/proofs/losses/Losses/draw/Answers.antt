@@ -1,9 +1,9 @@
 use Rattle.std.proofs.Common.{◌≡◌, ℕ, ◌<◌, ◌^◌, Bool, ap, ap₂, sym, ◌∙◌, arith, bit_or, rules}
 use Rattle.std.specs.Int.{bit_at}
-use Rattle.hub.specs.Drawn.{is_missed, word_at}
-use Rattle.hub.proofs.Missed.{first_word, next_word, none_marked, none_more, one_marked, one_shifted, word_here}
-use Rattle.hub.proofs.losses.Losses.draw.Goals.{then-misses, else-misses}
-use Rattle.hub.proofs.losses.Losses.draw.Goals as goal
+use Rattle.losses.specs.Drawn.{is_missed, word_at}
+use Rattle.losses.proofs.Missed.{first_word, next_word, none_marked, none_more, one_marked, one_shifted, word_here}
+use Rattle.losses.proofs.losses.Losses.draw.Goals.{then-misses, else-misses}
+use Rattle.losses.proofs.losses.Losses.draw.Goals as goal
 
 pub loop-node-init : goal.loop-node-init
 loop-node-init c =

@@ -1,7 +1,7 @@
 //! The packets that decoders miss, drawn by a generator.
 ghost use Rattle.std.specs.Prelude.{◌≡◌, ℕ, ◌≤◌, ◌==◌, ◌&&◌, nat_lt, if◌then◌else◌};
 ghost use Rattle.std.specs.Int.{bit_at};
-ghost use Rattle.hub.specs.Drawn.{first_generator, generator_after, is_missed, next_generator, word_at, word_of};
+ghost use Rattle.losses.specs.Drawn.{first_generator, generator_after, is_missed, next_generator, word_at, word_of};
 
 use rand_core::SeedableRng;
 use rand_core::utils::NextWord;
@@ -33,7 +33,7 @@ impl Losses {
     /// The decoders that miss a turn, of so many, at most 64: bit i stands for decoder i, and each is drawn by itself.
     ///
     /// Where none is to be missed, nothing is drawn.
-    pub(crate) fn draw(&mut self, nodes: usize) -> u64
+    pub fn draw(&mut self, nodes: usize) -> u64
         requires { nodes ≤ 64 }
         ensures drawn { (node : ℕ) → bit_at result node ≡ (if nat_lt node nodes && is_missed self.old.lose (word_at node self.old.generator) then 1 else 0) }
         ensures above { (node : ℕ) → nodes ≤ node → bit_at result node ≡ 0 }

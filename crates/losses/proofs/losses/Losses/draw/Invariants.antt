@@ -1,8 +1,8 @@
 use Rattle.std.proofs.Common.{◌≡◌, ℕ}
 use Rattle.std.specs.Prelude.{if◌then◌else◌, ◌&&◌, nat_lt}
 use Rattle.std.specs.Int.{bit_at}
-use Rattle.hub.specs.Drawn.{generator_after, is_missed, word_at}
-use Rattle.hub.proofs.losses.Losses.draw.Given as goal
+use Rattle.losses.specs.Drawn.{generator_after, is_missed, word_at}
+use Rattle.losses.proofs.losses.Losses.draw.Given as goal
 
 abbrev pub invariant-loop-node : goal.invariant-loop-node
 invariant-loop-node l = record {

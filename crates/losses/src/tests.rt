@@ -1,4 +1,4 @@
-//! What is drawn.
+//! What no clause says: what is drawn, and shares over many turns.
 
 use crate::losses::Losses;
 

@@ -1,22 +1,9 @@
 -- What waits for the clients of a bus, and what an event adds to it.
-use Rattle.std.specs.Prelude.{ℕ, ◌+◌, Bool, true, if◌then◌else◌, nat_le, nat_lt, List, [], ◌∷◌, ◌++◌, length, Option, Some, None, slice_set}
+use Rattle.std.specs.Prelude.{ℕ, ◌+◌, Bool, true, nat_lt, List, [], ◌∷◌, Option, Some, None, slice_set}
+use Rattle.outbox.specs.Waiting.{told_one}
 use Rattle.bus.specs.declared.event.Told.{Told}
 use Rattle.bus.specs.declared.event.Told.TheVariants.{Nothing, Joined, Left, Refused, Sent, Turned}
 use Rattle.bus.specs.Texts.{text_for}
-
--- the bytes that wait; where no client is, none
-abbrev pub waits : Option (List ℕ) → List ℕ
-waits None = []
-waits (Some bytes) = bytes
-
--- no more waits than 65,536 bytes
-abbrev pub has_room : Option (List ℕ) → Bool
-has_room waiting = nat_le (length (waits waiting)) 65536
-
--- A client that is told a text. One for which more than 65,536 bytes would wait is told nothing more (own).
-abbrev pub told_one : List ℕ → Option (List ℕ) → Option (List ℕ)
-told_one text None = None
-told_one text (Some waiting) = if nat_le (length waiting + length text) 65536 then Some (waiting ++ text) else None
 
 -- what waits in each place
 abbrev pub Places : Type 0

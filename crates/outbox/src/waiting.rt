@@ -1,6 +1,6 @@
 //! What waits for the client of a place, where one is.
 ghost use Rattle.std.specs.Prelude.{◌≡◌, ◌<◌, ◌≤◌, IfOk, Some, None, [], true, drop, is_some, length, take};
-ghost use Rattle.hub.specs.Waiting.{told_one, waits};
+ghost use Rattle.outbox.specs.Waiting.{told_one, waits};
 
 use crate::room::Room;
 use std::alloc::{AllocError, Global};
@@ -10,7 +10,7 @@ use std::marker::Model;
 ///
 /// Contracts see it as the bytes that wait, or as nothing.
 #[derive(Drop)]
-pub(crate) struct Waiting {
+pub struct Waiting {
     room: Room,
     is_open: bool,
 }
@@ -25,7 +25,7 @@ impl Model for Waiting {
 
 impl Waiting {
     /// A place without a client. It is refused where there is no memory for a room.
-    pub(crate) fn new(alloc: Global) -> Result<Waiting, AllocError>
+    pub fn new(alloc: Global) -> Result<Waiting, AllocError>
         ensures { IfOk result (λ w. w ≡ None) }
     {
         let room = Room::new(alloc)?;
@@ -36,7 +36,7 @@ impl Waiting {
     }
 
     /// A client comes, for whom nothing waits.
-    pub(crate) fn open(&mut self)
+    pub fn open(&mut self)
         ensures { self.new ≡ Some [] }
     {
         self.room.clear();
@@ -44,21 +44,21 @@ impl Waiting {
     }
 
     /// The client is told nothing more.
-    pub(crate) fn close(&mut self)
+    pub fn close(&mut self)
         ensures { self.new ≡ None }
     {
         self.is_open = false;
     }
 
     /// Whether a client is here that is told anything.
-    pub(crate) fn is_open(&self) -> bool
+    pub fn is_open(&self) -> bool
         ensures { result ≡ is_some self.now }
     {
         self.is_open
     }
 
     /// Puts a text behind what waits, if a client is here. Where it has no room, the client is told nothing more.
-    pub(crate) fn tell(&mut self, text: &[u8])
+    pub fn tell(&mut self, text: &[u8])
         ensures { self.new ≡ told_one text.now self.old }
     {
         if self.is_open && self.room.put(text).is_err() {
@@ -67,7 +67,7 @@ impl Waiting {
     }
 
     /// The first bytes that wait, some where any wait; none where no client is.
-    pub(crate) fn piece(&self) -> &[u8]
+    pub fn piece(&self) -> &[u8]
         ensures front { result.now ≡ take (length result.now) (waits self.now) }
         ensures some { 0 < length (waits self.now) → 0 < length result.now }
     {
@@ -75,7 +75,7 @@ impl Waiting {
     }
 
     /// The first bytes that wait were written, so many.
-    pub(crate) fn written(&mut self, count: usize)
+    pub fn written(&mut self, count: usize)
         requires open { is_some self.old ≡ true }
         requires some { count ≤ length (waits self.old) }
         ensures { self.new ≡ Some (drop count (waits self.old)) }

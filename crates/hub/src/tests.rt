@@ -1,3 +1,0 @@
-//! What no clause says: shares that are drawn.
-
-mod losses;
