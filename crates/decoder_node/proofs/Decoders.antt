@@ -7,7 +7,7 @@ use Rattle.dcc_packet.specs.declared.instr.Instr.{Instr}
 use Rattle.dcc_packet.specs.Packet.{IsPacket}
 use Rattle.dcc_packet.specs.Reading.{instruction_of}
 use Rattle.dcc_packet.specs.Wave.{IsWave}
-use Rattle.decoder_rx.specs.Place.{Place, is_hunting}
+use Rattle.decoder_rx.specs.Position.{Position, is_hunting}
 use Rattle.decoder_rx.specs.Table.{after_all, answers}
 use Rattle.decoder_node.specs.Decoder.{heard, heard_all}
 use Rattle.decoder_node.specs.Heard.{obeying, told, ObeysWaves}
@@ -52,7 +52,7 @@ module _ {Settings State : Type 0} (does : Settings → State → Instr → Stat
   same one other settings state rx =
       ap (λ (s : Settings). record { settings = s; state = one.state; rx = one.rx }) settings
       ∙ ap (λ (s : State). record { settings = other.settings; state = s; rx = one.rx }) state
-      ∙ ap (λ (p : Place). record { settings = other.settings; state = other.state; rx = p }) rx
+      ∙ ap (λ (p : Position). record { settings = other.settings; state = other.state; rx = p }) rx
 
   -- the halves of a wave all at once
   pub heard_at_once : Laws → (old new : Decoder Settings State) (packet halves : List ℕ) → IsPacket packet → IsWave packet halves → IsTrue (is_hunting old.rx)

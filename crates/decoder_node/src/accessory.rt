@@ -10,7 +10,7 @@ use std::marker::Model;
 
 /// An accessory decoder on the track, with eight outputs in four pairs, which hears it half by half.
 ///
-/// Contracts see it as an `AccessoryDecoder`: its module, its outputs, and the place of its receiver.
+/// Contracts see it as an `AccessoryDecoder`: its module, its outputs, and the position of its receiver.
 #[derive(Debug, Drop)]
 pub struct Accessory {
     decoder: Decoder<Module, u8>,

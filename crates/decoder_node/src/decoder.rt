@@ -30,7 +30,7 @@ pub(crate) struct Decoder<Settings, State> {
 impl<Settings: Obeys<State>, State> Decoder<Settings, State> {
     ghost use Rattle.dcc_packet.specs.Reading.{instruction_of};
     ghost use Rattle.half_bits.specs.Halves.{halves_of};
-    ghost use Rattle.decoder_rx.specs.Place.{Hunting};
+    ghost use Rattle.decoder_rx.specs.Position.{Hunting};
     ghost use Rattle.decoder_node.specs.Decoder.{heard, heard_all};
 
     /// A decoder with these settings and this state, which has heard nothing.

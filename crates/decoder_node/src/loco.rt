@@ -12,7 +12,7 @@ use std::marker::Model;
 
 /// A locomotive decoder on the track, which hears it half by half.
 ///
-/// Contracts see it as a `LocoDecoder`: its settings, how it runs, and the place of its receiver.
+/// Contracts see it as a `LocoDecoder`: its settings, how it runs, and the position of its receiver.
 #[derive(Debug, Drop)]
 pub struct Loco {
     decoder: Decoder<CvSet, Running>,

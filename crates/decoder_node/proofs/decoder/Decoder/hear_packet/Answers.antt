@@ -1,6 +1,6 @@
 use Rattle.std.proofs.Common.{refl, ap, sym, ◌∙◌}
 use Rattle.half_bits.specs.Halves.{halves_of}
-use Rattle.decoder_rx.specs.Place.{Place}
+use Rattle.decoder_rx.specs.Position.{Position}
 use Rattle.decoder_node.specs.Decoder.{heard_all}
 use Rattle.decoder_node.specs.Heard.{told}
 use Rattle.decoder_node.proofs.Decoders.{heard_at_once}
@@ -9,7 +9,7 @@ use Rattle.decoder_node.proofs.decoder.Decoder.hear_packet.Goals as goal
 pub returns-then-not-hear_wave : goal.returns-then-not-hear_wave
 returns-then-not-hear_wave g c =
     c.hear_halves.ensures
-    ∙ ap (λ (p : Place). heard_all g.Settings.Obeys.does (record { settings = c.args.self.now.settings; state = c.args.self.now.state; rx = p }) (halves_of c.args.packet.now)) c.if-not-hear_wave.ensures.place
+    ∙ ap (λ (p : Position). heard_all g.Settings.Obeys.does (record { settings = c.args.self.now.settings; state = c.args.self.now.state; rx = p }) (halves_of c.args.packet.now)) c.if-not-hear_wave.ensures.position
 
 pub returns : goal.returns
 returns g c =
