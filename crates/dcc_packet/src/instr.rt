@@ -1,4 +1,4 @@
-//! What a packet says.
+//! The instructions of packets.
 use crate::address::Address;
 use crate::module::Module;
 

@@ -1,4 +1,6 @@
 //! Packets of the track: bytes, instructions, and what they are as halves.
+//!
+//! Its tests stand in `library_tests/src`: `test_dcc_packet.rt` and `test_dcc_packet_steps.rt`.
 #![tactic(auto)]
 
 mod address;

@@ -1,4 +1,4 @@
-//! What a packet says.
+//! Packets that are read: the instruction that bytes spell.
 ghost use Rattle.std.specs.Prelude.{◌≡◌, ◌↔◌, ◌<◌, ◌≤◌, Some, IsTrue};
 ghost use Rattle.dcc_packet.specs.declared.instr.Instr.{Instr};
 ghost use Rattle.dcc_packet.specs.Reading.{broadcast_of, accessory_of, short_form_of, told_of, long_told_of, other_of, form_of, instruction_of};

@@ -7,6 +7,6 @@
 pub struct CvPair {
     /// Its number. Variables are numbered 1 to 1024; a list with another number is refused.
     pub number: u16,
-    /// Its value.
+    /// The byte that the variable holds, 0 to 255.
     pub value: u8,
 }

@@ -5,16 +5,16 @@ use Rattle.std.specs.Prelude.{IsTrue}
 use Rattle.dcc_packet.specs.Packet.{IsPacket, is_packet, is_checked}
 use Rattle.dcc_packet.specs.Reading.{instruction_of, form_of}
 use Rattle.dcc_packet.specs.Wave.{IsWave}
-use Rattle.decoder_rx.specs.Place.{Place, is_hunting}
+use Rattle.decoder_rx.specs.Position.{Position, is_hunting}
 use Rattle.decoder_rx.specs.Table.{given, after, after_all, answers}
 use Rattle.decoder_rx.specs.Reading.{IsRight, Reads, Passes}
 use Rattle.decoder_node.specs.Heard.{told, AreWaves}
 
 -- what the crate of the receiver promises
 pub record Laws : Type 0 where
-  pub reads : (place : Place) (packet halves : List ℕ) → IsTrue (is_hunting place) → IsRight packet → IsWave packet halves → Reads place halves packet
-  pub passes : (place : Place) (packet halves : List ℕ) → IsTrue (is_hunting place) → IsPacket packet → is_checked packet ≡ false → IsWave packet halves → Passes place halves
-  pub settles : (place : Place) (packet halves : List ℕ) → IsPacket packet → IsWave packet halves → IsTrue (is_hunting (after_all place halves))
+  pub reads : (position : Position) (packet halves : List ℕ) → IsTrue (is_hunting position) → IsRight packet → IsWave packet halves → Reads position halves packet
+  pub passes : (position : Position) (packet halves : List ℕ) → IsTrue (is_hunting position) → IsPacket packet → is_checked packet ≡ false → IsWave packet halves → Passes position halves
+  pub settles : (position : Position) (packet halves : List ℕ) → IsPacket packet → IsWave packet halves → IsTrue (is_hunting (after_all position halves))
 
 -- a packet whose check is wrong spells nothing
 pub spells_none : (packet : List ℕ) → is_checked packet ≡ false → instruction_of packet ≡ None
@@ -39,36 +39,36 @@ told_none obey zero s = refl
 told_none obey (suc n) s = told_none obey n s
 
 -- a wave does what its packet does
-pub obeyed : {State : Type 0} (obey : State → List ℕ → State) → Ignores obey → Laws → (s : State) (place : Place) (packet halves : List ℕ) → IsPacket packet → IsWave packet halves → IsTrue (is_hunting place) → fold (told obey) s (answers place halves) ≡ obey s packet
-obeyed obey ignores laws s place packet halves p w b = elim (cases_Bool (is_checked packet)) [
+pub obeyed : {State : Type 0} (obey : State → List ℕ → State) → Ignores obey → Laws → (s : State) (position : Position) (packet halves : List ℕ) → IsPacket packet → IsWave packet halves → IsTrue (is_hunting position) → fold (told obey) s (answers position halves) ≡ obey s packet
+obeyed obey ignores laws s position packet halves p w b = elim (cases_Bool (is_checked packet)) [
   | inl right ↦
-      let reads = laws.reads place packet halves b (record { form = p; checked = right }) w in
+      let reads = laws.reads position packet halves b (record { form = p; checked = right }) w in
       ap (fold (told obey) s) reads.given ∙ told_last obey (length halves - 1) s packet
   | inr wrong ↦
-      let passes = laws.passes place packet halves b p wrong w in
+      let passes = laws.passes position packet halves b p wrong w in
       ap (fold (told obey) s) passes.given ∙ told_none obey (length halves) s ∙ sym (ignores s packet wrong)
 ]
 
-told-append : {State : Type 0} (obey : State → List ℕ → State) (xs ys : List ℕ) (s : State) (place : Place) → fold (told obey) s (answers place (xs ++ ys)) ≡ fold (told obey) (fold (told obey) s (answers place xs)) (answers (after_all place xs) ys)
-told-append obey [] ys s place = refl
-told-append obey (x ∷ xs) ys s place = told-append obey xs ys (told obey s (given place x)) (after place x)
+told-append : {State : Type 0} (obey : State → List ℕ → State) (xs ys : List ℕ) (s : State) (position : Position) → fold (told obey) s (answers position (xs ++ ys)) ≡ fold (told obey) (fold (told obey) s (answers position xs)) (answers (after_all position xs) ys)
+told-append obey [] ys s position = refl
+told-append obey (x ∷ xs) ys s position = told-append obey xs ys (told obey s (given position x)) (after position x)
 
-after_all-append : (xs ys : List ℕ) (place : Place) → after_all place (xs ++ ys) ≡ after_all (after_all place xs) ys
-after_all-append [] ys place = refl
-after_all-append (x ∷ xs) ys place = after_all-append xs ys (after place x)
+after_all-append : (xs ys : List ℕ) (position : Position) → after_all position (xs ++ ys) ≡ after_all (after_all position xs) ys
+after_all-append [] ys position = refl
+after_all-append (x ∷ xs) ys position = after_all-append xs ys (after position x)
 
-abbrev pub Ran : {State : Type 0} → (State → List ℕ → State) → State → Place → List (List ℕ) → List ℕ → Type 0
-Ran obey s place packets halves = (fold (told obey) s (answers place halves) ≡ fold obey s packets) × IsTrue (is_hunting (after_all place halves))
+abbrev pub Ran : {State : Type 0} → (State → List ℕ → State) → State → Position → List (List ℕ) → List ℕ → Type 0
+Ran obey s position packets halves = (fold (told obey) s (answers position halves) ≡ fold obey s packets) × IsTrue (is_hunting (after_all position halves))
 
 -- waves one behind the other do what their packets do
-pub ran : {State : Type 0} (obey : State → List ℕ → State) → Ignores obey → Laws → (packets : List (List ℕ)) (halves : List ℕ) (s : State) (place : Place) → AreWaves packets halves → IsTrue (is_hunting place) → Ran obey s place packets halves
-ran obey ignores laws [] halves s place w b = subst (λ (hs : List ℕ). Ran obey s place [] hs) (sym w) (refl, b)
-ran obey ignores laws (packet ∷ packets) halves s place w b =
+pub ran : {State : Type 0} (obey : State → List ℕ → State) → Ignores obey → Laws → (packets : List (List ℕ)) (halves : List ℕ) (s : State) (position : Position) → AreWaves packets halves → IsTrue (is_hunting position) → Ran obey s position packets halves
+ran obey ignores laws [] halves s position w b = subst (λ (hs : List ℕ). Ran obey s position [] hs) (sym w) (refl, b)
+ran obey ignores laws (packet ∷ packets) halves s position w b =
     let wave = w.0 in
     let rest = w.1 in
-    let front = obeyed obey ignores laws s place packet wave w.3 w.4 b in
-    let more = ran obey ignores laws packets rest (obey s packet) (after_all place wave) w.5 (laws.settles place packet wave w.3 w.4) in
-    subst (λ (hs : List ℕ). Ran obey s place (packet ∷ packets) hs) (sym w.2) (
-      told-append obey wave rest s place ∙ ap (λ t. fold (told obey) t (answers (after_all place wave) rest)) front ∙ more.0,
-      ap is_hunting (after_all-append wave rest place) ∙ more.1,
+    let front = obeyed obey ignores laws s position packet wave w.3 w.4 b in
+    let more = ran obey ignores laws packets rest (obey s packet) (after_all position wave) w.5 (laws.settles position packet wave w.3 w.4) in
+    subst (λ (hs : List ℕ). Ran obey s position (packet ∷ packets) hs) (sym w.2) (
+      told-append obey wave rest s position ∙ ap (λ t. fold (told obey) t (answers (after_all position wave) rest)) front ∙ more.0,
+      ap is_hunting (after_all-append wave rest position) ∙ more.1,
     )

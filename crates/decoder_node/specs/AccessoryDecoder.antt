@@ -1,13 +1,13 @@
 -- An accessory decoder.
 use Rattle.std.specs.Prelude.{ℕ, IsTrue}
-use Rattle.decoder_rx.specs.Place.{Place, Hunting, is_hunting}
+use Rattle.decoder_rx.specs.Position.{Position, Hunting, is_hunting}
 use Rattle.decoder_node.specs.declared.decoder.Decoder.{Decoder}
 
 -- the number of its module, its outputs, bit j being output j, and where its receiver is
 pub record AccessoryDecoder : Type 0 where
   pub number : ℕ
   pub outputs : ℕ
-  pub receiver : Place
+  pub receiver : Position
 
 abbrev pub accessory_of : Decoder ℕ ℕ → AccessoryDecoder
 accessory_of decoder = record { number = decoder.settings; outputs = decoder.state; receiver = decoder.rx }

@@ -4,7 +4,7 @@ use Rattle.dcc_packet.specs.declared.instr.Instr.{Instr}
 use Rattle.dcc_packet.specs.Packet.{IsPacket}
 use Rattle.dcc_packet.specs.Reading.{instruction_of}
 use Rattle.dcc_packet.specs.Wave.{IsWave}
-use Rattle.decoder_rx.specs.Place.{Place, is_hunting}
+use Rattle.decoder_rx.specs.Position.{Position, is_hunting}
 
 -- the state after what is told, if anything is, where it does this
 abbrev pub told : {State Said : Type 0} (does : State → Said → State) → State → Option Said → State
@@ -21,10 +21,10 @@ AreWaves [] halves = halves ≡ []
 AreWaves (packet ∷ packets) halves =
     (wave rest : List ℕ) × (halves ≡ wave ++ rest) × IsPacket packet × IsWave packet wave × AreWaves packets rest
 
--- From a state and a place of the receiver to others, where packets do this to the state. Where the halves are a wave of
+-- From a state and a position of the receiver to others, where packets do this to the state. Where the halves are a wave of
 -- a packet, no packet is under way then, whatever was heard before; and where none was under way before, that packet was
 -- obeyed and nothing else. So with waves of packets, one behind the other.
-pub record ObeysWaves {State : Type 0} (obey : State → List ℕ → State) (old : State) (from : Place) (halves : List ℕ) (new : State) (to : Place) : Type 0 where
+pub record ObeysWaves {State : Type 0} (obey : State → List ℕ → State) (old : State) (from : Position) (halves : List ℕ) (new : State) (to : Position) : Type 0 where
   pub settles : (packet : List ℕ) → IsPacket packet → IsWave packet halves → IsTrue (is_hunting to)
   pub obeys : (packet : List ℕ) → IsPacket packet → IsWave packet halves → IsTrue (is_hunting from) → new ≡ obey old packet
   pub runs : (packets : List (List ℕ)) → AreWaves packets halves → IsTrue (is_hunting from)

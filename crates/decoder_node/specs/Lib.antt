@@ -1,4 +1,4 @@
-pub use Rattle.decoder_rx.specs.Place
+pub use Rattle.decoder_rx.specs.Position
 pub use Rattle.decoder_rx.specs.Table
 pub mod Accessory
 pub mod AccessoryDecoder

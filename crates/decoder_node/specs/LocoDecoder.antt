@@ -1,7 +1,7 @@
 -- A locomotive decoder.
 use Rattle.std.specs.Prelude.{IsTrue}
 use Rattle.decoder_cv.specs.Settings.{Settings}
-use Rattle.decoder_rx.specs.Place.{Place, Hunting, is_hunting}
+use Rattle.decoder_rx.specs.Position.{Position, Hunting, is_hunting}
 use Rattle.decoder_node.specs.declared.decoder.Decoder.{Decoder}
 use Rattle.decoder_node.specs.declared.running.Running.{Running}
 use Rattle.decoder_node.specs.Running.{first_running}
@@ -10,7 +10,7 @@ use Rattle.decoder_node.specs.Running.{first_running}
 pub record LocoDecoder : Type 0 where
   pub cv : Settings
   pub running : Running
-  pub receiver : Place
+  pub receiver : Position
 
 abbrev pub loco_of : Decoder Settings Running → LocoDecoder
 loco_of decoder = record { cv = decoder.settings; running = decoder.state; receiver = decoder.rx }

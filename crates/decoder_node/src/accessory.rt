@@ -3,14 +3,13 @@ ghost use Rattle.std.specs.Prelude.{◌≡◌, ℕ, List, None};
 ghost use Rattle.std.specs.Iterator.{IsFinite, Drains};
 
 use crate::decoder::Decoder;
-use crate::laws::waves_are_obeyed;
+use crate::laws;
 use dcc_packet::{Instr, Module, Packet};
-use half_bits::halves_are_a_wave;
 use std::marker::Model;
 
 /// An accessory decoder on the track, with eight outputs in four pairs, which hears it half by half.
 ///
-/// Contracts see it as an `AccessoryDecoder`: its module, its outputs, and the place of its receiver.
+/// Contracts see it as an `AccessoryDecoder`: its module, its outputs, and the position of its receiver.
 #[derive(Debug, Drop)]
 pub struct Accessory {
     decoder: Decoder<Module, u8>,
@@ -59,7 +58,7 @@ impl Accessory {
         requires ends { IsFinite (I.remaining halves) }
         ensures { (items : List ℕ) × Drains I.next_gives halves items × HearsAccessory self.old items self.new }
     {
-        waves_are_obeyed();
+        laws::waves_are_obeyed();
         self.decoder.hear_all(halves);
     }
 
@@ -68,14 +67,14 @@ impl Accessory {
     ///
     /// No packet is under way then, and a decoder that had none under way has obeyed this one.
     #[inline]
+    #[tactic(auto, unfolding(crate::specs::Switched::switch))]
     pub fn hear_packet(&mut self, packet: &Packet, instr: &Option<Instr>)
         requires read { instr.now ≡ instruction_of packet.now }
         ensures hears { HearsAccessory self.old (halves_of packet.now) self.new }
         ensures settles { IsBetween self.new }
         ensures obeys { IsBetween self.old → self.new.outputs ≡ switch self.old.number self.old.outputs packet.now }
     {
-        waves_are_obeyed();
-        halves_are_a_wave(packet);
+        laws::waves_are_obeyed();
         self.decoder.hear_packet(packet, instr);
     }
 

@@ -1,12 +1,12 @@
 //! A decoder, whatever instructions do to it.
-ghost use Rattle.std.specs.Prelude.{◌≡◌, ℕ, List};
+ghost use Rattle.std.specs.Prelude.{◌≡◌, ℕ, List, IsTrue};
 ghost use Rattle.std.specs.Iterator.{IsFinite, Drains};
 ghost use Rattle.dcc_packet.specs.declared.instr.Instr.{Instr as InstrValue};
 ghost use Rattle.decoder_node.specs.Heard.{obeying, told};
 
 use crate::ONE;
 use dcc_packet::{Instr, Packet, read};
-use decoder_rx::{Rx, bit_of, complete, settles};
+use decoder_rx::{Rx, bit_of};
 use half_bits::{halves, halves_are_a_wave};
 
 /// Settings by which a state obeys instructions.
@@ -30,7 +30,7 @@ pub(crate) struct Decoder<Settings, State> {
 impl<Settings: Obeys<State>, State> Decoder<Settings, State> {
     ghost use Rattle.dcc_packet.specs.Reading.{instruction_of};
     ghost use Rattle.half_bits.specs.Halves.{halves_of};
-    ghost use Rattle.decoder_rx.specs.Place.{Hunting};
+    ghost use Rattle.decoder_rx.specs.Position.{Hunting, is_hunting};
     ghost use Rattle.decoder_node.specs.Decoder.{heard, heard_all};
 
     /// A decoder with these settings and this state, which has heard nothing.
@@ -108,10 +108,24 @@ impl<Settings: Obeys<State>, State> Decoder<Settings, State> {
     #[inline]
     pub(crate) fn hear_packet(&mut self, packet: &Packet, instr: &Option<Instr>)
         requires read { instr.now ≡ instruction_of packet.now }
+        ensures heard { self.new ≡ heard_all Settings.does self.old (halves_of packet.now) }
+        ensures settles { IsTrue (is_hunting self.new.rx) }
+        ensures obeys { IsTrue (is_hunting self.old.rx) → self.new.state ≡ obeying (Settings.does self.old.settings) self.old.state packet.now }
+    {
+        decoder_rx::complete();
+        decoder_rx::settles();
+        halves_are_a_wave(packet);
+        self.hear_wave(packet, instr);
+    }
+
+    /// The same, which is quicker where its receiver hears the wave at once.
+    #[inline]
+    fn hear_wave(&mut self, packet: &Packet, instr: &Option<Instr>)
+        requires read { instr.now ≡ instruction_of packet.now }
         ensures { self.new ≡ heard_all Settings.does self.old (halves_of packet.now) }
     {
-        complete();
-        settles();
+        decoder_rx::complete();
+        decoder_rx::settles();
         halves_are_a_wave(packet);
         if !self.rx.hear_wave() {
             return self.hear_halves(packet);

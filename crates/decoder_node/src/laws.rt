@@ -5,14 +5,12 @@ ghost use Rattle.decoder_node.specs.AccessoryDecoder.{AccessoryDecoder};
 ghost use Rattle.decoder_node.specs.Loco.{HearsLoco, heard_all as heard_all_loco};
 ghost use Rattle.decoder_node.specs.LocoDecoder.{LocoDecoder};
 
-use decoder_rx::{complete, settles};
-
 /// A decoder with no packet under way that hears the halves of a wave, one after another, obeys its packet; any decoder
 /// that hears them has no packet under way then.
 pub fn waves_are_obeyed()
     ensures loco { (old : LocoDecoder) (halves : List ℕ) → HearsLoco old halves (heard_all_loco old halves) }
     ensures accessory { (old : AccessoryDecoder) (halves : List ℕ) → HearsAccessory old halves (heard_all_accessory old halves) }
 {
-    complete();
-    settles();
+    decoder_rx::complete();
+    decoder_rx::settles();
 }

@@ -1,5 +1,7 @@
 //! The DCC decoders of a layout: what they make of the half-bits that they hear (NMRA S-9.1, S-9.2, S-9.2.1,
 //! S-9.2.2).
+//!
+//! Its tests stand in `library_tests/src/test_decoder_node.rt`.
 #![tactic(auto)]
 
 mod accessory;

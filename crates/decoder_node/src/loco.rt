@@ -3,16 +3,15 @@ ghost use Rattle.std.specs.Prelude.{◌≡◌, ℕ, List, None};
 ghost use Rattle.std.specs.Iterator.{IsFinite, Drains};
 
 use crate::decoder::Decoder;
-use crate::laws::waves_are_obeyed;
+use crate::laws;
 use crate::running::{FIRST, Running};
 use dcc_packet::{Instr, Packet};
 use decoder_cv::CvSet;
-use half_bits::halves_are_a_wave;
 use std::marker::Model;
 
 /// A locomotive decoder on the track, which hears it half by half.
 ///
-/// Contracts see it as a `LocoDecoder`: its settings, how it runs, and the place of its receiver.
+/// Contracts see it as a `LocoDecoder`: its settings, how it runs, and the position of its receiver.
 #[derive(Debug, Drop)]
 pub struct Loco {
     decoder: Decoder<CvSet, Running>,
@@ -65,7 +64,7 @@ impl Loco {
         requires ends { IsFinite (I.remaining halves) }
         ensures { (items : List ℕ) × Drains I.next_gives halves items × HearsLoco self.old items self.new }
     {
-        waves_are_obeyed();
+        laws::waves_are_obeyed();
         self.decoder.hear_all(halves);
     }
 
@@ -74,14 +73,14 @@ impl Loco {
     ///
     /// No packet is under way then, and a decoder that had none under way has obeyed this one.
     #[inline]
+    #[tactic(auto, unfolding(crate::specs::Obey::obey))]
     pub fn hear_packet(&mut self, packet: &Packet, instr: &Option<Instr>)
         requires read { instr.now ≡ instruction_of packet.now }
         ensures hears { HearsLoco self.old (halves_of packet.now) self.new }
         ensures settles { IsBetween self.new }
         ensures obeys { IsBetween self.old → self.new.running ≡ obey self.old.cv self.old.running packet.now }
     {
-        waves_are_obeyed();
-        halves_are_a_wave(packet);
+        laws::waves_are_obeyed();
         self.decoder.hear_packet(packet, instr);
     }
 

@@ -1,5 +1,7 @@
 //! The half-bits of a DCC packet (NMRA S-9.2): how long the voltage on the track stands one way and then the other (NMRA
 //! S-9.1).
+//!
+//! Its tests stand in `library_tests/src/test_half_bits.rt`.
 #![tactic(auto)]
 
 ghost use Rattle.std.specs.Prelude.{◌≡◌, ◌+◌, ◌*◌, length};

@@ -1,4 +1,4 @@
-//! The framer.
+//! Where messages begin and end in the bytes of a line.
 ghost use Rattle.std.specs.Prelude.{◌≡◌, ℕ, List, [], ◌∷◌, ◌++◌, IsTrue, Some, None};
 ghost use Rattle.std.specs.Option.{option_to_list};
 ghost use Rattle.ln_frame.specs.Message.{IsWhole};

@@ -1,4 +1,6 @@
 //! LocoNet over TCP, in lines of ASCII text: what a client's text asks, and the lines that a client is told.
+//!
+//! Its tests stand in `library_tests/src/test_over_tcp.rt`.
 #![tactic(auto)]
 
 mod ask;

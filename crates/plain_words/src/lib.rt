@@ -1,4 +1,6 @@
 //! What the messages of a LocoNet line and the packets of a track say, in plain words.
+//!
+//! Its tests stand in `library_tests/src/test_plain_words.rt`.
 #![tactic(auto)]
 
 mod fields;

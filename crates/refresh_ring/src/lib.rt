@@ -2,6 +2,8 @@
 //!
 //! A place is a slot with one kind of packet. The ring goes round the places of the refreshed slots, jobs
 //! are what was changed or asked for and waits to be sent at once, and ring and jobs take turns.
+//!
+//! Its tests stand in `library_tests/src/test_refresh_ring.rt`.
 #![tactic(auto)]
 
 mod bit_ring;

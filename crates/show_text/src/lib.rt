@@ -1,4 +1,6 @@
 //! The texts of the program: scripts and hex text that are read, and lines that are printed.
+//!
+//! Its tests stand in `library_tests/src/test_show_text.rt`.
 #![tactic(auto)]
 
 mod command;

@@ -10,8 +10,8 @@ use Rattle.slot_table.specs.Reading.{all_slots, is_same}
 use Rattle.slot_table.specs.declared.pairs.Pair.{Pair}
 
 -- the address in each slot that a pair names
-unfoldable pub places_of : List Pair → FinMap nat_cmp ℕ
-places_of pairs = from_entries (map (λ pair. (pair.slot, pair.address)) pairs)
+unfoldable pub addresses_of : List Pair → FinMap nat_cmp ℕ
+addresses_of pairs = from_entries (map (λ pair. (pair.slot, pair.address)) pairs)
 
 -- pair i of the list, and zeros outside it
 abbrev pub pair_at : List Pair → ℕ → Pair
@@ -30,7 +30,7 @@ pub record IsIndex (pairs : List Pair) (free : ℕ) : Type 0 where
   pub rising : IsRising pairs
   pub slots : (i : ℕ) → i < length pairs → IsSlot (pair_at pairs i).slot
   pub apart : (i j : ℕ) → i < length pairs → j < length pairs → (pair_at pairs i).slot ≡ (pair_at pairs j).slot → i ≡ j
-  pub bits : (n : ℕ) → n < 128 → bit_at free n ≡ bit_of (is_slot n && is_none (get (places_of pairs) n))
+  pub bits : (n : ℕ) → n < 128 → bit_at free n ≡ bit_of (is_slot n && is_none (get (addresses_of pairs) n))
 
 -- the least bit that is set
 pub record IsLeastBit (word n : ℕ) : Type 0 where
@@ -40,12 +40,12 @@ pub record IsLeastBit (word n : ℕ) : Type 0 where
 
 -- the slot of an address, and the least slot that has none
 abbrev pub slot_with : FinMap nat_cmp ℕ → ℕ → Option ℕ
-slot_with places a = find (λ n. is_same (get places n) a) all_slots
+slot_with addresses a = find (λ n. is_same (get addresses n) a) all_slots
 
 abbrev pub first_free : FinMap nat_cmp ℕ → Option ℕ
-first_free places = find (λ n. is_none (get places n)) all_slots
+first_free addresses = find (λ n. is_none (get addresses n)) all_slots
 
 -- the slot has this address, or none, in place of what it had
-abbrev pub with_place : FinMap nat_cmp ℕ → ℕ → Option ℕ → FinMap nat_cmp ℕ
-with_place places n None = remove places n
-with_place places n (Some a) = insert (remove places n) n a
+abbrev pub with_address : FinMap nat_cmp ℕ → ℕ → Option ℕ → FinMap nat_cmp ℕ
+with_address addresses n None = remove addresses n
+with_address addresses n (Some a) = insert (remove addresses n) n a

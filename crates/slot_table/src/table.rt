@@ -10,7 +10,7 @@ ghost use Rattle.slot_table.specs.Rows.{written, IsAt};
 
 use crate::bytes::{is_held, is_slot};
 use crate::fault::SlotFault;
-use crate::places::Places;
+use crate::index::Index;
 use crate::rows::{FREE, Rows, address_in, free_rows};
 use ln_ops::Row;
 use std::marker::Model;
@@ -23,7 +23,7 @@ pub struct SlotTable {
     rows: Rows,
     mark: Option<u8>,
     // The addresses of the rows, so that nobody has to go through them.
-    places: Places,
+    index: Index,
 }
 
 impl Model for SlotTable {
@@ -37,7 +37,7 @@ impl Model for SlotTable {
 
     ghost view = { λ t. desk_of t.rows t.mark };
 
-    ghost invariant = { λ t. IsKept t.rows t.mark t.places };
+    ghost invariant = { λ t. IsKept t.rows t.mark t.index };
 }
 
 impl Default for SlotTable {
@@ -58,7 +58,7 @@ impl SlotTable {
         SlotTable {
             rows: free_rows(),
             mark: None,
-            places: Places::new(),
+            index: Index::new(),
         }
     }
 
@@ -90,7 +90,7 @@ impl SlotTable {
         ensures nowhere { IfNone result ((n : ℕ) → get self.now.place n ≢ Some address) }
         ensures desk { IsDesk self.now }
     {
-        self.places.slot_of(address)
+        self.index.slot_of(address)
     }
 
     /// The least free slot.
@@ -99,7 +99,7 @@ impl SlotTable {
         ensures slot { IfSome result IsSlot }
         ensures none { IfSome result (λ n. get self.now.place n ≡ None) }
     {
-        self.places.least_free()
+        self.index.least_free()
     }
 
     /// The row of a slot that is not free. Refused for any other number.
@@ -140,10 +140,10 @@ impl SlotTable {
         ensures after { self.new ≡ written self.old n row }
         ensures desk { IsDesk self.new }
     {
-        let index = (n - 1) as usize;
-        self.places
-            .change(n, address_in(self.rows[index]), address_in(row));
-        self.rows[index] = row;
+        let position = (n - 1) as usize;
+        self.index
+            .change(n, address_in(self.rows[position]), address_in(row));
+        self.rows[position] = row;
     }
 
     /// The slot, which is not free, waits to be dispatched in place of any other; or none does.
@@ -166,8 +166,8 @@ impl SlotTable {
         ensures desk { IsDesk self.new }
     {
         // The address stays, so the index does.
-        let index = (n - 1) as usize;
-        self.rows[index] = row;
+        let position = (n - 1) as usize;
+        self.rows[position] = row;
     }
 
     /// The slot is free, and does not wait to be dispatched.

@@ -171,7 +171,7 @@ impl SlotTable {
         Ok(())
     }
 
-    // F9 to F12 of the slot, where it has this address, and else all off.
+    // F9 to F12 as the slot has them, where it has this address, and else all off.
     fn kept_more(&self, n: u8, address: u16) -> u8
         requires { IsSlot n }
         ensures more { result ≡ kept_more self.now n address }

@@ -25,7 +25,7 @@ pub(crate) fn counted(count: u8, bytes: &[u8; MOST_BYTES]) -> &[u8]
     &bytes[..count]
 }
 
-/// The slot of an address and these functions, where it has one.
+/// F9 to F12 of the slot of an address, where it has one.
 fn more_in(table: &SlotTable, address: u16, bits: u8) -> Option<More>
     requires { bits < 16 }
     ensures more { result ≡ more_in (slot_of table.now address) bits }
@@ -37,7 +37,7 @@ fn more_in(table: &SlotTable, address: u16, bits: u8) -> Option<More>
     Some(More { slot, bits })
 }
 
-/// The slot and its F9 to F12 that the bytes of a packet ask for, the check not among them.
+/// F9 to F12 of the slot that the bytes of a packet are for, the check not among them.
 pub(crate) fn more_asked(table: &SlotTable, bytes: &[u8]) -> Option<More>
     ensures more { result ≡ more_asked table.now bytes.now }
     ensures slot { IfSome result (λ more. IsSlot more.slot) }

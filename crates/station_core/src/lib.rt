@@ -1,4 +1,6 @@
 //! The command station: the bytes of its lines to replies, and turns of the track to packets.
+//!
+//! Its tests stand in `library_tests/src`: `test_station_core.rt` and `test_station_core/`.
 #![tactic(auto)]
 
 mod call;

@@ -117,7 +117,7 @@ impl Station {
         None
     }
 
-    // OPC_IMM_PACKET with these bytes of a packet: F9 to F12 of the slot that it is for.
+    // F9 to F12 of a slot, by the bytes of a packet in OPC_IMM_PACKET.
     fn set_more(&mut self, bytes: &[u8]) -> Option<Reply>
         ensures reply { result ≡ Some (more_reply (more_asked self.old.powered.desk bytes.now)) }
         ensures state { self.new ≡ after_change self.old (with_more self.old.powered.desk (more_asked self.old.powered.desk bytes.now)) (of_more self.old.powered.desk (more_asked self.old.powered.desk bytes.now)) }

@@ -1,4 +1,4 @@
-//! The station.
+//! A station: what a byte on one of its lines, or a turn of its track, does to its slots, its power and what waits.
 ghost use Rattle.std.specs.Prelude.{◌≡◌, ℕ, ◌<◌, ◌∷◌, ◌++◌, [], List, Some, IfOk, IfErr, IfSome, length, true, false, IsTrue};
 ghost use Rattle.std.specs.Option.{option_to_list};
 ghost use Rattle.ln_frame.specs.Stream.{messages_of};

@@ -18,12 +18,9 @@ loop-first-preserved g c =
 
 pub returns-in_default-next : goal.returns-in_default-next
 returns-in_default-next g c =
-    let does = g.Settings.Obeys.does in
     let i = c.loop-first.invariant in
-    let old = c.args.self.now in
-    let after_first = heard_next does old c.loop-first.self i.seen c.in-Some.first i.holds in
-    let j = it.again i {Q = λ xs. heard does c.loop-first.self c.in-Some.first ≡ heard_all does old xs} c.in-Some.first c.in-Some.is (c.next.ensures.steps, c.next.ensures.goes) after_first in
-    (j.seen, it.drained j c.in_default-next.is c.next-in-Some.ensures.steps, ◌∙◌ {b = heard does c.loop-first.self c.in-Some.first} c.hear.ensures j.holds)
+    let j = it.again i {Q = λ xs. heard g.Settings.Obeys.does c.loop-first.self c.in-Some.first ≡ heard_all g.Settings.Obeys.does c.args.self.now xs} c.in-Some.first c.in-Some.is (c.next.ensures.steps, c.next.ensures.goes) (heard_next g.Settings.Obeys.does c.args.self.now c.loop-first.self i.seen c.in-Some.first i.holds) in
+    (j.seen, it.drained j c.in_default-next.is c.next-in-Some.ensures.steps, ◌∙◌ {b = heard g.Settings.Obeys.does c.loop-first.self c.in-Some.first} c.hear.ensures j.holds)
 
 pub returns : goal.returns
 returns g c =

@@ -1,18 +1,16 @@
 use Rattle.half_bits.specs.Halves.{halves_of}
-use Rattle.decoder_node.proofs.Locos.{heard_as_loco, heard-able}
+use Rattle.decoder_node.specs.Loco.{HearsLoco, heard}
+use Rattle.decoder_node.specs.LocoDecoder.{loco_of}
+use Rattle.decoder_node.specs.Obey.{obeyed}
+use Rattle.decoder_node.proofs.Decoders.{seen_as}
+use Rattle.decoder_node.proofs.Locos.{agrees, heard-able}
 use Rattle.decoder_node.proofs.loco.Loco.hear_packet.Goals as goal
 
 pub invariant_of-self : goal.invariant_of-self
-invariant_of-self c = heard-able c.self.inside.decoder c.hear_packet.new.self (halves_of c.args.packet.now) c.hear_packet.ensures c.self.invariant
+invariant_of-self c = heard-able c.self.inside.decoder c.hear_packet.new.self (halves_of c.args.packet.now) c.hear_packet.ensures.heard c.self.invariant
 
 pub returns-clause-hears : goal.returns-clause-hears
 returns-clause-hears c =
     let old = c.args.self.now in
     let halves = halves_of c.args.packet.now in
-    heard_as_loco old c.self.inside.decoder c.hear_packet.new.self halves c.self.view_is c.hear_packet.ensures (c.waves_are_obeyed.ensures.loco old halves)
-
-pub returns-clause-settles : goal.returns-clause-settles
-returns-clause-settles c = (returns-clause-hears c).waves.settles c.args.packet.now c.halves_are_a_wave.ensures.packet c.halves_are_a_wave.ensures.wave
-
-pub returns-clause-obeys : goal.returns-clause-obeys
-returns-clause-obeys c = (returns-clause-hears c).waves.obeys c.args.packet.now c.halves_are_a_wave.ensures.packet c.halves_are_a_wave.ensures.wave
+    seen_as obeyed loco_of heard agrees (HearsLoco old halves) old c.self.inside.decoder c.hear_packet.new.self halves c.self.view_is c.hear_packet.ensures.heard (c.waves_are_obeyed.ensures.loco old halves)

@@ -2,13 +2,13 @@ use Rattle.std.proofs.Common.{◌&&◌, ◌*◌, ◌+◌, ◌-◌, subst, sym}
 use Rattle.std.specs.Prelude.{IsTrue}
 use Rattle.decoder_rx.specs.declared.state.Phase.{Phase}
 use Rattle.decoder_rx.specs.declared.state.State.{State}
-use Rattle.decoder_rx.specs.State.{may_be_left, place_in}
+use Rattle.decoder_rx.specs.State.{may_be_left, position_in}
 use Rattle.decoder_rx.specs.Table.{is_possible}
 use Rattle.decoder_rx.proofs.Bits.{one_bit_more}
 use Rattle.decoder_rx.proofs.state.State.push.Goals as goal
 
 abbrev SoundIn : State → Phase → Type 0
-SoundIn state phase = IsTrue (may_be_left phase state.left && is_possible (place_in phase state))
+SoundIn state phase = IsTrue (may_be_left phase state.left && is_possible (position_in phase state))
 
 pub returns-else-self-eq0-clause-sound : goal.returns-else-self-eq0-clause-sound
 returns-else-self-eq0-clause-sound c =

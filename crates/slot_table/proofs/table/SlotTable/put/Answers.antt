@@ -2,7 +2,7 @@ use Rattle.std.proofs.Common.{◌≡◌, ◌+◌, ◌-◌, ℕ, Option, Some, ap
 use Rattle.std.specs.Ordering.{nat_cmp}
 use Rattle.std.specs.FinMap.{FinMap, get}
 use Rattle.slot_table.specs.Desk.{Desk}
-use Rattle.slot_table.specs.Index.{with_place}
+use Rattle.slot_table.specs.Index.{with_address}
 use Rattle.slot_table.specs.Rows.{written, desk_of, place_of, IsTable}
 use Rattle.slot_table.proofs.Finds.{get-place_of}
 use Rattle.slot_table.proofs.Tables.{desk_of-IsDesk, set-IsTable, set-written, written-place}
@@ -32,8 +32,8 @@ invariant_of-self c = record {
   table = kept c;
   indexed =
       c.change.ensures
-      ∙ ap (λ (m : FinMap nat_cmp ℕ). with_place m c.args.n c.address_in-2.result) c.self.invariant.indexed
-      ∙ ap (λ (o : Option ℕ). with_place (place_of c.self.inside.rows) c.args.n o) c.address_in-2.ensures
+      ∙ ap (λ (m : FinMap nat_cmp ℕ). with_address m c.args.n c.address_in-2.result) c.self.invariant.indexed
+      ∙ ap (λ (o : Option ℕ). with_address (place_of c.self.inside.rows) c.args.n o) c.address_in-2.ensures
       ∙ written-place (desk_of c.self.inside.rows c.self.inside.mark) c.args.n c.args.row
       ∙ sym (ap (λ (d : Desk). d.place) (after c));
 }

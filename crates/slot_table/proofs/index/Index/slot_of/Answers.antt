@@ -3,8 +3,8 @@ use Rattle.std.specs.FinMap.{FinMap}
 use Rattle.std.specs.Ordering.{nat_cmp}
 use Rattle.slot_table.specs.Index.{pair_at, slot_with}
 use Rattle.slot_table.specs.declared.pairs.Pair.{Pair}
-use Rattle.slot_table.proofs.PairPlaces.{found-slot, no_slot}
-use Rattle.slot_table.proofs.places.Places.slot_of.Goals as goal
+use Rattle.slot_table.proofs.PairAddresses.{found-slot, no_slot}
+use Rattle.slot_table.proofs.index.Index.slot_of.Goals as goal
 
 pub returns-in-Ok : goal.returns-in-Ok
 returns-in-Ok c =

@@ -1,4 +1,4 @@
--- The places that a list of pairs stands for.
+-- The addresses that a list of pairs stands for.
 use Rattle.std.proofs.Common.{◌≡◌, ◌≢◌, ℕ, zero, suc, ◌+◌, ◌-◌, ◌<◌, ◌≤◌, true, List, [], ◌∷◌, length, map, Option, Some, None, refl, ap, sym, ◌∙◌, ◌⊎◌, inl, inr, arith}
 use Rattle.std.proofs.lemmas.Bool.{cases_eq, cases_lt, false_from_ne_true}
 use Rattle.std.proofs.lemmas.Bool.Decides.{nat_tests}
@@ -9,7 +9,7 @@ use Rattle.std.specs.Cmp.{nat_cmp_total}
 use Rattle.std.specs.FinMap.{get, insert, remove, find, get-from_entries}
 use Rattle.slot_table.specs.Entry.{IsSlot}
 use Rattle.slot_table.specs.Reading.{is_same}
-use Rattle.slot_table.specs.Index.{places_of, pair_at, IsRising, slot_with}
+use Rattle.slot_table.specs.Index.{addresses_of, pair_at, IsRising, slot_with}
 use Rattle.slot_table.specs.declared.pairs.Pair.{Pair}
 use Rattle.slot_table.proofs.Maps.{eq_same, eq_other, same, insert_at, insert_off, remove_at, remove_off}
 use Rattle.slot_table.proofs.Search.{first_from-least, first_from-nothing, find-all_slots}
@@ -41,8 +41,8 @@ find-some (pair ∷ pairs) n a h = elim (cases_eq n pair.slot) [
     some_same : {x y : ℕ} → Some x ≡ Some y → x ≡ y
     some_same e = cc
 
-pub stands : (pairs : List Pair) (n a : ℕ) → get (places_of pairs) n ≡ Some a → Stands pairs n a
-unfolding places_of entries
+pub stands : (pairs : List Pair) (n a : ℕ) → get (addresses_of pairs) n ≡ Some a → Stands pairs n a
+unfolding addresses_of entries
 stands pairs n a h = find-some pairs n a (sym (get-from_entries nat_cmp_total (entries pairs) n) ∙ h)
 
 find-at : (pairs : List Pair) (i : ℕ) → AreApart pairs → i < length pairs → find nat_cmp (pair_at pairs i).slot (entries pairs) ≡ Some (pair_at pairs i).address
@@ -53,10 +53,10 @@ find-at (pair ∷ pairs) (suc i) apart low =
     let off : (pair_at pairs i).slot ≢ pair.slot = λ e. omega (arith, apart (suc i) 0 low (omega arith) e) in
     rw (eq_other (pair_at pairs i).slot pair.slot off) (find-at pairs i (λ i j l m e. omega (arith, apart (suc i) (suc j) (omega arith) (omega arith) e)) (omega arith))
 
-pub get-at : (pairs : List Pair) (n a : ℕ) → AreApart pairs → Stands pairs n a → get (places_of pairs) n ≡ Some a
-unfolding places_of entries
+pub get-at : (pairs : List Pair) (n a : ℕ) → AreApart pairs → Stands pairs n a → get (addresses_of pairs) n ≡ Some a
+unfolding addresses_of entries
 get-at pairs n a apart at =
-    ap (get (places_of pairs)) (sym at.2)
+    ap (get (addresses_of pairs)) (sym at.2)
     ∙ get-from_entries nat_cmp_total (entries pairs) (pair_at pairs at.0).slot
     ∙ find-at pairs at.0 apart at.1
     ∙ ap Some at.3
@@ -87,20 +87,20 @@ is_same-Some None a h = cc
 is_same-Some (Some b) a h = grind (arith, nat_tests)
 
 module _ (pairs : List Pair) (rising : IsRising pairs) (apart : AreApart pairs) where
-  pub found-slot : (slots : (i : ℕ) → i < length pairs → IsSlot (pair_at pairs i).slot) (k a : ℕ) → k < length pairs → (pair_at pairs k).address ≡ a → Some (pair_at pairs k).slot ≡ slot_with (places_of pairs) a
+  pub found-slot : (slots : (i : ℕ) → i < length pairs → IsSlot (pair_at pairs i).slot) (k a : ℕ) → k < length pairs → (pair_at pairs k).address ≡ a → Some (pair_at pairs k).slot ≡ slot_with (addresses_of pairs) a
   found-slot slots k a low at =
       let n = (pair_at pairs k).slot in
       let slot : IsSlot n = slots k low in
-      let here : get (places_of pairs) n ≡ Some a = get-at pairs n a apart (k, low, refl, at) in
-      let on : is_same (get (places_of pairs) n) a ≡ true = rw here (grind (arith, nat_tests)) in
-      sym (find-all_slots (λ n. is_same (get (places_of pairs) n) a)
-      ∙ first_from-least (λ n. is_same (get (places_of pairs) n) a) 1 119 n slot.0 (omega (arith, slot.1)) on (λ i le less. false_from_ne_true (is_same (get (places_of pairs) i) a) (λ yes.
-      let other = stands pairs i a (is_same-Some (get (places_of pairs) i) a yes) in
+      let here : get (addresses_of pairs) n ≡ Some a = get-at pairs n a apart (k, low, refl, at) in
+      let on : is_same (get (addresses_of pairs) n) a ≡ true = rw here (grind (arith, nat_tests)) in
+      sym (find-all_slots (λ n. is_same (get (addresses_of pairs) n) a)
+      ∙ first_from-least (λ n. is_same (get (addresses_of pairs) n) a) 1 119 n slot.0 (omega (arith, slot.1)) on (λ i le less. false_from_ne_true (is_same (get (addresses_of pairs) i) a) (λ yes.
+      let other = stands pairs i a (is_same-Some (get (addresses_of pairs) i) a yes) in
       let one : other.0 ≡ k = one_address pairs rising other.0 k other.1 low (other.3 ∙ sym at) in
       let same_slot : i ≡ n = sym other.2 ∙ ap (λ j. (pair_at pairs j).slot) one in
       absurd (omega arith))))
 
-  pub absent : (k a : ℕ) → ((i : ℕ) → i < k → (pair_at pairs i).address < a) → ((i : ℕ) → k ≤ i → i < length pairs → a < (pair_at pairs i).address) → (n : ℕ) → get (places_of pairs) n ≢ Some a
+  pub absent : (k a : ℕ) → ((i : ℕ) → i < k → (pair_at pairs i).address < a) → ((i : ℕ) → k ≤ i → i < length pairs → a < (pair_at pairs i).address) → (n : ℕ) → get (addresses_of pairs) n ≢ Some a
   absent k a below above n h =
       let at = stands pairs n a h in
       elim (cases_lt at.0 k) [
@@ -108,11 +108,11 @@ module _ (pairs : List Pair) (rising : IsRising pairs) (apart : AreApart pairs) 
         | inr le ↦ omega (arith, above at.0 le at.1, at.3)
       ]
 
-  pub no_slot : (k a : ℕ) → ((i : ℕ) → i < k → (pair_at pairs i).address < a) → ((i : ℕ) → k ≤ i → i < length pairs → a < (pair_at pairs i).address) → None ≡ slot_with (places_of pairs) a
+  pub no_slot : (k a : ℕ) → ((i : ℕ) → i < k → (pair_at pairs i).address < a) → ((i : ℕ) → k ≤ i → i < length pairs → a < (pair_at pairs i).address) → None ≡ slot_with (addresses_of pairs) a
   no_slot k a below above =
-      sym (find-all_slots (λ n. is_same (get (places_of pairs) n) a)
-      ∙ first_from-nothing (λ n. is_same (get (places_of pairs) n) a) 1 119 (λ i le less. false_from_ne_true (is_same (get (places_of pairs) i) a) (λ yes.
-      absurd (absent k a below above i (is_same-Some (get (places_of pairs) i) a yes)))))
+      sym (find-all_slots (λ n. is_same (get (addresses_of pairs) n) a)
+      ∙ first_from-nothing (λ n. is_same (get (addresses_of pairs) n) a) 1 119 (λ i le less. false_from_ne_true (is_same (get (addresses_of pairs) i) a) (λ yes.
+      absurd (absent k a below above i (is_same-Some (get (addresses_of pairs) i) a yes)))))
 
 -- ---- a pair leaves
 
@@ -184,26 +184,26 @@ module _ (pairs : List Pair) (k : ℕ) (inside : k < length pairs) where
       back i j s t (apart s.at t.at s.low t.low same_slot)
 
   -- its slot has no address then, and the others keep theirs
-  pub removed-places : AreApart pairs → (n : ℕ) → (pair_at pairs k).slot ≡ n → places_of (remove_in pairs k) ≡ remove (places_of pairs) n
-  removed-places apart n own = same (places_of (remove_in pairs k)) (remove (places_of pairs) n) (λ q. elim (cases_eq q n) [
-    | inl e ↦ no_option (get (places_of (remove_in pairs k)) q) (λ a h. gone q a e h) ∙ sym (remove_at (places_of pairs) n q e)
-    | inr ne ↦ same_options (get (places_of (remove_in pairs k)) q) (get (places_of pairs) q) (λ a h. was q a h) (λ a h. is q a ne h) ∙ sym (remove_off (places_of pairs) n q ne)
+  pub removed-addresses : AreApart pairs → (n : ℕ) → (pair_at pairs k).slot ≡ n → addresses_of (remove_in pairs k) ≡ remove (addresses_of pairs) n
+  removed-addresses apart n own = same (addresses_of (remove_in pairs k)) (remove (addresses_of pairs) n) (λ q. elim (cases_eq q n) [
+    | inl e ↦ no_option (get (addresses_of (remove_in pairs k)) q) (λ a h. gone q a e h) ∙ sym (remove_at (addresses_of pairs) n q e)
+    | inr ne ↦ same_options (get (addresses_of (remove_in pairs k)) q) (get (addresses_of pairs) q) (λ a h. was q a h) (λ a h. is q a ne h) ∙ sym (remove_off (addresses_of pairs) n q ne)
   ])
     where
-      was : (q a : ℕ) → get (places_of (remove_in pairs k)) q ≡ Some a → get (places_of pairs) q ≡ Some a
+      was : (q a : ℕ) → get (addresses_of (remove_in pairs k)) q ≡ Some a → get (addresses_of pairs) q ≡ Some a
       was q a h =
           let at = stands (remove_in pairs k) q a h in
           let s = stood at.0 at.1 in
           get-at pairs q a apart (s.at, s.low, sym (ap (λ (p : Pair). p.slot) s.pair) ∙ at.2, sym (ap (λ (p : Pair). p.address) s.pair) ∙ at.3)
 
-      gone : (q a : ℕ) → q ≡ n → get (places_of (remove_in pairs k)) q ≡ Some a → ⊥
+      gone : (q a : ℕ) → q ≡ n → get (addresses_of (remove_in pairs k)) q ≡ Some a → ⊥
       gone q a e h =
           let at = stands (remove_in pairs k) q a h in
           let s = stood at.0 at.1 in
           let own_slot : (pair_at pairs s.at).slot ≡ (pair_at pairs k).slot = sym (ap (λ (p : Pair). p.slot) s.pair) ∙ at.2 ∙ e ∙ sym own in
           not_k at.0 s (apart s.at k s.low inside own_slot)
 
-      is : (q a : ℕ) → q ≢ n → get (places_of pairs) q ≡ Some a → get (places_of (remove_in pairs k)) q ≡ Some a
+      is : (q a : ℕ) → q ≢ n → get (addresses_of pairs) q ≡ Some a → get (addresses_of (remove_in pairs k)) q ≡ Some a
       is q a ne h =
           let at = stands pairs q a h in
           let stay = stays at.0 at.1 (λ e. ne (sym at.2 ∙ ap (λ i. (pair_at pairs i).slot) e ∙ own)) in
@@ -290,10 +290,10 @@ module _ (pairs : List Pair) (k : ℕ) (le : k ≤ length pairs) (new : Pair) wh
       by_case (inl e) = rw (here i e) own
       by_case (inr s) = rw s.pair (slots s.at s.low)
 
-  module _ (apart : AreApart pairs) (alone : get (places_of pairs) new.slot ≡ None) where
+  module _ (apart : AreApart pairs) (alone : get (addresses_of pairs) new.slot ≡ None) where
     other_slot : (j : ℕ) (s : Came j) → (pair_at (insert_in pairs k new) j).slot ≢ new.slot
     other_slot j s e =
-        let there : get (places_of pairs) new.slot ≡ Some (pair_at pairs s.at).address = get-at pairs new.slot (pair_at pairs s.at).address apart (s.at, s.low, sym (ap (λ (p : Pair). p.slot) s.pair) ∙ e, refl) in
+        let there : get (addresses_of pairs) new.slot ≡ Some (pair_at pairs s.at).address = get-at pairs new.slot (pair_at pairs s.at).address apart (s.at, s.low, sym (ap (λ (p : Pair). p.slot) s.pair) ∙ e, refl) in
         cc
 
     pub inserted-apart : AreApart (insert_in pairs k new)
@@ -306,15 +306,15 @@ module _ (pairs : List Pair) (k : ℕ) (le : k ≤ length pairs) (new : Pair) wh
         by_cases (inr s) (inr t) = one_origin i j s t (apart s.at t.at s.low t.low (sym (ap (λ (p : Pair). p.slot) s.pair) ∙ e ∙ ap (λ (p : Pair). p.slot) t.pair))
 
     -- its slot has its address then, and the others keep theirs
-    pub inserted-places : places_of (insert_in pairs k new) ≡ insert (places_of pairs) new.slot new.address
-    inserted-places = same (places_of (insert_in pairs k new)) (insert (places_of pairs) new.slot new.address) (λ q. elim (cases_eq q new.slot) [
+    pub inserted-addresses : addresses_of (insert_in pairs k new) ≡ insert (addresses_of pairs) new.slot new.address
+    inserted-addresses = same (addresses_of (insert_in pairs k new)) (insert (addresses_of pairs) new.slot new.address) (λ q. elim (cases_eq q new.slot) [
       | inl e ↦
           get-at (insert_in pairs k new) q new.address inserted-apart (k, omega (arith, length-insert pairs k new le), ap (λ (p : Pair). p.slot) (here k refl) ∙ sym e, ap (λ (p : Pair). p.address) (here k refl))
-          ∙ sym (insert_at (places_of pairs) new.slot q new.address e)
-      | inr ne ↦ same_options (get (places_of (insert_in pairs k new)) q) (get (places_of pairs) q) (λ a h. was q a ne h) (λ a h. is q a h) ∙ sym (insert_off (places_of pairs) new.slot q new.address ne)
+          ∙ sym (insert_at (addresses_of pairs) new.slot q new.address e)
+      | inr ne ↦ same_options (get (addresses_of (insert_in pairs k new)) q) (get (addresses_of pairs) q) (λ a h. was q a ne h) (λ a h. is q a h) ∙ sym (insert_off (addresses_of pairs) new.slot q new.address ne)
     ])
       where
-        was : (q a : ℕ) → q ≢ new.slot → get (places_of (insert_in pairs k new)) q ≡ Some a → get (places_of pairs) q ≡ Some a
+        was : (q a : ℕ) → q ≢ new.slot → get (addresses_of (insert_in pairs k new)) q ≡ Some a → get (addresses_of pairs) q ≡ Some a
         was q a ne h =
             let at = stands (insert_in pairs k new) q a h in
             elim (came at.0 at.1) [
@@ -322,7 +322,7 @@ module _ (pairs : List Pair) (k : ℕ) (le : k ≤ length pairs) (new : Pair) wh
               | inr s ↦ get-at pairs q a apart (s.at, s.low, sym (ap (λ (p : Pair). p.slot) s.pair) ∙ at.2, sym (ap (λ (p : Pair). p.address) s.pair) ∙ at.3)
             ]
 
-        is : (q a : ℕ) → get (places_of pairs) q ≡ Some a → get (places_of (insert_in pairs k new)) q ≡ Some a
+        is : (q a : ℕ) → get (addresses_of pairs) q ≡ Some a → get (addresses_of (insert_in pairs k new)) q ≡ Some a
         is q a h =
             let at = stands pairs q a h in
             let go = goes at.0 at.1 in

@@ -12,11 +12,11 @@ use Rattle.std.specs.Ordering.{nat_cmp}
 use Rattle.std.specs.FinMap.{FinMap, get, insert, remove, empty, get-empty}
 use Rattle.ln_ops.specs.Slot.{is_slot}
 use Rattle.slot_table.specs.Entry.{IsSlot}
-use Rattle.slot_table.specs.Index.{places_of, pair_at, bit_of, IsIndex, IsLeastBit, first_free, with_place}
+use Rattle.slot_table.specs.Index.{addresses_of, pair_at, bit_of, IsIndex, IsLeastBit, first_free, with_address}
 use Rattle.slot_table.specs.declared.pairs.Pair.{Pair}
 use Rattle.slot_table.proofs.Maps.{insert_at, insert_off, remove_at, remove_off, remove-absent, insert-same, insert-remove}
 use Rattle.slot_table.proofs.Search.{first_from-least, first_from-nothing, find-all_slots}
-use Rattle.slot_table.proofs.PairPlaces.{one_address, stands, get-at, removed-rising, removed-slots, removed-apart, removed-places, inserted-rising, inserted-slots, inserted-apart, inserted-places}
+use Rattle.slot_table.proofs.PairAddresses.{one_address, stands, get-at, removed-rising, removed-slots, removed-apart, removed-addresses, inserted-rising, inserted-slots, inserted-apart, inserted-addresses}
 
 -- ---- the word of free slots
 
@@ -36,19 +36,19 @@ slots_in : (n : ℕ) → is_slot n ≡ true → (1 ≤ n) × (n ≤ 119)
 slots_in n h = grind (arith, nat_tests)
 
 module _ (pairs : List Pair) (free : ℕ) (index : IsIndex pairs free) where
-  zero_bit : (i : ℕ) → 1 ≤ i → i ≤ 119 → bit_at free i ≡ 0 → is_none (get (places_of pairs) i) ≡ false
-  zero_bit i low high off = bit_false (is_none (get (places_of pairs) i)) (is_slot i) (in_slots i low high) (sym (index.bits i (omega arith)) ∙ off)
+  zero_bit : (i : ℕ) → 1 ≤ i → i ≤ 119 → bit_at free i ≡ 0 → is_none (get (addresses_of pairs) i) ≡ false
+  zero_bit i low high off = bit_false (is_none (get (addresses_of pairs) i)) (is_slot i) (in_slots i low high) (sym (index.bits i (omega arith)) ∙ off)
 
-  pub least-first_free : (o : Option ℕ) → MatchOption o (free ≡ 0) (IsLeastBit free) → o ≡ first_free (places_of pairs)
+  pub least-first_free : (o : Option ℕ) → MatchOption o (free ≡ 0) (IsLeastBit free) → o ≡ first_free (addresses_of pairs)
   least-first_free None none =
-      sym (find-all_slots (λ n. is_none (get (places_of pairs) n))
-      ∙ first_from-nothing (λ n. is_none (get (places_of pairs) n)) 1 119 (λ i low high. zero_bit i low (omega arith) (ap (λ (w : ℕ). bit_at w i) none ∙ bit_at-zero i)))
+      sym (find-all_slots (λ n. is_none (get (addresses_of pairs) n))
+      ∙ first_from-nothing (λ n. is_none (get (addresses_of pairs) n)) 1 119 (λ i low high. zero_bit i low (omega arith) (ap (λ (w : ℕ). bit_at w i) none ∙ bit_at-zero i)))
   least-first_free (Some n) is =
-      let on = bit_true (is_slot n && is_none (get (places_of pairs) n)) (sym (index.bits n is.within) ∙ is.here) in
-      let parts = and_parts (is_slot n) (is_none (get (places_of pairs) n)) on in
+      let on = bit_true (is_slot n && is_none (get (addresses_of pairs) n)) (sym (index.bits n is.within) ∙ is.here) in
+      let parts = and_parts (is_slot n) (is_none (get (addresses_of pairs) n)) on in
       let slot = slots_in n parts.0 in
-      sym (find-all_slots (λ n. is_none (get (places_of pairs) n))
-      ∙ first_from-least (λ n. is_none (get (places_of pairs) n)) 1 119 n slot.0 (omega (arith, slot.1)) parts.1 (λ i low below. zero_bit i low (omega (arith, slot.1)) (is.below i below)))
+      sym (find-all_slots (λ n. is_none (get (addresses_of pairs) n))
+      ∙ first_from-least (λ n. is_none (get (addresses_of pairs) n)) 1 119 n slot.0 (omega (arith, slot.1)) parts.1 (λ i low below. zero_bit i low (omega (arith, slot.1)) (is.below i below)))
 
 -- a slot's bit follows its place
 set-bits : (old new : FinMap nat_cmp ℕ) (free word n : ℕ) (on : Bool) → IsSlot n → is_none (get new n) ≡ on → ((q : ℕ) → q ≢ n → get new q ≡ get old q)
@@ -67,7 +67,7 @@ set-bits old new free word n on is here away bits same others q within = elim (c
 -- ---- an empty index
 
 pub empty-index : (pairs : List Pair) → pairs ≡ [] → IsIndex pairs (2 ^ 120 - 2 ^ 1)
-unfolding places_of
+unfolding addresses_of
 empty-index pairs none = rw none (record {
   rising = λ i j lt high. absurd (omega arith);
   slots = λ i low. absurd (omega arith);
@@ -81,15 +81,15 @@ empty-index pairs none = rw none (record {
   ];
 })
   where
-    nothing : (n : ℕ) → get (places_of []) n ≡ None
+    nothing : (n : ℕ) → get (addresses_of []) n ≡ None
     nothing n = get-empty nat_cmp n
 
     not_slot : (n : ℕ) → ¬ (IsSlot n) → is_slot n ≡ false
     not_slot n h = grind (arith, nat_tests)
 
-pub empty-places : (pairs : List Pair) → pairs ≡ [] → places_of pairs ≡ empty
-unfolding places_of
-empty-places pairs none = rw none refl
+pub empty-addresses : (pairs : List Pair) → pairs ≡ [] → addresses_of pairs ≡ empty
+unfolding addresses_of
+empty-addresses pairs none = rw none refl
 
 -- ---- room for one more
 
@@ -105,7 +105,7 @@ module _ (pairs : List Pair) (free : ℕ) (index : IsIndex pairs free) where
   unfolding all_slots_of
   length_slots = length-map pairs (λ (pair : Pair). pair.slot)
 
-  pub few : (n : ℕ) → IsSlot n → get (places_of pairs) n ≡ None → length pairs + 1 ≤ 119
+  pub few : (n : ℕ) → IsSlot n → get (addresses_of pairs) n ≡ None → length pairs + 1 ≤ 119
   unfolding all_slots_of
   few n is none = omega (arith, length_slots, length-le_from_distinct_below (0 ∷ n ∷ all_slots_of pairs) 120 distinct below)
     where
@@ -155,27 +155,27 @@ module _ (pairs : List Pair) (free : ℕ) (index : IsIndex pairs free) where
 -- ---- the slot gets another address, or none
 
 -- the pair of a slot's address names the slot
-pub own_slot : (pairs : List Pair) (free : ℕ) → IsIndex pairs free → (k n a : ℕ) → k < length pairs → (pair_at pairs k).address ≡ a → get (places_of pairs) n ≡ Some a → (pair_at pairs k).slot ≡ n
+pub own_slot : (pairs : List Pair) (free : ℕ) → IsIndex pairs free → (k n a : ℕ) → k < length pairs → (pair_at pairs k).address ≡ a → get (addresses_of pairs) n ≡ Some a → (pair_at pairs k).slot ≡ n
 own_slot pairs free index k n a low there at =
     let found = stands pairs n a at in
     let one : k ≡ found.0 = one_address pairs index.rising k found.0 low found.1 (there ∙ sym found.3) in
     ap (λ i. (pair_at pairs i).slot) one ∙ found.2
 
 module _ (pairs : List Pair) (free word : ℕ) (index : IsIndex pairs free) where
-  pub removed-index : (k n a : ℕ) → k < length pairs → get (places_of pairs) n ≡ Some a → (pair_at pairs k).slot ≡ n
+  pub removed-index : (k n a : ℕ) → k < length pairs → get (addresses_of pairs) n ≡ Some a → (pair_at pairs k).slot ≡ n
       → bit_at word n ≡ 1 → ((q : ℕ) → q < 128 → q ≢ n → bit_at word q ≡ bit_at free q) → IsIndex (remove_in pairs k) word
   removed-index k n a low at own same others = record {
     rising = removed-rising pairs k low index.rising;
     slots = removed-slots pairs k low index.slots;
     apart = removed-apart pairs k low index.apart;
     bits =
-        set-bits (places_of pairs) (places_of (remove_in pairs k)) free word n true (subst IsSlot own (index.slots k low))
-        (ap (λ (m : FinMap nat_cmp ℕ). is_none (get m n)) (removed-places pairs k low index.apart n own) ∙ ap (λ (o : Option ℕ). is_none o) (remove_at (places_of pairs) n n refl))
-        (λ q ne. ap (λ (m : FinMap nat_cmp ℕ). get m q) (removed-places pairs k low index.apart n own) ∙ remove_off (places_of pairs) n q ne)
+        set-bits (addresses_of pairs) (addresses_of (remove_in pairs k)) free word n true (subst IsSlot own (index.slots k low))
+        (ap (λ (m : FinMap nat_cmp ℕ). is_none (get m n)) (removed-addresses pairs k low index.apart n own) ∙ ap (λ (o : Option ℕ). is_none o) (remove_at (addresses_of pairs) n n refl))
+        (λ q ne. ap (λ (m : FinMap nat_cmp ℕ). get m q) (removed-addresses pairs k low index.apart n own) ∙ remove_off (addresses_of pairs) n q ne)
         index.bits same others;
   }
 
-  pub inserted-index : (k : ℕ) (new : Pair) → k ≤ length pairs → IsSlot new.slot → get (places_of pairs) new.slot ≡ None
+  pub inserted-index : (k : ℕ) (new : Pair) → k ≤ length pairs → IsSlot new.slot → get (addresses_of pairs) new.slot ≡ None
       → ((i : ℕ) → i < k → (pair_at pairs i).address < new.address) → ((i : ℕ) → k ≤ i → i < length pairs → new.address < (pair_at pairs i).address)
       → bit_at word new.slot ≡ 0 → ((q : ℕ) → q < 128 → q ≢ new.slot → bit_at word q ≡ bit_at free q) → IsIndex (insert_in pairs k new) word
   inserted-index k new le is none below above same others = record {
@@ -183,27 +183,27 @@ module _ (pairs : List Pair) (free word : ℕ) (index : IsIndex pairs free) wher
     slots = inserted-slots pairs k le new index.slots is;
     apart = inserted-apart pairs k le new index.apart none;
     bits =
-        set-bits (places_of pairs) (places_of (insert_in pairs k new)) free word new.slot false is
-        (ap (λ (m : FinMap nat_cmp ℕ). is_none (get m new.slot)) (inserted-places pairs k le new index.apart none) ∙ ap (λ (o : Option ℕ). is_none o) (insert_at (places_of pairs) new.slot new.slot new.address refl))
-        (λ q ne. ap (λ (m : FinMap nat_cmp ℕ). get m q) (inserted-places pairs k le new index.apart none) ∙ insert_off (places_of pairs) new.slot q new.address ne)
+        set-bits (addresses_of pairs) (addresses_of (insert_in pairs k new)) free word new.slot false is
+        (ap (λ (m : FinMap nat_cmp ℕ). is_none (get m new.slot)) (inserted-addresses pairs k le new index.apart none) ∙ ap (λ (o : Option ℕ). is_none o) (insert_at (addresses_of pairs) new.slot new.slot new.address refl))
+        (λ q ne. ap (λ (m : FinMap nat_cmp ℕ). get m q) (inserted-addresses pairs k le new index.apart none) ∙ insert_off (addresses_of pairs) new.slot q new.address ne)
         index.bits same others;
   }
 
 -- a slot keeps what it had
-pub with_place-same : (places : FinMap nat_cmp ℕ) (n : ℕ) (o : Option ℕ) → get places n ≡ o → places ≡ with_place places n o
-with_place-same places n None e = sym (remove-absent places n e)
-with_place-same places n (Some a) e = sym (insert-remove places n a ∙ insert-same places n a e)
+pub with_address-same : (addresses : FinMap nat_cmp ℕ) (n : ℕ) (o : Option ℕ) → get addresses n ≡ o → addresses ≡ with_address addresses n o
+with_address-same addresses n None e = sym (remove-absent addresses n e)
+with_address-same addresses n (Some a) e = sym (insert-remove addresses n a ∙ insert-same addresses n a e)
 
 -- what a slot has after it lost its place is what it has after a change at once
-pub with_place-twice : (places : FinMap nat_cmp ℕ) (n a : ℕ) → with_place (with_place places n None) n (Some a) ≡ with_place places n (Some a)
-with_place-twice places n a = ap (λ (m : FinMap nat_cmp ℕ). insert m n a) (remove-absent (remove places n) n (remove_at places n n refl))
+pub with_address-twice : (addresses : FinMap nat_cmp ℕ) (n a : ℕ) → with_address (with_address addresses n None) n (Some a) ≡ with_address addresses n (Some a)
+with_address-twice addresses n a = ap (λ (m : FinMap nat_cmp ℕ). insert m n a) (remove-absent (remove addresses n) n (remove_at addresses n n refl))
 
-pub with_place-free : (places : FinMap nat_cmp ℕ) (n a : ℕ) → get places n ≡ None → insert places n a ≡ with_place places n (Some a)
-with_place-free places n a none = ap (λ (m : FinMap nat_cmp ℕ). insert m n a) (sym (remove-absent places n none))
+pub with_address-free : (addresses : FinMap nat_cmp ℕ) (n a : ℕ) → get addresses n ≡ None → insert addresses n a ≡ with_address addresses n (Some a)
+with_address-free addresses n a none = ap (λ (m : FinMap nat_cmp ℕ). insert m n a) (sym (remove-absent addresses n none))
 
 -- an address that stood in one slot alone stands nowhere after it left
-pub left_alone : (places : FinMap nat_cmp ℕ) (n a : ℕ) → ((k : ℕ) → get places k ≡ Some a → k ≡ n) → (m : ℕ) → get (remove places n) m ≢ Some a
-left_alone places n a one m h = elim (cases_eq m n) [
-  | inl e ↦ let gone = remove_at places n m e in let clash : ◌≡◌ {A = Option ℕ} None (Some a) = sym gone ∙ h in cc
-  | inr ne ↦ ne (one m (sym (remove_off places n m ne) ∙ h))
+pub left_alone : (addresses : FinMap nat_cmp ℕ) (n a : ℕ) → ((k : ℕ) → get addresses k ≡ Some a → k ≡ n) → (m : ℕ) → get (remove addresses n) m ≢ Some a
+left_alone addresses n a one m h = elim (cases_eq m n) [
+  | inl e ↦ let gone = remove_at addresses n m e in let clash : ◌≡◌ {A = Option ℕ} None (Some a) = sym gone ∙ h in cc
+  | inr ne ↦ ne (one m (sym (remove_off addresses n m ne) ∙ h))
 ]

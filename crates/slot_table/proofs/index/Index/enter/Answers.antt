@@ -1,21 +1,21 @@
 use Rattle.std.proofs.Common.{◌≡◌, ◌+◌, ◌<◌, ◌≤◌, ℕ, None, Some, List, length, refl, ap, sym, ◌∙◌, subst, arith}
 use Rattle.std.specs.FinMap.{FinMap, get}
 use Rattle.std.specs.Ordering.{nat_cmp}
-use Rattle.slot_table.specs.Index.{places_of, pair_at, with_place}
+use Rattle.slot_table.specs.Index.{addresses_of, pair_at, with_address}
 use Rattle.slot_table.specs.declared.pairs.Pair.{Pair}
-use Rattle.slot_table.proofs.PairPlaces.{get-at, inserted-places}
-use Rattle.slot_table.proofs.Index.{few, inserted-index, with_place-free}
-use Rattle.slot_table.proofs.places.Places.enter.Goals as goal
+use Rattle.slot_table.proofs.PairAddresses.{get-at, inserted-addresses}
+use Rattle.slot_table.proofs.Indexed.{few, inserted-index, with_address-free}
+use Rattle.slot_table.proofs.index.Index.enter.Goals as goal
 
 end : (c : goal.After-self-1) → c.in-Err.k ≤ length c.self.inside.pairs.items
 end c = subst (λ (l : List Pair). c.in-Err.k ≤ length l) c.as_slice.ensures.value c.in-Err.ensures.end
 
-free : (c : goal.After-self-1) → get (places_of c.self.inside.pairs.items) c.args.slot ≡ None
+free : (c : goal.After-self-1) → get (addresses_of c.self.inside.pairs.items) c.args.slot ≡ None
 free c = ap (λ (m : FinMap nat_cmp ℕ). get m c.args.slot) c.self.view_is ∙ c.requires.free
 
 pub insert-requires : goal.insert-requires
 insert-requires c =
-    let free : get (places_of c.self.inside.pairs.items) c.args.slot ≡ None = ap (λ (m : FinMap nat_cmp ℕ). get m c.args.slot) c.self.view_is ∙ c.requires.free in
+    let free : get (addresses_of c.self.inside.pairs.items) c.args.slot ≡ None = ap (λ (m : FinMap nat_cmp ℕ). get m c.args.slot) c.self.view_is ∙ c.requires.free in
     let room : length c.self.inside.pairs.items + 1 ≤ 119 = few c.self.inside.pairs.items c.self.inside.free c.self.invariant c.args.slot c.requires.slot free in
     (omega arith, (subst (λ (l : List Pair). c.in-Err.k ≤ length l) c.as_slice.ensures.value c.in-Err.ensures.end, omega arith))
 
@@ -28,10 +28,10 @@ invariant_of-self c = rw c.insert.ensures.items
 
 pub returns-in-Err : goal.returns-in-Err
 returns-in-Err c =
-    ap places_of c.insert.ensures.items
-    ∙ inserted-places c.self.inside.pairs.items c.in-Err.k (end c) (record { address = c.args.address; slot = c.args.slot }) c.self.invariant.apart (free c)
-    ∙ with_place-free (places_of c.self.inside.pairs.items) c.args.slot c.args.address (free c)
-    ∙ ap (λ (m : FinMap nat_cmp ℕ). with_place m c.args.slot (Some c.args.address)) c.self.view_is
+    ap addresses_of c.insert.ensures.items
+    ∙ inserted-addresses c.self.inside.pairs.items c.in-Err.k (end c) (record { address = c.args.address; slot = c.args.slot }) c.self.invariant.apart (free c)
+    ∙ with_address-free (addresses_of c.self.inside.pairs.items) c.args.slot c.args.address (free c)
+    ∙ ap (λ (m : FinMap nat_cmp ℕ). with_address m c.args.slot (Some c.args.address)) c.self.view_is
 
 -- the address stands nowhere
 pub returns-in_default : goal.returns-in_default

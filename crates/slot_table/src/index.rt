@@ -2,7 +2,7 @@
 ghost use Rattle.std.specs.Prelude.{◌≡◌, ◌≢◌, ℕ, Some, None};
 ghost use Rattle.std.specs.FinMap.{get, empty};
 ghost use Rattle.slot_table.specs.Entry.{IsSlot};
-ghost use Rattle.slot_table.specs.Index.{slot_with, first_free, with_place};
+ghost use Rattle.slot_table.specs.Index.{slot_with, first_free, with_address};
 
 use crate::bits::{least_bit, with_bit};
 use crate::pairs::{Pair, position};
@@ -14,14 +14,14 @@ const ALL_FREE: u128 = (1 << 120) - 2;
 
 /// The address in each slot that is not free.
 #[derive(Debug, Drop)]
-pub(crate) struct Places {
+pub(crate) struct Index {
     // A pair for each slot that is not free, by address.
     pairs: ArrayVec<Pair, 119>,
     // Bit n is set where slot n is free.
     free: u128,
 }
 
-impl Model for Places {
+impl Model for Index {
     ghost use Rattle.std.specs.Prelude.{ℕ};
     ghost use Rattle.std.specs.Ordering.{nat_cmp};
     ghost use Rattle.std.specs.FinMap.{FinMap, code};
@@ -31,19 +31,19 @@ impl Model for Places {
 
     ghost coded = { code coded_ℕ coded_ℕ };
 
-    ghost use Rattle.slot_table.specs.Index.{places_of, IsIndex};
+    ghost use Rattle.slot_table.specs.Index.{addresses_of, IsIndex};
 
-    ghost view = { λ p. places_of p.pairs.items };
+    ghost view = { λ p. addresses_of p.pairs.items };
 
     ghost invariant = { λ p. IsIndex p.pairs.items p.free };
 }
 
-impl Places {
+impl Index {
     /// All slots are free.
     pub(crate) fn new() -> Self
         ensures { result ≡ empty }
     {
-        Places {
+        Index {
             pairs: ArrayVec::new(),
             free: ALL_FREE,
         }
@@ -71,7 +71,7 @@ impl Places {
         requires slot { IsSlot slot }
         requires had { get self.old slot ≡ old }
         requires alone { (a m : ℕ) → new ≡ Some a → get self.old m ≡ Some a → m ≡ slot }
-        ensures { self.new ≡ with_place self.old slot new }
+        ensures { self.new ≡ with_address self.old slot new }
     {
         if old == new {
             return;
@@ -86,7 +86,7 @@ impl Places {
     fn leave(&mut self, slot: u8, old: Option<u16>)
         requires slot { IsSlot slot }
         requires had { get self.old slot ≡ old }
-        ensures { self.new ≡ with_place self.old slot None }
+        ensures { self.new ≡ with_address self.old slot None }
     {
         let Some(address) = old else {
             return;
@@ -102,7 +102,7 @@ impl Places {
         requires slot { IsSlot slot }
         requires free { get self.old slot ≡ None }
         requires alone { (m : ℕ) → get self.old m ≢ Some address }
-        ensures { self.new ≡ with_place self.old slot (Some address) }
+        ensures { self.new ≡ with_address self.old slot (Some address) }
     {
         if let Err(k) = position(self.pairs.as_slice(), address) {
             self.pairs.insert(k, Pair { address, slot });

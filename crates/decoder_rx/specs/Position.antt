@@ -4,13 +4,13 @@ use Rattle.std.specs.Prelude.{ℕ, Bool, true, false, List, Option}
 -- Hunting with so many one halves counted, at most 20. Start: after them one zero half.
 -- InBit with the whole bytes, the bits of the next byte as a number and how many they are,
 -- and the first half of the next bit, where it was heard.
-pub data Place : Type 0 where
-  Hunting : (ones : ℕ) → Place
-  Start : Place
-  InBit : (bytes : List ℕ) (byte bits : ℕ) (first : Option Bool) → Place
+pub data Position : Type 0 where
+  Hunting : (ones : ℕ) → Position
+  Start : Position
+  InBit : (bytes : List ℕ) (byte bits : ℕ) (first : Option Bool) → Position
 
 -- no packet is under way
-abbrev pub is_hunting : Place → Bool
+abbrev pub is_hunting : Position → Bool
 is_hunting (Hunting ones) = true
 is_hunting Start = false
 is_hunting (InBit bytes byte bits first) = false

@@ -1,20 +1,20 @@
 use Rattle.std.proofs.Common.{◌≡◌, ◌<◌, ◌≤◌, ℕ, None, Some, List, length, ap, ◌∙◌, subst}
 use Rattle.std.specs.FinMap.{FinMap, get}
 use Rattle.std.specs.Ordering.{nat_cmp}
-use Rattle.slot_table.specs.Index.{places_of, pair_at, with_place}
+use Rattle.slot_table.specs.Index.{addresses_of, pair_at, with_address}
 use Rattle.slot_table.specs.declared.pairs.Pair.{Pair}
-use Rattle.slot_table.proofs.PairPlaces.{absent, removed-places}
-use Rattle.slot_table.proofs.Index.{own_slot, removed-index, with_place-same}
-use Rattle.slot_table.proofs.places.Places.leave.Goals as goal
+use Rattle.slot_table.proofs.PairAddresses.{absent, removed-addresses}
+use Rattle.slot_table.proofs.Indexed.{own_slot, removed-index, with_address-same}
+use Rattle.slot_table.proofs.index.Index.leave.Goals as goal
 
 -- it had none
 pub returns-in_default : goal.returns-in_default
-returns-in_default c = with_place-same c.args.self.now c.args.slot None (c.requires.had ∙ c.in_default.is)
+returns-in_default c = with_address-same c.args.self.now c.args.slot None (c.requires.had ∙ c.in_default.is)
 
 low : (c : goal.After-self-1) → c.in-Ok.k < length c.self.inside.pairs.items
 low c = subst (λ (l : List Pair). c.in-Ok.k < length l) c.as_slice.ensures.value c.in-Ok.ensures.within
 
-at : (c : goal.After-self-1) → get (places_of c.self.inside.pairs.items) c.args.slot ≡ Some c.in-Some.address
+at : (c : goal.After-self-1) → get (addresses_of c.self.inside.pairs.items) c.args.slot ≡ Some c.in-Some.address
 at c = ap (λ (m : FinMap nat_cmp ℕ). get m c.args.slot) c.self.view_is ∙ c.requires.had ∙ c.in-Some.is
 
 own : (c : goal.After-self-1) → (pair_at c.self.inside.pairs.items c.in-Ok.k).slot ≡ c.args.slot
@@ -27,14 +27,14 @@ invariant_of-self c = rw c.remove.ensures.items
 
 pub returns-in-Ok : goal.returns-in-Ok
 returns-in-Ok c =
-    ap places_of c.remove.ensures.items
-    ∙ removed-places c.self.inside.pairs.items c.in-Ok.k (low c) c.self.invariant.apart c.args.slot (own c)
-    ∙ ap (λ (m : FinMap nat_cmp ℕ). with_place m c.args.slot None) c.self.view_is
+    ap addresses_of c.remove.ensures.items
+    ∙ removed-addresses c.self.inside.pairs.items c.in-Ok.k (low c) c.self.invariant.apart c.args.slot (own c)
+    ∙ ap (λ (m : FinMap nat_cmp ℕ). with_address m c.args.slot None) c.self.view_is
 
 -- the address stands somewhere
 pub returns-in_default-position : goal.returns-in_default-position
 returns-in_default-position c =
-    let at : get (places_of c.self.inside.pairs.items) c.args.slot ≡ Some c.in-Some.address = ap (λ (m : FinMap nat_cmp ℕ). get m c.args.slot) c.self.view_is ∙ c.requires.had ∙ c.in-Some.is in
+    let at : get (addresses_of c.self.inside.pairs.items) c.args.slot ≡ Some c.in-Some.address = ap (λ (m : FinMap nat_cmp ℕ). get m c.args.slot) c.self.view_is ∙ c.requires.had ∙ c.in-Some.is in
     absurd (absent c.self.inside.pairs.items c.self.invariant.rising c.self.invariant.apart c.in_default-position.field-0 c.in-Some.address
     (subst (λ (l : List Pair). (i : ℕ) → i < c.in_default-position.field-0 → (pair_at l i).address < c.in-Some.address) c.as_slice.ensures.value c.in_default-position.ensures.below)
     (subst (λ (l : List Pair). (i : ℕ) → c.in_default-position.field-0 ≤ i → i < length l → c.in-Some.address < (pair_at l i).address) c.as_slice.ensures.value c.in_default-position.ensures.above)

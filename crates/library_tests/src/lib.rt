@@ -1,0 +1,32 @@
+//! The tests of the libraries below, a file `test_CRATE.rt` for each: what the standards give as examples, and rows worked
+//! out by hand after them. There is no other code here.
+#![tactic(auto)]
+
+#[cfg(test)]
+mod test_dcc_packet;
+#[cfg(test)]
+mod test_dcc_packet_steps;
+#[cfg(test)]
+mod test_decoder_cv;
+#[cfg(test)]
+mod test_decoder_node;
+#[cfg(test)]
+mod test_decoder_rx;
+#[cfg(test)]
+mod test_half_bits;
+#[cfg(test)]
+mod test_ln_frame;
+#[cfg(test)]
+mod test_ln_ops;
+#[cfg(test)]
+mod test_over_tcp;
+#[cfg(test)]
+mod test_plain_words;
+#[cfg(test)]
+mod test_refresh_ring;
+#[cfg(test)]
+mod test_show_text;
+#[cfg(test)]
+mod test_slot_table;
+#[cfg(test)]
+mod test_station_core;
