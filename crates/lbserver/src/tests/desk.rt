@@ -1,4 +1,4 @@
-//! A server, and what clients on loopback are told, in one thread with it.
+//! A server, and those who are connected to it over loopback, in one thread with it.
 ghost use Rattle.bus_lines.specs.Decoders.{entries_of, specs_of};
 ghost use Rattle.hub.specs.Hubs.{Watches};
 
@@ -9,12 +9,53 @@ use hub::Server;
 use losses::Losses;
 use roster::Roster;
 use std::io::{Read, Write};
-use std::net::{Ipv4Addr, Net, SocketAddr, TcpListener, TcpStream};
+use std::net::{Ipv4Addr, Net, Shutdown, SocketAddr, TcpListener, TcpStream};
 use std::process::Abort;
 use std::test::Fail;
 
 /// What a client is told when it joins.
 pub(crate) const VERSION: &'static str = "VERSION lbserver station\r\n";
+
+pub(crate) const TAKE_3: &'static str = "RECEIVE BF 00 03 43\r\n";
+
+pub(crate) const SLOT_1: &'static str = "RECEIVE E7 0E 01 23 03 00 00 06 00 00 00 00 00 31\r\n";
+
+pub(crate) const POWER_ON: &'static str = "RECEIVE 83 7C\r\n";
+
+pub(crate) const POWER_OFF: &'static str = "RECEIVE 82 7D\r\n";
+
+pub(crate) const OK: &'static str = "SENT OK\r\n";
+
+/// What is served as the page.
+pub(crate) const PAGE: &'static str = "<!DOCTYPE html><title>Station</title>";
+
+/// The most connections of a scene.
+const MOST: usize = 17;
+
+/// What happens at a desk. A connection is told by its number, below 17.
+#[derive(Clone, Copy, Debug)]
+pub(crate) enum Step {
+    /// A program connects.
+    Connects(usize),
+    /// A browser connects.
+    Browses(usize),
+    /// It writes these bytes, and is heard.
+    Says(usize, &'static [u8]),
+    /// It is told just these texts next.
+    Hears(usize, &'static [&'static str]),
+    /// It is told just these messages next: frames of text, not masked (RFC 6455, section 5.2).
+    IsTold(usize, &'static [&'static str]),
+    /// It is told nothing more: what it reads next is the end.
+    HearsTheEnd(usize),
+    /// It ends the connection both ways.
+    Leaves(usize),
+    /// It is gone, whatever it could still have read.
+    IsGone(usize),
+    /// So many microseconds after the start, so many rounds.
+    At(u64, u32),
+    /// This was printed so far.
+    Printed(&'static str),
+}
 
 /// A server on a port of its own, with turns behind messages and not in time.
 #[derive(Drop)]
@@ -22,43 +63,34 @@ pub(crate) struct Desk<'a> {
     pub(crate) server: Server,
     pub(crate) sockets: Sockets,
     pub(crate) printer: Printer<'a, Vec<u8>>,
+    /// Those who are connected.
+    pub(crate) streams: [Option<TcpStream>; MOST],
     /// The microseconds since the start.
-    pub(crate) now: u64,
+    now: u64,
     ghost watched: { Watches (specs_of (entries_of printer.roster)) server.hub },
 }
 
 impl<'a> Desk<'a> {
-    /// A layout without decoders.
-    pub(crate) fn new(rt: &HostRuntime, turns: u8) -> Result<Desk<'a>, Fail> {
-        Desk::of(rt, turns, None)
-    }
-
-    /// A layout with the decoders of a roster, if there is one.
-    pub(crate) fn of(
+    /// A layout with the decoders of a roster, if there is one, and its page.
+    pub(crate) fn new(
         rt: &HostRuntime,
         turns: u8,
         roster: Option<&'a Roster>,
     ) -> Result<Desk<'a>, Fail> {
         let server = Server::new(rt.alloc(), decoders(roster), Some(turns), Losses::new(0, 0))?;
         let printer = Printer::new(Vec::new(rt.alloc()), roster, true, server.world());
+        let mut sockets = Sockets::bind(rt, loopback())?;
+        sockets.bind_page(rt, loopback(), PAGE.as_bytes())?;
         Ok(Desk {
             server,
-            sockets: Sockets::bind(rt, loopback())?,
+            sockets,
             printer,
+            streams: [
+                None, None, None, None, None, None, None, None, None, None, None, None, None, None,
+                None, None, None,
+            ],
             now: 0,
         })
-    }
-
-    /// A client, which is told the version.
-    pub(crate) fn client<R: Net<Listener = TcpListener, Stream = TcpStream> + AllocGlobal + Abort>(
-        &mut self,
-        rt: &R,
-    ) -> Result<TcpStream, Fail> {
-        let mut client = TcpStream::connect(rt, self.sockets.address()?)?;
-        client.set_nodelay(true)?;
-        self.rounds(4)?;
-        hears(rt, &mut client, &[VERSION])?;
-        Ok(client)
     }
 
     /// So many rounds.
@@ -71,43 +103,131 @@ impl<'a> Desk<'a> {
         Ok(())
     }
 
-    /// A client says this, and it is heard.
-    pub(crate) fn say(&mut self, client: &mut TcpStream, text: &[u8]) -> Result<(), Fail> {
-        client.write_all(text)?;
+    /// What happens here, one after another.
+    pub(crate) fn play<R: Net<Listener = TcpListener, Stream = TcpStream> + AllocGlobal + Abort>(
+        &mut self,
+        rt: &R,
+        steps: &[Step],
+    ) -> Result<(), Fail> {
+        for step in steps {
+            self.step(rt, step)?;
+        }
+        Ok(())
+    }
+
+    fn step<R: Net<Listener = TcpListener, Stream = TcpStream> + AllocGlobal + Abort>(
+        &mut self,
+        rt: &R,
+        step: &Step,
+    ) -> Result<(), Fail> {
+        match step {
+            Step::Connects(who) => self.connect(rt, *who, self.sockets.address()?),
+            Step::Browses(who) => {
+                let address = self.sockets.page_address().ok_or("no page")??;
+                self.connect(rt, *who, address)
+            }
+            Step::At(now, rounds) => {
+                self.now = *now;
+                self.rounds(*rounds)
+            }
+            Step::Printed(text) => {
+                assert!(rt;
+                    self.printer.output().as_slice() == text.as_bytes(),
+                    "{text}"
+                );
+                Ok(())
+            }
+            Step::IsGone(who) => {
+                self.streams[*who] = None;
+                self.rounds(4)
+            }
+            Step::Says(who, text) => self.say(*who, text),
+            Step::Hears(who, _)
+            | Step::IsTold(who, _)
+            | Step::HearsTheEnd(who)
+            | Step::Leaves(who) => {
+                hear(rt, self.stream(*who)?, step)?;
+                self.rounds(4)
+            }
+        }
+    }
+
+    /// Somebody connects, and is let in.
+    fn connect<R: Net<Listener = TcpListener, Stream = TcpStream>>(
+        &mut self,
+        rt: &R,
+        who: usize,
+        address: SocketAddr,
+    ) -> Result<(), Fail> {
+        let stream = TcpStream::connect(rt, address)?;
+        stream.set_nodelay(true)?;
+        *self.streams.get_mut(who).ok_or("nobody")? = Some(stream);
         self.rounds(4)
+    }
+
+    /// Somebody writes this, and is heard.
+    pub(crate) fn say(&mut self, who: usize, text: &[u8]) -> Result<(), Fail> {
+        self.stream(who)?.write_all(text)?;
+        self.rounds(4)
+    }
+
+    /// The stream of one who is connected.
+    pub(crate) fn stream(&mut self, who: usize) -> Result<&mut TcpStream, Fail> {
+        match self.streams.get_mut(who) {
+            Some(Some(stream)) => Ok(stream),
+            _ => Err(Fail::from("nobody")),
+        }
     }
 }
 
 /// A port of its own on this machine.
-pub(crate) fn loopback() -> SocketAddr {
+fn loopback() -> SocketAddr {
     SocketAddr::from((Ipv4Addr::LOCALHOST, 0))
 }
 
-/// A client is told just these lines next.
-pub(crate) fn hears<R: AllocGlobal + Abort>(
-    rt: &R,
-    client: &mut TcpStream,
-    lines: &[&str],
-) -> Result<(), Fail> {
-    for line in lines {
-        let mut told = Vec::from_elem(rt.alloc(), 0, line.len())?;
-        client.read_exact(told.as_mut_slice())?;
-        assert!(rt; told.as_slice() == line.as_bytes(), "{line}");
+/// What one who is connected hears, or does to its stream alone.
+fn hear<R: AllocGlobal + Abort>(rt: &R, stream: &mut TcpStream, step: &Step) -> Result<(), Fail> {
+    match step {
+        Step::Hears(_, texts) => {
+            for text in *texts {
+                hears(rt, stream, text)?;
+            }
+        }
+        Step::IsTold(_, messages) => {
+            for message in *messages {
+                is_told(rt, stream, message)?;
+            }
+        }
+        Step::HearsTheEnd(_) => assert!(rt; stream.read(&mut [0; 1])? == 0),
+        Step::Leaves(_) => stream.shutdown(Shutdown::Both)?,
+        _ => {}
     }
     Ok(())
 }
 
-/// A client is told nothing more: its next byte is behind the end.
-pub(crate) fn hears_the_end(client: &mut TcpStream) -> Result<bool, Fail> {
-    Ok(client.read(&mut [0; 1])? == 0)
+/// Somebody is told just this text next.
+pub(crate) fn hears<R: AllocGlobal + Abort>(
+    rt: &R,
+    stream: &mut TcpStream,
+    text: &str,
+) -> Result<(), Fail> {
+    let mut told = Vec::from_elem(rt.alloc(), 0, text.len())?;
+    stream.read_exact(told.as_mut_slice())?;
+    assert!(rt; told.as_slice() == text.as_bytes(), "{text}");
+    Ok(())
 }
 
-pub(crate) const TAKE_3: &'static str = "RECEIVE BF 00 03 43\r\n";
-
-pub(crate) const SLOT_1: &'static str = "RECEIVE E7 0E 01 23 03 00 00 06 00 00 00 00 00 31\r\n";
-
-pub(crate) const POWER_ON: &'static str = "RECEIVE 83 7C\r\n";
-
-pub(crate) const POWER_OFF: &'static str = "RECEIVE 82 7D\r\n";
-
-pub(crate) const OK: &'static str = "SENT OK\r\n";
+/// A page is told just this message next.
+fn is_told<R: AllocGlobal + Abort>(
+    rt: &R,
+    page: &mut TcpStream,
+    message: &str,
+) -> Result<(), Fail> {
+    let mut head = [0; 2];
+    page.read_exact(&mut head)?;
+    assert!(rt;
+        head[0] == 0x81 && usize::from(head[1]) == message.len(),
+        "{message}"
+    );
+    hears(rt, page, message)
+}

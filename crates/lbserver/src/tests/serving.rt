@@ -1,113 +1,132 @@
-//! Clients on loopback, in one thread with the server.
+//! Programs that are clients.
 
-use crate::tests::desk::{Desk, OK, POWER_OFF, POWER_ON, SLOT_1, TAKE_3, hears, hears_the_end};
+use crate::tests::desk::Step::{At, Connects, Hears, HearsTheEnd, IsGone, Leaves, Printed, Says};
+use crate::tests::desk::{Desk, OK, POWER_OFF, POWER_ON, SLOT_1, Step, TAKE_3, VERSION, hears};
 use std::io::{Read, Write};
-use std::net::{Shutdown, TcpStream};
 use std::test::Fail;
 
-#[test]
-fn two_clients_speak_in_each_others_lines(rt: HostRuntime) -> Result<(), Fail> {
-    let mut desk = Desk::new(&rt, 0)?;
-    let mut first = desk.client(&rt)?;
-    let mut second = desk.client(&rt)?;
-    desk.say(&mut first, b"SEND BF 0")?;
-    desk.say(&mut second, b"SEND 8")?;
-    desk.say(&mut first, b"0 03 43\r")?;
-    desk.say(&mut second, b"3 7D\nSEND 83 7C\r\n")?;
-    hears(&rt, &mut first, &[TAKE_3, OK, SLOT_1, POWER_ON])?;
-    hears(
-        &rt,
-        &mut second,
+const NO_MESSAGE: &'static str = "SENT ERROR no whole message\r\n";
+
+/// Two clients speak in each other's lines.
+const INTERLEAVED: &'static [Step] = &[
+    Connects(0),
+    Connects(1),
+    Says(0, b"SEND BF 0"),
+    Says(1, b"SEND 8"),
+    Says(0, b"0 03 43\r"),
+    Says(1, b"3 7D\nSEND 83 7C\r\n"),
+    Hears(0, &[VERSION, TAKE_3, OK, SLOT_1, POWER_ON]),
+    Hears(
+        1,
         &[
+            VERSION,
             TAKE_3,
             SLOT_1,
             "SENT ERROR wrong check byte\r\n",
             POWER_ON,
             OK,
         ],
-    )
+    ),
+];
+
+/// A line goes with its client, and another takes its place.
+const GOES_IN_MID_LINE: &'static [Step] = &[
+    Connects(0),
+    Connects(1),
+    Says(1, b"SEND 83"),
+    Leaves(1),
+    Connects(2),
+    Says(2, b" 7C\nSEND 82 7D\n"),
+    Hears(2, &[VERSION, POWER_OFF, OK]),
+    Hears(0, &[VERSION, POWER_OFF]),
+    Printed(
+        "client 1 joins\nclient 2 joins\nclient 2 leaves\nclient 2 joins\nmsg 82 7D power off\n",
+    ),
+];
+
+/// A ninth is turned away.
+const NINTH: &'static [Step] = &[
+    Connects(0),
+    Connects(1),
+    Connects(2),
+    Connects(3),
+    Connects(4),
+    Connects(5),
+    Connects(6),
+    Connects(7),
+    Connects(8),
+    Hears(8, &["ERROR no place\r\n"]),
+    HearsTheEnd(8),
+];
+
+/// A client that is gone while it still has text to read is reset, and costs itself alone.
+const RESET: &'static [Step] = &[
+    Connects(0),
+    Connects(1),
+    Says(1, b"SEND 83 7C\n"),
+    IsGone(1),
+    Says(0, b"SEND 82 7D\n"),
+    Hears(0, &[VERSION, POWER_ON, POWER_OFF, OK]),
+];
+
+/// Behind each message come its turns, three here, and none else.
+const TURNS: &'static [Step] = &[
+    Connects(0),
+    Says(0, b"SEND 85 7A\nSEND 83 7C\nSEND 85 7A\n"),
+    At(0, 20),
+    Printed(
+        "client 1 joins\nmsg 85 7A force idle\nmsg 83 7C power on\nmsg 85 7A force idle\ntrack 7 00 51 51\ntrack 8 00 51 51\ntrack 9 00 51 51\n",
+    ),
+];
+
+/// What happens, and the turns behind each message.
+const SCENES: [(&'static [Step], u8); 5] = [
+    (INTERLEAVED, 0),
+    (GOES_IN_MID_LINE, 0),
+    (NINTH, 0),
+    (RESET, 0),
+    (TURNS, 3),
+];
+
+#[test]
+fn programs(rt: HostRuntime) -> Result<(), Fail> {
+    for (steps, turns) in SCENES {
+        Desk::new(&rt, turns, None)?.play(&rt, steps)?;
+    }
+    Ok(())
 }
 
 /// Eight clients say half a line each, and then the other half, in the other order.
 #[test]
 fn eight_clients_are_told_all(rt: HostRuntime) -> Result<(), Fail> {
-    let mut desk = Desk::new(&rt, 0)?;
-    let mut clients = Vec::with_capacity(rt.alloc(), 8)?;
-    for _client in 0..8u8 {
-        clients.push(desk.client(&rt)?)?;
+    let mut desk = Desk::new(&rt, 0, None)?;
+    for client in 0..8usize {
+        desk.play(&rt, &[Connects(client), Says(client, b"SEND 8")])?;
     }
-    for client in clients.as_mut_slice() {
-        desk.say(client, b"SEND 8")?;
+    for client in 0..8usize {
+        desk.play(&rt, &[Says(7 - client, b"2 7D\n")])?;
     }
-    for client in clients.as_mut_slice().iter_mut().rev() {
-        desk.say(client, b"2 7D\n")?;
-    }
-    let mut own = 8u8;
-    for client in clients.as_mut_slice() {
-        own = own.saturating_sub(1);
-        for said in 0..8u8 {
-            hears(&rt, client, &[POWER_OFF])?;
-            if said == own {
-                hears(&rt, client, &[OK])?;
+    for client in 0..8usize {
+        desk.play(&rt, &[Hears(client, &[VERSION])])?;
+        for said in 0..8usize {
+            let texts: &[&str] = if said + client == 7 {
+                &[POWER_OFF, OK]
+            } else {
+                &[POWER_OFF]
+            };
+            for text in texts {
+                hears(&rt, desk.stream(client)?, text)?;
             }
         }
     }
     Ok(())
 }
 
-#[test]
-fn a_line_goes_with_its_client(rt: HostRuntime) -> Result<(), Fail> {
-    let mut desk = Desk::new(&rt, 0)?;
-    let mut other = desk.client(&rt)?;
-    let mut first = desk.client(&rt)?;
-    desk.say(&mut first, b"SEND 83")?;
-    first.shutdown(Shutdown::Both)?;
-    desk.rounds(4)?;
-    let mut second = desk.client(&rt)?;
-    desk.say(&mut second, b" 7C\nSEND 82 7D\n")?;
-    hears(&rt, &mut second, &[POWER_OFF, OK])?;
-    hears(&rt, &mut other, &[POWER_OFF])?;
-    assert!(rt;
-        desk.printer.output().as_slice()
-            == b"client 1 joins\nclient 2 joins\nclient 2 leaves\nclient 2 joins\nmsg 82 7D power off\n".as_slice()
-    );
-    Ok(())
-}
-
-#[test]
-fn a_ninth_is_turned_away(rt: HostRuntime) -> Result<(), Fail> {
-    let mut desk = Desk::new(&rt, 0)?;
-    let mut clients = Vec::with_capacity(rt.alloc(), 8)?;
-    for _client in 0..8u8 {
-        clients.push(desk.client(&rt)?)?;
-    }
-    let mut ninth = TcpStream::connect(&rt, desk.sockets.address()?)?;
-    desk.rounds(4)?;
-    hears(&rt, &mut ninth, &["ERROR no place\r\n"])?;
-    assert!(rt; hears_the_end(&mut ninth)?);
-    Ok(())
-}
-
-/// A client that is gone while it still has text to read is reset, and costs itself alone.
-#[test]
-fn a_reset_costs_one(rt: HostRuntime) -> Result<(), Fail> {
-    let mut desk = Desk::new(&rt, 0)?;
-    let mut other = desk.client(&rt)?;
-    {
-        let mut first = TcpStream::connect(&rt, desk.sockets.address()?)?;
-        desk.say(&mut first, b"SEND 83 7C\n")?;
-    }
-    desk.say(&mut other, b"SEND 82 7D\n")?;
-    desk.rounds(8)?;
-    hears(&rt, &mut other, &[POWER_ON, POWER_OFF, OK])
-}
-
 /// One client never reads, and goes when 65,536 bytes wait behind what the system keeps; another drives on.
 #[test]
 fn who_never_reads_is_let_go(rt: HostRuntime) -> Result<(), Fail> {
-    let mut desk = Desk::new(&rt, 0)?;
-    let mut driver = desk.client(&rt)?;
-    let _lazy = desk.client(&rt)?;
+    let mut desk = Desk::new(&rt, 0, None)?;
+    desk.play(&rt, &[Connects(0), Connects(1), Hears(0, &[VERSION])])?;
     // A message that brings as many bytes as a line can.
     let mut message = Vec::new(rt.alloc());
     message.extend_from_slice(b"SEND E5 7F")?;
@@ -116,10 +135,10 @@ fn who_never_reads_is_let_go(rt: HostRuntime) -> Result<(), Fail> {
     }
     message.extend_from_slice(b" 65\n")?;
     for _message in 0..40_000u32 {
-        driver.write_all(message.as_slice())?;
+        desk.stream(0)?.write_all(message.as_slice())?;
         desk.rounds(1)?;
         let mut told = [0; 399];
-        driver.read_exact(&mut told)?;
+        desk.stream(0)?.read_exact(&mut told)?;
         assert!(rt;
             told.as_slice().starts_with(b"RECEIVE E5 7F")
                 && told.as_slice().ends_with(b"SENT OK\r\n")
@@ -135,48 +154,34 @@ fn who_never_reads_is_let_go(rt: HostRuntime) -> Result<(), Fail> {
 /// A megabyte without the end of a line asks nothing, and holds nobody up.
 #[test]
 fn a_flood_holds_nobody_up(rt: HostRuntime) -> Result<(), Fail> {
-    let mut desk = Desk::new(&rt, 0)?;
-    let mut flood = desk.client(&rt)?;
-    let mut driver = desk.client(&rt)?;
+    let mut desk = Desk::new(&rt, 0, None)?;
+    desk.play(&rt, &[Connects(0), Connects(1)])?;
     let piece = [b'S'; 1024];
     for _piece in 0..1024u32 {
-        flood.write_all(&piece)?;
+        desk.stream(0)?.write_all(&piece)?;
         desk.rounds(3)?;
     }
-    desk.say(&mut driver, b"SEND 82 7D\n")?;
-    hears(&rt, &mut driver, &[POWER_OFF, OK])?;
-    desk.say(&mut flood, b"\nSEND 83 7C\n")?;
-    hears(&rt, &mut flood, &[POWER_OFF, POWER_ON, OK])
+    desk.play(
+        &rt,
+        &[
+            Says(1, b"SEND 82 7D\n"),
+            Hears(1, &[VERSION, POWER_OFF, OK]),
+            Says(0, b"\nSEND 83 7C\n"),
+            Hears(0, &[VERSION, POWER_OFF, POWER_ON, OK]),
+        ],
+    )
 }
 
 /// A text asks the same wherever it is cut.
 #[test]
 fn text_in_every_cut(rt: HostRuntime) -> Result<(), Fail> {
     let text = b"SEND 82 7D\r\n\r\nhello\nSEND 83\n";
-    let mut desk = Desk::new(&rt, 0)?;
-    let mut client = desk.client(&rt)?;
+    let mut desk = Desk::new(&rt, 0, None)?;
+    desk.play(&rt, &[Connects(0), Hears(0, &[VERSION])])?;
     for cut in 0..=text.len() {
-        desk.say(&mut client, &text[..cut])?;
-        desk.say(&mut client, &text[cut..])?;
-        hears(
-            &rt,
-            &mut client,
-            &[POWER_OFF, OK, "SENT ERROR no whole message\r\n"],
-        )?;
+        desk.say(0, &text[..cut])?;
+        desk.say(0, &text[cut..])?;
+        desk.play(&rt, &[Hears(0, &[POWER_OFF, OK, NO_MESSAGE])])?;
     }
-    Ok(())
-}
-
-/// Behind each message come its turns, and none else.
-#[test]
-fn turns_follow_messages(rt: HostRuntime) -> Result<(), Fail> {
-    let mut desk = Desk::new(&rt, 3)?;
-    let mut client = desk.client(&rt)?;
-    desk.say(&mut client, b"SEND 85 7A\nSEND 83 7C\nSEND 85 7A\n")?;
-    desk.rounds(20)?;
-    assert!(rt;
-        desk.printer.output().as_slice()
-            == b"client 1 joins\nmsg 85 7A force idle\nmsg 83 7C power on\nmsg 85 7A force idle\ntrack 7 00 51 51\ntrack 8 00 51 51\ntrack 9 00 51 51\n".as_slice()
-    );
     Ok(())
 }
