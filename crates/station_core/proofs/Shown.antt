@@ -1,6 +1,6 @@
 -- What OPC_RQ_SL_DATA is answered for a slot, by the row of the slot.
 use Rattle.std.proofs.Common.{◌≡◌, ◌≢◌, ℕ, zero, suc, ◌<◌, ◌≤◌, ◌+◌, ◌*◌, ◌/◌, ◌%◌, ◌==◌, ◌&&◌, ◌||◌, nat_lt, nat_le, Bool, true, false, not, if◌then◌else◌, List, [], ◌∷◌, Option, Some, None, Result, Ok, Err, is_some, is_none, is_ok, IsSomeAnd, refl, ap, sym, subst, ◌∙◌, arith, eqb-true, eq-eqb, ne_eqb, le-leb}
-use Rattle.std.proofs.lemmas.Bool.{and_parts, and_from, both_ways, or_parts, leb-true, eqb-false}
+use Rattle.std.proofs.lemmas.Bool.{and_parts, and_from, both_ways, leb-true, eqb-false}
 use Rattle.std.proofs.lemmas.Bool.Decides.{nat_tests}
 use Rattle.std.specs.Prelude.{slice_index, slice_set, find}
 use Rattle.std.specs.FinMap.{get}
@@ -412,18 +412,25 @@ module _ (slot : ℕ) (inside : is_slot slot ≡ true) (powered : PoweredDesk) (
   refused Other opc waiting h = absurd cc
 
   -- a message for another slot
-  other_move : (src dest : ℕ) → (src == slot) ≡ false → (dest == slot) ≡ false → move_answer powered.desk src dest ≢ Ok slot → ReadsAs powered.desk (after_move powered.desk src dest) slot
-  other_move src dest a b not = by_tests (src == 0) (src == dest) (dest == 0) not
-    where
-      away : (n : ℕ) → (n == slot) ≡ false → slot ≢ n
-      away n e same = both_ways (n == slot) e (eq-eqb n slot (sym same))
+  away : (n : ℕ) → (n == slot) ≡ false → slot ≢ n
+  away n e same = both_ways (n == slot) e (eq-eqb n slot (sym same))
 
+  other_shift : (src dest : ℕ) → (src == slot) ≡ false → slot_if (can_shift powered.desk src dest) dest ≢ Ok slot → ReadsAs powered.desk (after_shift powered.desk src dest) slot
+  other_shift src dest e = by_test (can_shift powered.desk src dest) refl
+    where
+      by_test : (b : Bool) → can_shift powered.desk src dest ≡ b → slot_if b dest ≢ Ok slot → ReadsAs powered.desk (after_shift powered.desk src dest) slot
+      by_test true can not = stay.shift src dest (away src e) (λ same. not (ap Ok (sym same)))
+      by_test false can not = rw can refl
+
+  other_move : (src dest : ℕ) → (src == slot) ≡ false → move_answer powered.desk src dest ≢ Ok slot → ReadsAs powered.desk (after_move powered.desk src dest) slot
+  other_move src dest e = by_tests (src == 0) (src == dest) (dest == 0)
+    where
       by_tests : (x y z : Bool) → (if x then dispatch_get_answer powered.desk.mark else (if y then slot_if (is_placed powered.desk src) src else (if z then slot_if (is_placed powered.desk src) src else slot_if (can_shift powered.desk src dest) dest))) ≢ Ok slot
           → ReadsAs powered.desk (if x then after_dispatch_get powered.desk else (if y then after_null_move powered.desk src else (if z then after_dispatch_put powered.desk src else after_shift powered.desk src dest))) slot
-      by_tests true y z not = stay.dispatch_get (λ e. not (ap dispatch_get_answer e))
-      by_tests false true z not = stay.null_move src (away src a)
-      by_tests false false true not = stay.dispatch_put src (away src a)
-      by_tests false false false not = stay.shift src dest (away src a) (away dest b)
+      by_tests true y z not = stay.dispatch_get (λ marked_so. not (ap dispatch_get_answer marked_so))
+      by_tests false true z not = stay.null_move src (away src e)
+      by_tests false false true not = stay.dispatch_put src (away src e)
+      by_tests false false false not = other_shift src dest e not
 
   -- no byte shows F9 to F12
   more_hidden : (more : Option More) → read_of (record { power = powered.power; desk = with_more powered.desk more }) slot ≡ read_of powered slot
@@ -444,8 +451,7 @@ module _ (slot : ℕ) (inside : is_slot slot ≡ true) (powered : PoweredDesk) (
   others (Snd n snd) ne none = keeps slot inside powered (after_field powered.desk n (field.Snd snd)) (other_field n (field.Snd snd) ne)
   others (SlotStat n stat) ne none = keeps slot inside powered (after_field powered.desk n (field.Stat stat)) (other_field n (field.Stat stat) ne)
   others (Move src dest) ne none =
-      let parts = or_parts (src == slot) (dest == slot) ne in
-      keeps slot inside powered (after_move powered.desk src dest) (other_move src dest parts.0 parts.1 (not_given slot 0x3A (after powered (Move src dest)) (move_answer powered.desk src dest) none))
+      keeps slot inside powered (after_move powered.desk src dest) (other_move src dest ne (not_given slot 0x3A (after powered (Move src dest)) (move_answer powered.desk src dest) none))
   others (LocoAddr high low) ne none =
       keeps slot inside powered (after_take powered.desk (address_with high low)) (stay.take (address_with high low) (not_given slot 0x3F (after powered (LocoAddr high low)) (take_answer powered.desk (address_with high low)) none))
   others (SlotWrite f) ne none = keeps slot inside powered (after_write powered.desk f) (stay.write f (λ same. both_ways (f.slot == slot) ne (eq-eqb f.slot slot (sym same))))

@@ -1,5 +1,5 @@
 -- What OPC_RQ_SL_DATA is answered for a slot after each message, byte by byte (LocoNet, slot data).
-use Rattle.std.specs.Prelude.{ℕ, ◌≡◌, ◌≢◌, ◌<◌, ◌+◌, ◌*◌, ◌%◌, ◌==◌, ◌||◌, Bool, true, false, List, [], ◌∷◌, Option, Some, None, slice_index, slice_set}
+use Rattle.std.specs.Prelude.{ℕ, ◌≡◌, ◌≢◌, ◌<◌, ◌+◌, ◌*◌, ◌%◌, ◌==◌, Bool, true, false, List, [], ◌∷◌, Option, Some, None, slice_index, slice_set}
 use Rattle.ln_ops.specs.Fields.{SlotBytes, AreData}
 use Rattle.ln_ops.specs.Reply.{body_of}
 use Rattle.ln_ops.specs.Slot.{is_held, is_stat, state_of}
@@ -78,7 +78,7 @@ is_field (Snd n snd) = true
 is_field (SlotStat n stat) = true
 is_field _ = false
 
--- the message is for this slot; TRK stands in each
+-- the message is for this slot, or goes from it; TRK stands in each
 abbrev pub names : Op → ℕ → Bool
 names PowerOff slot = true
 names PowerOn slot = true
@@ -87,7 +87,7 @@ names (Speed n spd) slot = n == slot
 names (Dirf n dirf) slot = n == slot
 names (Snd n snd) slot = n == slot
 names (SlotStat n stat) slot = n == slot
-names (Move src dest) slot = (src == slot) || (dest == slot)
+names (Move src dest) slot = src == slot
 names (SlotWrite fields) slot = fields.slot == slot
 names _ slot = false
 
