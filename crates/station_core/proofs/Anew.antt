@@ -72,7 +72,7 @@ all_of n kind.GroupTwo = (2, omega arith, refl)
 all_of n kind.GroupThree = (3, omega arith, refl)
 
 -- a free slot has no entry to change
-unplaced : (desk : Desk) (n : ℕ) (f : Entry → Entry) → is_placed desk n ≡ false → changed desk n f ≡ desk
+pub unplaced : (desk : Desk) (n : ℕ) (f : Entry → Entry) → is_placed desk n ≡ false → changed desk n f ≡ desk
 unplaced desk n f = by_place (get desk.place n) where
   by_place : (place : Option ℕ) → is_some place ≡ false → change_at desk f place ≡ desk
   by_place None e = refl

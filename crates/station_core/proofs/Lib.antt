@@ -8,6 +8,7 @@ pub mod Follows
 pub mod Functions
 pub mod Framed
 pub mod Picks
+pub mod Shown
 pub mod Rounds
 pub mod Sent
 pub mod Short

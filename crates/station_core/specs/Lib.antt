@@ -14,6 +14,7 @@ pub mod Neighbours
 pub mod Packets
 pub mod Powered
 pub mod Promises
+pub mod Reads
 pub mod Refreshed
 pub mod Runs
 pub mod Seen

@@ -20,8 +20,8 @@ pub use laws::{
     switches_in_order,
 };
 pub use meaning::{
-    functions_are_bits, group_three_is_asked, off_ends_by_power_on, packets_are_carried,
-    what_is_new_waits, whole_slots_wait,
+    functions_are_bits, group_three_is_asked, messages_write_their_bytes, off_ends_by_power_on,
+    packets_are_carried, what_is_new_waits, whole_slots_wait,
 };
 pub use refresh_ring::{Kind, Power};
 pub use station::{Station, StationFault};

@@ -17,10 +17,11 @@ ghost use Rattle.station_core.specs.Carried.{can_carry, carried_by, carrying};
 ghost use Rattle.station_core.specs.Immediate.{more_asked, with_more};
 ghost use Rattle.station_core.specs.Meaning.{AskMore, IsNew, LeavesSlot, WaitsAfter, asked_bits, bits_of_slot};
 ghost use Rattle.station_core.specs.Powered.{HasDesk, PoweredDesk};
+ghost use Rattle.station_core.specs.Reads.{WritesItsBytes};
 ghost use Rattle.station_core.specs.Seen.{Seen};
 
 use crate::laws::changes_wait;
-use slot_table::{others_stay, own_slots};
+use slot_table::{others_stay, own_slots, rows_are_legal};
 
 /// A slot asks for F0 to F12 bit by bit, and for no function above. Bit 5 of DIRF is the direction, 0 forward.
 pub fn functions_are_bits()
@@ -65,3 +66,13 @@ pub fn packets_are_carried()
 pub fn off_ends_by_power_on()
     ensures { (op : OpOf) → op ≢ PowerOn → power_after Off op ≡ Off }
 {}
+
+/// What OPC_RQ_SL_DATA is answered for a slot after each message is what it was answered before, but for the bytes that
+/// the message writes.
+pub fn messages_write_their_bytes()
+    ensures { (powered : PoweredDesk) (slot : ℕ) → HasDesk powered → IsSlot slot → WritesItsBytes powered slot }
+{
+    rows_are_legal();
+    others_stay();
+    own_slots();
+}
