@@ -33,7 +33,7 @@ pub struct Bus {
 
 impl Bus {
     ghost use Rattle.layout_core.specs.Nodes.{node_of, spec_of};
-    ghost use Rattle.layout_core.specs.World.{HaveHeard};
+    ghost use Rattle.layout_core.specs.World.{HaveHeard, IsSameLayout};
     ghost use Rattle.station_core.specs.Moved.{packet_of_turn};
     ghost use Rattle.station_core.specs.Powered.{HasDesk};
     ghost use Rattle.station_core.specs.Seen.{known_of};
@@ -95,7 +95,7 @@ impl Bus {
         ensures told { result ≡ told_by (seen_of self.old) event }
         // The decoders hear what the layout does, and nothing else.
         ensures nodes { HaveHeard self.old.world.station (layout_event (seen_of self.old) event) self.old.world.nodes self.new.world.nodes }
-        ensures specs { map spec_of self.new.world.nodes ≡ map spec_of self.old.world.nodes }
+        ensures same { IsSameLayout self.old.world self.new.world }
     {
         match event {
             Event::Joins { client } => {
@@ -119,7 +119,7 @@ impl Bus {
         ensures bus { seen_of self.new ≡ after_events (seen_of self.old) events.now }
         ensures told { told.new ≡ told_of (seen_of self.old) events.now }
         ensures nodes { HaveHeard self.old.world.station (layout_events (seen_of self.old) events.now) self.old.world.nodes self.new.world.nodes }
-        ensures specs { map spec_of self.new.world.nodes ≡ map spec_of self.old.world.nodes }
+        ensures same { IsSameLayout self.old.world self.new.world }
         // The layout is that of the events of its own that these are.
         ensures layout { self.new.world.station ≡ played self.old.world.station (layout_events (seen_of self.old) events.now) }
         // The turns are those of the time that passed.
@@ -152,7 +152,7 @@ impl Bus {
         ensures bus { seen_of self.new ≡ after_event (seen_of self.old) (Event.Hears client byte) }
         ensures told { result ≡ told_by (seen_of self.old) (Event.Hears client byte) }
         ensures nodes { HaveHeard self.old.world.station (layout_event (seen_of self.old) (Event.Hears client byte)) self.old.world.nodes self.new.world.nodes }
-        ensures specs { map spec_of self.new.world.nodes ≡ map spec_of self.old.world.nodes }
+        ensures same { IsSameLayout self.old.world self.new.world }
     {
         let ask = match &mut self.clients[usize::from(client)] {
             Some(reader) => reader.push(byte),
@@ -178,7 +178,7 @@ impl Bus {
         ensures bus { seen_of self.new ≡ after_event (seen_of self.old) (Event.Passes micros missed) }
         ensures told { result ≡ told_by (seen_of self.old) (Event.Passes micros missed) }
         ensures nodes { HaveHeard self.old.world.station (layout_event (seen_of self.old) (Event.Passes micros missed)) self.old.world.nodes self.new.world.nodes }
-        ensures specs { map spec_of self.new.world.nodes ≡ map spec_of self.old.world.nodes }
+        ensures same { IsSameLayout self.old.world self.new.world }
     {
         let micros = u32::from(micros);
         if self.left <= micros {
@@ -195,7 +195,7 @@ impl Bus {
         ensures bus { seen_of self.new ≡ turned (seen_of self.old) micros }
         ensures told { result ≡ Told.Turned (packet_of_turn self.old.world.station) }
         ensures nodes { HaveHeard self.old.world.station (turn_of missed) self.old.world.nodes self.new.world.nodes }
-        ensures specs { map spec_of self.new.world.nodes ≡ map spec_of self.old.world.nodes }
+        ensures same { IsSameLayout self.old.world self.new.world }
     {
         let packet = turn(&mut self.world, missed);
         self.left = self.left + lasts(packet.as_ref()) - micros;

@@ -1,8 +1,7 @@
 //! A whole message on a line of the layout.
-ghost use Rattle.std.specs.Prelude.{◌≡◌, ◌<◌, [], length, map, replicate, Some};
-ghost use Rattle.layout_core.specs.Nodes.{spec_of};
+ghost use Rattle.std.specs.Prelude.{◌≡◌, ◌<◌, [], length, replicate, Some};
 ghost use Rattle.layout_core.specs.Played.{after_event, answer_to};
-ghost use Rattle.layout_core.specs.World.{HaveHeard};
+ghost use Rattle.layout_core.specs.World.{HaveHeard, IsSameLayout};
 ghost use Rattle.station_core.specs.Moved.{after_message};
 ghost use Rattle.bus.specs.Bus.{message_in, reply_to};
 ghost use Rattle.bus.specs.Layout.{bytes_on};
@@ -21,7 +20,7 @@ pub(crate) fn send(world: &mut World, line: u8, message: &Msg) -> Option<Msg>
     ensures station { world.new.station ≡ after_message world.old.station (Some message.now) }
     ensures reply { result ≡ reply_to world.old.station message.now }
     ensures nodes { HaveHeard world.old.station (bytes_on line message.now) world.old.nodes world.new.nodes }
-    ensures specs { map spec_of world.new.nodes ≡ map spec_of world.old.nodes }
+    ensures same { IsSameLayout world.old world.new }
     ensures idle { world.new.station.lines ≡ replicate 8 [] }
 {
     calls_are_moves();
@@ -39,7 +38,7 @@ fn hear(world: &mut World, line: u8, byte: u8) -> Option<Msg>
     ensures station { world.new.station ≡ after_event world.old.station (Event.Byte line byte) }
     ensures reply { result ≡ message_in (answer_to world.old.station (Event.Byte line byte)) }
     ensures nodes { world.new.nodes ≡ world.old.nodes }
-    ensures lines { length world.new.station.lines ≡ length world.old.station.lines }
+    ensures same { IsSameLayout world.old world.new }
 {
     match world.step(Event::Byte { line, byte }) {
         Step::Reply(reply) => Some(to_msg(&reply)),

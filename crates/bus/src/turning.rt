@@ -1,7 +1,6 @@
 //! A turn of the track, and what it lasts.
-ghost use Rattle.std.specs.Prelude.{◌≡◌, ◌≤◌, map, option_map};
-ghost use Rattle.layout_core.specs.Nodes.{spec_of};
-ghost use Rattle.layout_core.specs.World.{HaveHeard};
+ghost use Rattle.std.specs.Prelude.{◌≡◌, ◌≤◌, option_map};
+ghost use Rattle.layout_core.specs.World.{HaveHeard, IsSameLayout};
 ghost use Rattle.station_core.specs.Moved.{after_turn, packet_of_turn};
 ghost use Rattle.bus.specs.Bus.{lasts};
 ghost use Rattle.bus.specs.Layout.{turn_of};
@@ -19,7 +18,7 @@ pub(crate) fn turn(world: &mut World, missed: u64) -> Option<Packet>
     ensures station { world.new.station ≡ after_turn world.old.station }
     ensures packet { result ≡ packet_of_turn world.old.station }
     ensures nodes { HaveHeard world.old.station (turn_of missed) world.old.nodes world.new.nodes }
-    ensures specs { map spec_of world.new.nodes ≡ map spec_of world.old.nodes }
+    ensures same { IsSameLayout world.old world.new }
     ensures shortest { 5796 ≤ lasts result }
     ensures longest { lasts result ≤ 10740 }
 {

@@ -7,6 +7,7 @@ pub mod Others
 pub mod Examples
 pub mod Premises
 pub mod Played
+pub mod Same
 pub mod Cycle
 pub mod Known
 pub mod Moments

@@ -12,9 +12,10 @@ use Rattle.layout_core.specs.declared.event.Event.{Event}
 use Rattle.layout_core.specs.declared.event.Event.TheVariants.{Byte, Turn}
 use Rattle.layout_core.specs.Served.{HasRead, Input, Moment, Serves, byte_events, bytes_of_answer, line_of_answer, replies_in, replies_of_answer, served_events, traced_from, turns_in, turns_of_answer, written_for}
 use Rattle.layout_core.specs.Played.{after_event, after_events, answer_to, answers_to}
-use Rattle.layout_core.specs.World.{AfterEvent, HaveHeard}
+use Rattle.layout_core.specs.World.{AfterEvent, HaveHeard, IsSameLayout}
 use Rattle.layout_core.proofs.Known.{appends_more, appends_none, consumes_end, consumes_kept, consumes_more, consumes_none}
 use Rattle.layout_core.proofs.Played.{both_heard, next_heard, nothing_heard}
+use Rattle.layout_core.proofs.Same.{same_still, same_then}
 
 pub state-append : (seen : Seen) (events later : List Event) → after_events seen (events ++ later) ≡ after_events (after_events seen events) later
 state-append seen [] later = refl
@@ -57,14 +58,14 @@ serves_none line moment = record {
   traced = appends_none moment.traced;
   replies = omega arith;
   turns = omega arith;
-  lines = refl;
+  same = same_still moment.world;
 }
 
 -- one event, whose answer is put out and counted
 pub serves_event : (line : ℕ) (event : Event) (step : Step) (old new : Moment) → new.world.station ≡ after_event old.world.station event → step ≡ answer_to old.world.station event
     → AfterEvent event step old.world.nodes new.world.nodes → Appends old.written new.written (bytes_of_answer step) → Appends old.traced new.traced (line_of_answer line (old.turns + 1) step)
-    → new.replies ≡ old.replies + replies_of_answer step → new.turns ≡ old.turns + turns_of_answer step → length new.world.station.lines ≡ length old.world.station.lines → Serves line (event ∷ []) old new
-serves_event line event step old new moves answers after written traced replies turns lines =
+    → new.replies ≡ old.replies + replies_of_answer step → new.turns ≡ old.turns + turns_of_answer step → IsSameLayout old.world new.world → Serves line (event ∷ []) old new
+serves_event line event step old new moves answers after written traced replies turns same =
     let seen : Seen = old.world.station in
     let turned : AfterEvent event (answer_to seen event) old.world.nodes new.world.nodes = subst (λ (s : Step). AfterEvent event s old.world.nodes new.world.nodes) answers after in
     let one : replies_of_answer step ≡ replies_of_answer (answer_to seen event) = ap replies_of_answer answers in
@@ -78,7 +79,7 @@ serves_event line event step old new moves answers after written traced replies 
           (ap (line_of_answer line (old.turns + 1)) answers ∙ sym (append-nil (line_of_answer line (old.turns + 1) (answer_to seen event)))) traced;
       replies = omega (arith, replies, one);
       turns = omega (arith, turns, turn);
-      lines = lines;
+      same = same;
     }
 
 -- events, and then more
@@ -116,7 +117,7 @@ serves_more line events later old mid new first second =
           let counted : turns_in (answers_to seen (events ++ later)) ≡ turns_in front + turns_in back = ap turns_in all ∙ turns-append front back in
           let behind : turns_in (answers_to mid.world.station later) ≡ turns_in back = ap turns_in here in
           omega (arith, first.turns, second.turns, counted, behind);
-      lines = second.lines ∙ first.lines;
+      same = same_then old.world mid.world new.world first.same second.same;
     }
 
 -- the same, where all of the events are these two parts

@@ -12,7 +12,7 @@ use Rattle.layout_core.specs.declared.event.Event.TheVariants.{Byte, Turn}
 use Rattle.layout_core.specs.declared.world.World.{World}
 use Rattle.layout_core.specs.Cycle.{RunsAsWanted}
 use Rattle.layout_core.specs.Played.{after_events, answers_to}
-use Rattle.layout_core.specs.World.{HaveHeard}
+use Rattle.layout_core.specs.World.{HaveHeard, IsSameLayout}
 
 -- the events of a byte: it comes, and then so many turns that nobody misses
 abbrev pub byte_events : (line turns : ℕ) → ℕ → List Event
@@ -100,8 +100,7 @@ pub record Serves (line : ℕ) (events : List Event) (old new : Moment) : Type 0
   pub traced : Appends old.traced new.traced (traced_from line (old.turns + 1) (answers_to old.world.station events))
   pub replies : new.replies ≡ old.replies + replies_in (answers_to old.world.station events)
   pub turns : new.turns ≡ old.turns + turns_in (answers_to old.world.station events)
-  -- as a station promises
-  pub lines : length new.world.station.lines ≡ length old.world.station.lines
+  pub same : IsSameLayout old.world new.world
 
 -- a source: the bytes that it has left, where those are known, and how many reads were made
 pub record Input : Type 0 where

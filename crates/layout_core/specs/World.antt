@@ -1,5 +1,5 @@
 -- What events make of the decoders of a layout.
-use Rattle.std.specs.Prelude.{ℕ, ◌≡◌, ◌==◌, ◌<◌, Bool, true, false, List, [], ◌∷◌, length}
+use Rattle.std.specs.Prelude.{ℕ, ◌≡◌, ◌==◌, ◌<◌, Bool, true, false, List, [], ◌∷◌, length, map}
 use Rattle.std.specs.List.{slice_index_or}
 use Rattle.station_core.specs.declared.call.Step.{Step}
 use Rattle.station_core.specs.declared.call.Step.TheVariants.{Quiet, Reply, Packet, Off}
@@ -7,10 +7,17 @@ use Rattle.station_core.specs.Seen.{Seen}
 use Rattle.layout_core.specs.declared.event.Event.{Event}
 use Rattle.layout_core.specs.declared.event.Event.TheVariants.{Byte, Turn, Noise}
 use Rattle.layout_core.specs.declared.node.Node.{Node}
+use Rattle.layout_core.specs.declared.world.World.{World}
 use Rattle.layout_core.specs.Events.{NoNoise}
 use Rattle.layout_core.specs.Heard.{HearsAll, heard, sounds_in}
 use Rattle.layout_core.specs.Hearing.{AfterPacket, HeardHalves, Obeyed}
-use Rattle.layout_core.specs.Nodes.{IsBetween, is_missed}
+use Rattle.layout_core.specs.Nodes.{IsBetween, is_missed, spec_of}
+
+-- the same layout: it has as many lines, and the same decoders, so as many of them
+pub record IsSameLayout (old new : World) : Type 0 where
+  pub lines : length new.station.lines ≡ length old.station.lines
+  pub specs : map spec_of new.nodes ≡ map spec_of old.nodes
+  pub count : length new.nodes ≡ length old.nodes
 
 -- each node heard what it hears of these events, one thing after another, and nothing else
 pub record HaveHeard (seen : Seen) (events : List Event) (old new : List Node) : Type 0 where

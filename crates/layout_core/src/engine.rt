@@ -1,11 +1,11 @@
 //! A connection that is served byte by byte.
-ghost use Rattle.std.specs.Prelude.{◌≡◌, ◌+◌, ◌*◌, ◌<◌, ◌≤◌, true, false, [], ◌∷◌, length, IfOk, IfErr, OnOk, IsErrOf, IsTrue, map};
+ghost use Rattle.std.specs.Prelude.{◌≡◌, ◌+◌, ◌*◌, ◌<◌, ◌≤◌, true, false, [], ◌∷◌, length, IfOk, IfErr, OnOk, IsErrOf, IsTrue};
 ghost use Rattle.std.specs.Io.KnownBytes.{Appends, IsAtEnd};
-ghost use Rattle.layout_core.specs.Nodes.{spec_of};
 ghost use Rattle.layout_core.specs.Played.{is_event};
 ghost use Rattle.layout_core.specs.Counts.{GrowsTo, HasRoom};
 ghost use Rattle.layout_core.specs.Faults.{HasFaulted, PutsOut, StopsWithin, ended_by, is_read, is_trace, is_write};
 ghost use Rattle.layout_core.specs.Served.{HasServed, IsSendableAnswer, Serves, byte_events, bytes_of_answer, input_of, line_of_answer, moment_of, replies_of_answer, served_events, turns_of_answer};
+ghost use Rattle.layout_core.specs.World.{IsSameLayout};
 
 use crate::device::{Sink, Source};
 use crate::event::Event;
@@ -127,8 +127,7 @@ fn serve_event<K: Sink, T: Sink>(
         (moment_of world.new (K.held sink.new) (T.held trace.new) counts.new.replies counts.new.turns)) }
     ensures sink_failed { K.failed sink.new ≡ ended_by is_write result }
     ensures trace_failed { T.failed trace.new ≡ ended_by is_trace result }
-    ensures lines { length world.new.station.lines ≡ length world.old.station.lines }
-    ensures specs { map spec_of world.new.nodes ≡ map spec_of world.old.nodes }
+    ensures same { IsSameLayout world.old world.new }
 {
     let answer = world.step(event);
     put_out(&answer, line, counts.turns + 1, sink, trace)?;
@@ -159,8 +158,7 @@ fn serve_byte<K: Sink, T: Sink>(
         (moment_of world.new (K.held sink.new) (T.held trace.new) counts.new.replies counts.new.turns)) }
     ensures sink_failed { K.failed sink.new ≡ ended_by is_write result }
     ensures trace_failed { T.failed trace.new ≡ ended_by is_trace result }
-    ensures lines { length world.new.station.lines ≡ length world.old.station.lines }
-    ensures specs { map spec_of world.new.nodes ≡ map spec_of world.old.nodes }
+    ensures same { IsSameLayout world.old world.new }
 {
     serve_event(world, Event::Byte { line, byte }, line, sink, trace, counts)?;
     for _turn in 0..turns {
@@ -192,8 +190,7 @@ fn serve_bytes<K: Sink, T: Sink>(
         (moment_of world.new (K.held sink.new) (T.held trace.new) counts.new.replies counts.new.turns)) }
     ensures sink_failed { K.failed sink.new ≡ ended_by is_write result }
     ensures trace_failed { T.failed trace.new ≡ ended_by is_trace result }
-    ensures lines { length world.new.station.lines ≡ length world.old.station.lines }
-    ensures specs { map spec_of world.new.nodes ≡ map spec_of world.old.nodes }
+    ensures same { IsSameLayout world.old world.new }
 {
     for byte in bytes {
         serve_byte(world, line, *byte, turns, sink, trace, counts)?;
@@ -241,8 +238,7 @@ pub fn serve<S: Source, K: Sink, T: Sink>(
     ensures source_failed { S.failed source.new ≡ ended_by is_read result }
     ensures sink_failed { K.failed sink.new ≡ ended_by is_write result }
     ensures trace_failed { T.failed trace.new ≡ ended_by is_trace result }
-    ensures lines { length world.new.station.lines ≡ length world.old.station.lines }
-    ensures specs { map spec_of world.new.nodes ≡ map spec_of world.old.nodes }
+    ensures same { IsSameLayout world.old world.new }
 {
     headline();
     calls_are_moves();

@@ -1,7 +1,6 @@
 //! A layout: a station, and the decoders on its track.
 ghost use Rattle.std.specs.Prelude.{◌≡◌, ◌<◌, ◌≤◌, List, IfOk, IfErr, IsTrue, length, map, true, false};
 ghost use Rattle.std.specs.List.{slice_index_or};
-ghost use Rattle.slot_table.specs.Desk.{IsDesk};
 ghost use Rattle.station_core.specs.Moments.{AtEveryMoment};
 ghost use Rattle.station_core.specs.Powered.{HasDesk};
 ghost use Rattle.station_core.specs.Seen.{first_seen, is_line_count, known_of};
@@ -14,7 +13,7 @@ ghost use Rattle.decoder_node.specs.declared.node.NodeSpec.{NodeSpec};
 ghost use Rattle.show_text.specs.Nodes.{IsToldOf};
 ghost use Rattle.layout_core.specs.Events.{calls_in};
 ghost use Rattle.layout_core.specs.Played.{AreEvents, after_event, after_events, answer_to, answers_to, is_event};
-ghost use Rattle.layout_core.specs.World.{AfterEvent, HaveHeard, HaveObeyed, OneHears};
+ghost use Rattle.layout_core.specs.World.{AfterEvent, HaveHeard, HaveObeyed, IsSameLayout, OneHears};
 
 use crate::event::Event;
 use crate::laws::headline;
@@ -99,10 +98,7 @@ impl World {
         ensures station { self.new.station ≡ after_event self.old.station event }
         ensures answer { result ≡ answer_to self.old.station event }
         ensures nodes { AfterEvent event result self.old.nodes self.new.nodes }
-        ensures lines { length self.new.station.lines ≡ length self.old.station.lines }
-        ensures count { length self.new.nodes ≡ length self.old.nodes }
-        ensures specs { map spec_of self.new.nodes ≡ map spec_of self.old.nodes }
-        ensures desk { IsDesk self.old.station.powered.desk }
+        ensures same { IsSameLayout self.old self.new }
         ensures sendable { IsSendableAnswer result }
     {
         match event {
@@ -119,9 +115,7 @@ impl World {
         ensures station { self.new.station ≡ after_events self.old.station events.now }
         ensures answers { steps.new ≡ answers_to self.old.station events.now }
         ensures nodes { HaveHeard self.old.station events.now self.old.nodes self.new.nodes }
-        ensures specs { map spec_of self.new.nodes ≡ map spec_of self.old.nodes }
-        ensures lines { length self.new.station.lines ≡ length self.old.station.lines }
-        ensures count { length self.new.nodes ≡ length self.old.nodes }
+        ensures same { IsSameLayout self.old self.new }
         // At each moment no address has two slots, and each slot that is not free has its entry.
         ensures desks { AtEveryMoment HasDesk (known_of self.old.station) (calls_in events.now) }
         // A node that no noise names obeys exactly the packets that it hears.
@@ -146,10 +140,7 @@ impl World {
         ensures station { self.new.station ≡ after_event self.old.station (Event.Byte line byte) }
         ensures answer { result ≡ answer_to self.old.station (Event.Byte line byte) }
         ensures nodes { self.new.nodes ≡ self.old.nodes }
-        ensures lines { length self.new.station.lines ≡ length self.old.station.lines }
-        ensures count { length self.new.nodes ≡ length self.old.nodes }
-        ensures specs { map spec_of self.new.nodes ≡ map spec_of self.old.nodes }
-        ensures desk { IsDesk self.old.station.powered.desk }
+        ensures same { IsSameLayout self.old self.new }
         ensures sendable { IsSendableAnswer result }
     {
         calls_are_moves();
@@ -165,10 +156,7 @@ impl World {
         ensures station { self.new.station ≡ after_event self.old.station (Event.Turn missed) }
         ensures answer { result ≡ answer_to self.old.station (Event.Turn missed) }
         ensures nodes { AfterEvent (Event.Turn missed) result self.old.nodes self.new.nodes }
-        ensures lines { length self.new.station.lines ≡ length self.old.station.lines }
-        ensures count { length self.new.nodes ≡ length self.old.nodes }
-        ensures specs { map spec_of self.new.nodes ≡ map spec_of self.old.nodes }
-        ensures desk { IsDesk self.old.station.powered.desk }
+        ensures same { IsSameLayout self.old self.new }
         ensures sendable { IsSendableAnswer result }
     {
         calls_are_moves();
@@ -187,11 +175,8 @@ impl World {
         ensures station { self.new.station ≡ self.old.station }
         ensures answer { result ≡ Step.Quiet }
         ensures nodes { OneHears node half self.old.nodes self.new.nodes }
-        ensures count { length self.new.nodes ≡ length self.old.nodes }
-        ensures specs { map spec_of self.new.nodes ≡ map spec_of self.old.nodes }
-        ensures desk { IsDesk self.old.station.powered.desk }
+        ensures same { IsSameLayout self.old self.new }
     {
-        self.station.always_legal();
         self.nodes.noise(usize::from(node), half);
         Step::Quiet
     }

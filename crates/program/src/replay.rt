@@ -1,10 +1,10 @@
 //! `station replay`: a script, and what the layout makes of it.
-ghost use Rattle.std.specs.Prelude.{◌≡◌, ◌≢◌, ◌<◌, ◌+◌, ◌^◌, [], ◌∷◌, IfErr, IfOk, IsTrue, None, OnOk, Some, false, length, map, replicate};
+ghost use Rattle.std.specs.Prelude.{◌≡◌, ◌≢◌, ◌<◌, ◌+◌, ◌^◌, [], ◌∷◌, IfErr, IfOk, IsTrue, None, OnOk, Some, false, length, replicate};
 ghost use Rattle.std.specs.Io.KnownBytes.{Appends};
 ghost use Rattle.ln_ops.specs.Reply.{IsSendable};
-ghost use Rattle.layout_core.specs.Nodes.{spec_of};
 ghost use Rattle.layout_core.specs.Played.{answer_to, answers_to, is_event};
 ghost use Rattle.layout_core.specs.Served.{IsSendableAnswer, line_of_answer, traced_from};
+ghost use Rattle.layout_core.specs.World.{IsSameLayout};
 ghost use Rattle.show_text.specs.Lines.{off_text, reply_text, track_text};
 ghost use Rattle.show_text.specs.Script.{AreOnLines, is_on_line};
 ghost use Rattle.console.specs.Fault.{ended_by, is_unread_input};
@@ -123,8 +123,7 @@ fn play_command<O: Write>(
     ensures done { OnOk result (HasDone (events_of command) world.old world.new) }
     ensures printed { OnOk result (Appends (O.contents output.old) (O.contents output.new) (command_text (entries_in (roster_value roster.entry)) (scene_of world.old turn) command)) }
     ensures next { IfOk result (λ next. next ≡ turn + turns_among (events_of command)) }
-    ensures lines { length world.new.station.lines ≡ length world.old.station.lines }
-    ensures specs { map spec_of world.new.nodes ≡ map spec_of world.old.nodes }
+    ensures same { IsSameLayout world.old world.new }
 {
     events_add_up();
     match command {
@@ -153,8 +152,7 @@ fn play_turns<O: Write>(
     ensures done { OnOk result (HasDone (replicate count (Event.Turn missed)) world.old world.new) }
     ensures printed { OnOk result (Appends (O.contents output.old) (O.contents output.new) (traced_from 0 first (answers_to world.old.station (replicate count (Event.Turn missed))))) }
     ensures next { IfOk result (λ next. next ≡ first + count) }
-    ensures lines { length world.new.station.lines ≡ length world.old.station.lines }
-    ensures specs { map spec_of world.new.nodes ≡ map spec_of world.old.nodes }
+    ensures same { IsSameLayout world.old world.new }
 {
     calls_are_moves();
     events_add_up();
@@ -179,8 +177,7 @@ fn play_event<O: Write>(
     requires { IsTrue (is_event (length world.old.station.lines) (length world.old.nodes) event) }
     ensures done { HasDone (event ∷ []) world.old world.new }
     ensures printed { OnOk result (Appends (O.contents output.old) (O.contents output.new) (line_of_answer line turn (answer_to world.old.station event))) }
-    ensures lines { length world.new.station.lines ≡ length world.old.station.lines }
-    ensures specs { map spec_of world.new.nodes ≡ map spec_of world.old.nodes }
+    ensures same { IsSameLayout world.old world.new }
 {
     events_add_up();
     let answer = world.step(event);

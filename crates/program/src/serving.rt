@@ -1,8 +1,8 @@
 //! `station serve`: throttles over TCP.
-ghost use Rattle.std.specs.Prelude.{◌≡◌, ◌+◌, [], IfErr, OnErr, OnOk, false, map};
+ghost use Rattle.std.specs.Prelude.{◌≡◌, ◌+◌, [], IfErr, OnErr, OnOk, false};
 ghost use Rattle.std.specs.Io.KnownBytes.{Appends};
 ghost use Rattle.console.specs.Fault.{ended_by, status_of};
-ghost use Rattle.layout_core.specs.Nodes.{spec_of};
+ghost use Rattle.layout_core.specs.World.{IsSameLayout};
 ghost use Rattle.program.specs.Connections.{GivesUp, HasGivenUp, HasServed, Serves, ServesPart, ServesSource, is_serve, listening_text};
 ghost use Rattle.program.specs.Fault.{of_serve};
 ghost use Rattle.program.specs.Layout.{IsWorldOf, entries_in, roster_value};
@@ -100,7 +100,7 @@ pub fn serve_connection<S: Source, K: Sink, O: Write>(
     requires open { S.ended source.old ≡ false }
     requires source_works { S.failed source.old ≡ false }
     requires sink_works { K.failed sink.old ≡ false }
-    ensures specs { map spec_of world.new.nodes ≡ map spec_of world.old.nodes }
+    ensures same { IsSameLayout world.old world.new }
     ensures whole { OnOk result (ServesSource limits world.old world.new (S.left source.old) (S.left source.new) (K.held sink.old) (K.held sink.new) (O.contents output.old) (O.contents output.new)) }
     ensures served { OnOk result (Serves limits world.old world.new (O.contents output.old) (O.contents output.new)) }
     ensures part { OnErr result (ServesPart limits.turns world.old world.new) }
@@ -125,7 +125,7 @@ fn serve_traced<S: Source, K: Sink, T: Sink>(
     requires source_works { S.failed source.old ≡ false }
     requires sink_works { K.failed sink.old ≡ false }
     requires trace_works { T.failed trace.old ≡ false }
-    ensures specs { map spec_of world.new.nodes ≡ map spec_of world.old.nodes }
+    ensures same { IsSameLayout world.old world.new }
     ensures whole { OnOk result (ServesSource limits world.old world.new (S.left source.old) (S.left source.new) (K.held sink.old) (K.held sink.new) (T.held trace.old) (T.held trace.new)) }
     ensures served { OnOk result (Serves limits world.old world.new (T.held trace.old) (T.held trace.new)) }
     ensures part { OnErr result (ServesPart limits.turns world.old world.new) }

@@ -3,9 +3,8 @@ ghost use Rattle.std.specs.Prelude.{◌≡◌, IsTrue, length, map};
 ghost use Rattle.std.specs.List.{list_all};
 ghost use Rattle.station_core.specs.Seen.{known_of};
 ghost use Rattle.layout_core.specs.Cycle.{RunsAfterNoise, RunsAsWanted};
-ghost use Rattle.layout_core.specs.Nodes.{spec_of};
 ghost use Rattle.layout_core.specs.Played.{after_events, answers_to};
-ghost use Rattle.layout_core.specs.World.{HaveHeard};
+ghost use Rattle.layout_core.specs.World.{HaveHeard, IsSameLayout};
 ghost use Rattle.station_c.specs.Answer.{answered};
 ghost use Rattle.station_c.specs.Event.{event_of, is_one};
 
@@ -20,8 +19,7 @@ pub(crate) fn run(world: &mut World, events: &[EventFields], answers: &mut [Answ
     ensures station { world.new.station ≡ after_events world.old.station (map event_of events.now) }
     ensures answers { answers.new ≡ map answered (answers_to world.old.station (map event_of events.now)) }
     ensures nodes { HaveHeard world.old.station (map event_of events.now) world.old.nodes world.new.nodes }
-    ensures specs { map spec_of world.new.nodes ≡ map spec_of world.old.nodes }
-    ensures lines { length world.new.station.lines ≡ length world.old.station.lines }
+    ensures same { IsSameLayout world.old world.new }
     ensures headline { RunsAsWanted (known_of world.old.station) (map event_of events.now) world.old.nodes world.new.nodes }
     ensures after_noise { RunsAfterNoise (known_of world.old.station) (map event_of events.now) world.old.nodes world.new.nodes }
 {

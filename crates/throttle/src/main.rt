@@ -2,7 +2,8 @@
 //! looks at its decoder until that runs as it was told.
 #![tactic(auto)]
 
-ghost use Rattle.std.specs.Prelude.{◌≡◌, ◌<◌, length};
+ghost use Rattle.std.specs.Prelude.{◌<◌, length};
+ghost use Rattle.layout_core.specs.World.{IsSameLayout};
 
 use layout_core::{
     CvSet, Event, Motion, Msg, NodeList, NodeSpec, Reply, Running, Step, Steps, World, node_line,
@@ -67,8 +68,7 @@ fn slot_in(reply: &Option<Reply>) -> Option<u8> {
 /// Sends a message on line 0, given without its check, and prints the reply to it, if there is one.
 fn say(rt: &HostRuntime, world: &mut World, body: &[u8]) -> io::Result<Option<Reply>>
     requires { 0 < length world.old.station.lines }
-    ensures lines { length world.new.station.lines ≡ length world.old.station.lines }
-    ensures nodes { length world.new.nodes ≡ length world.old.nodes }
+    ensures same { IsSameLayout world.old world.new }
 {
     let mut answered = None;
     if Msg::is_body(body) {
@@ -89,7 +89,7 @@ fn say(rt: &HostRuntime, world: &mut World, body: &[u8]) -> io::Result<Option<Re
 /// Up to 100 turns, of which the locomotive hears every third, until it runs as it was told. Whether it does.
 fn drive(rt: &HostRuntime, world: &mut World) -> io::Result<bool>
     requires { 0 < length world.old.nodes }
-    ensures { length world.new.nodes ≡ length world.old.nodes }
+    ensures same { IsSameLayout world.old world.new }
 {
     for turn in 1..=100 {
         let is_lost = turn % 3 != 0;

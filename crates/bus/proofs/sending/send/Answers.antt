@@ -1,4 +1,4 @@
-use Rattle.std.proofs.Common.{◌≡◌, ℕ, [], List, None, ap, drop, drop_of_length-le, map, subst, sym, ◌∙◌}
+use Rattle.std.proofs.Common.{◌≡◌, ℕ, [], List, None, ap, drop, drop_of_length-le, length, map, subst, sym, ◌∙◌}
 use Rattle.ln_frame.specs.Message.{IsWhole}
 use Rattle.station_core.specs.Seen.{Seen}
 use Rattle.layout_core.specs.declared.event.Event.{Event}
@@ -49,5 +49,9 @@ returns-clause-idle c = ap (λ (seen : Seen). seen.lines) (returns-clause-statio
 pub returns-clause-nodes : goal.returns-clause-nodes
 returns-clause-nodes c = heard_bytes c.args.line c.args.message.now c.args.world.now.station c.args.world.now.nodes c.loop-byte.world.nodes c.loop-byte.invariant.nodes
 
-pub returns-clause-specs : goal.returns-clause-specs
-returns-clause-specs c = ap (map spec_of) c.loop-byte.invariant.nodes
+pub returns-clause-same : goal.returns-clause-same
+returns-clause-same c = record {
+  lines = ap length (returns-clause-idle c ∙ sym c.requires.idle);
+  specs = ap (map spec_of) c.loop-byte.invariant.nodes;
+  count = ap length c.loop-byte.invariant.nodes;
+}

@@ -12,6 +12,7 @@ use Rattle.layout_core.specs.Played.{answers_to}
 use Rattle.layout_core.proofs.Counting.{all_made, at_most, counted_more, few_more, few_of, grown_more, not_empty, room_at, room_more}
 use Rattle.layout_core.proofs.Serving.{reads_end, reads_failed, reads_more, reads_none, served-append, serves_none, serves_then, turns_served}
 use Rattle.layout_core.proofs.Stopping.{ended_passed_up, no_limit_stops, no_ok_passed_up, no_read_stops, passed_up, same_passed_up, stop_heard, stops_leave, stops_then}
+use Rattle.layout_core.proofs.Same.{same_then}
 use Rattle.layout_core.proofs.engine.serve.Goals as goal
 
 pub loop-reads-init : goal.loop-reads-init
@@ -25,7 +26,6 @@ loop-reads-init g c = record {
   source_works = c.requires.source_works;
   sink_works = c.requires.sink_works;
   trace_works = c.requires.trace_works;
-  specs = refl;
 }
 
 pub loop-reads-preserved : goal.loop-reads-preserved
@@ -57,7 +57,6 @@ loop-reads-preserved g c =
       source_works = c.in-Ok.ensures.failed_ok ∙ c.loop-reads.invariant.source_works;
       sink_works = c.in_ok-serve_bytes.ensures.sink_failed;
       trace_works = c.in_ok-serve_bytes.ensures.trace_failed;
-      specs = c.serve_bytes.ensures.specs ∙ c.loop-reads.invariant.specs;
     }
 
 pub returns-then-n-eq0-clause-served : goal.returns-then-n-eq0-clause-served
@@ -142,7 +141,7 @@ returns-clause-faulted g c =
     )
 
 pub serve_bytes-requires-clause-line : goal.serve_bytes-requires-clause-line
-serve_bytes-requires-clause-line g c = subst (λ (lines : ℕ). c.args.line < lines) (sym c.loop-reads.invariant.served.3.lines) c.requires.line
+serve_bytes-requires-clause-line g c = subst (λ (lines : ℕ). c.args.line < lines) (sym c.loop-reads.invariant.served.3.same.lines) c.requires.line
 
 pub returns-in_default-clause-too_many : goal.returns-in_default-clause-too_many
 returns-in_default-clause-too_many g c is = cc
@@ -159,11 +158,8 @@ returns-in_default-clause-sink_failed g c = c.loop-reads.invariant.sink_works
 pub returns-in_default-clause-trace_failed : goal.returns-in_default-clause-trace_failed
 returns-in_default-clause-trace_failed g c = c.loop-reads.invariant.trace_works
 
-pub returns-in_default-clause-lines : goal.returns-in_default-clause-lines
-returns-in_default-clause-lines g c = c.loop-reads.invariant.served.3.lines
-
-pub returns-in_default-clause-specs : goal.returns-in_default-clause-specs
-returns-in_default-clause-specs g c = c.loop-reads.invariant.specs
+pub returns-in_default-clause-same : goal.returns-in_default-clause-same
+returns-in_default-clause-same g c = c.loop-reads.invariant.served.3.same
 
 pub returns-then-n-eq0-clause-end : goal.returns-then-n-eq0-clause-end
 returns-then-n-eq0-clause-end g c = (c.in-Ok.ensures.end ∙ ap (λ (n : ℕ). n == 0) c.if-n-eq0.true, c.in-Ok.ensures.bytes.1 c.if-n-eq0.true (not_empty (length c.get.new.buf) (c.get.auto.buf ∙ c.loop-reads.invariant.whole)))
@@ -183,11 +179,8 @@ returns-then-n-eq0-clause-sink_failed g c = c.loop-reads.invariant.sink_works
 pub returns-then-n-eq0-clause-trace_failed : goal.returns-then-n-eq0-clause-trace_failed
 returns-then-n-eq0-clause-trace_failed g c = c.loop-reads.invariant.trace_works
 
-pub returns-then-n-eq0-clause-lines : goal.returns-then-n-eq0-clause-lines
-returns-then-n-eq0-clause-lines g c = c.loop-reads.invariant.served.3.lines
-
-pub returns-then-n-eq0-clause-specs : goal.returns-then-n-eq0-clause-specs
-returns-then-n-eq0-clause-specs g c = c.loop-reads.invariant.specs
+pub returns-then-n-eq0-clause-same : goal.returns-then-n-eq0-clause-same
+returns-then-n-eq0-clause-same g c = c.loop-reads.invariant.served.3.same
 
 pub returns-in_err-serve_bytes-clause-served : goal.returns-in_err-serve_bytes-clause-served
 returns-in_err-serve_bytes-clause-served g c = no_ok_passed_up c.from_residual.result c.in_err-serve_bytes.field-0.0 _ c.from_residual.ensures.1
@@ -216,11 +209,8 @@ returns-in_err-serve_bytes-clause-sink_failed g c = c.in_err-serve_bytes.ensures
 pub returns-in_err-serve_bytes-clause-trace_failed : goal.returns-in_err-serve_bytes-clause-trace_failed
 returns-in_err-serve_bytes-clause-trace_failed g c = c.in_err-serve_bytes.ensures.trace_failed ∙ sym (ended_passed_up c.from_residual.result c.in_err-serve_bytes.field-0.0 is_trace c.from_residual.ensures.1)
 
-pub returns-in_err-serve_bytes-clause-lines : goal.returns-in_err-serve_bytes-clause-lines
-returns-in_err-serve_bytes-clause-lines g c = c.serve_bytes.ensures.lines ∙ c.loop-reads.invariant.served.3.lines
-
-pub returns-in_err-serve_bytes-clause-specs : goal.returns-in_err-serve_bytes-clause-specs
-returns-in_err-serve_bytes-clause-specs g c = c.serve_bytes.ensures.specs ∙ c.loop-reads.invariant.specs
+pub returns-in_err-serve_bytes-clause-same : goal.returns-in_err-serve_bytes-clause-same
+returns-in_err-serve_bytes-clause-same g c = same_then _ _ _ c.loop-reads.invariant.served.3.same c.serve_bytes.ensures.same
 
 pub returns-clause-too_many : goal.returns-clause-too_many
 returns-clause-too_many g c is = (all_made c.loop-reads.reads c.args.limits.reads c.loop-reads.auto.reads-end c.loop-reads-test.false _ _ c.loop-reads.invariant.served.1.counted, c.loop-reads.invariant.open_still)
@@ -237,11 +227,8 @@ returns-clause-sink_failed g c = c.loop-reads.invariant.sink_works
 pub returns-clause-trace_failed : goal.returns-clause-trace_failed
 returns-clause-trace_failed g c = c.loop-reads.invariant.trace_works
 
-pub returns-clause-lines : goal.returns-clause-lines
-returns-clause-lines g c = c.loop-reads.invariant.served.3.lines
-
-pub returns-clause-specs : goal.returns-clause-specs
-returns-clause-specs g c = c.loop-reads.invariant.specs
+pub returns-clause-same : goal.returns-clause-same
+returns-clause-same g c = c.loop-reads.invariant.served.3.same
 
 pub get-requires-clause-room : goal.get-requires-clause-room
 get-requires-clause-room g c = not_empty (length c.loop-reads.buf) c.loop-reads.invariant.whole

@@ -1,7 +1,6 @@
-use Rattle.std.proofs.Common.{◌≡◌, ◌≤◌, ◌*◌, false, length, map}
+use Rattle.std.proofs.Common.{◌≡◌, ◌≤◌, ◌*◌, false, length}
 use Rattle.layout_core.specs.Served.{input_of, moment_of}
 use Rattle.layout_core.proofs.Serving.{IsServedSoFar}
-use Rattle.layout_core.specs.Nodes.{spec_of}
 use Rattle.layout_core.proofs.engine.serve.Given as goal
 
 abbrev pub invariant-loop-reads : goal.invariant-loop-reads
@@ -18,5 +17,4 @@ invariant-loop-reads g l = record {
   source_works : g.S.Source.failed l.source ≡ false;
   sink_works : g.K.Sink.failed l.sink ≡ false;
   trace_works : g.T.Sink.failed l.trace ≡ false;
-  specs : map spec_of l.world.nodes ≡ map spec_of l.fn.world.nodes;
 }

@@ -4,6 +4,7 @@ use Rattle.layout_core.proofs.Serving.{all_turned, byte_more, serves_none, serve
 use Rattle.layout_core.proofs.Counting.{all_fit, grows_both, grows_less, next_turn, one_fits, one_more_fits, room_behind, room_less}
 use Rattle.layout_core.specs.Faults.{is_trace, is_write}
 use Rattle.layout_core.proofs.Stopping.{byte_parts, ended_passed_up, no_ok_passed_up, passed_up, stops_then}
+use Rattle.layout_core.proofs.Same.{same_then}
 use Rattle.layout_core.proofs.engine.serve_byte.Goals as goal
 
 pub loop-turn-preserved : goal.loop-turn-preserved
@@ -12,7 +13,6 @@ loop-turn-preserved g c = record {
   room = grows_both (1 + c.loop-turn._turn) 1 (1 + (c.loop-turn._turn + 1)) c.args.counts.now c.loop-turn.counts c.serve_event-in-loop-turn.new.counts (next_turn c.loop-turn._turn) c.loop-turn.invariant.room c.serve_event-in-loop-turn.ensures.room;
   sink_works = c.in_ok-serve_event-2.ensures.sink_failed;
   trace_works = c.in_ok-serve_event-2.ensures.trace_failed;
-  specs = c.serve_event-in-loop-turn.ensures.specs ∙ c.loop-turn.invariant.specs;
 }
 
 pub returns-in_err-serve_event-clause-stops : goal.returns-in_err-serve_event-clause-stops
@@ -46,7 +46,6 @@ loop-turn-init g c = record {
   room = c.serve_event.ensures.room;
   sink_works = c.in_ok-serve_event.ensures.sink_failed;
   trace_works = c.in_ok-serve_event.ensures.trace_failed;
-  specs = c.serve_event.ensures.specs;
 }
 
 pub serve_event-requires-in-loop-turn-clause-room : goal.serve_event-requires-in-loop-turn-clause-room
@@ -69,8 +68,8 @@ pub returns-in_err-serve_event-2-clause-trace_failed : goal.returns-in_err-serve
 returns-in_err-serve_event-2-clause-trace_failed g c =
     c.in_err-serve_event-2.ensures.trace_failed ∙ sym (ended_passed_up c.from_residual-in_err-serve_event-2.result c.in_err-serve_event-2.field-0.0 is_trace c.from_residual-in_err-serve_event-2.ensures.1)
 
-pub returns-in_err-serve_event-2-clause-lines : goal.returns-in_err-serve_event-2-clause-lines
-returns-in_err-serve_event-2-clause-lines g c = c.serve_event-in-loop-turn.ensures.lines ∙ c.loop-turn.invariant.serves.lines
+pub returns-in_err-serve_event-2-clause-same : goal.returns-in_err-serve_event-2-clause-same
+returns-in_err-serve_event-2-clause-same g c = same_then _ _ _ c.loop-turn.invariant.serves.same c.serve_event-in-loop-turn.ensures.same
 
 pub returns-clause-room : goal.returns-clause-room
 returns-clause-room g c =
@@ -79,5 +78,5 @@ returns-clause-room g c =
 pub returns-clause-serves : goal.returns-clause-serves
 returns-clause-serves g c = all_turned c.args.line c.args.byte c.loop-turn._turn c.args.turns c.loop-turn.auto._turn-end c.loop-turn-test.false _ _ c.loop-turn.invariant.serves
 
-pub returns-clause-lines : goal.returns-clause-lines
-returns-clause-lines g c = c.loop-turn.invariant.serves.lines
+pub returns-clause-same : goal.returns-clause-same
+returns-clause-same g c = c.loop-turn.invariant.serves.same

@@ -1,8 +1,7 @@
-use Rattle.std.proofs.Common.{◌≡◌, ◌+◌, ◌∷◌, replicate, false, map}
+use Rattle.std.proofs.Common.{◌≡◌, ◌+◌, ◌∷◌, replicate, false}
 use Rattle.layout_core.specs.declared.event.Event.TheVariants.{Byte, Turn}
 use Rattle.layout_core.specs.Counts.{GrowsTo}
 use Rattle.layout_core.specs.Served.{Serves, moment_of}
-use Rattle.layout_core.specs.Nodes.{spec_of}
 use Rattle.layout_core.proofs.engine.serve_byte.Given as goal
 
 abbrev pub invariant-loop-turn : goal.invariant-loop-turn
@@ -13,5 +12,4 @@ invariant-loop-turn g l = record {
   room : GrowsTo (1 + l._turn) l.fn.counts l.counts;
   sink_works : g.K.Sink.failed l.sink ≡ false;
   trace_works : g.T.Sink.failed l.trace ≡ false;
-  specs : map spec_of l.world.nodes ≡ map spec_of l.fn.world.nodes;
 }

@@ -1,8 +1,9 @@
-use Rattle.std.proofs.Common.{◌*◌, ◌+◌, length, refl, sym, ◌∙◌}
+use Rattle.std.proofs.Common.{◌*◌, ◌+◌, length, sym, ◌∙◌}
 use Rattle.layout_core.specs.Faults.{is_trace, is_write}
 use Rattle.layout_core.proofs.Counting.{all_bytes, grows_both, grows_less, grows_none, next_byte, one_more_byte, room_behind}
 use Rattle.layout_core.proofs.Serving.{all_served, served_more, serves_none, serves_then}
 use Rattle.layout_core.proofs.Stopping.{ended_passed_up, no_ok_passed_up, passed_up, served_parts, stops_then}
+use Rattle.layout_core.proofs.Same.{same_then}
 use Rattle.layout_core.proofs.engine.serve_bytes.Goals as goal
 
 pub loop-byte-preserved : goal.loop-byte-preserved
@@ -13,7 +14,6 @@ loop-byte-preserved g c = record {
   room = grows_both (256 * c.loop-byte.byte-index) 256 (256 * (c.loop-byte.byte-index + 1)) c.args.counts.now c.loop-byte.counts c.serve_byte.new.counts (next_byte c.loop-byte.byte-index) c.loop-byte.invariant.room c.serve_byte.ensures.room;
   sink_works = c.in_ok-serve_byte.ensures.sink_failed;
   trace_works = c.in_ok-serve_byte.ensures.trace_failed;
-  specs = c.serve_byte.ensures.specs ∙ c.loop-byte.invariant.specs;
 }
 
 pub returns-in_err-serve_byte-clause-stops : goal.returns-in_err-serve_byte-clause-stops
@@ -27,7 +27,6 @@ loop-byte-init g c = record {
   room = grows_none _ c.args.counts.now;
   sink_works = c.requires.sink_works;
   trace_works = c.requires.trace_works;
-  specs = refl;
 }
 
 pub serve_byte-requires-clause-room : goal.serve_byte-requires-clause-room
@@ -49,8 +48,8 @@ returns-in_err-serve_byte-clause-sink_failed g c = c.in_err-serve_byte.ensures.s
 pub returns-in_err-serve_byte-clause-trace_failed : goal.returns-in_err-serve_byte-clause-trace_failed
 returns-in_err-serve_byte-clause-trace_failed g c = c.in_err-serve_byte.ensures.trace_failed ∙ sym (ended_passed_up c.from_residual.result c.in_err-serve_byte.field-0.0 is_trace c.from_residual.ensures.1)
 
-pub returns-in_err-serve_byte-clause-lines : goal.returns-in_err-serve_byte-clause-lines
-returns-in_err-serve_byte-clause-lines g c = c.serve_byte.ensures.lines ∙ c.loop-byte.invariant.serves.lines
+pub returns-in_err-serve_byte-clause-same : goal.returns-in_err-serve_byte-clause-same
+returns-in_err-serve_byte-clause-same g c = same_then _ _ _ c.loop-byte.invariant.serves.same c.serve_byte.ensures.same
 
 pub returns-clause-room : goal.returns-clause-room
 returns-clause-room g c =
@@ -59,5 +58,5 @@ returns-clause-room g c =
 pub returns-clause-serves : goal.returns-clause-serves
 returns-clause-serves g c = all_served c.args.line c.args.turns c.loop-byte.byte-index c.args.bytes.now c.loop-byte-test.false _ _ c.loop-byte.invariant.serves
 
-pub returns-clause-lines : goal.returns-clause-lines
-returns-clause-lines g c = c.loop-byte.invariant.serves.lines
+pub returns-clause-same : goal.returns-clause-same
+returns-clause-same g c = c.loop-byte.invariant.serves.same

@@ -1,7 +1,6 @@
-use Rattle.std.proofs.Common.{◌*◌, take, ◌≡◌, false, map}
+use Rattle.std.proofs.Common.{◌*◌, take, ◌≡◌, false}
 use Rattle.layout_core.specs.Counts.{GrowsTo}
 use Rattle.layout_core.specs.Served.{Serves, moment_of, served_events}
-use Rattle.layout_core.specs.Nodes.{spec_of}
 use Rattle.layout_core.proofs.engine.serve_bytes.Given as goal
 
 abbrev pub invariant-loop-byte : goal.invariant-loop-byte
@@ -12,5 +11,4 @@ invariant-loop-byte g l = record {
   room : GrowsTo (256 * l.byte-index) l.fn.counts l.counts;
   sink_works : g.K.Sink.failed l.sink ≡ false;
   trace_works : g.T.Sink.failed l.trace ≡ false;
-  specs : map spec_of l.world.nodes ≡ map spec_of l.fn.world.nodes;
 }

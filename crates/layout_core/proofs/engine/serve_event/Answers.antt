@@ -31,4 +31,4 @@ returns-clause-room g c = c.add.ensures.room
 pub returns-clause-serves : goal.returns-clause-serves
 returns-clause-serves g c =
     serves_event c.args.line c.args.event c.step-answer.result _ _ c.step-answer.ensures.station c.step-answer.ensures.answer c.step-answer.ensures.nodes
-    c.in_ok-put_out.ensures.written c.in_ok-put_out.ensures.traced c.add.ensures.replies c.add.ensures.turns c.step-answer.ensures.lines
+    c.in_ok-put_out.ensures.written c.in_ok-put_out.ensures.traced c.add.ensures.replies c.add.ensures.turns c.step-answer.ensures.same

@@ -34,8 +34,8 @@ loop-command-preserved g c =
           (replayed_more c.events_add_up.ensures.more c.events_add_up.ensures.obeyed entries (take i commands) command c.loop-command.turn c.in_ok-turn.turn c.args.world.now c.loop-command.world c.play_command.new.world
           (g.O.Write.contents c.args.output.now) (g.O.Write.contents c.loop-command.output) (g.O.Write.contents c.play_command.new.output)
           c.requires.between c.loop-command.invariant.replayed c.in_ok-turn.ensures.done c.in_ok-turn.ensures.next c.in_ok-turn.ensures.printed);
-      lines = c.play_command.ensures.lines ∙ c.loop-command.invariant.lines;
-      nodes = c.play_command.ensures.specs ∙ c.loop-command.invariant.nodes;
+      lines = c.play_command.ensures.same.lines ∙ c.loop-command.invariant.lines;
+      nodes = c.play_command.ensures.same.specs ∙ c.loop-command.invariant.nodes;
     }
 
 pub returns : goal.returns

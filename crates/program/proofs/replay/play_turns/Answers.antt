@@ -1,12 +1,11 @@
-use Rattle.std.proofs.Common.{◌≡◌, ◌+◌, ◌∙◌, refl, arith}
+use Rattle.std.proofs.Common.{◌≡◌, ◌+◌, ◌∙◌, refl, arith, rules}
 use Rattle.program.proofs.Replaying.{turned_all, turned_more, turned_none}
 use Rattle.program.proofs.replay.play_turns.Goals as goal
 
 pub loop-turn-init : goal.loop-turn-init
 loop-turn-init g c = record {
   turned = turned_none c.events_add_up.ensures.none c.args.missed c.args.first c.args.world.now (g.O.Write.contents c.args.output.now);
-  lines = refl;
-  specs = refl;
+  same = record { lines = refl; specs = refl; count = refl };
 }
 
 pub loop-turn-preserved : goal.loop-turn-preserved
@@ -15,8 +14,7 @@ loop-turn-preserved g c = record {
       turned_more c.events_add_up.ensures.more c.calls_are_moves.ensures.to_turn c.args.missed c.args.first c.loop-turn.turn c.args.world.now c.loop-turn.world c.play_event.new.world
       (g.O.Write.contents c.args.output.now) (g.O.Write.contents c.loop-turn.output) (g.O.Write.contents c.play_event.new.output)
       c.loop-turn.invariant.turned c.play_event.ensures.done c.in_ok-play_event.ensures.printed;
-  lines = c.play_event.ensures.lines ∙ c.loop-turn.invariant.lines;
-  specs = c.play_event.ensures.specs ∙ c.loop-turn.invariant.specs;
+  same = search rules;
 }
 
 pub returns-clause-done : goal.returns-clause-done

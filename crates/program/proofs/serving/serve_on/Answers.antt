@@ -10,7 +10,7 @@ use Rattle.program.proofs.serving.serve_on.Goals as goal
 
 pub loop-served-preserved : goal.loop-served-preserved
 loop-served-preserved g c = record {
-  nodes = c.serve_connection.ensures.specs ∙ c.loop-served.invariant.nodes;
+  nodes = c.serve_connection.ensures.same.specs ∙ c.loop-served.invariant.nodes;
   served =
       served_more c.events_add_up.ensures.more c.args.limits c.loop-served._served (entries_in (roster_value c.args.roster)) c.args.world.now c.loop-served.world c.serve_connection.new.world
       (g.O.Write.contents c.args.output.now) (g.O.Write.contents c.loop-served.output) (g.O.Write.contents c.serve_connection.new.output) (g.O.Write.contents c.print_nodes.new.output)

@@ -17,8 +17,8 @@ use Rattle.station_c.proofs.run.run.Goals as goal
 
 pub step-step-requires : goal.step-step-requires
 step-step-requires c =
-    subst (λ (lines : ℕ). IsTrue (is_event lines (length c.loop-i.world.nodes) c.read.result)) (sym c.loop-i.invariant.lines)
-    (subst (λ (nodes : ℕ). IsTrue (is_event (length c.args.world.now.station.lines) nodes c.read.result)) (sym c.loop-i.invariant.count)
+    subst (λ (lines : ℕ). IsTrue (is_event lines (length c.loop-i.world.nodes) c.read.result)) (sym c.loop-i.invariant.same.lines)
+    (subst (λ (nodes : ℕ). IsTrue (is_event (length c.args.world.now.station.lines) nodes c.read.result)) (sym c.loop-i.invariant.same.count)
     (subst (λ (event : Event). IsTrue (is_event (length c.args.world.now.station.lines) (length c.args.world.now.nodes) event)) (sym c.read.ensures)
     (and_parts _ _ (one_at _ _ c.args.events.now c.loop-i.i _ c.loop-i-test.true c.requires.events)).1))
 
@@ -53,10 +53,8 @@ loop-i-preserved c =
           (c.events_add_up.ensures.more before (event ∷ []) later c.loop-i.world.nodes c.step-step.new.self.nodes new
           (c.events_add_up.ensures.one before event c.loop-i.world.nodes c.step-step.new.self.nodes turned)
           (subst (λ (s : Seen). HaveHeard s later c.step-step.new.self.nodes new) c.step-step.ensures.station rest)));
-      lines = c.step-step.ensures.lines ∙ c.loop-i.invariant.lines;
       same_length = search rules;
-      count = c.step-step.ensures.count ∙ c.loop-i.invariant.count;
-      specs = c.step-step.ensures.specs ∙ c.loop-i.invariant.specs;
+      same = search rules;
     }
 
 abbrev none_left : (c : goal.After-loop-i) → map event_of (drop c.loop-i.i c.args.events.now) ≡ []

@@ -1,4 +1,4 @@
-use Rattle.std.proofs.Common.{◌≡◌, ◌+◌, List, [], ◌∷◌, ◌++◌, take, drop, ap, subst, sym, ◌∙◌, arith, append_assoc, drop_of_length-le, length-set}
+use Rattle.std.proofs.Common.{◌≡◌, ◌+◌, List, [], ◌∷◌, ◌++◌, take, drop, ap, subst, sym, ◌∙◌, arith, rules, append_assoc, drop_of_length-le, length-set}
 use Rattle.std.specs.List.{slice_index_or}
 use Rattle.std.proofs.lemmas.List.{drop_more, take_more_set}
 use Rattle.station_core.specs.Powered.{HasDesk}
@@ -54,7 +54,7 @@ loop-i-preserved c =
       heard = λ new rest.
           c.loop-i.invariant.heard new
           (subst (λ (events : List Event). HaveHeard (before c).station (layout_events (before c) events) c.loop-i.self.world.nodes new) (sym more) (next_heard c new rest));
-      specs = c.step.ensures.specs ∙ c.loop-i.invariant.specs;
+      same = search rules;
     }
 
 abbrev seen_first : goal.After-loop-i → SeenBus

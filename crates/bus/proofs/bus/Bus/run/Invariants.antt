@@ -1,7 +1,6 @@
-use Rattle.std.proofs.Common.{◌≡◌, ◌++◌, List, drop, take, length, map}
+use Rattle.std.proofs.Common.{◌≡◌, ◌++◌, List, drop, take, length}
 use Rattle.layout_core.specs.declared.node.Node.{Node}
-use Rattle.layout_core.specs.Nodes.{spec_of}
-use Rattle.layout_core.specs.World.{HaveHeard}
+use Rattle.layout_core.specs.World.{HaveHeard, IsSameLayout}
 use Rattle.bus.specs.Bus.{after_events, told_of}
 use Rattle.bus.specs.Layout.{layout_events}
 use Rattle.bus.specs.Seen.{seen_of}
@@ -15,5 +14,5 @@ invariant-loop-i l = record {
   same_length : length l.told ≡ length l.events;
   heard : (new : List Node) → HaveHeard l.self.world.station (layout_events (seen_of l.self) (drop l.i l.events)) l.self.world.nodes new
       → HaveHeard l.fn.self.world.station (layout_events (seen_of l.fn.self) l.events) l.fn.self.world.nodes new;
-  specs : map spec_of l.self.world.nodes ≡ map spec_of l.fn.self.world.nodes;
+  same : IsSameLayout l.fn.self.world l.self.world;
 }

@@ -10,13 +10,14 @@ use Rattle.layout_core.specs.Events.{calls_in}
 use Rattle.layout_core.specs.Played.{answer_to, answers_to, is_event}
 use Rattle.layout_core.specs.World.{AfterEvent, HaveHeard}
 use Rattle.layout_core.proofs.Played.{all_answered, all_played, event_at as event_of, heard_obeyed, next_heard, nothing_heard}
+use Rattle.layout_core.proofs.Same.{same_still, same_then}
 use Rattle.layout_core.proofs.world.World.run.Goals as goal
 
 pub step-requires : goal.step-requires
 step-requires c =
     let event = slice_index_or c.args.events.now c.loop-i.i (Byte 0 0) in
-    subst (λ (lines : ℕ). IsTrue (is_event lines (length c.loop-i.self.nodes) event)) (sym c.loop-i.invariant.lines)
-    (subst (λ (nodes : ℕ). IsTrue (is_event (length c.args.self.now.station.lines) nodes event)) (sym c.loop-i.invariant.count)
+    subst (λ (lines : ℕ). IsTrue (is_event lines (length c.loop-i.self.nodes) event)) (sym c.loop-i.invariant.same.lines)
+    (subst (λ (nodes : ℕ). IsTrue (is_event (length c.args.self.now.station.lines) nodes event)) (sym c.loop-i.invariant.same.count)
     (event_of _ _ c.args.events.now c.loop-i.i (Byte 0 0) c.loop-i-test.true c.requires.events))
 
 abbrev event_at : goal.After-step → Event
@@ -40,10 +41,8 @@ loop-i-preserved c =
           ∙ ap (λ (step : Step). take c.loop-i.i c.loop-i.steps ++ step ∷ answers_to after (later c)) c.step.ensures.answer
           ∙ ap (λ (s : Seen). take c.loop-i.i c.loop-i.steps ++ answer_to before (event_at c) ∷ answers_to s (later c)) c.step.ensures.station
           ∙ subst (λ (events : List Event). take c.loop-i.i c.loop-i.steps ++ answers_to before events ≡ answers_to c.args.self.now.station c.args.events.now) more c.loop-i.invariant.written;
-      lines = c.step.ensures.lines ∙ c.loop-i.invariant.lines;
       same_length = search rules;
-      count = c.step.ensures.count ∙ c.loop-i.invariant.count;
-      specs = c.step.ensures.specs ∙ c.loop-i.invariant.specs;
+      same = same_then _ _ _ c.loop-i.invariant.same c.step.ensures.same;
       heard = λ new rest.
           c.loop-i.invariant.heard new
           (subst (λ (events : List Event). HaveHeard before events c.loop-i.self.nodes new) (sym more)
@@ -71,18 +70,13 @@ returns-clause-after_noise c =
 pub returns-clause-obeyed : goal.returns-clause-obeyed
 returns-clause-obeyed c = heard_obeyed c.args.self.now.station c.args.events.now c.args.self.now.nodes c.loop-i.self.nodes (returns-clause-nodes c)
 
-pub returns-clause-count : goal.returns-clause-count
-returns-clause-count c = c.loop-i.invariant.count
-
 pub loop-i-init : goal.loop-i-init
 loop-i-init c = record {
   rest = refl;
   written = refl;
-  lines = refl;
   same_length = c.requires.places;
   heard = λ new rest. rest;
-  count = refl;
-  specs = refl;
+  same = same_still c.args.self.now;
 }
 
 pub bounds-events-i : goal.bounds-events-i
@@ -98,8 +92,5 @@ pub returns-clause-answers : goal.returns-clause-answers
 returns-clause-answers c =
     all_answered c.args.self.now.station c.loop-i.self.station c.args.events.now c.loop-i.i c.loop-i-test.false c.loop-i.steps c.loop-i.invariant.same_length c.loop-i.invariant.written
 
-pub returns-clause-specs : goal.returns-clause-specs
-returns-clause-specs c = c.loop-i.invariant.specs
-
-pub returns-clause-lines : goal.returns-clause-lines
-returns-clause-lines c = c.loop-i.invariant.lines
+pub returns-clause-same : goal.returns-clause-same
+returns-clause-same c = c.loop-i.invariant.same
