@@ -5,26 +5,22 @@ mod lines;
 mod memory;
 
 use crate::execute;
-use input_text::Noting;
-use std::io::Read;
+use failing_streams::Program;
+use input_text::Input;
+use std::alloc::Global;
+use std::io::Write;
 
-/// What a run answers, writes and tells.
-#[derive(Drop)]
-struct Ran {
-    status: u8,
-    output: Vec<u8>,
-    faults: Vec<u8>,
-}
+/// The program, as the tests run it.
+struct Explain;
 
-/// Runs the program on this reader.
-fn run_from<I: Read>(rt: &HostRuntime, input: &mut I) -> Ran {
-    let mut output = Vec::new(rt.alloc());
-    let mut faults = Vec::new(rt.alloc());
-    let mut input = Noting::new(input);
-    let status = execute(rt.alloc(), &mut input, &mut output, &mut faults);
-    Ran {
-        status,
-        output,
-        faults,
+impl Program for Explain {
+    fn execute<I: Input, O: Write, E: Write>(
+        &self,
+        alloc: Global,
+        input: &mut I,
+        output: &mut O,
+        faults: &mut E,
+    ) -> u8 {
+        execute(alloc, input, output, faults)
     }
 }

@@ -4,6 +4,7 @@ use crate::{
     Answer, Decoder, EventFields, Layout, Motion, station_byte, station_free, station_new,
     station_outputs, station_read, station_run, station_running, station_turn,
 };
+use failing_streams::take_all_but;
 use std::alloc::Global;
 use std::mem::size_of;
 use std::test::Fail;
@@ -382,37 +383,17 @@ fn structs_are_as_large_as_in_c(rt: HostRuntime) {
     assert!(rt; size_of::<Motion>() == 6);
 }
 
-/// Takes all memory that the process can still have: blocks of half the size wherever one is refused.
-fn take_all(alloc: Global, held: &mut Vec<Vec<u8>>) {
-    let mut size = 1usize << 46;
-    for _ in 0..1_000_000u32 {
-        if size < 16 || held.len() >= held.capacity() {
-            return;
-        }
-        match Vec::with_capacity(alloc, size) {
-            Ok(block) => {
-                if held.push(block).is_err() {
-                    return;
-                }
-            }
-            Err(_) => size /= 2,
-        }
-    }
-}
-
 /// What comes of making a layout and of reading one with so much memory left, if it is right.
 fn made_with(alloc: Global, layout: &mut Layout, room: usize) -> Option<(u8, u8)> {
     let mut node = 7;
-    let mut held: Vec<Vec<u8>> = Vec::with_capacity(alloc, 60_000).ok()?;
-    let left: Vec<u8> = Vec::with_capacity(alloc, room).ok()?;
-    take_all(alloc, &mut held);
-    drop(left);
+    let taken = take_all_but(alloc, room).ok()?;
     let made = station_new(alloc, layout, 1, &[SHUNTER, YARD]);
     let none = layout.made != (made == 0);
     station_free(alloc, layout);
     let read = station_read(alloc, layout, 1, ROSTER, &mut node);
     let none = none || layout.made != (read == 0);
     station_free(alloc, layout);
+    drop(taken);
     if none || node != 7 {
         return None;
     }
@@ -440,10 +421,7 @@ fn says_that_there_is_no_memory(rt: HostRuntime) -> Result<(), Fail> {
 
 /// How many of a thousand layouts were made, each ended before the next, where so much memory is left.
 fn made_in_turn(alloc: Global, layout: &mut Layout, room: usize) -> Result<u32, Fail> {
-    let mut held: Vec<Vec<u8>> = Vec::with_capacity(alloc, 60_000)?;
-    let left: Vec<u8> = Vec::with_capacity(alloc, room)?;
-    take_all(alloc, &mut held);
-    drop(left);
+    let taken = take_all_but(alloc, room)?;
     let mut made = 0u32;
     for _ in 0..1000u32 {
         if station_new(alloc, layout, 1, &[SHUNTER, YARD]) == 0 {
@@ -451,7 +429,7 @@ fn made_in_turn(alloc: Global, layout: &mut Layout, room: usize) -> Result<u32, 
         }
         station_free(alloc, layout);
     }
-    drop(held);
+    drop(taken);
     Ok(made)
 }
 

@@ -5,25 +5,22 @@ mod lines;
 mod memory;
 
 use crate::execute;
-use input_text::Noting;
+use failing_streams::Program;
+use input_text::Input;
+use std::alloc::Global;
+use std::io::Write;
 
-/// What a run answers, writes and tells.
-#[derive(Drop)]
-struct Ran {
-    status: u8,
-    output: Vec<u8>,
-    faults: Vec<u8>,
-}
+/// The program, as the tests run it.
+struct TrackSignal;
 
-/// Runs the program on this standard input.
-fn run(rt: &HostRuntime, text: &[u8]) -> Ran {
-    let mut input = Noting::new(text);
-    let mut output = Vec::new(rt.alloc());
-    let mut faults = Vec::new(rt.alloc());
-    let status = execute(rt.alloc(), &mut input, &mut output, &mut faults);
-    Ran {
-        status,
-        output,
-        faults,
+impl Program for TrackSignal {
+    fn execute<I: Input, O: Write, E: Write>(
+        &self,
+        alloc: Global,
+        input: &mut I,
+        output: &mut O,
+        faults: &mut E,
+    ) -> u8 {
+        execute(alloc, input, output, faults)
     }
 }

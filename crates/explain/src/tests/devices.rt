@@ -1,70 +1,10 @@
 //! Standard streams that fail, and what is written when.
 
-use super::run_from;
-use crate::execute;
-use input_text::Noting;
+use super::Explain;
+use failing_streams::{Broken, Stuck, Uneven, run_from, run_to, run_untold};
 use std::alloc::Global;
 use std::io;
-use std::io::{ErrorKind, Read, Write};
-
-// A device whose every call fails.
-#[derive(Drop)]
-struct Broken;
-
-impl Read for Broken {
-    fn read(&mut self, _buf: &mut [u8]) -> io::Result<usize> {
-        Err(io::Error::from(ErrorKind::Other))
-    }
-}
-
-impl Write for Broken {
-    fn write(&mut self, _buf: &[u8]) -> io::Result<usize> {
-        Err(io::Error::from(ErrorKind::Other))
-    }
-
-    fn flush(&mut self) -> io::Result<()> {
-        Ok(())
-    }
-}
-
-// A device that takes bytes and never lets them go out.
-#[derive(Drop)]
-struct Stuck;
-
-impl Write for Stuck {
-    fn write(&mut self, buf: &[u8]) -> io::Result<usize> {
-        Ok(buf.len())
-    }
-
-    fn flush(&mut self) -> io::Result<()> {
-        Err(io::Error::from(ErrorKind::Other))
-    }
-}
-
-// A text in reads of so many bytes. Every second read is interrupted, and at its end reads fail like this.
-#[derive(Drop)]
-struct Uneven {
-    text: &'static [u8],
-    count: usize,
-    interrupts: bool,
-    end: ErrorKind,
-}
-
-impl Read for Uneven {
-    fn read(&mut self, buf: &mut [u8]) -> io::Result<usize> {
-        self.interrupts = !self.interrupts;
-        if self.interrupts {
-            return Err(io::Error::from(ErrorKind::Interrupted));
-        }
-        if self.text.is_empty() {
-            return Err(io::Error::from(self.end));
-        }
-        let count = self.count.min(self.text.len()).min(buf.len());
-        let mut piece = &self.text[..count];
-        self.text = &self.text[count..];
-        piece.read(buf)
-    }
-}
+use std::io::{ErrorKind, Write};
 
 // What was written, with a bar wherever it was let go out.
 #[derive(Drop)]
@@ -90,62 +30,35 @@ impl Write for Outward {
     }
 }
 
-const TWO_LINES: &[u8] = b"track 1 FF 00 FF\ntrack 2 off";
-
 fn two_lines(end: ErrorKind) -> Uneven {
-    Uneven {
-        text: TWO_LINES,
-        count: 17,
-        interrupts: false,
-        end,
-    }
+    Uneven::new(b"track 1 FF 00 FF\ntrack 2 off", 17, Some(end))
 }
 
 #[test]
 fn standard_input_cannot_be_read(rt: HostRuntime) {
-    let ran = run_from(&rt, &mut Broken);
-    assert_eq!(rt; ran.status, 2);
-    assert_eq!(rt;
-        ran.faults.as_slice(),
-        b"explain: cannot read -\n".as_slice()
-    );
-    assert_eq!(rt; ran.output.as_slice(), b"".as_slice());
+    let ran = run_from(&Explain, rt.alloc(), &mut Broken::new());
+    assert!(rt; ran.is(2, b"", b"explain: cannot read -\n"));
 }
 
 #[test]
 fn all_that_was_read_before_a_fault_is_explained(rt: HostRuntime) {
-    let ran = run_from(&rt, &mut two_lines(ErrorKind::Other));
-    assert_eq!(rt; ran.status, 2);
-    assert_eq!(rt;
-        ran.faults.as_slice(),
-        b"explain: cannot read -\n".as_slice()
-    );
-    assert_eq!(rt;
-        ran.output.as_slice(),
-        b"track 1 FF 00 FF  idle\ntrack 2 off  no power, nothing is sent".as_slice()
-    );
+    let explained = b"track 1 FF 00 FF  idle\ntrack 2 off  no power, nothing is sent";
+    let ran = run_from(&Explain, rt.alloc(), &mut two_lines(ErrorKind::Other));
+    assert!(rt; ran.is(2, explained, b"explain: cannot read -\n"));
 }
 
 #[test]
 fn a_read_wants_memory(rt: HostRuntime) {
-    let ran = run_from(&rt, &mut two_lines(ErrorKind::OutOfMemory));
-    assert_eq!(rt; ran.status, 6);
-    assert_eq!(rt; ran.faults.as_slice(), b"explain: no memory\n".as_slice());
-    assert_eq!(rt;
-        ran.output.as_slice(),
-        b"track 1 FF 00 FF  idle\n".as_slice()
-    );
+    let ran = run_from(&Explain, rt.alloc(), &mut two_lines(ErrorKind::OutOfMemory));
+    assert!(rt; ran.is(6, b"track 1 FF 00 FF  idle\n", b"explain: no memory\n"));
 }
 
 #[test]
 fn a_line_goes_out_when_its_end_is_read(rt: HostRuntime) {
     let mut output = Outward::new(rt.alloc());
-    let mut faults = Vec::new(rt.alloc());
-    let mut input = Noting::new(two_lines(ErrorKind::Other));
-    assert_eq!(rt;
-        execute(rt.alloc(), &mut input, &mut output, &mut faults),
-        2
-    );
+    let mut input = two_lines(ErrorKind::Other);
+    let (status, _) = run_to(&Explain, rt.alloc(), &mut input, &mut output);
+    assert_eq!(rt; status, 2);
     // The second read ends no line, and what is held goes out at the end.
     assert_eq!(rt;
         output.text.as_slice(),
@@ -159,34 +72,22 @@ fn standard_output_cannot_be_written(rt: HostRuntime) {
         b"track 1 FF 00 FF\n".as_slice(),
         b"track 1 FF 00 FF".as_slice(),
     ] {
-        let mut input = Noting::new(text);
-        let mut faults = Vec::new(rt.alloc());
-        assert_eq!(rt;
-            execute(rt.alloc(), &mut input, &mut Broken, &mut faults),
-            4
-        );
+        let mut reader = text;
+        let (status, faults) = run_to(&Explain, rt.alloc(), &mut reader, &mut Broken::new());
+        assert_eq!(rt; status, 4);
         assert_eq!(rt; faults.as_slice(), b"explain: output\n".as_slice());
     }
 }
 
 #[test]
 fn standard_output_cannot_go_out(rt: HostRuntime) {
-    let mut input = Noting::new(b"track 1 FF 00 FF\n".as_slice());
-    let mut faults = Vec::new(rt.alloc());
-    assert_eq!(rt; execute(rt.alloc(), &mut input, &mut Stuck, &mut faults), 4);
+    let mut text = b"track 1 FF 00 FF\n".as_slice();
+    let (status, faults) = run_to(&Explain, rt.alloc(), &mut text, &mut Stuck);
+    assert_eq!(rt; status, 4);
     assert_eq!(rt; faults.as_slice(), b"explain: output\n".as_slice());
 }
 
 #[test]
 fn standard_error_cannot_be_written(rt: HostRuntime) {
-    let mut output = Vec::new(rt.alloc());
-    assert_eq!(rt;
-        execute(
-            rt.alloc(),
-            &mut Noting::new(Broken),
-            &mut output,
-            &mut Broken
-        ),
-        2
-    );
+    assert_eq!(rt; run_untold(&Explain, rt.alloc(), &mut Broken::new()), 2);
 }

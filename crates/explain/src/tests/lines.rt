@@ -1,7 +1,8 @@
 //! Lines, and what is written behind them, worked out by hand from LocoNet Personal Use Edition 1.0 and from S-9.2 and
 //! S-9.2.1. Each text comes at once, in two pieces cut at every place, and byte by byte.
 
-use super::run_from;
+use super::Explain;
+use failing_streams::run_from;
 use std::alloc::Global;
 use std::io;
 use std::io::Read;
@@ -30,7 +31,8 @@ fn comes_to(rt: &HostRuntime, text: &[u8], wanted: &[u8]) -> bool {
     let whole = text.len();
     for first in 1..=whole {
         let ran = run_from(
-            rt,
+            &Explain,
+            rt.alloc(),
             &mut Pieces {
                 text,
                 first,
@@ -42,7 +44,8 @@ fn comes_to(rt: &HostRuntime, text: &[u8], wanted: &[u8]) -> bool {
         }
     }
     let ran = run_from(
-        rt,
+        &Explain,
+        rt.alloc(),
         &mut Pieces {
             text,
             first: 1,
@@ -238,7 +241,7 @@ fn a_line_is_longer_than_a_read(rt: HostRuntime) -> Result<(), Fail> {
     let mut wanted = padded(rt.alloc(), 10_000, b"", b"\n")?;
     text.extend_from_slice(b"81 7E\n")?;
     wanted.extend_from_slice(b"81 7E  busy\n")?;
-    let ran = run_from(&rt, &mut text.as_slice());
+    let ran = run_from(&Explain, rt.alloc(), &mut text.as_slice());
     assert_eq!(rt; ran.status, 0);
     assert_eq!(rt; ran.output.as_slice(), wanted.as_slice());
     Ok(())

@@ -5,6 +5,7 @@
 
 use crate::{OrderFault, execute, order};
 use decoder_node::NodeList;
+use failing_streams::take_all_but;
 use input_text::Noting;
 use layout_core::World;
 use refresh_ring::{BitRing, Schedule};
@@ -133,34 +134,13 @@ fn other_than(no_memory: bool) -> Option<bool> {
     if no_memory { None } else { Some(false) }
 }
 
-/// Takes all memory that the process can still have: blocks of half the size wherever one is refused.
-fn take_all(alloc: Global, held: &mut Vec<Vec<u8>>) {
-    let mut size = 1usize << 46;
-    for _ in 0..1_000_000u32 {
-        if size < 16 || held.len() >= held.capacity() {
-            return;
-        }
-        match Vec::with_capacity(alloc, size) {
-            Ok(block) => {
-                if held.push(block).is_err() {
-                    return;
-                }
-            }
-            Err(_) => size /= 2,
-        }
-    }
-}
-
 /// The answer where so many bytes are left.
 fn answer_in(rt: &HostRuntime, work: Work<'_>, room: usize) -> Result<Option<bool>, Fail> {
     let alloc = rt.alloc();
     let mut pages = Pages::new(alloc)?;
-    let mut held: Vec<Vec<u8>> = Vec::with_capacity(alloc, 60_000)?;
-    let left: Vec<u8> = Vec::with_capacity(alloc, room)?;
-    take_all(alloc, &mut held);
-    drop(left);
+    let taken = take_all_but(alloc, room)?;
     let found = answer(rt, work, &mut pages);
-    drop(held);
+    drop(taken);
     Ok(found)
 }
 

@@ -1,6 +1,7 @@
 //! Lines, and what is drawn of them, worked out by hand from the figures of S-9.1 and S-9.2 and the format of IEEE 1364.
 
-use super::run;
+use super::TrackSignal;
+use failing_streams::run;
 use std::alloc::Global;
 use std::io::Write;
 use std::test::Fail;
@@ -53,10 +54,8 @@ fn packets_are_drawn(rt: HostRuntime) -> Result<(), Fail> {
         ),
     ];
     for (text, bits) in rows {
-        let ran = run(&rt, text);
-        assert_eq!(rt; ran.status, 0);
-        assert_eq!(rt; ran.faults.as_slice(), b"".as_slice());
-        assert_eq!(rt; ran.output.as_slice(), drawn(rt.alloc(), bits)?.as_slice());
+        let ran = run(&TrackSignal, rt.alloc(), text);
+        assert!(rt; ran.is(0, drawn(rt.alloc(), bits)?.as_slice(), b""));
     }
     Ok(())
 }
@@ -64,7 +63,11 @@ fn packets_are_drawn(rt: HostRuntime) -> Result<(), Fail> {
 #[test]
 fn two_packets_end_at_their_sum(rt: HostRuntime) {
     // 7,596 microseconds and 5,796.
-    let ran = run(&rt, b"track 1 03 3F C0 FC\ntrack 2 FF 00 FF\n");
+    let ran = run(
+        &TrackSignal,
+        rt.alloc(),
+        b"track 1 03 3F C0 FC\ntrack 2 FF 00 FF\n",
+    );
     assert!(rt; ran.output.as_slice().ends_with(b"#13334\n0!\n#13392\n"));
 }
 
@@ -97,11 +100,9 @@ fn lines_with_a_fault_are_refused(rt: HostRuntime) -> Result<(), Fail> {
         (b"\n\n\ntrack 1 FF 00 FF\n\ntrack 2 on\n", 6),
     ];
     for (text, line) in rows {
-        let ran = run(&rt, text);
+        let ran = run(&TrackSignal, rt.alloc(), text);
         let told = format!(in rt.alloc(); "track_signal: line {line}: bad track line\n")?;
-        assert_eq!(rt; ran.status, 5);
-        assert_eq!(rt; ran.faults.as_slice(), told.as_str().as_bytes());
-        assert_eq!(rt; ran.output.as_slice(), b"".as_slice());
+        assert!(rt; ran.is(5, b"", told.as_str().as_bytes()));
     }
     Ok(())
 }

@@ -1,0 +1,11 @@
+//! For the tests of programs: streams that fail, runs on them, and a process with little memory. No program stands on it
+//! but for its tests.
+#![tactic(auto)]
+
+mod devices;
+mod memory;
+mod runs;
+
+pub use devices::{Broken, Spaces, Stuck, Uneven};
+pub use memory::{Taken, take_all_but};
+pub use runs::{Program, Ran, run, run_as_room_grows, run_from, run_in, run_to, run_untold};

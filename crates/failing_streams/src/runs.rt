@@ -1,0 +1,128 @@
+//! Programs on their three streams, and what a run comes to.
+ghost use Rattle.std.specs.Prelude.{◌≡◌, false};
+
+use crate::devices::Broken;
+use crate::memory::take_all_but;
+use input_text::{Input, Noting};
+use std::alloc::{AllocError, Global};
+use std::io::{Read, Write};
+
+/// How many bytes more are left from run to run.
+const STEP: usize = 256;
+
+/// A program that has no words.
+pub trait Program {
+    /// Runs it on these streams, and answers the exit status.
+    fn execute<I: Input, O: Write, E: Write>(
+        &self,
+        alloc: Global,
+        input: &mut I,
+        output: &mut O,
+        faults: &mut E,
+    ) -> u8
+        requires { I.failed input.old ≡ false };
+}
+
+/// What a run answers, writes and tells.
+#[derive(Drop)]
+pub struct Ran {
+    /// The exit status.
+    pub status: u8,
+    /// What was written to standard output.
+    pub output: Vec<u8>,
+    /// What was written to standard error.
+    pub faults: Vec<u8>,
+}
+
+impl Ran {
+    /// Whether the run came to this.
+    pub fn is(&self, status: u8, output: &[u8], faults: &[u8]) -> bool {
+        self.status == status
+            && self.output.as_slice() == output
+            && self.faults.as_slice() == faults
+    }
+}
+
+/// Runs a program on what this reader gives.
+pub fn run_from<P: Program, R: Read>(program: &P, alloc: Global, reader: &mut R) -> Ran {
+    let mut output = Vec::new(alloc);
+    let (status, faults) = run_to(program, alloc, reader, &mut output);
+    Ran {
+        status,
+        output,
+        faults,
+    }
+}
+
+/// Runs a program on this text.
+pub fn run<P: Program>(program: &P, alloc: Global, text: &[u8]) -> Ran {
+    let mut reader = text;
+    run_from(program, alloc, &mut reader)
+}
+
+/// Runs a program on what this reader gives, and to this output. Gives the status, and what is told.
+pub fn run_to<P: Program, R: Read, O: Write>(
+    program: &P,
+    alloc: Global,
+    reader: &mut R,
+    output: &mut O,
+) -> (u8, Vec<u8>) {
+    let mut faults = Vec::new(alloc);
+    let mut input = Noting::new(reader);
+    let status = program.execute(alloc, &mut input, output, &mut faults);
+    (status, faults)
+}
+
+/// The status of a run on what this reader gives where nobody can be told a fault.
+pub fn run_untold<P: Program, R: Read>(program: &P, alloc: Global, reader: &mut R) -> u8 {
+    let mut output = Vec::new(alloc);
+    let mut input = Noting::new(reader);
+    program.execute(alloc, &mut input, &mut output, &mut Broken::new())
+}
+
+/// Runs a program on this text with so many bytes of memory left. There is room for what it writes from the start.
+///
+/// # Errors
+///
+/// Fewer bytes were left.
+pub fn run_in<P: Program>(
+    program: &P,
+    alloc: Global,
+    text: &[u8],
+    room: usize,
+) -> Result<Ran, AllocError> {
+    let mut output: Vec<u8> = Vec::with_capacity(alloc, 16_384)?;
+    let mut faults: Vec<u8> = Vec::with_capacity(alloc, 64)?;
+    let mut input = Noting::new(text);
+    let taken = take_all_but(alloc, room)?;
+    let status = program.execute(alloc, &mut input, &mut output, &mut faults);
+    drop(taken);
+    Ok(Ran {
+        status,
+        output,
+        faults,
+    })
+}
+
+/// Runs a program on this text with ever more memory, from none, until the run is not one that tells this, writes nothing
+/// and ends with status 6. Gives how many runs were so, and what the first other one came to, or else the last.
+///
+/// # Errors
+///
+/// The memory that the process began with was too little.
+pub fn run_as_room_grows<P: Program>(
+    program: &P,
+    alloc: Global,
+    text: &[u8],
+    no_memory: &[u8],
+) -> Result<(u32, Ran), AllocError> {
+    let mut ran = run_in(program, alloc, text, 0)?;
+    for refused in 0..1000u32 {
+        let faults = ran.faults.as_slice();
+        if ran.status != 6 || !ran.output.is_empty() || faults != no_memory {
+            return Ok((refused, ran));
+        }
+        ran = run_in(program, alloc, text, (refused as usize + 1) * STEP)?;
+    }
+    Ok((1000, ran))
+}
