@@ -34,7 +34,7 @@ no_words = record { address = refl; port = refl; roster = refl; turns = refl; cl
 number_is : (read : Option Text) (text : Text) (least most n : ℕ) → IsNumber read least most n → read ≡ Some text → n ≡ number_of text
 number_is read text least most n is same =
     let P : Option Text → Type 0 = λ o. Writes o n in
-    subst P same is.written
+    (subst P same is.written).1
 
 number_is_none : (read : Option Text) (least most : ℕ) (given : Option ℕ) → IsNumberIfGiven read least most given → read ≡ None → given ≡ None
 number_is_none read least most given is same =

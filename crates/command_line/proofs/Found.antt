@@ -1,12 +1,12 @@
 -- What clap's getters read, as what its matches hold.
-use Rattle.std.specs.Prelude.{◌≡◌, ◌==◌, ℕ, false, List, [], ◌∷◌, length, map, refl, IfSome, Option, None, Some, Result, Ok}
+use Rattle.std.specs.Prelude.{◌≡◌, ◌==◌, ℕ, false, List, [], ◌∷◌, length, map, refl, MatchOption, Option, None, Some, Result, Ok, Err}
 use Rattle.std.specs.Borrow.{Bor}
 use Rattle.clap.specs.declared.parser.matches.Found.{Found}
 use Rattle.clap.specs.Words.{ReadsOne, Text, first_of, first_value, rows_of, subcommand_of}
 use Rattle.clap.proofs.WalkLemmas.{first_value-rows}
 use Rattle.command_line.specs.declared.words.Order.{Order}
 use Rattle.command_line.specs.CommandLine.{station_app}
-use Rattle.command_line.specs.Order.{IsMatched, IsOrderOf}
+use Rattle.command_line.specs.Order.{HasNone, IsMatched, IsOrderOf}
 
 pub first_in_rows : (found : Found) (id : Text) → first_value found id ≡ first_of id (rows_of found)
 first_in_rows = first_value-rows
@@ -18,8 +18,10 @@ of_some_words (word ∷ words) order some matched = matched
 
 -- what a getter reads of a text, by cases on what it answers
 pub read_one : {T E : Type 0} (gives : List ℕ → Result T E → Type 0) (Holds : Option Text → T → Type 0) (o : Option Text) (r : Option T)
-    → (o ≡ None → r ≡ None) → ((t : Text) → o ≡ Some t → ReadsOne gives t r) → ((t : Text) (v : T) → gives t (Ok v) → Holds (Some t) v)
-    → IfSome r (λ v. Holds o v)
-read_one gives Holds o None none some reads = tt
-read_one gives Holds None (Some v) none some reads = let bad : Some v ≡ None = none refl in cc
-read_one gives Holds (Some t) (Some v) none some reads = reads t v (some t refl)
+    → (o ≡ None → r ≡ None) → ((t : Text) → o ≡ Some t → ReadsOne gives t r)
+    → ((t : Text) (v : T) → gives t (Ok v) → Holds (Some t) v) → ((t : Text) (e : E) → gives t (Err e) → HasNone (Holds (Some t))) → HasNone (Holds None)
+    → MatchOption r (HasNone (Holds o)) (Holds o)
+read_one gives Holds None None none some ok err bare = bare
+read_one gives Holds (Some t) None none some ok err bare = let read = some t refl in err t read.0 read.1
+read_one gives Holds None (Some v) none some ok err bare = let bad : Some v ≡ None = none refl in cc
+read_one gives Holds (Some t) (Some v) none some ok err bare = ok t v (some t refl)

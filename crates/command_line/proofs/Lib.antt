@@ -1,3 +1,4 @@
 pub mod Found
 pub mod Simple
 pub mod Defaults
+pub mod Faults

@@ -1,19 +1,27 @@
 -- What the words of the command line ask for: what clap's matches of them hold.
-use Rattle.std.specs.Prelude.{ℕ, ◌≡◌, ◌≤◌, List, [], ◌∷◌, codes, Option, Some, None}
-use Rattle.std.specs.Str.Parse.{digits_value, without_leading_plus}
+use Rattle.std.specs.Prelude.{ℕ, ◌≡◌, ◌≤◌, ◌<◌, ◌^◌, List, [], ◌∷◌, codes, Option, Some, None}
+use Rattle.std.specs.Str.Parse.{IsNumeral, digits_value, without_leading_plus}
 use Rattle.clap.specs.Words.{Row, Text, first_of, one_of, subcommand_of}
 use Rattle.command_line.specs.declared.words.Order.{Order}
 use Rattle.command_line.specs.declared.words.Order.TheVariants.{Replay, Monitor, Serve}
 use Rattle.command_line.specs.CommandLine.{station_app}
 
+-- there is none of this kind
+abbrev pub HasNone : {A : Type 0} → (A → Type 0) → Type 0
+HasNone {A} Is = (a : A) → Is a → ⊥
+
 -- the number that a text writes
 abbrev pub number_of : Text → ℕ
 number_of text = digits_value 10 (without_leading_plus text)
 
--- the text that is read
+-- the text that is read is a numeral, of this number
 abbrev pub Writes : Option Text → ℕ → Type 0
-Writes (Some text) n = n ≡ number_of text
+Writes (Some text) n = IsNumeral 10 (without_leading_plus text) × (n ≡ number_of text)
 Writes None n = ⊥
+
+-- it is of no number of 32 bits
+abbrev pub WritesNone : Option Text → Type 0
+WritesNone text = (n : ℕ) → n < 2 ^ 32 → Writes text n → ⊥
 
 -- n is what the value of this option writes, and in its range
 pub record IsNumber (text : Option Text) (least most n : ℕ) : Type 0 where

@@ -1,8 +1,10 @@
 //! Reading the command line.
-ghost use Rattle.std.specs.Prelude.{◌≡◌, ℕ, [], Ok, None, IfOk, IfSome, map, option_map, codes};
-ghost use Rattle.clap.specs.Words.{first_of, found_of, one_of, rows_of, subcommand_of, subcommand_rows_of};
+ghost use Rattle.std.specs.Prelude.{◌≡◌, ℕ, [], Ok, None, IfErr, IfOk, IfSome, MatchOption, map, option_map, codes};
+ghost use Rattle.clap.specs.Words.{FailsBy, fault_of, first_of, found_of, one_of, rows_of, subcommand_of, subcommand_rows_of};
 ghost use Rattle.command_line.specs.CommandLine.{station_app};
-ghost use Rattle.command_line.specs.Order.{IsMatched, IsNumber, IsOrder, IsOrderOf, Writes};
+ghost use Rattle.command_line.specs.declared.orders.OrderFault.TheVariants.{NoMemory};
+ghost use Rattle.command_line.specs.Fault.{IsOfClap, IsOrderFault, IsUnmatched, refusals};
+ghost use Rattle.command_line.specs.Order.{HasNone, IsMatched, IsNumber, IsOrder, IsOrderOf, Writes, WritesNone};
 
 use crate::command::{Draft, station_command};
 use crate::words::{FileName, Order};
@@ -23,12 +25,16 @@ pub enum OrderFault {
 }
 
 impl From<AllocError> for OrderFault {
+    ghost from_gives = { λ _ fault. fault ≡ NoMemory };
+
     fn from(_error: AllocError) -> OrderFault {
         OrderFault::NoMemory
     }
 }
 
 impl From<Error> for OrderFault {
+    ghost from_gives = { IsOfClap };
+
     fn from(error: Error) -> OrderFault {
         match error.kind() {
             ErrorKind::OutOfMemory => OrderFault::NoMemory,
@@ -39,7 +45,8 @@ impl From<Error> for OrderFault {
 
 /// The number of an option, if it is in this range.
 pub(crate) fn number(found: &ArgMatches<'_>, id: &str, least: u32, most: u32) -> Option<u32>
-    ensures { IfSome result (λ n. IsNumber (one_of id.now (rows_of (found_of found.now))) least most n) }
+    ensures some { IfSome result (λ n. IsNumber (one_of id.now (rows_of (found_of found.now))) least most n) }
+    ensures none { result ≡ None → HasNone (IsNumber (one_of id.now (rows_of (found_of found.now))) least most) }
 {
     match any_number(found, id) {
         Some(number) if least <= number && number <= most => Some(number),
@@ -48,7 +55,7 @@ pub(crate) fn number(found: &ArgMatches<'_>, id: &str, least: u32, most: u32) ->
 }
 
 fn any_number(found: &ArgMatches<'_>, id: &str) -> Option<u32>
-    ensures { IfSome result (λ n. Writes (one_of id.now (rows_of (found_of found.now))) n) }
+    ensures { MatchOption result (WritesNone (one_of id.now (rows_of (found_of found.now)))) (λ n. Writes (one_of id.now (rows_of (found_of found.now))) n) }
 {
     found.get_one::<u32>(id)
 }
@@ -104,7 +111,8 @@ pub(crate) fn usage(draft: Draft<'_>, kind: ErrorKind, message: &str) -> OrderFa
 }
 
 fn replay(alloc: Global, found: &ArgMatches<'_>) -> Result<Order, OrderFault>
-    ensures { IfOk result (λ order. IsOrder (codes "replay") (rows_of (found_of found.now)) order) }
+    ensures order { IfOk result (λ order. IsOrder (codes "replay") (rows_of (found_of found.now)) order) }
+    ensures fault { IfErr result (IsUnmatched (λ order. IsOrder (codes "replay") (rows_of (found_of found.now)) order)) }
 {
     let Some(lines) = number(found, "lines", 1, 8) else {
         return Err(out_of_range(alloc));
@@ -117,7 +125,8 @@ fn replay(alloc: Global, found: &ArgMatches<'_>) -> Result<Order, OrderFault>
 }
 
 fn monitor(alloc: Global, found: &ArgMatches<'_>) -> Result<Order, OrderFault>
-    ensures { IfOk result (λ order. IsOrder (codes "monitor") (rows_of (found_of found.now)) order) }
+    ensures order { IfOk result (λ order. IsOrder (codes "monitor") (rows_of (found_of found.now)) order) }
+    ensures fault { IfErr result (IsUnmatched (λ order. IsOrder (codes "monitor") (rows_of (found_of found.now)) order)) }
 {
     match file_name(alloc, found, "file")? {
         Some(file) => Ok(Order::Monitor { file }),
@@ -126,7 +135,8 @@ fn monitor(alloc: Global, found: &ArgMatches<'_>) -> Result<Order, OrderFault>
 }
 
 fn serve(alloc: Global, found: &ArgMatches<'_>) -> Result<Order, OrderFault>
-    ensures { IfOk result (λ order. IsOrder (codes "serve") (rows_of (found_of found.now)) order) }
+    ensures order { IfOk result (λ order. IsOrder (codes "serve") (rows_of (found_of found.now)) order) }
+    ensures fault { IfErr result (IsUnmatched (λ order. IsOrder (codes "serve") (rows_of (found_of found.now)) order)) }
 {
     let (Some(port), Some(turns), Some(reads), Some(connections)) = (
         number(found, "port", 1, 65_535),
@@ -146,7 +156,8 @@ fn serve(alloc: Global, found: &ArgMatches<'_>) -> Result<Order, OrderFault>
 }
 
 fn command_order(alloc: Global, command: &str, found: &ArgMatches<'_>) -> Result<Order, OrderFault>
-    ensures { IfOk result (λ order. IsOrder command.now (rows_of (found_of found.now)) order) }
+    ensures order { IfOk result (λ order. IsOrder command.now (rows_of (found_of found.now)) order) }
+    ensures fault { IfErr result (IsUnmatched (λ order. IsOrder command.now (rows_of (found_of found.now)) order)) }
 {
     match command {
         "replay" => replay(alloc, found),
@@ -157,7 +168,8 @@ fn command_order(alloc: Global, command: &str, found: &ArgMatches<'_>) -> Result
 }
 
 fn matched(alloc: Global, matches: &ArgMatches<'_>) -> Result<Order, OrderFault>
-    ensures { IfOk result (λ order. IsMatched (subcommand_rows_of matches.now) order) }
+    ensures order { IfOk result (λ order. IsMatched (subcommand_rows_of matches.now) order) }
+    ensures fault { IfErr result (IsUnmatched (λ order. IsMatched (subcommand_rows_of matches.now) order)) }
 {
     match matches.subcommand() {
         Some((command, found)) => command_order(alloc, command, found),
@@ -167,7 +179,8 @@ fn matched(alloc: Global, matches: &ArgMatches<'_>) -> Result<Order, OrderFault>
 
 /// What clap makes of the words.
 fn matches_of<'a>(alloc: Global, words: &'a [&'a str]) -> Result<ArgMatches<'a>, Error>
-    ensures { IfOk result (λ m. subcommand_rows_of m ≡ subcommand_of station_app (map (λ word. word.now) words.entry.now)) }
+    ensures rows { IfOk result (λ m. subcommand_rows_of m ≡ subcommand_of station_app (map (λ word. word.now) words.entry.now)) }
+    ensures kinds { FailsBy (fault_of station_app (map (λ word. word.now) words.entry.now)) result }
 {
     station_command(alloc)?.try_get_matches_from(words)
 }
@@ -180,6 +193,11 @@ pub fn order<'a>(alloc: Global, words: &'a [&'a str]) -> Result<Order, OrderFaul
     // An order holds what clap's matches of the words hold, each number in its range.
     ensures order { IfOk result (λ order. IsOrderOf (map (λ word. word.now) words.entry.now) order) }
     ensures no_words { words.entry.now ≡ [] → result ≡ Ok (Order.Replay 1 None) }
+    // The words of an order are none that clap refuses.
+    ensures taken { IfOk result (λ _. refusals (map (λ word. word.now) words.entry.now) ≡ []) }
+    // `Usage` comes only where clap refuses the words, and then of a kind for which it does, or where no order is what
+    // its matches hold.
+    ensures fault { IfErr result (IsOrderFault (map (λ word. word.now) words.entry.now)) }
 {
     if words.is_empty() {
         return Ok(Order::Replay {

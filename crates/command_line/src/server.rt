@@ -1,6 +1,8 @@
 //! Reading the command line of `lbserver`.
-ghost use Rattle.std.specs.Prelude.{◌≡◌, [], IfOk, IfSome, map};
-ghost use Rattle.clap.specs.Words.{found_of, matches_of, one_of, rows_of};
+ghost use Rattle.std.specs.Prelude.{◌≡◌, [], IfErr, IfOk, MatchOption, map};
+ghost use Rattle.clap.specs.Words.{FailsBy, fault_of, found_of, matches_of, one_of, rows_of};
+ghost use Rattle.command_line.specs.Fault.{IsServerFault, IsUnmatched};
+ghost use Rattle.command_line.specs.Order.{HasNone};
 ghost use Rattle.command_line.specs.ServerLine.{IsAddress, IsDefaultOrder, IsFlag, IsNumberIfGiven, IsServerOrder, IsServerOrderOf, server_app};
 
 use crate::orders::{OrderFault, file_name, number, text, usage};
@@ -13,14 +15,14 @@ use std::net::Ipv4Addr;
 
 /// The address of an option, if it is one.
 fn address(found: &ArgMatches<'_>, id: &str) -> Option<Ipv4Addr>
-    ensures { IfSome result (λ a. IsAddress (one_of id.now (rows_of (found_of found.now))) a) }
+    ensures { MatchOption result (HasNone (IsAddress (one_of id.now (rows_of (found_of found.now))))) (IsAddress (one_of id.now (rows_of (found_of found.now)))) }
 {
     found.get_one::<Ipv4Addr>(id)
 }
 
 /// Whether a flag is set, if that is said.
 fn flag(found: &ArgMatches<'_>, id: &str) -> Option<bool>
-    ensures { IfSome result (λ flag. IsFlag (one_of id.now (rows_of (found_of found.now))) flag) }
+    ensures { MatchOption result (HasNone (IsFlag (one_of id.now (rows_of (found_of found.now))))) (IsFlag (one_of id.now (rows_of (found_of found.now)))) }
 {
     found.get_one::<bool>(id)
 }
@@ -33,7 +35,8 @@ fn number_if_given(
     least: u32,
     most: u32,
 ) -> Result<Option<u32>, OrderFault>
-    ensures { IfOk result (λ n. IsNumberIfGiven (one_of id.now (rows_of (found_of found.now))) least most n) }
+    ensures number { IfOk result (IsNumberIfGiven (one_of id.now (rows_of (found_of found.now))) least most) }
+    ensures fault { IfErr result (IsUnmatched (IsNumberIfGiven (one_of id.now (rows_of (found_of found.now))) least most)) }
 {
     if text(found, id).is_none() {
         return Ok(None);
@@ -72,7 +75,8 @@ pub fn no_server_text(alloc: Global) -> OrderFault {
 }
 
 fn matched(alloc: Global, found: &ArgMatches<'_>) -> Result<ServerOrder, OrderFault>
-    ensures { IfOk result (λ order. IsServerOrder (rows_of (found_of found.now)) order) }
+    ensures order { IfOk result (IsServerOrder (rows_of (found_of found.now))) }
+    ensures fault { IfErr result (IsUnmatched (IsServerOrder (rows_of (found_of found.now)))) }
 {
     let Some(address) = address(found, "address") else {
         return Err(no_address(alloc));
@@ -101,7 +105,8 @@ fn matched(alloc: Global, found: &ArgMatches<'_>) -> Result<ServerOrder, OrderFa
 
 /// What clap makes of the words.
 fn matches_of<'a>(alloc: Global, words: &'a [&'a str]) -> Result<ArgMatches<'a>, Error>
-    ensures { IfOk result (λ m. rows_of (found_of m) ≡ matches_of server_app (map (λ word. word.now) words.entry.now)) }
+    ensures rows { IfOk result (λ m. rows_of (found_of m) ≡ matches_of server_app (map (λ word. word.now) words.entry.now)) }
+    ensures kinds { FailsBy (fault_of server_app (map (λ word. word.now) words.entry.now)) result }
 {
     server_command(alloc)?.try_get_matches_from(words)
 }
@@ -115,6 +120,11 @@ pub fn server_order<'a>(alloc: Global, words: &'a [&'a str]) -> Result<ServerOrd
     // An order holds what clap's matches of the words hold, each number in its range.
     ensures order { IfOk result (λ order. IsServerOrderOf (map (λ word. word.now) words.entry.now) order) }
     ensures no_words { words.entry.now ≡ [] → IfOk result IsDefaultOrder }
+    // The words of an order are none that clap refuses.
+    ensures taken { IfOk result (λ _. fault_of server_app (map (λ word. word.now) words.entry.now) ≡ []) }
+    // `Usage` comes only where clap refuses the words, and then of a kind for which it does, or where no order is what
+    // its matches hold.
+    ensures fault { IfErr result (IsServerFault (map (λ word. word.now) words.entry.now)) }
 {
     let matches = matches_of(alloc, words)?;
     matched(alloc, &matches)

@@ -1,0 +1,23 @@
+use Rattle.std.proofs.Common.{codes}
+use Rattle.clap.specs.Words.{found_of, one_of, rows_of}
+use Rattle.command_line.specs.ServerLine.{IsNumberIfGiven, IsServerOrder}
+use Rattle.command_line.proofs.Faults.{none_of_part}
+use Rattle.command_line.proofs.server.matched.Goals as goal
+
+pub returns-in_err-number_if_given-clause-fault : goal.returns-in_err-number_if_given-clause-fault
+returns-in_err-number_if_given-clause-fault c =
+    let rows = rows_of (found_of c.args.found.now) in
+    none_of_part (IsNumberIfGiven (one_of (codes "turns") rows) 0 255) (IsServerOrder rows) c.from_residual-in_err-number_if_given.result c.in_err-number_if_given.field-0.0
+    c.from_residual-in_err-number_if_given.ensures.1 (λ order is. (order.turns, is.each_turns)) c.in_err-number_if_given.ensures.fault
+
+pub returns-in_err-number_if_given-2-clause-fault : goal.returns-in_err-number_if_given-2-clause-fault
+returns-in_err-number_if_given-2-clause-fault c =
+    let rows = rows_of (found_of c.args.found.now) in
+    none_of_part (IsNumberIfGiven (one_of (codes "clients") rows) 0 4294967295) (IsServerOrder rows) c.from_residual-in_err-number_if_given-2.result c.in_err-number_if_given-2.field-0.0
+    c.from_residual-in_err-number_if_given-2.ensures.1 (λ order is. (order.clients, is.most_clients)) c.in_err-number_if_given-2.ensures.fault
+
+pub returns-in_err-number_if_given-3-clause-fault : goal.returns-in_err-number_if_given-3-clause-fault
+returns-in_err-number_if_given-3-clause-fault c =
+    let rows = rows_of (found_of c.args.found.now) in
+    none_of_part (IsNumberIfGiven (one_of (codes "page") rows) 1 65535) (IsServerOrder rows) c.from_residual-in_err-number_if_given-3.result c.in_err-number_if_given-3.field-0.0
+    c.from_residual-in_err-number_if_given-3.ensures.1 (λ order is. (order.page, is.at_page)) c.in_err-number_if_given-3.ensures.fault

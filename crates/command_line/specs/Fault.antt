@@ -1,0 +1,37 @@
+-- Why words are no order.
+use Rattle.std.specs.Prelude.{◌≡◌, ◌≢◌, ◌⊎◌, List, [], ◌∷◌}
+use Rattle.clap.specs.Kinds.{Kinds, IsAmong}
+use Rattle.clap.specs.Values.{kind_of}
+use Rattle.clap.specs.Words.{Text, fault_of}
+use Rattle.clap.specs.declared.error.Error.{Error}
+use Rattle.clap.specs.declared.error.kind.ErrorKind.TheVariants.{OutOfMemory}
+use Rattle.command_line.specs.declared.orders.OrderFault.{OrderFault}
+use Rattle.command_line.specs.declared.orders.OrderFault.TheVariants.{Usage, NoMemory}
+use Rattle.command_line.specs.CommandLine.{station_app}
+use Rattle.command_line.specs.Order.{HasNone, IsOrderOf}
+use Rattle.command_line.specs.ServerLine.{IsServerOrderOf, server_app}
+
+-- what is made of an error of clap
+abbrev pub IsOfClap : Error → OrderFault → Type 0
+IsOfClap error fault = (kind_of error ≡ OutOfMemory → fault ≡ NoMemory) × (kind_of error ≢ OutOfMemory → fault ≡ Usage error)
+
+-- of want of memory nothing is said; else there is none of what is asked for
+abbrev pub IsUnmatched : {A : Type 0} → (A → Type 0) → OrderFault → Type 0
+IsUnmatched Is (Usage error) = HasNone Is
+IsUnmatched Is NoMemory = Unit {0}
+
+-- for what clap refuses the words; no words are not put to it
+abbrev pub refusals : List Text → Kinds
+refusals [] = []
+refusals (word ∷ words) = fault_of station_app (word ∷ words)
+
+-- of want of memory nothing is said; else clap refuses the words, for one of these, or no order is what its matches hold
+abbrev pub IsFaultOf : {A : Type 0} → Kinds → (A → Type 0) → OrderFault → Type 0
+IsFaultOf kinds Is (Usage error) = IsAmong (kind_of error) kinds ⊎ HasNone Is
+IsFaultOf kinds Is NoMemory = Unit {0}
+
+abbrev pub IsOrderFault : List Text → OrderFault → Type 0
+IsOrderFault words fault = IsFaultOf (refusals words) (IsOrderOf words) fault
+
+abbrev pub IsServerFault : List Text → OrderFault → Type 0
+IsServerFault words fault = IsFaultOf (fault_of server_app words) (IsServerOrderOf words) fault
