@@ -1,4 +1,3 @@
-pub mod Drawn
 pub mod Hubs
 pub mod Places
 pub mod Rounds

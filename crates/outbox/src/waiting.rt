@@ -62,7 +62,7 @@ impl Waiting {
         ensures { self.new ≡ told_one text.now self.old }
     {
         if self.is_open && self.room.put(text).is_err() {
-            self.is_open = false;
+            self.close();
         }
     }
 
