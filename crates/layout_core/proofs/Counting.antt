@@ -12,12 +12,12 @@ use Rattle.layout_core.specs.Counts.{HasRoom}
 use Rattle.layout_core.specs.Played.{after_event, answer_to, answers_to}
 use Rattle.layout_core.specs.Served.{Serves, byte_events, moment_of, replies_in, replies_of_answer, served_events, turns_in, turns_of_answer}
 
-pub counted_more : (so_far n : ℕ) (before more : List ℕ) → so_far ≡ length before → length more ≡ n → so_far + n ≡ length (before ++ more)
-counted_more so_far n before more counted size = omega (arith, length-append before more)
+pub counted_more : (so_far n : ℕ) (before buf : List ℕ) → so_far ≡ length before → n ≤ length buf → so_far + n ≡ length (before ++ take n buf)
+counted_more so_far n before buf counted bound = omega (arith, length-append before (take n buf), length-take-le n buf bound)
 
 -- a chunk of a buffer of 64 bytes
-pub few_of : (n size : ℕ) → n ≤ size → size ≡ 64 → (chunk : ℕ) → chunk ≡ n → chunk ≤ 64
-few_of n size bound whole chunk same = omega arith
+pub few_of : (n : ℕ) (buf : List ℕ) → n ≤ length buf → length buf ≡ 64 → length (take n buf) ≤ 64
+few_of n buf bound whole = omega (arith, length-take-le n buf bound)
 
 -- an event brings a reply or a turn at most
 few_of_answer : (step : Step) → (replies_of_answer step ≤ 1) × (turns_of_answer step ≤ 1)

@@ -1,6 +1,6 @@
 use Rattle.std.proofs.Common.{◌≡◌, ◌*◌, ◌+◌, ◌^◌, ◌<◌, ◌≤◌, ℕ, List, [], ◌++◌, length, take, refl, ap, sym, subst, ◌∙◌, arith, rules}
 use Rattle.std.proofs.lemmas.Bool.{ne_eqb}
-use Rattle.std.proofs.lemmas.List.{append-nil, length-take-le}
+use Rattle.std.proofs.lemmas.List.{append-nil}
 use Rattle.std.specs.Io.KnownBytes.{Consumes}
 use Rattle.station_core.specs.declared.call.Step.{Step}
 use Rattle.layout_core.specs.declared.engine.ServeFault.{ServeFault}
@@ -10,7 +10,7 @@ use Rattle.layout_core.specs.Faults.{HasFaulted, StopsWithin, is_read}
 use Rattle.layout_core.specs.Served.{Input, Moment, input_of, moment_of, served_events, turns_in}
 use Rattle.layout_core.specs.Played.{answers_to}
 use Rattle.layout_core.proofs.Counting.{chunk_fits, counted_more, few_of, room_behind, served_length}
-use Rattle.layout_core.proofs.Serving.{reads_end, reads_failed, reads_more, reads_none, served-append, serves_none, serves_then, turns_served}
+use Rattle.layout_core.proofs.Serving.{reads_chunk, reads_end, reads_failed, reads_none, served-append, serves_none, serves_then, turns_served}
 use Rattle.layout_core.proofs.Stopping.{ended_passed_up, no_limit_stops, no_read_stops, passed_up, same_passed_up, stop_heard, stops_leave, stops_then}
 use Rattle.layout_core.proofs.engine.serve.Goals as goal
 
@@ -28,24 +28,14 @@ pub loop-reads-preserved : goal.loop-reads-preserved
 loop-reads-preserved g c =
     let chunk = take c.in-Ok.n c.get.new.buf in
     let so_far = c.loop-reads.invariant.served in
-    let first : Input = input_of (g.S.Source.left c.args.source.now) (g.S.Source.reads c.args.source.now) in
-    let here : Input = input_of (g.S.Source.left c.loop-reads.source) (g.S.Source.reads c.loop-reads.source) in
-    let after : Input = input_of (g.S.Source.left c.get.new.self) (g.S.Source.reads c.get.new.self) in
-    let whole : length c.get.new.buf ≡ 64 = c.get.auto.buf ∙ c.loop-reads.invariant.whole in
-    let size : length chunk ≡ c.in-Ok.n = length-take-le c.in-Ok.n c.get.new.buf c.in-Ok.ensures.bound in
-    let few : length chunk ≤ 64 = few_of c.in-Ok.n (length c.get.new.buf) c.in-Ok.ensures.bound whole (length chunk) size in
-    let old : Moment = moment_of c.args.world.now (g.K.Sink.held c.args.sink.now) (g.T.Sink.held c.args.trace.now) 0 0 in
-    let mid : Moment = moment_of c.loop-reads.world (g.K.Sink.held c.loop-reads.sink) (g.T.Sink.held c.loop-reads.trace) c.loop-reads.counts.replies c.loop-reads.counts.turns in
-    let new : Moment = moment_of c.serve_bytes.new.world (g.K.Sink.held c.serve_bytes.new.sink) (g.T.Sink.held c.serve_bytes.new.trace) c.serve_bytes.new.counts.replies c.serve_bytes.new.counts.turns in
     record {
       served = (
         so_far.0 ++ chunk,
-        reads_more c.loop-reads.reads so_far.0 chunk first here after so_far.1 c.in-Ok.ensures.bytes.0 c.get.ensures.counted few,
-        counted_more c.loop-reads.bytes c.in-Ok.n so_far.0 chunk so_far.2 size,
-        serves_then c.args.line (served_events c.args.line c.args.limits.turns (so_far.0 ++ chunk)) (served_events c.args.line c.args.limits.turns so_far.0) (served_events c.args.line c.args.limits.turns chunk) old mid new
-            (served-append c.args.line c.args.limits.turns so_far.0 chunk) so_far.3 c.in_ok-serve_bytes.ensures.0,
+        reads_chunk c.loop-reads.reads c.in-Ok.n so_far.0 c.get.new.buf _ _ _ so_far.1 c.in-Ok.ensures.bytes.0 c.get.ensures.counted c.in-Ok.ensures.bound (c.get.auto.buf ∙ c.loop-reads.invariant.whole),
+        counted_more c.loop-reads.bytes c.in-Ok.n so_far.0 c.get.new.buf so_far.2 c.in-Ok.ensures.bound,
+        serves_then c.args.line _ _ _ _ _ _ (served-append c.args.line c.args.limits.turns so_far.0 chunk) so_far.3 c.in_ok-serve_bytes.ensures.0,
       );
-      whole = whole;
+      whole = c.get.auto.buf ∙ c.loop-reads.invariant.whole;
       open_still = c.in-Ok.ensures.end ∙ ne_eqb _ _ c.if-n-eq0.false;
       source_works = c.in-Ok.ensures.failed_ok ∙ c.loop-reads.invariant.source_works;
       sink_works = c.in_ok-serve_bytes.ensures.1;
@@ -55,12 +45,9 @@ loop-reads-preserved g c =
 pub returns-then-n-eq0-clause-served : goal.returns-then-n-eq0-clause-served
 returns-then-n-eq0-clause-served g c =
     let so_far = c.loop-reads.invariant.served in
-    let first : Input = input_of (g.S.Source.left c.args.source.now) (g.S.Source.reads c.args.source.now) in
-    let here : Input = input_of (g.S.Source.left c.loop-reads.source) (g.S.Source.reads c.loop-reads.source) in
-    let after : Input = input_of (g.S.Source.left c.get.new.self) (g.S.Source.reads c.get.new.self) in
     let end : Consumes (g.S.Source.left c.loop-reads.source) (g.S.Source.left c.get.new.self) [] =
     subst (λ (n : ℕ). Consumes (g.S.Source.left c.loop-reads.source) (g.S.Source.left c.get.new.self) (take n c.get.new.buf)) c.if-n-eq0.true c.in-Ok.ensures.bytes.0 in
-    (so_far.0, reads_end c.loop-reads.reads so_far.0 first here after so_far.1 end c.get.ensures.counted, so_far.2, so_far.3, c.headline.ensures.headline c.args.world.now.station (served_events c.args.line c.args.limits.turns so_far.0) c.args.world.now.nodes c.loop-reads.world.nodes c.always_legal.ensures.desk so_far.3.nodes)
+    (so_far.0, reads_end c.loop-reads.reads so_far.0 _ _ _ so_far.1 end c.get.ensures.counted, so_far.2, so_far.3, c.headline.ensures.headline c.args.world.now.station (served_events c.args.line c.args.limits.turns so_far.0) c.args.world.now.nodes c.loop-reads.world.nodes c.always_legal.ensures.desk so_far.3.nodes)
 
 pub returns-then-n-eq0-clause-turns : goal.returns-then-n-eq0-clause-turns
 returns-then-n-eq0-clause-turns g c =
@@ -73,16 +60,13 @@ returns-then-n-eq0-clause-turns g c =
 
 pub returns-in_default-clause-faulted : goal.returns-in_default-clause-faulted
 returns-in_default-clause-faulted g c =
-    let so_far = c.loop-reads.invariant.served in
-    let first : Input = input_of (g.S.Source.left c.args.source.now) (g.S.Source.reads c.args.source.now) in
-    let here : Input = input_of (g.S.Source.left c.loop-reads.source) (g.S.Source.reads c.loop-reads.source) in
-    let after : Input = input_of (g.S.Source.left c.get.new.self) (g.S.Source.reads c.get.new.self) in (
+    let so_far = c.loop-reads.invariant.served in (
       c.loop-reads.reads + 1,
       c.loop-reads.counts.replies,
       c.loop-reads.counts.turns,
       so_far.0,
       served_events c.args.line c.args.limits.turns so_far.0,
-      reads_failed c.loop-reads.reads so_far.0 first here after so_far.1 c.in_default.ensures.bytes c.get.ensures.counted,
+      reads_failed c.loop-reads.reads so_far.0 _ _ _ so_far.1 c.in_default.ensures.bytes c.get.ensures.counted,
       (refl, so_far.3),
       c.headline.ensures.headline c.args.world.now.station (served_events c.args.line c.args.limits.turns so_far.0) c.args.world.now.nodes c.loop-reads.world.nodes c.always_legal.ensures.desk so_far.3.nodes,
     )
@@ -92,20 +76,15 @@ returns-in_err-serve_bytes-clause-faulted g c =
     let chunk = take c.in-Ok.n c.get.new.buf in
     let so_far = c.loop-reads.invariant.served in
     let first : Input = input_of (g.S.Source.left c.args.source.now) (g.S.Source.reads c.args.source.now) in
-    let here : Input = input_of (g.S.Source.left c.loop-reads.source) (g.S.Source.reads c.loop-reads.source) in
     let after : Input = input_of (g.S.Source.left c.get.new.self) (g.S.Source.reads c.get.new.self) in
-    let whole : length c.get.new.buf ≡ 64 = c.get.auto.buf ∙ c.loop-reads.invariant.whole in
-    let size : length chunk ≡ c.in-Ok.n = length-take-le c.in-Ok.n c.get.new.buf c.in-Ok.ensures.bound in
-    let few : length chunk ≤ 64 = few_of c.in-Ok.n (length c.get.new.buf) c.in-Ok.ensures.bound whole (length chunk) size in
     let old : Moment = moment_of c.args.world.now (g.K.Sink.held c.args.sink.now) (g.T.Sink.held c.args.trace.now) 0 0 in
-    let mid : Moment = moment_of c.loop-reads.world (g.K.Sink.held c.loop-reads.sink) (g.T.Sink.held c.loop-reads.trace) c.loop-reads.counts.replies c.loop-reads.counts.turns in
     let new : Moment = moment_of c.serve_bytes.new.world (g.K.Sink.held c.serve_bytes.new.sink) (g.T.Sink.held c.serve_bytes.new.trace) c.serve_bytes.new.counts.replies c.serve_bytes.new.counts.turns in
     let front : List Event = served_events c.args.line c.args.limits.turns so_far.0 in
     let now : List Event = served_events c.args.line c.args.limits.turns chunk in
     let all : List Event = served_events c.args.line c.args.limits.turns (so_far.0 ++ chunk) in
     let parts : all ≡ front ++ (now ++ []) = served-append c.args.line c.args.limits.turns so_far.0 chunk ∙ ap (λ (events : List Event). front ++ events) (sym (append-nil now)) in
     let fault : ServeFault = c.in_err-serve_bytes.field-0.0 in
-    let stop : StopsWithin fault c.args.line all old new = stops_then fault c.args.line all front now [] old mid new parts so_far.3 c.in_err-serve_bytes.ensures.0 in
+    let stop : StopsWithin fault c.args.line all old new = stops_then fault c.args.line all front now [] old _ new parts so_far.3 c.in_err-serve_bytes.ensures.0 in
     passed_up c.from_residual.result fault
     (λ (e : ServeFault). HasFaulted e c.args.line c.args.limits.turns first after old c.serve_bytes.new.world (g.K.Sink.held c.serve_bytes.new.sink) (g.T.Sink.held c.serve_bytes.new.trace))
     c.from_residual.ensures.1 (
@@ -114,7 +93,7 @@ returns-in_err-serve_bytes-clause-faulted g c =
       c.serve_bytes.new.counts.turns,
       so_far.0 ++ chunk,
       stop.0,
-      reads_more c.loop-reads.reads so_far.0 chunk first here after so_far.1 c.in-Ok.ensures.bytes.0 c.get.ensures.counted few,
+      reads_chunk c.loop-reads.reads c.in-Ok.n so_far.0 c.get.new.buf _ _ _ so_far.1 c.in-Ok.ensures.bytes.0 c.get.ensures.counted c.in-Ok.ensures.bound (c.get.auto.buf ∙ c.loop-reads.invariant.whole),
       stops_leave fault c.args.line all old new stop,
       c.headline.ensures.headline c.args.world.now.station stop.0 c.args.world.now.nodes c.serve_bytes.new.world.nodes c.always_legal.ensures.desk (stop_heard fault c.args.line all old new stop),
     )
@@ -145,11 +124,10 @@ returns-in_err-serve_bytes-clause-source_failed g c =
 pub serve_bytes-requires-clause-room : goal.serve_bytes-requires-clause-room
 serve_bytes-requires-clause-room g c =
     let so_far = c.loop-reads.invariant.served in
-    let turns = c.args.limits.turns in
     let chunk = take c.in-Ok.n c.get.new.buf in
-    let size : length chunk ≡ c.in-Ok.n = length-take-le c.in-Ok.n c.get.new.buf c.in-Ok.ensures.bound in
-    let few : length chunk ≤ 64 = few_of c.in-Ok.n (length c.get.new.buf) c.in-Ok.ensures.bound (c.get.auto.buf ∙ c.loop-reads.invariant.whole) (length chunk) size in
-    let small : turns < 256 = search rules in
-    let most : 0 + (256 * length so_far.0 + 256 * length chunk) < 2 ^ 64 = chunk_fits c.loop-reads.reads (length so_far.0) (length chunk) (omega (arith, c.loop-reads-test.true)) so_far.1.few few in
+    let few : length chunk ≤ 64 = few_of c.in-Ok.n c.get.new.buf c.in-Ok.ensures.bound (c.get.auto.buf ∙ c.loop-reads.invariant.whole) in
+    let made : c.loop-reads.reads < 4294967296 = omega (arith, c.loop-reads-test.true) in
+    let small : c.args.limits.turns < 256 = search rules in
+    let most : 0 + (256 * length so_far.0 + 256 * length chunk) < 2 ^ 64 = chunk_fits c.loop-reads.reads (length so_far.0) (length chunk) made so_far.1.few few in
     room_behind (256 * length chunk) (256 * length so_far.0 + 256 * length chunk) _ _ (record { replies = 0; turns = 0 }) c.loop-reads.counts _ _ _ _ _ _
-    (omega (arith, served_length c.args.line turns so_far.0 small)) (record { replies = most; turns = most }) so_far.3
+    (omega (arith, served_length c.args.line c.args.limits.turns so_far.0 small)) (record { replies = most; turns = most }) so_far.3
