@@ -1,77 +1,65 @@
 -- How many reads, bytes, replies and turns there are.
-use Rattle.std.proofs.Common.{◌≡◌, ℕ, ◌+◌, ◌*◌, ◌^◌, ◌<◌, ◌≤◌, List, ◌++◌, length, length-append, arith}
+use Rattle.std.proofs.Common.{◌≡◌, ℕ, ◌+◌, ◌*◌, ◌^◌, ◌<◌, ◌≤◌, List, [], ◌∷◌, ◌++◌, Option, length, length-append, take, arith}
+use Rattle.std.proofs.lemmas.List.{length-replicate, length-take-le}
+use Rattle.station_core.specs.declared.call.Step.{Step}
+use Rattle.station_core.specs.declared.call.Step.TheVariants.{Quiet, Reply, Packet, Off}
+use Rattle.station_core.specs.Seen.{Seen}
 use Rattle.layout_core.specs.declared.engine.Counts.{Counts}
-use Rattle.layout_core.specs.Counts.{GrowsTo, HasRoom}
+use Rattle.layout_core.specs.declared.event.Event.{Event}
+use Rattle.layout_core.specs.declared.event.Event.TheVariants.{Turn}
+use Rattle.layout_core.specs.declared.world.World.{World}
+use Rattle.layout_core.specs.Counts.{HasRoom}
+use Rattle.layout_core.specs.Played.{after_event, answer_to, answers_to}
+use Rattle.layout_core.specs.Served.{Serves, byte_events, moment_of, replies_in, replies_of_answer, served_events, turns_in, turns_of_answer}
 
-pub room_at : (made limit : ℕ) → made < limit → (old mid new : ℕ) → mid ≡ old + made → new ≡ mid + 1 → new ≤ old + limit
-room_at made limit below old mid new so_far counted = omega arith
+pub counted_more : (so_far n : ℕ) (before buf : List ℕ) → so_far ≡ length before → n ≤ length buf → so_far + n ≡ length (before ++ take n buf)
+counted_more so_far n before buf counted bound = omega (arith, length-append before (take n buf), length-take-le n buf bound)
 
-pub all_made : (made limit : ℕ) → made ≤ limit → limit ≤ made → (old new : ℕ) → new ≡ old + made → new ≡ old + limit
-all_made made limit below past old new so_far = omega arith
+-- a chunk of a buffer of 64 bytes
+pub few_of : (n : ℕ) (buf : List ℕ) → n ≤ length buf → length buf ≡ 64 → length (take n buf) ≤ 64
+few_of n buf bound whole = omega (arith, length-take-le n buf bound)
 
-pub at_most : (made limit : ℕ) → made ≤ limit → (old new : ℕ) → new ≡ old + made → new ≤ old + limit
-at_most made limit below old new so_far = omega arith
+-- an event brings a reply or a turn at most
+few_of_answer : (step : Step) → (replies_of_answer step ≤ 1) × (turns_of_answer step ≤ 1)
+few_of_answer (Reply reply) = (omega arith, omega arith)
+few_of_answer (Packet packet) = (omega arith, omega arith)
+few_of_answer Quiet = (omega arith, omega arith)
+few_of_answer Off = (omega arith, omega arith)
 
-pub not_empty : (size : ℕ) → size ≡ 64 → 0 < size
-not_empty size whole = omega arith
+few_answers : (events : List Event) (seen : Seen) → (replies_in (answers_to seen events) ≤ length events) × (turns_in (answers_to seen events) ≤ length events)
+few_answers [] seen = (omega arith, omega arith)
+few_answers (event ∷ events) seen =
+    let one = few_of_answer (answer_to seen event) in
+    let rest = few_answers events (after_event seen event) in
+    (omega (arith, one.0, rest.0), omega (arith, one.1, rest.1))
 
-pub counted_more : (so_far n : ℕ) (before more : List ℕ) → so_far ≡ length before → length more ≡ n → so_far + n ≡ length (before ++ more)
-counted_more so_far n before more counted size = omega (arith, length-append before more)
+-- so there is room behind events, where there was for them and more
+pub room_behind : (more all line : ℕ) (events : List Event) (from to : Counts) (old new : World) (written written' traced traced' : Option (List ℕ)) → length events + more ≤ all → HasRoom all from
+    → Serves line events (moment_of old written traced from.replies from.turns) (moment_of new written' traced' to.replies to.turns) → HasRoom more to
+room_behind more all line events from to old new written written' traced traced' fits room serves =
+    let few = few_answers events old.station in
+    let replies : to.replies ≡ from.replies + replies_in (answers_to old.station events) = serves.replies in
+    let turns : to.turns ≡ from.turns + turns_in (answers_to old.station events) = serves.turns in
+    record { replies = omega (arith, room.replies, replies, few.0, fits); turns = omega (arith, room.turns, turns, few.1, fits) }
 
--- a chunk of a buffer of 64 bytes, behind those of the reads before
-module _ (n size : ℕ) (bound : n ≤ size) (whole : size ≡ 64) where
-  pub few_of : (chunk : ℕ) → chunk ≡ n → chunk ≤ 64
-  few_of chunk same = omega arith
+byte_length : (line turns byte : ℕ) → length (byte_events line turns byte) ≡ turns + 1
+byte_length line turns byte = omega (arith, length-replicate turns (Turn 0))
 
-  pub few_more : (made count : ℕ) → count ≤ 64 * made → count + n ≤ 64 * (made + 1)
-  few_more made count few = omega arith
+-- a turn more behind a byte
+pub turn_fits : (line turn turns byte : ℕ) → turns < 256 → turn < turns → length (byte_events line turn byte) + 1 ≤ 256
+turn_fits line turn turns byte fits below = omega (arith, byte_length line turn byte)
 
-  pub grown_more : (made chunk count new : ℕ) → chunk ≡ n → new ≤ count + 256 * chunk → count ≤ 16384 * made → new ≤ 16384 * (made + 1)
-  grown_more made chunk count new same grows few = omega arith
+pub served_length : (line turns : ℕ) (bytes : List ℕ) → turns < 256 → length (served_events line turns bytes) ≤ 256 * length bytes
+served_length line turns [] fits = omega arith
+served_length line turns (byte ∷ bytes) fits =
+    omega (arith, length-append (byte_events line turns byte) (served_events line turns bytes), byte_length line turns byte, served_length line turns bytes fits)
 
-  pub room_more : (made chunk count : ℕ) → made < 4294967296 → chunk ≡ n → count ≤ 16384 * made → count + 256 * chunk < 2 ^ 64
-  room_more made chunk count below same few = omega arith
+-- a byte more of some
+pub byte_fits : (line turns i : ℕ) (bytes : List ℕ) → turns < 256 → i < length bytes → length (served_events line turns (take i bytes)) + 256 ≤ 256 * length bytes
+byte_fits line turns i bytes fits below =
+    let some : length (take i bytes) ≡ i = length-take-le i bytes (omega (arith, below)) in
+    omega (arith, served_length line turns (take i bytes) fits, some)
 
-pub grows_none : (more : ℕ) (counts : Counts) → GrowsTo more counts counts
-grows_none more counts = record { replies = omega arith; turns = omega arith }
-
-pub grows_less : (some more : ℕ) (old new : Counts) → some ≤ more → GrowsTo some old new → GrowsTo more old new
-grows_less some more old new less grows = record { replies = omega (arith, grows.replies); turns = omega (arith, grows.turns) }
-
-pub grows_both : (some more all : ℕ) (old mid new : Counts) → some + more ≤ all → GrowsTo some old mid → GrowsTo more mid new → GrowsTo all old new
-grows_both some more all old mid new less first second = record {
-  replies = omega (arith, first.replies, second.replies);
-  turns = omega (arith, first.turns, second.turns);
-}
-
-pub room_less : (some more : ℕ) (counts : Counts) → some ≤ more → HasRoom more counts → HasRoom some counts
-room_less some more counts less room = record { replies = omega (arith, room.replies); turns = omega (arith, room.turns) }
-
-pub room_behind : (some more all : ℕ) (old new : Counts) → some + more ≤ all → HasRoom all old → GrowsTo some old new → HasRoom more new
-room_behind some more all old new less room grows = record {
-  replies = omega (arith, room.replies, grows.replies);
-  turns = omega (arith, room.turns, grows.turns);
-}
-
-pub one_fits : 1 ≤ 256
-one_fits = omega arith
-
-pub next_turn : (turn : ℕ) → 1 + turn + 1 ≤ 1 + (turn + 1)
-next_turn turn = omega arith
-
-pub next_byte : (i : ℕ) → 256 * i + 256 ≤ 256 * (i + 1)
-next_byte i = omega arith
-
-pub one_more_byte : (i count : ℕ) → i < count → 256 * i + 256 ≤ 256 * count
-one_more_byte i count below = omega arith
-
-pub all_bytes : (i count : ℕ) → i ≤ count → 256 * i ≤ 256 * count
-all_bytes i count most = omega arith
-
--- the turns behind a byte are fewer than 256
-module _ (turn turns : ℕ) (fits : turns < 256) where
-  pub one_more_fits : turn < turns → 1 + turn + 1 ≤ 256
-  one_more_fits below = omega arith
-
-  pub all_fit : turn ≤ turns → 1 + turn ≤ 256
-  all_fit at = omega arith
+-- the bytes of so many reads, and those of one more
+pub chunk_fits : (made bytes chunk : ℕ) → made < 4294967296 → bytes ≤ 64 * made → chunk ≤ 64 → 0 + (256 * bytes + 256 * chunk) < 2 ^ 64
+chunk_fits made bytes chunk below few small = omega arith

@@ -13,6 +13,7 @@ use Rattle.layout_core.specs.declared.event.Event.TheVariants.{Byte, Turn}
 use Rattle.layout_core.specs.Served.{HasRead, Input, Moment, Serves, byte_events, bytes_of_answer, line_of_answer, replies_in, replies_of_answer, served_events, traced_from, turns_in, turns_of_answer, written_for}
 use Rattle.layout_core.specs.Played.{after_event, after_events, answer_to, answers_to}
 use Rattle.layout_core.specs.World.{AfterEvent, HaveHeard, IsSameLayout}
+use Rattle.layout_core.proofs.Counting.{few_of}
 use Rattle.layout_core.proofs.Known.{appends_more, appends_none, consumes_end, consumes_kept, consumes_more, consumes_none}
 use Rattle.layout_core.proofs.Played.{both_heard, next_heard, nothing_heard}
 use Rattle.layout_core.proofs.Same.{same_still, same_then}
@@ -169,6 +170,12 @@ reads_more made bytes more old mid new so_far consumed counted few = record {
   counted = omega (arith, so_far.counted, counted);
   few = omega (arith, so_far.few, few, length-append bytes more);
 }
+
+-- one more read, into a buffer of 64 bytes
+pub reads_chunk : (made n : ℕ) (bytes buf : List ℕ) (old mid new : Input) → HasRead made bytes old mid → Consumes mid.left new.left (take n buf) → new.reads ≡ mid.reads + 1 → n ≤ length buf → length buf ≡ 64
+    → HasRead (made + 1) (bytes ++ take n buf) old new
+reads_chunk made n bytes buf old mid new so_far consumed counted bound whole =
+    reads_more made bytes (take n buf) old mid new so_far consumed counted (few_of n buf bound whole)
 
 -- one more read, of none
 pub reads_end : (made : ℕ) (bytes : List ℕ) (old mid new : Input) → HasRead made bytes old mid → Consumes mid.left new.left [] → new.reads ≡ mid.reads + 1 → HasRead (made + 1) bytes old new

@@ -1,7 +1,7 @@
 -- Events that are served, and then one that stops.
 use Rattle.std.proofs.Common.{◌≡◌, ℕ, ◌+◌, ◌-◌, ◌<◌, List, [], ◌∷◌, ◌++◌, length, replicate, take, drop, get_or, refl, ap, sym, subst, ◌∙◌, append_assoc, arith, Option}
 use Rattle.std.proofs.lemmas.List.{drop_more, replicate-append-replicate, take-append-drop}
-use Rattle.std.specs.Prelude.{Bool, false, Result, Ok, Err, IfErr, IfOk}
+use Rattle.std.specs.Prelude.{Bool, false, Result, Ok, Err, IfErr}
 use Rattle.std.specs.Result.{IsErrAnd}
 use Rattle.std.specs.Io.KnownBytes.{Appends}
 use Rattle.station_core.specs.declared.call.Step.{Step}
@@ -10,12 +10,13 @@ use Rattle.layout_core.specs.declared.engine.ServeFault.{ServeFault}
 use Rattle.layout_core.specs.declared.engine.ServeFault.TheVariants.{Read, Write, Trace, TooManyReads}
 use Rattle.layout_core.specs.declared.event.Event.{Event}
 use Rattle.layout_core.specs.declared.event.Event.TheVariants.{Byte, Turn}
-use Rattle.layout_core.specs.Faults.{AppendsFront, Leaves, PutsOut, StopsAt, StopsWithin, ended_by, is_read}
+use Rattle.layout_core.specs.Faults.{AppendsFront, Leaves, PutsOut, ServesOrStops, StopsAt, StopsWithin, ended_by, is_read}
 use Rattle.layout_core.specs.Served.{Moment, Serves, byte_events, bytes_of_answer, line_of_answer, served_events, traced_from, turns_in, written_for}
 use Rattle.layout_core.specs.Played.{after_event, after_events, answer_to, answers_to}
-use Rattle.layout_core.specs.World.{AfterEvent, HaveHeard}
+use Rattle.layout_core.specs.World.{AfterEvent, HaveHeard, IsSameLayout}
 use Rattle.layout_core.proofs.Known.{appends_more, front_behind}
 use Rattle.layout_core.proofs.Played.{both_heard, next_heard, nothing_heard}
+use Rattle.layout_core.proofs.Same.{same_then}
 use Rattle.layout_core.proofs.Serving.{answers-append, served-append, state-append, traced-append, turns-append, written-append}
 
 -- what is put out behind what was put out whole
@@ -66,6 +67,7 @@ stops_at_then fault line events before last old mid new first stop =
           subst (λ (step : Step). PutsOut fault line (old.turns + 1) (answers_to seen (events ++ before)) step old.written new.written old.traced new.traced) answer
           (subst (λ (ss : List Step). PutsOut fault line (old.turns + 1) ss (answer_to (after_events mid.world.station before) last) old.written new.written old.traced new.traced) steps
           (puts_out_behind fault line (old.turns + 1) (mid.turns + 1) (answers_to seen events) (answers_to mid.world.station before) _ _ _ _ _ _ _ (omega (arith, first.turns)) first.written first.traced stop.puts_out));
+      same = same_then old.world mid.world new.world first.same stop.same;
     }
 
 -- Where all of the events are three parts, the first served and the stop in the second.
@@ -108,10 +110,6 @@ pub passed_up : {T : Type 0} (result : Result T ServeFault) (fault : ServeFault)
 passed_up (Ok x) fault P is holds = tt
 passed_up (Err e) fault P is holds = subst P (sym is) holds
 
-pub no_ok_passed_up : {T : Type 0} (result : Result T ServeFault) (fault : ServeFault) (P : T → Type 0) → IsErrAnd result (λ e. e ≡ fault) → IfOk result P
-no_ok_passed_up (Ok x) fault P is = absurd is
-no_ok_passed_up (Err e) fault P is = tt
-
 pub ended_passed_up : {T : Type 0} (result : Result T ServeFault) (fault : ServeFault) (ends : ServeFault → Bool) → IsErrAnd result (λ e. e ≡ fault) → ended_by ends result ≡ ends fault
 ended_passed_up (Ok x) fault ends is = absurd is
 ended_passed_up (Err e) fault ends is = ap ends is
@@ -119,6 +117,20 @@ ended_passed_up (Err e) fault ends is = ap ends is
 pub same_passed_up : {T : Type 0} (result : Result T ServeFault) (fault other : ServeFault) → IsErrAnd result (λ e. e ≡ fault) → result ≡ Err other → fault ≡ other
 same_passed_up (Ok x) fault other is same = absurd is
 same_passed_up (Err e) fault other is same = cc
+
+-- what it stops at, handed on
+pub handed_on : {A : Type 0} (result : Result A ServeFault) (fault : ServeFault) (line : ℕ) (events : List Event) (old new : Moment) (sink_failed trace_failed : Bool) → IsErrAnd result (λ e. e ≡ fault)
+    → ServesOrStops {A = A} (Err fault) line events old new sink_failed trace_failed → ServesOrStops result line events old new sink_failed trace_failed
+handed_on (Ok x) fault line events old new sink_failed trace_failed is stops = absurd is
+handed_on {A} (Err e) fault line events old new sink_failed trace_failed is stops =
+    subst (λ (f : ServeFault). ServesOrStops {A = A} (Err f) line events old new sink_failed trace_failed) (sym is) stops
+
+-- handed on, where some events were served before
+pub stopped : {A : Type 0} (result : Result A ServeFault) (fault : ServeFault) (line : ℕ) (all events now later : List Event) (old mid new : Moment) (sink_failed trace_failed : Bool)
+    → IsErrAnd result (λ e. e ≡ fault) → all ≡ events ++ (now ++ later) → Serves line events old mid → ServesOrStops {A = A} (Err fault) line now mid new sink_failed trace_failed
+    → ServesOrStops result line all old new sink_failed trace_failed
+stopped result fault line all events now later old mid new sink_failed trace_failed is parts first stop =
+    handed_on result fault line all old new sink_failed trace_failed is (stops_then fault line all events now later old mid new parts first stop.0, stop.1, stop.2)
 
 -- what stops at an event is a fault of a sink
 pub no_read_stops : (fault : ServeFault) (line : ℕ) (events : List Event) (old new : Moment) → StopsWithin fault line events old new → is_read fault ≡ false
@@ -141,13 +153,14 @@ served_parts line turns i bytes below =
 
 -- an event that is not put out whole
 pub stops_at_event : (fault : ServeFault) (line : ℕ) (event : Event) (step : Step) (old new : Moment) → new.world.station ≡ after_event old.world.station event
-    → step ≡ answer_to old.world.station event → AfterEvent event step old.world.nodes new.world.nodes → PutsOut fault line (old.turns + 1) [] step old.written new.written old.traced new.traced
+    → step ≡ answer_to old.world.station event → AfterEvent event step old.world.nodes new.world.nodes → IsSameLayout old.world new.world → PutsOut fault line (old.turns + 1) [] step old.written new.written old.traced new.traced
     → StopsWithin fault line (event ∷ []) old new
-stops_at_event fault line event step old new moves answers after out =
+stops_at_event fault line event step old new moves answers after same out =
     let turned : AfterEvent event (answer_to old.world.station event) old.world.nodes new.world.nodes = subst (λ (s : Step). AfterEvent event s old.world.nodes new.world.nodes) answers after in
     let stop : StopsAt fault line [] event old new = record {
       station = moves;
       nodes = next_heard old.world.station event [] old.world.nodes new.world.nodes new.world.nodes turned (nothing_heard (after_event old.world.station event) new.world.nodes);
       puts_out = subst (λ (s : Step). PutsOut fault line (old.turns + 1) [] s old.written new.written old.traced new.traced) answers out;
+      same = same;
     } in
     (event ∷ [], ([], [], event, refl, refl, stop))

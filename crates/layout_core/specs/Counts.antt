@@ -1,13 +1,8 @@
 -- How far the counts of a served connection may go.
-use Rattle.std.specs.Prelude.{ℕ, ◌+◌, ◌<◌, ◌≤◌, ◌^◌}
+use Rattle.std.specs.Prelude.{ℕ, ◌+◌, ◌<◌, ◌^◌}
 use Rattle.layout_core.specs.declared.engine.Counts.{Counts}
 
 -- so many more can be counted
 pub record HasRoom (more : ℕ) (counts : Counts) : Type 0 where
   pub replies : counts.replies + more < 2 ^ 64
   pub turns : counts.turns + more < 2 ^ 64
-
--- no more than so many were counted
-pub record GrowsTo (more : ℕ) (old new : Counts) : Type 0 where
-  pub replies : new.replies ≤ old.replies + more
-  pub turns : new.turns ≤ old.turns + more

@@ -10,7 +10,7 @@ use Rattle.station_core.specs.Seen.{known_of}
 use Rattle.layout_core.specs.Cycle.{RunsAsWanted}
 use Rattle.layout_core.specs.Served.{HasRead, Input, Moment, Serves, bytes_of_answer, line_of_answer, moment_of, served_events, traced_from, turns_in, written_for}
 use Rattle.layout_core.specs.Played.{after_events, answer_to, answers_to}
-use Rattle.layout_core.specs.World.{HaveHeard}
+use Rattle.layout_core.specs.World.{HaveHeard, IsSameLayout}
 
 abbrev pub is_read : ServeFault → Bool
 is_read Read = true
@@ -54,6 +54,7 @@ pub record StopsAt (fault : ServeFault) (line : ℕ) (before : List Event) (last
   pub station : new.world.station ≡ after_events old.world.station (before ++ last ∷ [])
   pub nodes : HaveHeard old.world.station (before ++ last ∷ []) old.world.nodes new.world.nodes
   pub puts_out : PutsOut fault line (old.turns + 1) (answers_to old.world.station before) (answer_to (after_events old.world.station before) last) old.written new.written old.traced new.traced
+  pub same : IsSameLayout old.world new.world
 
 -- it stops so at one of these events, and then these are done of them
 abbrev pub StopsAfter : ServeFault → (line : ℕ) → (events done : List Event) → (old new : Moment) → Type 0
@@ -62,6 +63,12 @@ StopsAfter fault line events done old new =
 
 abbrev pub StopsWithin : ServeFault → (line : ℕ) → List Event → (old new : Moment) → Type 0
 StopsWithin fault line events old new = (done : List Event) × StopsAfter fault line events done old new
+
+-- All of these events are served, and both devices work; or it stops at one of them, and just the device of the fault failed.
+abbrev pub ServesOrStops : {A : Type 0} → Result A ServeFault → (line : ℕ) → List Event → (old new : Moment) → (sink_failed trace_failed : Bool) → Type 0
+ServesOrStops (Ok a) line events old new sink_failed trace_failed = Serves line events old new × (sink_failed ≡ false) × (trace_failed ≡ false)
+ServesOrStops (Err fault) line events old new sink_failed trace_failed =
+    StopsWithin fault line events old new × (sink_failed ≡ is_write fault) × (trace_failed ≡ is_trace fault)
 
 -- What is done of the events of the bytes that were read: all of them where the source failed or too many reads were
 -- made, and else those up to one that was not put out whole.

@@ -2,9 +2,9 @@
 ghost use Rattle.std.specs.Prelude.{◌≡◌, ◌+◌, ◌*◌, ◌<◌, ◌≤◌, true, false, [], ◌∷◌, length, IfOk, IfErr, OnOk, IsErrOf, IsTrue};
 ghost use Rattle.std.specs.Io.KnownBytes.{Appends, IsAtEnd};
 ghost use Rattle.layout_core.specs.Played.{is_event};
-ghost use Rattle.layout_core.specs.Counts.{GrowsTo, HasRoom};
-ghost use Rattle.layout_core.specs.Faults.{HasFaulted, PutsOut, StopsWithin, ended_by, is_read, is_trace, is_write};
-ghost use Rattle.layout_core.specs.Served.{HasServed, IsSendableAnswer, Serves, byte_events, bytes_of_answer, input_of, line_of_answer, moment_of, replies_of_answer, served_events, turns_of_answer};
+ghost use Rattle.layout_core.specs.Counts.{HasRoom};
+ghost use Rattle.layout_core.specs.Faults.{HasFaulted, PutsOut, ServesOrStops, ended_by, is_read, is_trace, is_write};
+ghost use Rattle.layout_core.specs.Served.{HasServed, IsSendableAnswer, byte_events, bytes_of_answer, input_of, line_of_answer, moment_of, replies_of_answer, served_events, turns_of_answer};
 ghost use Rattle.layout_core.specs.World.{IsSameLayout};
 
 use crate::device::{Sink, Source};
@@ -64,7 +64,6 @@ impl Counts {
         requires { HasRoom 1 self.old }
         ensures replies { self.new.replies ≡ self.old.replies + replies_of_answer answer.now }
         ensures turns { self.new.turns ≡ self.old.turns + turns_of_answer answer.now }
-        ensures room { GrowsTo 1 self.old self.new }
     {
         match answer {
             Step::Quiet => {}
@@ -118,16 +117,10 @@ fn serve_event<K: Sink, T: Sink>(
     requires sink_works { K.failed sink.old ≡ false }
     requires trace_works { T.failed trace.old ≡ false }
     requires room { HasRoom 1 counts.old }
-    ensures room { GrowsTo 1 counts.old counts.new }
-    ensures serves { OnOk result (Serves line (event ∷ [])
+    ensures { ServesOrStops result line (event ∷ [])
         (moment_of world.old (K.held sink.old) (T.held trace.old) counts.old.replies counts.old.turns)
-        (moment_of world.new (K.held sink.new) (T.held trace.new) counts.new.replies counts.new.turns)) }
-    ensures stops { IfErr result (λ fault. StopsWithin fault line (event ∷ [])
-        (moment_of world.old (K.held sink.old) (T.held trace.old) counts.old.replies counts.old.turns)
-        (moment_of world.new (K.held sink.new) (T.held trace.new) counts.new.replies counts.new.turns)) }
-    ensures sink_failed { K.failed sink.new ≡ ended_by is_write result }
-    ensures trace_failed { T.failed trace.new ≡ ended_by is_trace result }
-    ensures same { IsSameLayout world.old world.new }
+        (moment_of world.new (K.held sink.new) (T.held trace.new) counts.new.replies counts.new.turns)
+        (K.failed sink.new) (T.failed trace.new) }
 {
     let answer = world.step(event);
     put_out(&answer, line, counts.turns + 1, sink, trace)?;
@@ -149,16 +142,10 @@ fn serve_byte<K: Sink, T: Sink>(
     requires sink_works { K.failed sink.old ≡ false }
     requires trace_works { T.failed trace.old ≡ false }
     requires room { HasRoom 256 counts.old }
-    ensures room { GrowsTo 256 counts.old counts.new }
-    ensures serves { OnOk result (Serves line (byte_events line turns byte)
+    ensures { ServesOrStops result line (byte_events line turns byte)
         (moment_of world.old (K.held sink.old) (T.held trace.old) counts.old.replies counts.old.turns)
-        (moment_of world.new (K.held sink.new) (T.held trace.new) counts.new.replies counts.new.turns)) }
-    ensures stops { IfErr result (λ fault. StopsWithin fault line (byte_events line turns byte)
-        (moment_of world.old (K.held sink.old) (T.held trace.old) counts.old.replies counts.old.turns)
-        (moment_of world.new (K.held sink.new) (T.held trace.new) counts.new.replies counts.new.turns)) }
-    ensures sink_failed { K.failed sink.new ≡ ended_by is_write result }
-    ensures trace_failed { T.failed trace.new ≡ ended_by is_trace result }
-    ensures same { IsSameLayout world.old world.new }
+        (moment_of world.new (K.held sink.new) (T.held trace.new) counts.new.replies counts.new.turns)
+        (K.failed sink.new) (T.failed trace.new) }
 {
     serve_event(world, Event::Byte { line, byte }, line, sink, trace, counts)?;
     for _turn in 0..turns {
@@ -181,16 +168,10 @@ fn serve_bytes<K: Sink, T: Sink>(
     requires sink_works { K.failed sink.old ≡ false }
     requires trace_works { T.failed trace.old ≡ false }
     requires room { HasRoom (256 * length bytes.now) counts.old }
-    ensures room { GrowsTo (256 * length bytes.now) counts.old counts.new }
-    ensures serves { OnOk result (Serves line (served_events line turns bytes.now)
+    ensures { ServesOrStops result line (served_events line turns bytes.now)
         (moment_of world.old (K.held sink.old) (T.held trace.old) counts.old.replies counts.old.turns)
-        (moment_of world.new (K.held sink.new) (T.held trace.new) counts.new.replies counts.new.turns)) }
-    ensures stops { IfErr result (λ fault. StopsWithin fault line (served_events line turns bytes.now)
-        (moment_of world.old (K.held sink.old) (T.held trace.old) counts.old.replies counts.old.turns)
-        (moment_of world.new (K.held sink.new) (T.held trace.new) counts.new.replies counts.new.turns)) }
-    ensures sink_failed { K.failed sink.new ≡ ended_by is_write result }
-    ensures trace_failed { T.failed trace.new ≡ ended_by is_trace result }
-    ensures same { IsSameLayout world.old world.new }
+        (moment_of world.new (K.held sink.new) (T.held trace.new) counts.new.replies counts.new.turns)
+        (K.failed sink.new) (T.failed trace.new) }
 {
     for byte in bytes {
         serve_byte(world, line, *byte, turns, sink, trace, counts)?;

@@ -10,12 +10,11 @@ ghost use Rattle.decoder_node.specs.Obey.{runs};
 ghost use Rattle.decoder_node.specs.declared.running.Running.{Running};
 ghost use Rattle.layout_core.specs.declared.event.Event.{Event};
 ghost use Rattle.layout_core.specs.declared.node.Node.{Node};
-ghost use Rattle.layout_core.specs.declared.world.World.{World};
 ghost use Rattle.layout_core.specs.Cycle.{RunsAfterNoise, RunsAsWanted};
 ghost use Rattle.layout_core.specs.Settling.{IsAskedBy, IsPacketOf, LeavesAsItIs, TellsAll};
 ghost use Rattle.layout_core.specs.Wanted.{wanted};
 ghost use Rattle.layout_core.specs.Played.{after_events, answer_to};
-ghost use Rattle.layout_core.specs.World.{AfterEvent, HaveHeard, HaveObeyed, IsSameLayout};
+ghost use Rattle.layout_core.specs.World.{AfterEvent, HaveHeard, HaveObeyed};
 
 use dcc_packet::{sent_packets_spell, speeds_are_told, spellings_are_read};
 use slot_table::rows_are_legal;
@@ -51,7 +50,6 @@ pub fn events_add_up()
     ensures one { (seen : Seen) (event : Event) (old new : List Node) → AfterEvent event (answer_to seen event) old new → HaveHeard seen (event ∷ []) old new }
     ensures more { (seen : Seen) (events later : List Event) (old mid new : List Node) → HaveHeard seen events old mid → HaveHeard (after_events seen events) later mid new → HaveHeard seen (events ++ later) old new }
     ensures obeyed { (seen : Seen) (events : List Event) (old new : List Node) → HaveHeard seen events old new → HaveObeyed seen events old new }
-    ensures same { (old mid new : World) → IsSameLayout old mid → IsSameLayout mid new → IsSameLayout old new }
 {}
 
 /// The headline, and the headline after noise, of all nodes that heard what events bring, from a desk: so they hold of

@@ -1,26 +1,22 @@
-use Rattle.std.proofs.Common.{◌≡◌, ◌*◌, ◌+◌, ◌<◌, ◌≤◌, ◌==◌, ℕ, List, [], ◌++◌, length, take, refl, ap, sym, subst, ◌∙◌, arith}
+use Rattle.std.proofs.Common.{◌≡◌, ◌*◌, ◌+◌, ◌^◌, ◌<◌, ◌≤◌, ℕ, List, [], ◌++◌, length, take, refl, ap, sym, subst, ◌∙◌, arith, rules}
 use Rattle.std.proofs.lemmas.Bool.{ne_eqb}
-use Rattle.std.proofs.lemmas.List.{append-nil, length-take-le}
+use Rattle.std.proofs.lemmas.List.{append-nil}
 use Rattle.std.specs.Io.KnownBytes.{Consumes}
 use Rattle.station_core.specs.declared.call.Step.{Step}
 use Rattle.layout_core.specs.declared.engine.ServeFault.{ServeFault}
 use Rattle.layout_core.specs.declared.engine.ServeFault.TheVariants.{TooManyReads}
 use Rattle.layout_core.specs.declared.event.Event.{Event}
-use Rattle.layout_core.specs.Faults.{HasFaulted, StopsWithin, is_read, is_trace, is_write}
+use Rattle.layout_core.specs.Faults.{HasFaulted, StopsWithin, is_read}
 use Rattle.layout_core.specs.Served.{Input, Moment, input_of, moment_of, served_events, turns_in}
 use Rattle.layout_core.specs.Played.{answers_to}
-use Rattle.layout_core.proofs.Counting.{all_made, at_most, counted_more, few_more, few_of, grown_more, not_empty, room_at, room_more}
-use Rattle.layout_core.proofs.Serving.{reads_end, reads_failed, reads_more, reads_none, served-append, serves_none, serves_then, turns_served}
-use Rattle.layout_core.proofs.Stopping.{ended_passed_up, no_limit_stops, no_ok_passed_up, no_read_stops, passed_up, same_passed_up, stop_heard, stops_leave, stops_then}
-use Rattle.layout_core.proofs.Same.{same_then}
+use Rattle.layout_core.proofs.Counting.{chunk_fits, counted_more, few_of, room_behind, served_length}
+use Rattle.layout_core.proofs.Serving.{reads_chunk, reads_end, reads_failed, reads_none, served-append, serves_none, serves_then, turns_served}
+use Rattle.layout_core.proofs.Stopping.{ended_passed_up, no_limit_stops, no_read_stops, passed_up, same_passed_up, stop_heard, stops_leave, stops_then}
 use Rattle.layout_core.proofs.engine.serve.Goals as goal
 
 pub loop-reads-init : goal.loop-reads-init
 loop-reads-init g c = record {
   served = ([], reads_none _, refl, serves_none c.args.line _);
-  few_bytes = omega arith;
-  few_replies = omega arith;
-  few_turns = omega arith;
   whole = refl;
   open_still = c.requires.open;
   source_works = c.requires.source_works;
@@ -32,42 +28,26 @@ pub loop-reads-preserved : goal.loop-reads-preserved
 loop-reads-preserved g c =
     let chunk = take c.in-Ok.n c.get.new.buf in
     let so_far = c.loop-reads.invariant.served in
-    let first : Input = input_of (g.S.Source.left c.args.source.now) (g.S.Source.reads c.args.source.now) in
-    let here : Input = input_of (g.S.Source.left c.loop-reads.source) (g.S.Source.reads c.loop-reads.source) in
-    let after : Input = input_of (g.S.Source.left c.get.new.self) (g.S.Source.reads c.get.new.self) in
-    let whole : length c.get.new.buf ≡ 64 = c.get.auto.buf ∙ c.loop-reads.invariant.whole in
-    let size : length chunk ≡ c.in-Ok.n = length-take-le c.in-Ok.n c.get.new.buf c.in-Ok.ensures.bound in
-    let few : length chunk ≤ 64 = few_of c.in-Ok.n (length c.get.new.buf) c.in-Ok.ensures.bound whole (length chunk) size in
-    let old : Moment = moment_of c.args.world.now (g.K.Sink.held c.args.sink.now) (g.T.Sink.held c.args.trace.now) 0 0 in
-    let mid : Moment = moment_of c.loop-reads.world (g.K.Sink.held c.loop-reads.sink) (g.T.Sink.held c.loop-reads.trace) c.loop-reads.counts.replies c.loop-reads.counts.turns in
-    let new : Moment = moment_of c.serve_bytes.new.world (g.K.Sink.held c.serve_bytes.new.sink) (g.T.Sink.held c.serve_bytes.new.trace) c.serve_bytes.new.counts.replies c.serve_bytes.new.counts.turns in
     record {
       served = (
         so_far.0 ++ chunk,
-        reads_more c.loop-reads.reads so_far.0 chunk first here after so_far.1 c.in-Ok.ensures.bytes.0 c.get.ensures.counted few,
-        counted_more c.loop-reads.bytes c.in-Ok.n so_far.0 chunk so_far.2 size,
-        serves_then c.args.line (served_events c.args.line c.args.limits.turns (so_far.0 ++ chunk)) (served_events c.args.line c.args.limits.turns so_far.0) (served_events c.args.line c.args.limits.turns chunk) old mid new
-            (served-append c.args.line c.args.limits.turns so_far.0 chunk) so_far.3 c.in_ok-serve_bytes.ensures.serves,
+        reads_chunk c.loop-reads.reads c.in-Ok.n so_far.0 c.get.new.buf _ _ _ so_far.1 c.in-Ok.ensures.bytes.0 c.get.ensures.counted c.in-Ok.ensures.bound (c.get.auto.buf ∙ c.loop-reads.invariant.whole),
+        counted_more c.loop-reads.bytes c.in-Ok.n so_far.0 c.get.new.buf so_far.2 c.in-Ok.ensures.bound,
+        serves_then c.args.line _ _ _ _ _ _ (served-append c.args.line c.args.limits.turns so_far.0 chunk) so_far.3 c.in_ok-serve_bytes.ensures.0,
       );
-      few_bytes = few_more c.in-Ok.n (length c.get.new.buf) c.in-Ok.ensures.bound whole c.loop-reads.reads c.loop-reads.bytes c.loop-reads.invariant.few_bytes;
-      few_replies = grown_more c.in-Ok.n (length c.get.new.buf) c.in-Ok.ensures.bound whole c.loop-reads.reads (length chunk) c.loop-reads.counts.replies c.serve_bytes.new.counts.replies size c.serve_bytes.ensures.room.replies c.loop-reads.invariant.few_replies;
-      few_turns = grown_more c.in-Ok.n (length c.get.new.buf) c.in-Ok.ensures.bound whole c.loop-reads.reads (length chunk) c.loop-reads.counts.turns c.serve_bytes.new.counts.turns size c.serve_bytes.ensures.room.turns c.loop-reads.invariant.few_turns;
-      whole = whole;
+      whole = c.get.auto.buf ∙ c.loop-reads.invariant.whole;
       open_still = c.in-Ok.ensures.end ∙ ne_eqb _ _ c.if-n-eq0.false;
       source_works = c.in-Ok.ensures.failed_ok ∙ c.loop-reads.invariant.source_works;
-      sink_works = c.in_ok-serve_bytes.ensures.sink_failed;
-      trace_works = c.in_ok-serve_bytes.ensures.trace_failed;
+      sink_works = c.in_ok-serve_bytes.ensures.1;
+      trace_works = c.in_ok-serve_bytes.ensures.2;
     }
 
 pub returns-then-n-eq0-clause-served : goal.returns-then-n-eq0-clause-served
 returns-then-n-eq0-clause-served g c =
     let so_far = c.loop-reads.invariant.served in
-    let first : Input = input_of (g.S.Source.left c.args.source.now) (g.S.Source.reads c.args.source.now) in
-    let here : Input = input_of (g.S.Source.left c.loop-reads.source) (g.S.Source.reads c.loop-reads.source) in
-    let after : Input = input_of (g.S.Source.left c.get.new.self) (g.S.Source.reads c.get.new.self) in
     let end : Consumes (g.S.Source.left c.loop-reads.source) (g.S.Source.left c.get.new.self) [] =
     subst (λ (n : ℕ). Consumes (g.S.Source.left c.loop-reads.source) (g.S.Source.left c.get.new.self) (take n c.get.new.buf)) c.if-n-eq0.true c.in-Ok.ensures.bytes.0 in
-    (so_far.0, reads_end c.loop-reads.reads so_far.0 first here after so_far.1 end c.get.ensures.counted, so_far.2, so_far.3, c.headline.ensures.headline c.args.world.now.station (served_events c.args.line c.args.limits.turns so_far.0) c.args.world.now.nodes c.loop-reads.world.nodes c.always_legal.ensures.desk so_far.3.nodes)
+    (so_far.0, reads_end c.loop-reads.reads so_far.0 _ _ _ so_far.1 end c.get.ensures.counted, so_far.2, so_far.3, c.headline.ensures.headline c.args.world.now.station (served_events c.args.line c.args.limits.turns so_far.0) c.args.world.now.nodes c.loop-reads.world.nodes c.always_legal.ensures.desk so_far.3.nodes)
 
 pub returns-then-n-eq0-clause-turns : goal.returns-then-n-eq0-clause-turns
 returns-then-n-eq0-clause-turns g c =
@@ -80,16 +60,13 @@ returns-then-n-eq0-clause-turns g c =
 
 pub returns-in_default-clause-faulted : goal.returns-in_default-clause-faulted
 returns-in_default-clause-faulted g c =
-    let so_far = c.loop-reads.invariant.served in
-    let first : Input = input_of (g.S.Source.left c.args.source.now) (g.S.Source.reads c.args.source.now) in
-    let here : Input = input_of (g.S.Source.left c.loop-reads.source) (g.S.Source.reads c.loop-reads.source) in
-    let after : Input = input_of (g.S.Source.left c.get.new.self) (g.S.Source.reads c.get.new.self) in (
+    let so_far = c.loop-reads.invariant.served in (
       c.loop-reads.reads + 1,
       c.loop-reads.counts.replies,
       c.loop-reads.counts.turns,
       so_far.0,
       served_events c.args.line c.args.limits.turns so_far.0,
-      reads_failed c.loop-reads.reads so_far.0 first here after so_far.1 c.in_default.ensures.bytes c.get.ensures.counted,
+      reads_failed c.loop-reads.reads so_far.0 _ _ _ so_far.1 c.in_default.ensures.bytes c.get.ensures.counted,
       (refl, so_far.3),
       c.headline.ensures.headline c.args.world.now.station (served_events c.args.line c.args.limits.turns so_far.0) c.args.world.now.nodes c.loop-reads.world.nodes c.always_legal.ensures.desk so_far.3.nodes,
     )
@@ -99,20 +76,15 @@ returns-in_err-serve_bytes-clause-faulted g c =
     let chunk = take c.in-Ok.n c.get.new.buf in
     let so_far = c.loop-reads.invariant.served in
     let first : Input = input_of (g.S.Source.left c.args.source.now) (g.S.Source.reads c.args.source.now) in
-    let here : Input = input_of (g.S.Source.left c.loop-reads.source) (g.S.Source.reads c.loop-reads.source) in
     let after : Input = input_of (g.S.Source.left c.get.new.self) (g.S.Source.reads c.get.new.self) in
-    let whole : length c.get.new.buf ≡ 64 = c.get.auto.buf ∙ c.loop-reads.invariant.whole in
-    let size : length chunk ≡ c.in-Ok.n = length-take-le c.in-Ok.n c.get.new.buf c.in-Ok.ensures.bound in
-    let few : length chunk ≤ 64 = few_of c.in-Ok.n (length c.get.new.buf) c.in-Ok.ensures.bound whole (length chunk) size in
     let old : Moment = moment_of c.args.world.now (g.K.Sink.held c.args.sink.now) (g.T.Sink.held c.args.trace.now) 0 0 in
-    let mid : Moment = moment_of c.loop-reads.world (g.K.Sink.held c.loop-reads.sink) (g.T.Sink.held c.loop-reads.trace) c.loop-reads.counts.replies c.loop-reads.counts.turns in
     let new : Moment = moment_of c.serve_bytes.new.world (g.K.Sink.held c.serve_bytes.new.sink) (g.T.Sink.held c.serve_bytes.new.trace) c.serve_bytes.new.counts.replies c.serve_bytes.new.counts.turns in
     let front : List Event = served_events c.args.line c.args.limits.turns so_far.0 in
     let now : List Event = served_events c.args.line c.args.limits.turns chunk in
     let all : List Event = served_events c.args.line c.args.limits.turns (so_far.0 ++ chunk) in
     let parts : all ≡ front ++ (now ++ []) = served-append c.args.line c.args.limits.turns so_far.0 chunk ∙ ap (λ (events : List Event). front ++ events) (sym (append-nil now)) in
     let fault : ServeFault = c.in_err-serve_bytes.field-0.0 in
-    let stop : StopsWithin fault c.args.line all old new = stops_then fault c.args.line all front now [] old mid new parts so_far.3 c.in_err-serve_bytes.ensures.stops in
+    let stop : StopsWithin fault c.args.line all old new = stops_then fault c.args.line all front now [] old _ new parts so_far.3 c.in_err-serve_bytes.ensures.0 in
     passed_up c.from_residual.result fault
     (λ (e : ServeFault). HasFaulted e c.args.line c.args.limits.turns first after old c.serve_bytes.new.world (g.K.Sink.held c.serve_bytes.new.sink) (g.T.Sink.held c.serve_bytes.new.trace))
     c.from_residual.ensures.1 (
@@ -121,7 +93,7 @@ returns-in_err-serve_bytes-clause-faulted g c =
       c.serve_bytes.new.counts.turns,
       so_far.0 ++ chunk,
       stop.0,
-      reads_more c.loop-reads.reads so_far.0 chunk first here after so_far.1 c.in-Ok.ensures.bytes.0 c.get.ensures.counted few,
+      reads_chunk c.loop-reads.reads c.in-Ok.n so_far.0 c.get.new.buf _ _ _ so_far.1 c.in-Ok.ensures.bytes.0 c.get.ensures.counted c.in-Ok.ensures.bound (c.get.auto.buf ∙ c.loop-reads.invariant.whole),
       stops_leave fault c.args.line all old new stop,
       c.headline.ensures.headline c.args.world.now.station stop.0 c.args.world.now.nodes c.serve_bytes.new.world.nodes c.always_legal.ensures.desk (stop_heard fault c.args.line all old new stop),
     )
@@ -140,129 +112,22 @@ returns-clause-faulted g c =
       c.headline.ensures.headline c.args.world.now.station done c.args.world.now.nodes c.loop-reads.world.nodes c.always_legal.ensures.desk so_far.3.nodes,
     )
 
-pub serve_bytes-requires-clause-line : goal.serve_bytes-requires-clause-line
-serve_bytes-requires-clause-line g c = subst (λ (lines : ℕ). c.args.line < lines) (sym c.loop-reads.invariant.served.3.same.lines) c.requires.line
-
-pub returns-in_default-clause-too_many : goal.returns-in_default-clause-too_many
-returns-in_default-clause-too_many g c is = cc
-
-pub returns-in_default-clause-most_reads : goal.returns-in_default-clause-most_reads
-returns-in_default-clause-most_reads g c = room_at c.loop-reads.reads c.args.limits.reads c.loop-reads-test.true _ _ _ c.loop-reads.invariant.served.1.counted c.get.ensures.counted
-
-pub returns-in_default-clause-source_failed : goal.returns-in_default-clause-source_failed
-returns-in_default-clause-source_failed g c = c.in_default.ensures.failed_err
-
-pub returns-in_default-clause-sink_failed : goal.returns-in_default-clause-sink_failed
-returns-in_default-clause-sink_failed g c = c.loop-reads.invariant.sink_works
-
-pub returns-in_default-clause-trace_failed : goal.returns-in_default-clause-trace_failed
-returns-in_default-clause-trace_failed g c = c.loop-reads.invariant.trace_works
-
-pub returns-in_default-clause-same : goal.returns-in_default-clause-same
-returns-in_default-clause-same g c = c.loop-reads.invariant.served.3.same
-
-pub returns-then-n-eq0-clause-end : goal.returns-then-n-eq0-clause-end
-returns-then-n-eq0-clause-end g c = (c.in-Ok.ensures.end ∙ ap (λ (n : ℕ). n == 0) c.if-n-eq0.true, c.in-Ok.ensures.bytes.1 c.if-n-eq0.true (not_empty (length c.get.new.buf) (c.get.auto.buf ∙ c.loop-reads.invariant.whole)))
-
-pub returns-then-n-eq0-clause-too_many : goal.returns-then-n-eq0-clause-too_many
-returns-then-n-eq0-clause-too_many g c is = cc
-
-pub returns-then-n-eq0-clause-most_reads : goal.returns-then-n-eq0-clause-most_reads
-returns-then-n-eq0-clause-most_reads g c = room_at c.loop-reads.reads c.args.limits.reads c.loop-reads-test.true _ _ _ c.loop-reads.invariant.served.1.counted c.get.ensures.counted
-
-pub returns-then-n-eq0-clause-source_failed : goal.returns-then-n-eq0-clause-source_failed
-returns-then-n-eq0-clause-source_failed g c = c.in-Ok.ensures.failed_ok ∙ c.loop-reads.invariant.source_works
-
-pub returns-then-n-eq0-clause-sink_failed : goal.returns-then-n-eq0-clause-sink_failed
-returns-then-n-eq0-clause-sink_failed g c = c.loop-reads.invariant.sink_works
-
-pub returns-then-n-eq0-clause-trace_failed : goal.returns-then-n-eq0-clause-trace_failed
-returns-then-n-eq0-clause-trace_failed g c = c.loop-reads.invariant.trace_works
-
-pub returns-then-n-eq0-clause-same : goal.returns-then-n-eq0-clause-same
-returns-then-n-eq0-clause-same g c = c.loop-reads.invariant.served.3.same
-
-pub returns-in_err-serve_bytes-clause-served : goal.returns-in_err-serve_bytes-clause-served
-returns-in_err-serve_bytes-clause-served g c = no_ok_passed_up c.from_residual.result c.in_err-serve_bytes.field-0.0 _ c.from_residual.ensures.1
-
-pub returns-in_err-serve_bytes-clause-turns : goal.returns-in_err-serve_bytes-clause-turns
-returns-in_err-serve_bytes-clause-turns g c = no_ok_passed_up c.from_residual.result c.in_err-serve_bytes.field-0.0 _ c.from_residual.ensures.1
-
-pub returns-in_err-serve_bytes-clause-end : goal.returns-in_err-serve_bytes-clause-end
-returns-in_err-serve_bytes-clause-end g c = no_ok_passed_up c.from_residual.result c.in_err-serve_bytes.field-0.0 _ c.from_residual.ensures.1
-
 pub returns-in_err-serve_bytes-clause-too_many : goal.returns-in_err-serve_bytes-clause-too_many
 returns-in_err-serve_bytes-clause-too_many g c is =
-    absurd (no_limit_stops c.in_err-serve_bytes.field-0.0 _ _ _ _ c.in_err-serve_bytes.ensures.stops (same_passed_up c.from_residual.result c.in_err-serve_bytes.field-0.0 TooManyReads c.from_residual.ensures.1 is))
-
-pub returns-in_err-serve_bytes-clause-most_reads : goal.returns-in_err-serve_bytes-clause-most_reads
-returns-in_err-serve_bytes-clause-most_reads g c = room_at c.loop-reads.reads c.args.limits.reads c.loop-reads-test.true _ _ _ c.loop-reads.invariant.served.1.counted c.get.ensures.counted
+    absurd (no_limit_stops c.in_err-serve_bytes.field-0.0 _ _ _ _ c.in_err-serve_bytes.ensures.0 (same_passed_up c.from_residual.result c.in_err-serve_bytes.field-0.0 TooManyReads c.from_residual.ensures.1 is))
 
 pub returns-in_err-serve_bytes-clause-source_failed : goal.returns-in_err-serve_bytes-clause-source_failed
 returns-in_err-serve_bytes-clause-source_failed g c =
     (c.in-Ok.ensures.failed_ok ∙ c.loop-reads.invariant.source_works)
-    ∙ sym (ended_passed_up c.from_residual.result c.in_err-serve_bytes.field-0.0 is_read c.from_residual.ensures.1 ∙ no_read_stops c.in_err-serve_bytes.field-0.0 _ _ _ _ c.in_err-serve_bytes.ensures.stops)
-
-pub returns-in_err-serve_bytes-clause-sink_failed : goal.returns-in_err-serve_bytes-clause-sink_failed
-returns-in_err-serve_bytes-clause-sink_failed g c = c.in_err-serve_bytes.ensures.sink_failed ∙ sym (ended_passed_up c.from_residual.result c.in_err-serve_bytes.field-0.0 is_write c.from_residual.ensures.1)
-
-pub returns-in_err-serve_bytes-clause-trace_failed : goal.returns-in_err-serve_bytes-clause-trace_failed
-returns-in_err-serve_bytes-clause-trace_failed g c = c.in_err-serve_bytes.ensures.trace_failed ∙ sym (ended_passed_up c.from_residual.result c.in_err-serve_bytes.field-0.0 is_trace c.from_residual.ensures.1)
-
-pub returns-in_err-serve_bytes-clause-same : goal.returns-in_err-serve_bytes-clause-same
-returns-in_err-serve_bytes-clause-same g c = same_then _ _ _ c.loop-reads.invariant.served.3.same c.serve_bytes.ensures.same
-
-pub returns-clause-too_many : goal.returns-clause-too_many
-returns-clause-too_many g c is = (all_made c.loop-reads.reads c.args.limits.reads c.loop-reads.auto.reads-end c.loop-reads-test.false _ _ c.loop-reads.invariant.served.1.counted, c.loop-reads.invariant.open_still)
-
-pub returns-clause-most_reads : goal.returns-clause-most_reads
-returns-clause-most_reads g c = at_most c.loop-reads.reads c.args.limits.reads c.loop-reads.auto.reads-end _ _ c.loop-reads.invariant.served.1.counted
-
-pub returns-clause-source_failed : goal.returns-clause-source_failed
-returns-clause-source_failed g c = c.loop-reads.invariant.source_works
-
-pub returns-clause-sink_failed : goal.returns-clause-sink_failed
-returns-clause-sink_failed g c = c.loop-reads.invariant.sink_works
-
-pub returns-clause-trace_failed : goal.returns-clause-trace_failed
-returns-clause-trace_failed g c = c.loop-reads.invariant.trace_works
-
-pub returns-clause-same : goal.returns-clause-same
-returns-clause-same g c = c.loop-reads.invariant.served.3.same
-
-pub get-requires-clause-room : goal.get-requires-clause-room
-get-requires-clause-room g c = not_empty (length c.loop-reads.buf) c.loop-reads.invariant.whole
-
-pub get-requires-clause-goes_on : goal.get-requires-clause-goes_on
-get-requires-clause-goes_on g c = c.loop-reads.invariant.open_still
-
-pub slice_bounds-buf-end : goal.slice_bounds-buf-end
-slice_bounds-buf-end g c = c.in-Ok.ensures.bound
-
-pub slice_bounds-serve_bytes-end : goal.slice_bounds-serve_bytes-end
-slice_bounds-serve_bytes-end g c = sym (length-take-le c.in-Ok.n c.get.new.buf c.in-Ok.ensures.bound)
-
-pub serve_bytes-requires-clause-sink_works : goal.serve_bytes-requires-clause-sink_works
-serve_bytes-requires-clause-sink_works g c = c.loop-reads.invariant.sink_works
-
-pub serve_bytes-requires-clause-trace_works : goal.serve_bytes-requires-clause-trace_works
-serve_bytes-requires-clause-trace_works g c = c.loop-reads.invariant.trace_works
+    ∙ sym (ended_passed_up c.from_residual.result c.in_err-serve_bytes.field-0.0 is_read c.from_residual.ensures.1 ∙ no_read_stops c.in_err-serve_bytes.field-0.0 _ _ _ _ c.in_err-serve_bytes.ensures.0)
 
 pub serve_bytes-requires-clause-room : goal.serve_bytes-requires-clause-room
 serve_bytes-requires-clause-room g c =
-    let whole : length c.get.new.buf ≡ 64 = c.get.auto.buf ∙ c.loop-reads.invariant.whole in
-    let size : length (take c.in-Ok.n c.get.new.buf) ≡ c.in-Ok.n = length-take-le c.in-Ok.n c.get.new.buf c.in-Ok.ensures.bound in
-    let few : c.loop-reads.reads < 4294967296 = omega (arith, c.loop-reads-test.true) in
-    record {
-      replies = room_more c.in-Ok.n (length c.get.new.buf) c.in-Ok.ensures.bound whole c.loop-reads.reads (length (take c.in-Ok.n c.get.new.buf)) c.loop-reads.counts.replies few size c.loop-reads.invariant.few_replies;
-      turns = room_more c.in-Ok.n (length c.get.new.buf) c.in-Ok.ensures.bound whole c.loop-reads.reads (length (take c.in-Ok.n c.get.new.buf)) c.loop-reads.counts.turns few size c.loop-reads.invariant.few_turns;
-    }
-
-pub returns-clause-served : goal.returns-clause-served
-returns-clause-served g c = tt
-
-pub returns-clause-turns : goal.returns-clause-turns
-returns-clause-turns g c = tt
-
-pub returns-clause-end : goal.returns-clause-end
-returns-clause-end g c = tt
+    let so_far = c.loop-reads.invariant.served in
+    let chunk = take c.in-Ok.n c.get.new.buf in
+    let few : length chunk ≤ 64 = few_of c.in-Ok.n c.get.new.buf c.in-Ok.ensures.bound (c.get.auto.buf ∙ c.loop-reads.invariant.whole) in
+    let made : c.loop-reads.reads < 4294967296 = omega (arith, c.loop-reads-test.true) in
+    let small : c.args.limits.turns < 256 = search rules in
+    let most : 0 + (256 * length so_far.0 + 256 * length chunk) < 2 ^ 64 = chunk_fits c.loop-reads.reads (length so_far.0) (length chunk) made so_far.1.few few in
+    room_behind (256 * length chunk) (256 * length so_far.0 + 256 * length chunk) _ _ (record { replies = 0; turns = 0 }) c.loop-reads.counts _ _ _ _ _ _
+    (omega (arith, served_length c.args.line c.args.limits.turns so_far.0 small)) (record { replies = most; turns = most }) so_far.3

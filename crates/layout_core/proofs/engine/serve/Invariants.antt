@@ -1,4 +1,4 @@
-use Rattle.std.proofs.Common.{◌≡◌, ◌≤◌, ◌*◌, false, length}
+use Rattle.std.proofs.Common.{◌≡◌, false, length}
 use Rattle.layout_core.specs.Served.{input_of, moment_of}
 use Rattle.layout_core.proofs.Serving.{IsServedSoFar}
 use Rattle.layout_core.proofs.engine.serve.Given as goal
@@ -9,9 +9,6 @@ invariant-loop-reads g l = record {
       (input_of (g.S.Source.left l.fn.source) (g.S.Source.reads l.fn.source)) (input_of (g.S.Source.left l.source) (g.S.Source.reads l.source))
       (moment_of l.fn.world (g.K.Sink.held l.fn.sink) (g.T.Sink.held l.fn.trace) 0 0)
       (moment_of l.world (g.K.Sink.held l.sink) (g.T.Sink.held l.trace) l.counts.replies l.counts.turns);
-  few_bytes : l.bytes ≤ 64 * l.reads;
-  few_replies : l.counts.replies ≤ 16384 * l.reads;
-  few_turns : l.counts.turns ≤ 16384 * l.reads;
   whole : length l.buf ≡ 64;
   open_still : g.S.Source.ended l.source ≡ false;
   source_works : g.S.Source.failed l.source ≡ false;

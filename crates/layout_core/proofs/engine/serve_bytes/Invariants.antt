@@ -1,5 +1,4 @@
-use Rattle.std.proofs.Common.{◌*◌, take, ◌≡◌, false}
-use Rattle.layout_core.specs.Counts.{GrowsTo}
+use Rattle.std.proofs.Common.{take, ◌≡◌, false}
 use Rattle.layout_core.specs.Served.{Serves, moment_of, served_events}
 use Rattle.layout_core.proofs.engine.serve_bytes.Given as goal
 
@@ -8,7 +7,6 @@ invariant-loop-byte g l = record {
   serves : Serves l.line (served_events l.line l.turns (take l.byte-index l.bytes))
       (moment_of l.fn.world (g.K.Sink.held l.fn.sink) (g.T.Sink.held l.fn.trace) l.fn.counts.replies l.fn.counts.turns)
       (moment_of l.world (g.K.Sink.held l.sink) (g.T.Sink.held l.trace) l.counts.replies l.counts.turns);
-  room : GrowsTo (256 * l.byte-index) l.fn.counts l.counts;
   sink_works : g.K.Sink.failed l.sink ≡ false;
   trace_works : g.T.Sink.failed l.trace ≡ false;
 }

@@ -1,4 +1,4 @@
-use Rattle.std.proofs.Common.{◌≡◌, ℕ, ◌+◌, List, [], ◌∷◌, ◌++◌, take, drop, length, refl, ap, sym, subst, ◌∙◌, rules, arith, append_assoc, drop_of_length-le}
+use Rattle.std.proofs.Common.{◌≡◌, ℕ, ◌+◌, List, [], ◌∷◌, ◌++◌, take, drop, length, ap, sym, subst, ◌∙◌, rules, arith, append_assoc, drop_of_length-le}
 use Rattle.std.proofs.lemmas.List.{drop_more, take_more_set}
 use Rattle.std.specs.List.{slice_index_or}
 use Rattle.std.specs.Prelude.{IsTrue}
@@ -10,7 +10,7 @@ use Rattle.layout_core.specs.Events.{calls_in}
 use Rattle.layout_core.specs.Played.{answer_to, answers_to, is_event}
 use Rattle.layout_core.specs.World.{AfterEvent, HaveHeard}
 use Rattle.layout_core.proofs.Played.{all_answered, all_played, event_at as event_of, heard_obeyed, next_heard, nothing_heard}
-use Rattle.layout_core.proofs.Same.{same_still, same_then}
+use Rattle.layout_core.proofs.Same.{same_then}
 use Rattle.layout_core.proofs.world.World.run.Goals as goal
 
 pub step-requires : goal.step-requires
@@ -70,27 +70,9 @@ returns-clause-after_noise c =
 pub returns-clause-obeyed : goal.returns-clause-obeyed
 returns-clause-obeyed c = heard_obeyed c.args.self.now.station c.args.events.now c.args.self.now.nodes c.loop-i.self.nodes (returns-clause-nodes c)
 
-pub loop-i-init : goal.loop-i-init
-loop-i-init c = record {
-  rest = refl;
-  written = refl;
-  same_length = c.requires.places;
-  heard = λ new rest. rest;
-  same = same_still c.args.self.now;
-}
-
-pub bounds-events-i : goal.bounds-events-i
-bounds-events-i c = c.loop-i-test.true
-
-pub bounds-steps-i : goal.bounds-steps-i
-bounds-steps-i c = omega (arith, c.loop-i-test.true, c.loop-i.invariant.same_length)
-
 pub returns-clause-station : goal.returns-clause-station
 returns-clause-station c = all_played c.args.self.now.station c.loop-i.self.station c.args.events.now c.loop-i.i c.loop-i-test.false c.loop-i.invariant.rest
 
 pub returns-clause-answers : goal.returns-clause-answers
 returns-clause-answers c =
     all_answered c.args.self.now.station c.loop-i.self.station c.args.events.now c.loop-i.i c.loop-i-test.false c.loop-i.steps c.loop-i.invariant.same_length c.loop-i.invariant.written
-
-pub returns-clause-same : goal.returns-clause-same
-returns-clause-same c = c.loop-i.invariant.same
