@@ -4,6 +4,7 @@ use Rattle.clap.specs.Kinds.{Kinds, IsAmong}
 use Rattle.clap.specs.Values.{kind_of}
 use Rattle.clap.specs.Words.{Text, fault_of}
 use Rattle.clap.specs.declared.error.Error.{Error}
+use Rattle.clap.specs.declared.error.kind.ErrorKind.{ErrorKind}
 use Rattle.clap.specs.declared.error.kind.ErrorKind.TheVariants.{OutOfMemory}
 use Rattle.command_line.specs.declared.orders.OrderFault.{OrderFault}
 use Rattle.command_line.specs.declared.orders.OrderFault.TheVariants.{Usage, NoMemory}
@@ -14,6 +15,11 @@ use Rattle.command_line.specs.ServerLine.{IsServerOrderOf, server_app}
 -- what is made of an error of clap
 abbrev pub IsOfClap : Error → OrderFault → Type 0
 IsOfClap error fault = (kind_of error ≡ OutOfMemory → fault ≡ NoMemory) × (kind_of error ≢ OutOfMemory → fault ≡ Usage error)
+
+-- of want of memory nothing is said; else the error is of this kind
+abbrev pub IsOfKind : ErrorKind → OrderFault → Type 0
+IsOfKind kind (Usage error) = kind_of error ≡ kind
+IsOfKind kind NoMemory = Unit {0}
 
 -- of want of memory nothing is said; else there is none of what is asked for
 abbrev pub IsUnmatched : {A : Type 0} → (A → Type 0) → OrderFault → Type 0

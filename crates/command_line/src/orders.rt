@@ -3,7 +3,7 @@ ghost use Rattle.std.specs.Prelude.{◌≡◌, ℕ, [], Ok, None, IfErr, IfOk, I
 ghost use Rattle.clap.specs.Words.{FailsBy, fault_of, first_of, found_of, one_of, rows_of, subcommand_of, subcommand_rows_of};
 ghost use Rattle.command_line.specs.CommandLine.{station_app};
 ghost use Rattle.command_line.specs.declared.orders.OrderFault.TheVariants.{NoMemory};
-ghost use Rattle.command_line.specs.Fault.{IsOfClap, IsOrderFault, IsUnmatched, refusals};
+ghost use Rattle.command_line.specs.Fault.{IsOfClap, IsOfKind, IsOrderFault, IsUnmatched, refusals};
 ghost use Rattle.command_line.specs.Order.{HasNone, IsMatched, IsNumber, IsOrder, IsOrderOf, Writes, WritesNone};
 
 use crate::command::{Draft, station_command};
@@ -90,7 +90,9 @@ fn out_of_range(alloc: Global) -> OrderFault {
 }
 
 /// What to tell of a word that is no text: it is not UTF-8. The usage stands behind it.
-pub fn no_text(alloc: Global) -> OrderFault {
+pub fn no_text(alloc: Global) -> OrderFault
+    ensures { IsOfKind ErrorKind.InvalidValue result }
+{
     usage(
         station_command(alloc),
         ErrorKind::InvalidValue,
@@ -99,7 +101,9 @@ pub fn no_text(alloc: Global) -> OrderFault {
 }
 
 /// Tells the usage of a command, behind this message.
-pub(crate) fn usage(draft: Draft<'_>, kind: ErrorKind, message: &str) -> OrderFault {
+pub(crate) fn usage(draft: Draft<'_>, kind: ErrorKind, message: &str) -> OrderFault
+    ensures { IsOfKind kind result }
+{
     let error = match draft {
         Ok(mut command) => command.error(kind, message),
         Err(error) => Err(error),

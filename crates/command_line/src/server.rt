@@ -1,7 +1,7 @@
 //! Reading the command line of `lbserver`.
 ghost use Rattle.std.specs.Prelude.{◌≡◌, [], IfErr, IfOk, MatchOption, map};
 ghost use Rattle.clap.specs.Words.{FailsBy, fault_of, found_of, matches_of, one_of, rows_of};
-ghost use Rattle.command_line.specs.Fault.{IsServerFault, IsUnmatched};
+ghost use Rattle.command_line.specs.Fault.{IsOfKind, IsServerFault, IsUnmatched};
 ghost use Rattle.command_line.specs.Order.{HasNone};
 ghost use Rattle.command_line.specs.ServerLine.{IsAddress, IsDefaultOrder, IsFlag, IsNumberIfGiven, IsServerOrder, IsServerOrderOf, server_app};
 
@@ -66,7 +66,9 @@ fn no_address(alloc: Global) -> OrderFault {
 }
 
 /// What to tell of a word that is no text: it is not UTF-8. The usage of `lbserver` stands behind it.
-pub fn no_server_text(alloc: Global) -> OrderFault {
+pub fn no_server_text(alloc: Global) -> OrderFault
+    ensures { IsOfKind ErrorKind.InvalidValue result }
+{
     usage(
         server_command(alloc),
         ErrorKind::InvalidValue,
