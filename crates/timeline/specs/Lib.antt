@@ -1,5 +1,3 @@
-pub mod Drawn
-pub mod Fault
 pub mod Picture
 pub mod Rows
 pub mod Run

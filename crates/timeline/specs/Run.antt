@@ -1,8 +1,6 @@
 -- What the lines of a run tell (own).
-use Rattle.std.specs.Prelude.{ℕ, ◌≡◌, ◌≤◌, true, false, List, Option, Some, None, length}
-use Rattle.std.specs.Str.Lines.{lines}
+use Rattle.std.specs.Prelude.{ℕ, ◌≡◌, true, false, List, Option, Some, None}
 use Rattle.station_text.specs.Node.{is_of_node, node_of}
-use Rattle.station_text.specs.Told.{TellAll}
 use Rattle.station_text.specs.Traffic.{Tells, is_of_turn}
 use Rattle.timeline.specs.declared.event.Event.{Event}
 use Rattle.timeline.specs.declared.event.Event.TheVariants.{Sent, Off, Shown}
@@ -19,7 +17,3 @@ Shows line (Some (Sent packet)) = (is_of_turn line ≡ true) × Tells line (Some
 Shows line (Some Off) = (is_of_turn line ≡ true) × Tells line None
 Shows line (Some (Shown seen)) = (is_of_turn line ≡ false) × (is_of_node line ≡ true) × (node_of line ≡ Some seen)
 Shows line None = (is_of_turn line ≡ false) × (is_of_node line ≡ false)
-
--- a text of at most 16,777,216 bytes whose lines tell these events
-abbrev pub IsRun : List ℕ → List Event → Type 0
-IsRun text events = (length text ≤ 16777216) × TellAll Shows (lines text) events

@@ -1,14 +1,14 @@
 //! The picture of a run (W3C, Scalable Vector Graphics 1.1).
 ghost use Rattle.std.specs.Prelude.{◌≡◌, ◌⊎◌, ◌≤◌, ◌<◌, ◌^◌, ◌*◌, ◌+◌, Some, IfErr, IfOk, OnOk, length};
 ghost use Rattle.std.specs.Io.KnownBytes.{Appends};
-ghost use Rattle.timeline.specs.declared.fault.TimelineFault.TheVariants.{NoMemory, Output};
+ghost use Rattle.run_drawing.specs.declared.fault.DrawFault.TheVariants.{NoMemory, Output};
 ghost use Rattle.timeline.specs.Picture.{axis, bottom_of, framed, legend, opening, picture_of, picture_with, rows_text, title, turn_at, turn_text, turns_from};
 
 use crate::event::Event;
-use crate::fault::TimelineFault;
 use crate::pieces::{room_of, turn_after, write_row, x_of};
 use crate::row::Row;
 use crate::rows::rows_of;
+use run_drawing::DrawFault;
 use std::alloc::Global;
 use std::io;
 use std::io::Write;
@@ -167,7 +167,7 @@ pub(crate) fn draw<O: Write>(
     alloc: Global,
     events: &[Event],
     output: &mut O,
-) -> Result<(), TimelineFault>
+) -> Result<(), DrawFault>
     requires { length events.now ≤ 16777216 }
     ensures text { OnOk result (Appends (O.contents output.old) (O.contents output.new) (picture_of events.now)) }
     ensures fault { IfErr result (λ e. (e ≡ Output) ⊎ (e ≡ NoMemory)) }
@@ -178,9 +178,9 @@ pub(crate) fn draw<O: Write>(
     let bottom = bottom_of(rows.as_slice());
     let mut text = Vec::new(alloc);
     write_picture(rows.as_slice(), turns, bottom, events, &mut text).map_err(
-        |_| TimelineFault::NoMemory,
+        |_| DrawFault::NoMemory,
     )?;
     output
         .write_all(text.as_slice())
-        .map_err(|_| TimelineFault::Output)
+        .map_err(|_| DrawFault::Output)
 }

@@ -3,29 +3,29 @@
 
 mod drawing;
 mod event;
-mod fault;
 mod levels;
 mod mark;
 mod pieces;
 mod reading;
 mod row;
 mod rows;
-mod run;
+mod timeline;
 
 pub use event::Event;
-pub use fault::TimelineFault;
 use input_text::Noting;
 pub use mark::Mark;
 pub use row::{Kind, Part, Row};
-pub use run::execute;
+use run_drawing::execute;
 use std::io;
 use std::process::ExitCode;
+pub use timeline::Timeline;
 
 #[cfg(test)]
 mod tests;
 
 fn main(rt: HostRuntime) -> ExitCode {
     ExitCode::from(execute(
+        &Timeline,
         rt.alloc(),
         &mut Noting::new(rt.reader()),
         &mut io::writer(&rt),

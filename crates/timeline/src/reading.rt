@@ -1,20 +1,13 @@
-//! The events in what `station` prints.
-ghost use Rattle.std.specs.Prelude.{ℕ, ◌≡◌, ◌⊎◌, ◌≤◌, List, Option, Some, true, Ok, IfErr, IfOk, MatchResult, length};
-ghost use Rattle.timeline.specs.declared.fault.TimelineFault.TheVariants.{NoMemory};
+//! What a line of `station` tells.
+ghost use Rattle.std.specs.Prelude.{◌≡◌, Option, Some, true, Ok, IfOk, MatchResult};
 ghost use Rattle.timeline.specs.declared.event.Event.{Event};
 ghost use Rattle.station_text.specs.Traffic.{is_of_turn};
-ghost use Rattle.timeline.specs.Fault.{Refuses};
-ghost use Rattle.timeline.specs.Run.{IsRun, Shows, event_of};
+ghost use Rattle.timeline.specs.Run.{Shows, event_of};
 
 use crate::event::Event;
-use crate::fault::TimelineFault;
 use dcc_packet::Packet;
-use station_text::{LONGEST_TEXT, cut_line, is_of_node, is_of_turn, node_told, packet_told};
-use std::alloc::Global;
-
-/// Of a line that begins as the line of a turn or of a decoder and is none.
-#[derive(Clone, Copy)]
-struct BadLine;
+use run_drawing::BadLine;
+use station_text::{is_of_node, is_of_turn, node_told, packet_told};
 
 /// What a turn did that sent this packet, or nothing.
 fn event_of(told: Option<Packet>) -> Event
@@ -39,7 +32,7 @@ fn turn_told(line: &[u8]) -> Result<Event, BadLine>
 }
 
 /// What a line tells, or `None` where it is neither the line of a turn nor that of a decoder.
-fn event_told(line: &[u8]) -> Result<Option<Event>, BadLine>
+pub(crate) fn event_told(line: &[u8]) -> Result<Option<Event>, BadLine>
     ensures told { IfOk result (λ told. Shows line.now told) }
     ensures exact { (told : Option Event) → Shows line.now told → result ≡ Ok told }
 {
@@ -53,36 +46,4 @@ fn event_told(line: &[u8]) -> Result<Option<Event>, BadLine>
         Some(seen) => Ok(Some(Event::Shown(seen))),
         None => Err(BadLine),
     }
-}
-
-/// The events that the lines of a text tell, in order.
-///
-/// The first fault decides: a text longer than [`LONGEST_TEXT`], and then the first line that begins as the line of a
-/// turn or of a decoder and is none.
-pub(crate) fn read_events(alloc: Global, text: &[u8]) -> Result<Vec<Event>, TimelineFault>
-    ensures told { IfOk result (λ v. IsRun text.now v.items) }
-    ensures few { IfOk result (λ v. length v.items ≤ 16777216) }
-    ensures exact { (events : List Event) → IsRun text.now events → MatchResult result (λ v. v.items ≡ events) (λ e. e ≡ NoMemory) }
-    ensures fault { IfErr result (λ e. (e ≡ NoMemory) ⊎ Refuses text.now e) }
-{
-    if text.len() > LONGEST_TEXT {
-        return Err(TimelineFault::TooLong);
-    }
-    let mut events = Vec::new(alloc);
-    let mut number = 0u64;
-    let mut rest = text;
-    while !rest.is_empty() {
-        let (line, after) = cut_line(rest);
-        number += 1;
-        let Ok(told) = event_told(line) else {
-            return Err(TimelineFault::BadLine(number));
-        };
-        if let Some(event) = told {
-            if events.push(event).is_err() {
-                return Err(TimelineFault::NoMemory);
-            }
-        }
-        rest = after;
-    }
-    Ok(events)
 }

@@ -1,13 +1,13 @@
 //! The rows of a picture: the strip of packets, and a lane for each decoder.
 ghost use Rattle.std.specs.Prelude.{◌≡◌, ◌≤◌, ◌+◌, ◌*◌, ◌++◌, ◌∷◌, [], IfErr, IfOk, length};
 ghost use Rattle.std.specs.Vec.{vec_len};
-ghost use Rattle.timeline.specs.declared.fault.TimelineFault.TheVariants.{NoMemory};
+ghost use Rattle.run_drawing.specs.declared.fault.DrawFault.TheVariants.{NoMemory};
 ghost use Rattle.timeline.specs.Rows.{is_known, is_shown, lane_rows, lanes_of, row_if, rows_in, rows_of, strip, with_lane};
 
 use crate::event::Event;
-use crate::fault::TimelineFault;
 use crate::levels::{is_named, is_told};
 use crate::row::{Kind, Part, Row};
+use run_drawing::DrawFault;
 use station_text::{Name, Seen};
 use std::alloc::Global;
 
@@ -48,7 +48,7 @@ fn is_known(lanes: &[Seen], name: &Name) -> bool
 }
 
 /// Adds a lane where an event shows a decoder that has none.
-fn add_lane(lanes: &mut Vec<Seen>, event: &Event) -> Result<(), TimelineFault>
+fn add_lane(lanes: &mut Vec<Seen>, event: &Event) -> Result<(), DrawFault>
     ensures lanes { IfOk result (λ _. lanes.new.items ≡ with_lane lanes.old.items event.now) }
     ensures few { IfOk result (λ _. vec_len lanes.new ≤ vec_len lanes.old + 1) }
     ensures fault { IfErr result (λ e. e ≡ NoMemory) }
@@ -64,7 +64,7 @@ fn add_lane(lanes: &mut Vec<Seen>, event: &Event) -> Result<(), TimelineFault>
 }
 
 /// The decoders that events show, in the order in which they are first shown, each as it stands then.
-fn lanes_of(alloc: Global, events: &[Event]) -> Result<Vec<Seen>, TimelineFault>
+fn lanes_of(alloc: Global, events: &[Event]) -> Result<Vec<Seen>, DrawFault>
     ensures lanes { IfOk result (λ v. v.items ≡ lanes_of events.now) }
     ensures few { IfOk result (λ v. vec_len v ≤ length events.now) }
     ensures fault { IfErr result (λ e. e ≡ NoMemory) }
@@ -83,12 +83,7 @@ fn is_shown(lane: &Seen, events: &[Event], kind: Kind) -> bool
     events.iter().any(|event| is_told(lane, kind, event))
 }
 
-fn add_row(
-    rows: &mut Vec<Row>,
-    lane: &Seen,
-    events: &[Event],
-    kind: &Kind,
-) -> Result<(), TimelineFault>
+fn add_row(rows: &mut Vec<Row>, lane: &Seen, events: &[Event], kind: &Kind) -> Result<(), DrawFault>
     ensures rows { IfOk result (λ _. rows.new.items ≡ rows.old.items ++ row_if (is_shown lane.now events.now kind.now) (Row.Lane lane.now kind.now)) }
     ensures few { IfOk result (λ _. vec_len rows.new ≤ vec_len rows.old + 1) }
     ensures fault { IfErr result (λ e. e ≡ NoMemory) }
@@ -106,7 +101,7 @@ fn add_rows(
     lane: &Seen,
     events: &[Event],
     kinds: &[Kind],
-) -> Result<(), TimelineFault>
+) -> Result<(), DrawFault>
     ensures rows { IfOk result (λ _. rows.new.items ≡ rows.old.items ++ rows_in lane.now events.now kinds.now) }
     ensures few { IfOk result (λ _. vec_len rows.new ≤ vec_len rows.old + length kinds.now) }
     ensures fault { IfErr result (λ e. e ≡ NoMemory) }
@@ -117,7 +112,7 @@ fn add_rows(
     Ok(())
 }
 
-fn add_part(rows: &mut Vec<Row>, part: Part) -> Result<(), TimelineFault>
+fn add_part(rows: &mut Vec<Row>, part: Part) -> Result<(), DrawFault>
     ensures rows { IfOk result (λ _. rows.new.items ≡ rows.old.items ++ Row.Strip part ∷ []) }
     ensures few { IfOk result (λ _. vec_len rows.new ≤ vec_len rows.old + 1) }
     ensures fault { IfErr result (λ e. e ≡ NoMemory) }
@@ -127,7 +122,7 @@ fn add_part(rows: &mut Vec<Row>, part: Part) -> Result<(), TimelineFault>
 }
 
 /// Adds the parts of the strip of packets.
-fn add_strip(rows: &mut Vec<Row>) -> Result<(), TimelineFault>
+fn add_strip(rows: &mut Vec<Row>) -> Result<(), DrawFault>
     ensures rows { IfOk result (λ _. rows.new.items ≡ rows.old.items ++ strip) }
     ensures few { IfOk result (λ _. vec_len rows.new ≤ vec_len rows.old + 5) }
     ensures fault { IfErr result (λ e. e ≡ NoMemory) }
@@ -140,7 +135,7 @@ fn add_strip(rows: &mut Vec<Row>) -> Result<(), TimelineFault>
 }
 
 /// Adds the rows of each lane.
-fn add_lanes(rows: &mut Vec<Row>, lanes: &[Seen], events: &[Event]) -> Result<(), TimelineFault>
+fn add_lanes(rows: &mut Vec<Row>, lanes: &[Seen], events: &[Event]) -> Result<(), DrawFault>
     ensures rows { IfOk result (λ _. rows.new.items ≡ rows.old.items ++ lane_rows events.now lanes.now) }
     ensures few { IfOk result (λ _. vec_len rows.new ≤ vec_len rows.old + 26 * length lanes.now) }
     ensures fault { IfErr result (λ e. e ≡ NoMemory) }
@@ -152,7 +147,7 @@ fn add_lanes(rows: &mut Vec<Row>, lanes: &[Seen], events: &[Event]) -> Result<()
 }
 
 /// The rows of a picture, from the top.
-pub(crate) fn rows_of(alloc: Global, events: &[Event]) -> Result<Vec<Row>, TimelineFault>
+pub(crate) fn rows_of(alloc: Global, events: &[Event]) -> Result<Vec<Row>, DrawFault>
     ensures rows { IfOk result (λ v. v.items ≡ rows_of events.now) }
     ensures few { IfOk result (λ v. length v.items ≤ 5 + 26 * length events.now) }
     ensures fault { IfErr result (λ e. e ≡ NoMemory) }

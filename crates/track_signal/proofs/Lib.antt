@@ -1,2 +1,1 @@
 pub mod Rails
-pub mod Whole

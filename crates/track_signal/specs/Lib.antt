@@ -1,4 +1,1 @@
-pub mod Drawn
 pub mod Dump
-pub mod Fault
-pub mod Traffic

@@ -2,12 +2,12 @@
 ghost use Rattle.std.specs.Prelude.{ℕ, ◌≡◌, ◌+◌, ◌*◌, ◌<◌, ◌≤◌, ◌^◌, ◌⊎◌, Some, true, IfErr, IfOk, OnOk, length, sum};
 ghost use Rattle.std.specs.Io.KnownBytes.{Appends};
 ghost use Rattle.half_bits.specs.Halves.{halves_of};
-ghost use Rattle.track_signal.specs.declared.fault.SignalFault.TheVariants.{NoMemory, Output};
+ghost use Rattle.run_drawing.specs.declared.fault.DrawFault.TheVariants.{NoMemory, Output};
 ghost use Rattle.track_signal.specs.Dump.{change_text, changes_from, changes_text, dump_of, halves_in, stamp};
 
-use crate::fault::SignalFault;
 use dcc_packet::Packet;
 use half_bits::halves;
+use run_drawing::DrawFault;
 use std::alloc::Global;
 use std::io;
 use std::io::Write;
@@ -52,11 +52,11 @@ fn draw_packet<O: Write>(packet: &Packet, start: u64, output: &mut O) -> io::Res
     Ok(time)
 }
 
-fn write_bytes<O: Write>(bytes: &[u8], output: &mut O) -> Result<(), SignalFault>
+fn write_bytes<O: Write>(bytes: &[u8], output: &mut O) -> Result<(), DrawFault>
     ensures text { OnOk result (Appends (O.contents output.old) (O.contents output.new) bytes.now) }
     ensures fault { IfErr result (λ e. e ≡ Output) }
 {
-    output.write_all(bytes).map_err(|_| SignalFault::Output)
+    output.write_all(bytes).map_err(|_| DrawFault::Output)
 }
 
 /// The same by one write: `text` is cleared, and the packet drawn there first.
@@ -65,7 +65,7 @@ fn write_packet<O: Write>(
     start: u64,
     text: &mut Vec<u8>,
     output: &mut O,
-) -> Result<u64, SignalFault>
+) -> Result<u64, DrawFault>
     requires { start + 13800 < 2 ^ 64 }
     ensures text { OnOk result (Appends (O.contents output.old) (O.contents output.new) (changes_text (changes_from start true (halves_of packet.now)))) }
     ensures end { IfOk result (λ end. end ≡ start + sum (halves_of packet.now)) }
@@ -73,7 +73,7 @@ fn write_packet<O: Write>(
     ensures fault { IfErr result (λ e. (e ≡ Output) ⊎ (e ≡ NoMemory)) }
 {
     text.clear();
-    let end = draw_packet(packet, start, text).map_err(|_| SignalFault::NoMemory)?;
+    let end = draw_packet(packet, start, text).map_err(|_| DrawFault::NoMemory)?;
     write_bytes(text.as_slice(), output)?;
     Ok(end)
 }
@@ -83,18 +83,18 @@ pub(crate) fn draw_packets<O: Write>(
     alloc: Global,
     packets: &[Packet],
     output: &mut O,
-) -> Result<(), SignalFault>
+) -> Result<(), DrawFault>
     requires { length packets.now ≤ 16777216 }
     ensures text { OnOk result (Appends (O.contents output.old) (O.contents output.new) (dump_of packets.now)) }
     ensures fault { IfErr result (λ e. (e ≡ Output) ⊎ (e ≡ NoMemory)) }
 {
     let Ok(mut text) = Vec::with_capacity(alloc, ROOM) else {
-        return Err(SignalFault::NoMemory);
+        return Err(DrawFault::NoMemory);
     };
     write_bytes(HEADER, output)?;
     let mut time = 0;
     for packet in packets {
         time = write_packet(packet, time, &mut text, output)?;
     }
-    write_stamp(time, output).map_err(|_| SignalFault::Output)
+    write_stamp(time, output).map_err(|_| DrawFault::Output)
 }

@@ -3,13 +3,11 @@
 #![tactic(auto)]
 
 mod drawing;
-mod fault;
-mod reading;
 mod signal;
 
-pub use fault::SignalFault;
 use input_text::Noting;
-pub use signal::execute;
+use run_drawing::execute;
+pub use signal::TrackSignal;
 use std::io;
 use std::process::ExitCode;
 
@@ -18,6 +16,7 @@ mod tests;
 
 fn main(rt: HostRuntime) -> ExitCode {
     ExitCode::from(execute(
+        &TrackSignal,
         rt.alloc(),
         &mut Noting::new(rt.reader()),
         &mut io::writer(&rt),

@@ -4,14 +4,12 @@ mod devices;
 mod lines;
 mod memory;
 
-use crate::execute;
+use crate::TrackSignal;
 use failing_streams::Program;
 use input_text::Input;
+use run_drawing::execute;
 use std::alloc::Global;
 use std::io::Write;
-
-/// The program, as the tests run it.
-struct TrackSignal;
 
 impl Program for TrackSignal {
     fn execute<I: Input, O: Write, E: Write>(
@@ -21,6 +19,6 @@ impl Program for TrackSignal {
         output: &mut O,
         faults: &mut E,
     ) -> u8 {
-        execute(alloc, input, output, faults)
+        execute(self, alloc, input, output, faults)
     }
 }

@@ -1,6 +1,6 @@
 //! Standard streams that fail, and an input without end.
 
-use super::Timeline;
+use crate::Timeline;
 use failing_streams::{Broken, Spaces, Uneven, run_from, run_to, run_untold};
 use std::io::ErrorKind;
 

@@ -1,6 +1,6 @@
 //! Lines, and what is drawn of them, worked out by hand: a turn is 1,000 pixels divided by all turns, from 170 on.
 
-use super::Timeline;
+use crate::Timeline;
 use failing_streams::run;
 use std::test::Fail;
 

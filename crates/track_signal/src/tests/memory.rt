@@ -3,7 +3,7 @@
 //!
 //! This test takes the memory of the process, and so needs the allocator of the C library: `rt test`, and not `rt try`.
 
-use super::TrackSignal;
+use crate::TrackSignal;
 use failing_streams::run_as_room_grows;
 use std::test::Fail;
 

@@ -1,0 +1,42 @@
+//! What a program draws.
+ghost use Rattle.std.specs.Prelude.{◌≡◌, ◌⊎◌, ◌≤◌, ℕ, Bool, true, List, Option, Ok, IfErr, IfOk, OnOk, length};
+ghost use Rattle.std.specs.Io.KnownBytes.{Appends};
+ghost use Rattle.run_drawing.specs.declared.fault.DrawFault.TheVariants.{NoMemory, Output};
+
+use crate::fault::DrawFault;
+use std::alloc::Global;
+use std::io::Write;
+
+/// Of a line that begins as one that is drawn and is none.
+#[derive(Clone, Copy, Debug)]
+pub struct BadLine;
+
+/// What a program draws of what `station` prints, where a line tells a `Told` or nothing.
+pub trait Drawing<Told> {
+    /// Whether a line tells this. One that has a fault tells neither something nor nothing.
+    ghost tells: { List ℕ → Option Told → Type 0 };
+
+    /// What is drawn of what the lines tell, in order.
+    ghost drawn: { List Told → List ℕ };
+
+    /// Whether nothing is written where memory runs out.
+    ghost is_whole: { Bool };
+
+    /// The name of the program, as its fault lines begin.
+    fn name(&self) -> &'static str;
+
+    /// What a line is that must not have a fault, as fault lines call it.
+    fn line(&self) -> &'static str;
+
+    /// What a line tells, or `None` where it is none of those that are drawn.
+    fn read(&self, line: &[u8]) -> Result<Option<Told>, BadLine>
+        ensures told { IfOk result (λ told. tells line.now told) }
+        ensures exact { (told : Option Told) → tells line.now told → result ≡ Ok told };
+
+    /// Draws what lines tell, at most 16,777,216 of them.
+    fn draw<O: Write>(&self, alloc: Global, told: &[Told], output: &mut O) -> Result<(), DrawFault>
+        requires { length told.now ≤ 16777216 }
+        ensures text { OnOk result (Appends (O.contents output.old) (O.contents output.new) (drawn told.now)) }
+        ensures fault { IfErr result (λ e. (e ≡ Output) ⊎ (e ≡ NoMemory)) }
+        ensures kept { IfErr result (λ e. e ≡ NoMemory → is_whole ≡ true → output.new ≡ output.old) };
+}

@@ -1,0 +1,43 @@
+//! What the program draws: the picture of what turns did and of how decoders stood.
+ghost use Rattle.std.specs.Prelude.{true};
+ghost use Rattle.timeline.specs.Picture.{picture_of};
+ghost use Rattle.timeline.specs.Run.{Shows};
+
+use crate::drawing::draw;
+use crate::event::Event;
+use crate::reading::event_told;
+use run_drawing::{BadLine, DrawFault, Drawing};
+use std::alloc::Global;
+use std::io::Write;
+
+/// The picture of a run. It is drawn whole before it is written.
+pub struct Timeline;
+
+impl Drawing<Event> for Timeline {
+    ghost tells = { Shows };
+
+    ghost drawn = { picture_of };
+
+    ghost is_whole = { true };
+
+    fn name(&self) -> &'static str {
+        "timeline"
+    }
+
+    fn line(&self) -> &'static str {
+        "line"
+    }
+
+    fn read(&self, line: &[u8]) -> Result<Option<Event>, BadLine> {
+        event_told(line)
+    }
+
+    fn draw<O: Write>(
+        &self,
+        alloc: Global,
+        events: &[Event],
+        output: &mut O,
+    ) -> Result<(), DrawFault> {
+        draw(alloc, events, output)
+    }
+}
