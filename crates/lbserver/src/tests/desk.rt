@@ -138,7 +138,7 @@ impl<'a> Desk<'a> {
                 Ok(())
             }
             Step::IsGone(who) => {
-                self.streams[*who] = None;
+                *self.streams.get_mut(*who).ok_or("nobody")? = None;
                 self.rounds(4)
             }
             Step::Says(who, text) => self.say(*who, text),
