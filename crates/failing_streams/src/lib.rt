@@ -7,5 +7,5 @@ mod memory;
 mod runs;
 
 pub use devices::{Broken, Spaces, Stuck, Uneven};
-pub use memory::{Taken, take_all_but};
-pub use runs::{Program, Ran, run, run_as_room_grows, run_from, run_in, run_to, run_untold};
+pub use memory::{Scarcity, Taken, take_all_but};
+pub use runs::{Program, Ran, run, run_as_room_grows, run_from, run_to, run_untold};

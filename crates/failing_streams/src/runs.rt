@@ -2,13 +2,17 @@
 ghost use Rattle.std.specs.Prelude.{◌≡◌, false};
 
 use crate::devices::Broken;
-use crate::memory::take_all_but;
+use crate::memory::Scarcity;
 use input_text::{Input, Noting};
 use std::alloc::{AllocError, Global};
 use std::io::{Read, Write};
 
-/// How many bytes more are left from run to run.
-const STEP: usize = 256;
+/// How many bytes more are left from run to run: what the allocator of the C library rounds to, so that no growth is
+/// stepped over.
+const STEP: usize = 16;
+
+/// The most runs with too little memory.
+const MOST_REFUSED: u32 = 40_000;
 
 /// A program that has no words.
 pub trait Program {
@@ -80,32 +84,9 @@ pub fn run_untold<P: Program, R: Read>(program: &P, alloc: Global, reader: &mut 
     program.execute(alloc, &mut input, &mut output, &mut Broken::new())
 }
 
-/// Runs a program on this text with so many bytes of memory left. There is room for what it writes from the start.
-///
-/// # Errors
-///
-/// Fewer bytes were left.
-pub fn run_in<P: Program>(
-    program: &P,
-    alloc: Global,
-    text: &[u8],
-    room: usize,
-) -> Result<Ran, AllocError> {
-    let mut output: Vec<u8> = Vec::with_capacity(alloc, 16_384)?;
-    let mut faults: Vec<u8> = Vec::with_capacity(alloc, 64)?;
-    let mut input = Noting::new(text);
-    let taken = take_all_but(alloc, room)?;
-    let status = program.execute(alloc, &mut input, &mut output, &mut faults);
-    drop(taken);
-    Ok(Ran {
-        status,
-        output,
-        faults,
-    })
-}
-
 /// Runs a program on this text with ever more memory, from none, until the run is not one that tells this, writes nothing
-/// and ends with status 6. Gives how many runs were so, and what the first other one came to, or else the last.
+/// and ends with status 6. Gives how many runs were so, and what the first other one came to, or else the last. There is
+/// room for what is written from the start.
 ///
 /// # Errors
 ///
@@ -116,13 +97,21 @@ pub fn run_as_room_grows<P: Program>(
     text: &[u8],
     no_memory: &[u8],
 ) -> Result<(u32, Ran), AllocError> {
-    let mut ran = run_in(program, alloc, text, 0)?;
-    for refused in 0..1000u32 {
-        let faults = ran.faults.as_slice();
-        if ran.status != 6 || !ran.output.is_empty() || faults != no_memory {
+    // The stack grows to all that a run needs of it, while there is room for that.
+    let mut ran = run(program, alloc, text);
+    ran.output = Vec::with_capacity(alloc, 16_384)?;
+    ran.faults = Vec::with_capacity(alloc, 64)?;
+    let mut scarcity = Scarcity::new(alloc)?;
+    for refused in 0..MOST_REFUSED {
+        ran.output.clear();
+        ran.faults.clear();
+        let mut input = Noting::new(text);
+        scarcity.leave(refused as usize * STEP)?;
+        ran.status = program.execute(alloc, &mut input, &mut ran.output, &mut ran.faults);
+        scarcity.relax();
+        if ran.status != 6 || !ran.output.is_empty() || ran.faults.as_slice() != no_memory {
             return Ok((refused, ran));
         }
-        ran = run_in(program, alloc, text, (refused as usize + 1) * STEP)?;
     }
-    Ok((1000, ran))
+    Ok((MOST_REFUSED, ran))
 }

@@ -5,7 +5,7 @@
 
 use crate::{OrderFault, execute, order};
 use decoder_node::NodeList;
-use failing_streams::take_all_but;
+use failing_streams::Scarcity;
 use input_text::Noting;
 use layout_core::World;
 use refresh_ring::{BitRing, Schedule};
@@ -89,6 +89,11 @@ impl Pages {
             faults: Vec::with_capacity(alloc, 4096)?,
         })
     }
+
+    fn clear(&mut self) {
+        self.output.clear();
+        self.faults.clear();
+    }
 }
 
 /// Whether the answer is the ordinary one. None where it is want of memory.
@@ -111,14 +116,23 @@ fn answer(rt: &HostRuntime, work: Work<'_>, pages: &mut Pages) -> Option<bool> {
             Ok(roster) => Some(roster.len() == 2),
             Err(fault) => other_than(fault.why == roster::Why::NoMemory),
         },
-        Work::Hex => match read_hex(alloc, b"83 7C BF") {
-            Ok(bytes) => Some(bytes.as_slice() == [0x83, 0x7C, 0xBF].as_slice()),
+        Work::Hex => match read_hex(alloc, b"83 7C BF 01 02 03 04 05 06 07 08 09 0A 0B 0C 0D 0E") {
+            Ok(bytes) => Some(
+                bytes.as_slice()
+                    == [
+                        0x83, 0x7C, 0xBF, 1, 2, 3, 4, 5, 6, 7, 8, 9, 10, 11, 12, 13, 14,
+                    ]
+                    .as_slice(),
+            ),
             Err(fault) => other_than(fault.why == HexWhy::NoMemory),
         },
-        Work::Script => match read_script(alloc, b"show\nshow", 1, 0) {
-            Ok(commands) => {
-                Some(commands.as_slice() == [Command::Show, Command::Show].as_slice())
-            }
+        Work::Script => match read_script(
+            alloc,
+            b"show\nshow\nshow\nshow\nshow\nshow\nshow\nshow\nshow",
+            1,
+            0,
+        ) {
+            Ok(commands) => Some(commands.as_slice() == [Command::Show; 9].as_slice()),
             Err(fault) => other_than(fault.why == show_text::Why::NoMemory),
         },
         Work::Order(words) => match order(alloc, words) {
@@ -134,47 +148,49 @@ fn other_than(no_memory: bool) -> Option<bool> {
     if no_memory { None } else { Some(false) }
 }
 
-/// The answer where so many bytes are left.
-fn answer_in(rt: &HostRuntime, work: Work<'_>, room: usize) -> Result<Option<bool>, Fail> {
-    let alloc = rt.alloc();
-    let mut pages = Pages::new(alloc)?;
-    let taken = take_all_but(alloc, room)?;
-    let found = answer(rt, work, &mut pages);
-    drop(taken);
-    Ok(found)
+/// How many bytes more are left from call to call: what the allocator of the C library rounds to, so that no growth is
+/// stepped over.
+const STEP: usize = 16;
+
+/// How often it is refused with no memory, and with more and more of it, until its answer is another, which is right; and
+/// then with ample memory twice. None where an answer is wrong, or the last is still refused.
+fn refusals(rt: &HostRuntime, work: Work<'_>) -> Result<Option<u32>, Fail> {
+    let mut pages = Pages::new(rt.alloc())?;
+    // The stack grows to all that the call needs of it, while there is room for that.
+    if answer(rt, work, &mut pages) != Some(true) {
+        return Ok(None);
+    }
+    let mut scarcity = Scarcity::new(rt.alloc())?;
+    for refused in 0..40_000u32 {
+        pages.clear();
+        scarcity.leave(refused as usize * STEP)?;
+        let found = answer(rt, work, &mut pages);
+        scarcity.relax();
+        if let Some(right) = found {
+            drop(scarcity);
+            let again = is_done(rt, work, &mut pages) && is_done(rt, work, &mut pages);
+            return Ok(if right && again { Some(refused) } else { None });
+        }
+    }
+    Ok(None)
 }
 
-/// Whether it is refused with no memory, and at last done with more and more of it, by steps of so many bytes; and whether
-/// no answer is wrong, here and with ample memory twice after it.
-fn grows_or_says_so(rt: &HostRuntime, work: Work<'_>, step: usize) -> Result<bool, Fail> {
-    // The stack grows to all that the call needs of it, while there is room for that.
-    let mut first = Pages::new(rt.alloc())?;
-    if answer(rt, work, &mut first) != Some(true) {
-        return Ok(false);
-    }
-    let mut refused = 0u32;
-    for count in 0..1000usize {
-        let Some(right) = answer_in(rt, work, count.saturating_mul(step))? else {
-            refused = refused.saturating_add(1);
-            continue;
-        };
-        println!(rt; "refused {refused} times")?;
-        let mut once = Pages::new(rt.alloc())?;
-        let mut again = Pages::new(rt.alloc())?;
-        return Ok(
-            right
-                && refused > 0
-                && answer(rt, work, &mut once) == Some(true)
-                && answer(rt, work, &mut again) == Some(true),
-        );
-    }
-    Err("it is never done".into())
+fn is_done(rt: &HostRuntime, work: Work<'_>, pages: &mut Pages) -> bool {
+    pages.clear();
+    answer(rt, work, pages) == Some(true)
+}
+
+/// Whether it is refused with no memory, and at last done with more and more of it, and no answer is wrong.
+fn grows_or_says_so(rt: &HostRuntime, work: Work<'_>) -> Result<bool, Fail> {
+    let refused = refusals(rt, work)?.unwrap_or(0);
+    println!(rt; "refused {refused} times")?;
+    Ok(refused > 0)
 }
 
 #[test]
 fn what_is_made_once(rt: HostRuntime) -> Result<(), Fail> {
     for work in [Work::Schedule, Work::Station, Work::World] {
-        assert!(rt; grows_or_says_so(&rt, work, 256)?);
+        assert!(rt; grows_or_says_so(&rt, work)?);
     }
     Ok(())
 }
@@ -182,9 +198,9 @@ fn what_is_made_once(rt: HostRuntime) -> Result<(), Fail> {
 #[test]
 fn texts_that_are_read(rt: HostRuntime) -> Result<(), Fail> {
     for work in [Work::Hex, Work::Script] {
-        assert!(rt; grows_or_says_so(&rt, work, 16)?);
+        assert!(rt; grows_or_says_so(&rt, work)?);
     }
-    assert!(rt; grows_or_says_so(&rt, Work::Roster, 256)?);
+    assert!(rt; grows_or_says_so(&rt, Work::Roster)?);
     Ok(())
 }
 
@@ -196,26 +212,35 @@ fn words_that_are_read(rt: HostRuntime) -> Result<(), Fail> {
         &["serve", "--port", "5550", "--turns", "4"],
     ];
     for words in rows {
-        assert!(rt; grows_or_says_so(&rt, Work::Order(words), 512)?);
+        assert!(rt; grows_or_says_so(&rt, Work::Order(words))?);
     }
     Ok(())
+}
+
+/// White space, so much that a reader of it grows more than once, and then this.
+fn far_behind(rt: &HostRuntime, text: &[u8]) -> Result<Vec<u8>, Fail> {
+    let mut all = Vec::with_capacity(rt.alloc(), 3 * 4096 + text.len())?;
+    all.extend_from_slice([b'\n'; 3 * 4096].as_slice())?;
+    all.extend_from_slice(text)?;
+    Ok(all)
 }
 
 #[test]
 fn replays(rt: HostRuntime) -> Result<(), Fail> {
     let file = "station-test-memory.toml";
     fs::write(&rt, file, ROSTER)?;
+    let text = far_behind(&rt, b"show")?;
     let words = ["replay", "--roster", file];
     let rows: [(&[&str], &[u8]); 3] = [(&[], b""), (&["replay"], b""), (&words, SHOWN)];
     for (words, shown) in rows {
         let run = Work::Run(Run {
             words,
-            text: b"show",
+            text: text.as_slice(),
             status: 0,
             printed: shown,
             told: b"",
         });
-        assert!(rt; grows_or_says_so(&rt, run, 512)?);
+        assert!(rt; grows_or_says_so(&rt, run)?);
     }
     fs::remove_file(&rt, file)?;
     Ok(())
@@ -224,7 +249,7 @@ fn replays(rt: HostRuntime) -> Result<(), Fail> {
 #[test]
 fn monitors(rt: HostRuntime) -> Result<(), Fail> {
     let file = "station-test-memory.hex";
-    fs::write(&rt, file, b"83 7C".as_slice())?;
+    fs::write(&rt, file, far_behind(&rt, b"83 7C")?.as_slice())?;
     let run = Work::Run(Run {
         words: &["monitor", file],
         text: b"",
@@ -232,7 +257,7 @@ fn monitors(rt: HostRuntime) -> Result<(), Fail> {
         printed: b"msg 83 7C power on\n",
         told: b"",
     });
-    assert!(rt; grows_or_says_so(&rt, run, 512)?);
+    assert!(rt; grows_or_says_so(&rt, run)?);
     fs::remove_file(&rt, file)?;
     Ok(())
 }
@@ -246,7 +271,7 @@ fn serves(rt: &HostRuntime, words: &[&str]) -> Result<bool, Fail> {
         printed: b"",
         told: b"station: network\n",
     });
-    grows_or_says_so(rt, run, 512)
+    grows_or_says_so(rt, run)
 }
 
 /// The same without a roster and with one.
