@@ -9,3 +9,4 @@ pub mod Lending
 pub mod Unseen
 pub mod Wanted
 pub mod Refusing
+pub mod Ordering

@@ -1,9 +1,12 @@
 -- How a run of the program ends that does not come to its end: which fault comes when.
 use Rattle.std.specs.Prelude.{ℕ, ◌≡◌, ◌⊎◌, Bool, true, false, List, Option, None, Err, length}
+use Rattle.clap.specs.Kinds.{IsAmong}
 use Rattle.clap.specs.Words.{Text}
+use Rattle.clap.specs.declared.error.kind.ErrorKind.{ErrorKind}
 use Rattle.command_line.specs.declared.words.Order.{Order}
 use Rattle.command_line.specs.declared.words.Order.TheVariants.{Replay, Monitor, Serve}
-use Rattle.command_line.specs.Order.{IsOrderOf}
+use Rattle.command_line.specs.Fault.{refusals}
+use Rattle.command_line.specs.Order.{HasNone, IsOrderOf}
 use Rattle.console.specs.declared.fault.RunFault.{RunFault}
 use Rattle.console.specs.declared.fault.RunFault.TheVariants.{Lines, NoMemory, Output, UnreadableInput}
 use Rattle.console.specs.Fault.{of_script, status_of}
@@ -44,10 +47,14 @@ FailsOrder (Replay lines file) old_input new_input has_failed fault = FailsRepla
 FailsOrder (Monitor file) old_input new_input has_failed fault = FailsMonitor file None None fault
 FailsOrder (Serve port file turns reads connections) old_input new_input has_failed fault = FailsServe file fault
 
+-- the words are no order: clap refuses them, or no order is what its matches hold
+abbrev pub AreNoOrder : List Text → Type 0
+AreNoOrder words = ((kind : ErrorKind) × IsAmong kind (refusals words)) ⊎ HasNone (IsOrderOf words)
+
 -- The status of a run that does not end with 0. The words are no order, 1, or memory ran out, 6; or they are one, which is
 -- not carried out.
 abbrev pub EndsAs : (words : List Text) → (old_input new_input : Option (List ℕ)) → (has_failed : Bool) → (status : ℕ) → Type 0
 EndsAs words old_input new_input has_failed status =
-    (status ≡ 1)
+    ((status ≡ 1) × AreNoOrder words)
     ⊎ (status ≡ 6)
     ⊎ ((order : Order) × (fault : RunFault) × IsOrderOf words order × FailsOrder order old_input new_input has_failed fault × (status ≡ status_of fault))
