@@ -30,7 +30,7 @@ fn run(rt: &HostRuntime) -> u8 {
 
 /// The same, where the words can be had.
 fn run_words(rt: &HostRuntime) -> Result<u8, RunFault> {
-    let words = read_words(rt.alloc(), rt, no_server_text)?;
+    let words = read_words(rt.alloc(), rt, |alloc| no_server_text(alloc))?;
     let texts = texts(rt.alloc(), words.as_slice())?;
     Ok(execute(rt, texts.as_slice(), &mut io::writer(rt), &mut rt.stderr()))
 }

@@ -58,7 +58,7 @@ fn requests_are_replied(rt: HostRuntime) -> Result<(), Fail> {
     for (request, reply) in REPLIES {
         desk.play(&rt, &[Browses(0)])?;
         desk.say(0, request.as_bytes())?;
-        hears(&rt, desk.stream(0)?, reply)?;
+        hears(&rt, desk.streams.of(0)?, reply)?;
     }
     // A page that is read is no client, and nobody who was refused is one.
     desk.play(&rt, &[Printed("")])

@@ -57,14 +57,45 @@ pub(crate) enum Step {
     Printed(&'static str),
 }
 
+/// Those who are connected, by their numbers.
+#[derive(Drop)]
+pub(crate) struct Streams {
+    streams: [Option<TcpStream>; MOST],
+}
+
+impl Streams {
+    fn new() -> Streams {
+        Streams {
+            streams: [
+                None, None, None, None, None, None, None, None, None, None, None, None, None, None,
+                None, None, None,
+            ],
+        }
+    }
+
+    /// The stream of one who is connected.
+    pub(crate) fn of(&mut self, who: usize) -> Result<&mut TcpStream, Fail> {
+        match self.streams.get_mut(who) {
+            Some(Some(stream)) => Ok(stream),
+            _ => Err(Fail::from("nobody")),
+        }
+    }
+
+    /// Puts a stream in the place of the one that was there, which is gone then.
+    fn put(&mut self, who: usize, stream: Option<TcpStream>) {
+        if who < MOST {
+            self.streams[who] = stream;
+        }
+    }
+}
+
 /// A server on a port of its own, with turns behind messages and not in time.
 #[derive(Drop)]
 pub(crate) struct Desk<'a> {
     pub(crate) server: Server,
     pub(crate) sockets: Sockets,
     pub(crate) printer: Printer<'a, Vec<u8>>,
-    /// Those who are connected.
-    pub(crate) streams: [Option<TcpStream>; MOST],
+    pub(crate) streams: Streams,
     /// The microseconds since the start.
     now: u64,
     ghost watched: { Watches (specs_of (entries_of printer.roster)) server.hub },
@@ -85,10 +116,7 @@ impl<'a> Desk<'a> {
             server,
             sockets,
             printer,
-            streams: [
-                None, None, None, None, None, None, None, None, None, None, None, None, None, None,
-                None, None, None,
-            ],
+            streams: Streams::new(),
             now: 0,
         })
     }
@@ -131,14 +159,11 @@ impl<'a> Desk<'a> {
                 self.rounds(*rounds)
             }
             Step::Printed(text) => {
-                assert!(rt;
-                    self.printer.output().as_slice() == text.as_bytes(),
-                    "{text}"
-                );
+                assert!(rt; self.has_printed(text), "{text}");
                 Ok(())
             }
             Step::IsGone(who) => {
-                *self.streams.get_mut(*who).ok_or("nobody")? = None;
+                self.streams.put(*who, None);
                 self.rounds(4)
             }
             Step::Says(who, text) => self.say(*who, text),
@@ -146,7 +171,7 @@ impl<'a> Desk<'a> {
             | Step::IsTold(who, _)
             | Step::HearsTheEnd(who)
             | Step::Leaves(who) => {
-                hear(rt, self.stream(*who)?, step)?;
+                hear(rt, self.streams.of(*who)?, step)?;
                 self.rounds(4)
             }
         }
@@ -161,22 +186,19 @@ impl<'a> Desk<'a> {
     ) -> Result<(), Fail> {
         let stream = TcpStream::connect(rt, address)?;
         stream.set_nodelay(true)?;
-        *self.streams.get_mut(who).ok_or("nobody")? = Some(stream);
+        self.streams.put(who, Some(stream));
         self.rounds(4)
     }
 
     /// Somebody writes this, and is heard.
     pub(crate) fn say(&mut self, who: usize, text: &[u8]) -> Result<(), Fail> {
-        self.stream(who)?.write_all(text)?;
+        self.streams.of(who)?.write_all(text)?;
         self.rounds(4)
     }
 
-    /// The stream of one who is connected.
-    pub(crate) fn stream(&mut self, who: usize) -> Result<&mut TcpStream, Fail> {
-        match self.streams.get_mut(who) {
-            Some(Some(stream)) => Ok(stream),
-            _ => Err(Fail::from("nobody")),
-        }
+    /// Whether this was printed so far.
+    fn has_printed(&self, text: &str) -> bool {
+        self.printer.output().as_slice() == text.as_bytes()
     }
 }
 

@@ -115,7 +115,7 @@ fn eight_clients_are_told_all(rt: HostRuntime) -> Result<(), Fail> {
                 &[POWER_OFF]
             };
             for text in texts {
-                hears(&rt, desk.stream(client)?, text)?;
+                hears(&rt, desk.streams.of(client)?, text)?;
             }
         }
     }
@@ -135,10 +135,10 @@ fn who_never_reads_is_let_go(rt: HostRuntime) -> Result<(), Fail> {
     }
     message.extend_from_slice(b" 65\n")?;
     for _message in 0..40_000u32 {
-        desk.stream(0)?.write_all(message.as_slice())?;
+        desk.streams.of(0)?.write_all(message.as_slice())?;
         desk.rounds(1)?;
         let mut told = [0; 399];
-        desk.stream(0)?.read_exact(&mut told)?;
+        desk.streams.of(0)?.read_exact(&mut told)?;
         assert!(rt;
             told.as_slice().starts_with(b"RECEIVE E5 7F")
                 && told.as_slice().ends_with(b"SENT OK\r\n")
@@ -158,7 +158,7 @@ fn a_flood_holds_nobody_up(rt: HostRuntime) -> Result<(), Fail> {
     desk.play(&rt, &[Connects(0), Connects(1)])?;
     let piece = [b'S'; 1024];
     for _piece in 0..1024u32 {
-        desk.stream(0)?.write_all(&piece)?;
+        desk.streams.of(0)?.write_all(&piece)?;
         desk.rounds(3)?;
     }
     desk.play(

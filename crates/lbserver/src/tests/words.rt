@@ -237,7 +237,7 @@ fn a_word_that_is_not_utf_8(rt: HostRuntime) -> Result<(), Fail> {
     let given = Given {
         words: &[b"lbserver", b"--roster", b"caf\xE9.toml"],
     };
-    let fault = read_words(rt.alloc(), &given, no_server_text)
+    let fault = read_words(rt.alloc(), &given, |alloc| no_server_text(alloc))
         .err()
         .ok_or("a fault")?;
     let mut faults = Vec::new(rt.alloc());

@@ -41,7 +41,7 @@ fn words_behind_the_name(rt: HostRuntime) -> Result<(), Fail> {
     let given = Given {
         words: &[b"station", b"monitor", b"caf\xC3\xA9.hex"],
     };
-    let words = read_words(rt.alloc(), &given, no_text)?;
+    let words = read_words(rt.alloc(), &given, |alloc| no_text(alloc))?;
     let texts = texts(rt.alloc(), words.as_slice())?;
     assert_eq!(rt; texts.as_slice(), ["monitor", "caf\u{e9}.hex"].as_slice());
     Ok(())
@@ -63,7 +63,7 @@ fn has_all(text: &[u8], parts: &[&str]) -> bool {
 /// What is answered and told where the words cannot be read.
 fn told_of(rt: &HostRuntime, words: &[&[u8]]) -> Result<(u8, Vec<u8>), Fail> {
     let given = Given { words };
-    let fault = read_words(rt.alloc(), &given, no_text)
+    let fault = read_words(rt.alloc(), &given, |alloc| no_text(alloc))
         .err()
         .ok_or("a fault")?;
     let mut faults = Vec::new(rt.alloc());
