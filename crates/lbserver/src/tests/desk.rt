@@ -149,7 +149,10 @@ impl<'a> Desk<'a> {
         step: &Step,
     ) -> Result<(), Fail> {
         match step {
-            Step::Connects(who) => self.connect(rt, *who, self.sockets.address()?),
+            Step::Connects(who) => {
+                let address = self.sockets.address()?;
+                self.connect(rt, *who, address)
+            }
             Step::Browses(who) => {
                 let address = self.sockets.page_address().ok_or("no page")??;
                 self.connect(rt, *who, address)
