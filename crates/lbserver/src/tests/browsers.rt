@@ -3,7 +3,7 @@
 use crate::tests::desk::Step::{
     At, Browses, Connects, Hears, HearsTheEnd, IsGone, IsTold, Leaves, Printed, Says,
 };
-use crate::tests::desk::{Desk, OK, POWER_OFF, POWER_ON, SLOT_1, Step, TAKE_3, VERSION, hears};
+use crate::tests::desk::{Desk, OK, POWER_OFF, POWER_ON, SLOT_1, Step, TAKE_3, VERSION};
 use std::test::Fail;
 
 /// What the page is replied.
@@ -58,7 +58,7 @@ fn requests_are_replied(rt: HostRuntime) -> Result<(), Fail> {
     for (request, reply) in REPLIES {
         desk.play(&rt, &[Browses(0)])?;
         desk.say(0, request.as_bytes())?;
-        hears(&rt, desk.streams.of(0)?, reply)?;
+        desk.hear(&rt, 0, reply)?;
     }
     // A page that is read is no client, and nobody who was refused is one.
     desk.play(&rt, &[Printed("")])

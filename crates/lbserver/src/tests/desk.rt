@@ -199,6 +199,16 @@ impl<'a> Desk<'a> {
         self.rounds(4)
     }
 
+    /// Somebody is told just this text next.
+    pub(crate) fn hear<R: AllocGlobal + Abort>(
+        &mut self,
+        rt: &R,
+        who: usize,
+        text: &str,
+    ) -> Result<(), Fail> {
+        hears(rt, self.streams.of(who)?, text)
+    }
+
     /// Whether this was printed so far.
     fn has_printed(&self, text: &str) -> bool {
         self.printer.output().as_slice() == text.as_bytes()
@@ -231,11 +241,7 @@ fn hear<R: AllocGlobal + Abort>(rt: &R, stream: &mut TcpStream, step: &Step) -> 
 }
 
 /// Somebody is told just this text next.
-pub(crate) fn hears<R: AllocGlobal + Abort>(
-    rt: &R,
-    stream: &mut TcpStream,
-    text: &str,
-) -> Result<(), Fail> {
+fn hears<R: AllocGlobal + Abort>(rt: &R, stream: &mut TcpStream, text: &str) -> Result<(), Fail> {
     let mut told = Vec::from_elem(rt.alloc(), 0, text.len())?;
     stream.read_exact(told.as_mut_slice())?;
     assert!(rt; told.as_slice() == text.as_bytes(), "{text}");

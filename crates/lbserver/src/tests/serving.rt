@@ -1,7 +1,7 @@
 //! Programs that are clients.
 
 use crate::tests::desk::Step::{At, Connects, Hears, HearsTheEnd, IsGone, Leaves, Printed, Says};
-use crate::tests::desk::{Desk, OK, POWER_OFF, POWER_ON, SLOT_1, Step, TAKE_3, VERSION, hears};
+use crate::tests::desk::{Desk, OK, POWER_OFF, POWER_ON, SLOT_1, Step, TAKE_3, VERSION};
 use std::io::{Read, Write};
 use std::test::Fail;
 
@@ -115,7 +115,7 @@ fn eight_clients_are_told_all(rt: HostRuntime) -> Result<(), Fail> {
                 &[POWER_OFF]
             };
             for text in texts {
-                hears(&rt, desk.streams.of(client)?, text)?;
+                desk.hear(&rt, client, text)?;
             }
         }
     }
