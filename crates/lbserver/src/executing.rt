@@ -45,39 +45,56 @@ pub(crate) fn execute<O: Write, E: Write>(
 }
 
 /// Does what the words ask for.
+///
+/// It goes on from function to function, since one that may return early with much to let go is dear to prove.
 fn run<O: Write>(rt: &HostRuntime, words: &[&str], output: &mut O) -> Result<(), RunFault> {
-    let ServerOrder {
-        address,
-        port,
-        roster,
-        turns,
-        clients,
-        track,
-        page,
-        page_file,
-        lose,
-        seed,
-    } = server_order(rt.alloc(), words)?;
-    let roster = read_roster(rt, roster)?;
-    let losses = Losses::new(lose, u64::from(seed));
-    let mut server = Server::new(rt.alloc(), decoders(roster.as_ref()), turns, losses)?;
-    let Ok(mut sockets) = Sockets::bind(rt, SocketAddr::from((address, port))) else {
+    let mut order = server_order(rt.alloc(), words)?;
+    let roster = read_roster(rt, order.roster.take())?;
+    run_layout(rt, &mut order, roster.as_ref(), output)
+}
+
+/// Does it for the decoders of this roster.
+fn run_layout<O: Write>(
+    rt: &HostRuntime,
+    order: &mut ServerOrder,
+    roster: Option<&Roster>,
+    output: &mut O,
+) -> Result<(), RunFault> {
+    let losses = Losses::new(order.lose, u64::from(order.seed));
+    let mut server = Server::new(rt.alloc(), decoders(roster), order.turns, losses)?;
+    let mut sockets = listen(rt, order)?;
+    run_server(rt, order, roster, &mut server, &mut sockets, output)
+}
+
+/// Listens where the words ask for it.
+fn listen(rt: &HostRuntime, order: &mut ServerOrder) -> Result<Sockets, RunFault> {
+    let Ok(mut sockets) = Sockets::bind(rt, SocketAddr::from((order.address, order.port))) else {
         return Err(RunFault::Network);
     };
-    if let Some(page) = page {
-        bind_page(
-            rt,
-            &mut sockets,
-            SocketAddr::from((address, page)),
-            page_file,
-        )?;
+    if let Some(page) = order.page {
+        let address = SocketAddr::from((order.address, page));
+        bind_page(rt, &mut sockets, address, order.page_file.take())?;
     }
+    Ok(sockets)
+}
+
+/// Serves, and prints what happens.
+fn run_server<O: Write>(
+    rt: &HostRuntime,
+    order: &ServerOrder,
+    roster: Option<&Roster>,
+    server: &mut Server,
+    sockets: &mut Sockets,
+    output: &mut O,
+) -> Result<(), RunFault>
+    requires { Watches (specs_of (entries_of roster)) server.old.hub }
+{
     let Ok(mut lines) = BufWriter::new(rt.alloc(), output) else {
         return Err(RunFault::NoMemory);
     };
-    print_listening(&sockets, &mut lines)?;
-    let mut printer = Printer::new(lines, roster.as_ref(), track, server.world());
-    serve(rt, &mut server, &mut sockets, &mut printer, clients)
+    print_listening(sockets, &mut lines)?;
+    let mut printer = Printer::new(lines, roster, order.track, server.world());
+    serve(rt, server, sockets, &mut printer, order.clients)
 }
 
 /// The decoders of a roster; none without one.
@@ -152,18 +169,32 @@ fn serve<O: Write>(
         if clients.is_some_and(|clients| printer.gone() >= u64::from(clients)) {
             break;
         }
-        if sockets.wait(longest_wait(server), clock.now(rt)?).is_err() {
-            return Err(RunFault::Network);
-        }
-        sockets.answer(clock.now(rt)?);
-        server.round(sockets, printer)?;
-        if server.turns().is_none() {
-            pass(rt, server, printer, &mut clock)?;
-        }
-        sockets.tell_pages(printer, server.world());
-        printer.flush()?;
+        go_round(rt, server, sockets, printer, &mut clock)?;
     }
     Ok(())
+}
+
+/// Waits until there is something to do, and does it.
+fn go_round<O: Write>(
+    rt: &HostRuntime,
+    server: &mut Server,
+    sockets: &mut Sockets,
+    printer: &mut Printer<'_, O>,
+    clock: &mut Clock,
+) -> Result<(), RunFault>
+    requires { Watches (specs_of (entries_of printer.old.roster)) server.old.hub }
+    ensures { Watches (specs_of (entries_of printer.new.roster)) server.new.hub }
+{
+    if sockets.wait(longest_wait(server), clock.now(rt)?).is_err() {
+        return Err(RunFault::Network);
+    }
+    sockets.answer(clock.now(rt)?);
+    server.round(sockets, printer)?;
+    if server.turns().is_none() {
+        pass(rt, server, printer, clock)?;
+    }
+    sockets.tell_pages(printer, server.world());
+    Ok(printer.flush()?)
 }
 
 /// How long a round may wait: not where somebody may have more to say, in real time until the turn under way ends, and

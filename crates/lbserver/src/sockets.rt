@@ -11,7 +11,7 @@ use bus_lines::Printer;
 use hub::{Heard, PLACES, Wire, Wrote};
 use layout_core::World;
 use mio::net::{TcpListener, TcpStream};
-use mio::{Events, Interest, Poll, Token};
+use mio::{Events, Interest, Poll, Registry, Token};
 use over_tcp::{Text, push_no_place};
 use pages::Page;
 use std::alloc::AllocGlobal;
@@ -68,10 +68,8 @@ pub(crate) struct Sockets {
 impl Sockets {
     /// Listens on an address and a port. It takes all its memory at once.
     pub(crate) fn bind<R: Net + AllocGlobal>(rt: &R, address: SocketAddr) -> io::Result<Sockets> {
-        let mut listener = TcpListener::bind(rt, address)?;
         let poll = Poll::new(rt)?;
-        poll.registry()
-            .register(&mut listener, Token(PLACES), Interest::READABLE)?;
+        let listener = listen(rt, address, poll.registry(), Token(PLACES))?;
         Ok(Sockets {
             poll,
             events: Events::with_capacity(rt.alloc(), PLACES + DOORS + 2)?,
@@ -89,10 +87,7 @@ impl Sockets {
         address: SocketAddr,
         page: &[u8],
     ) -> io::Result<()> {
-        let mut listener = TcpListener::bind(rt, address)?;
-        self.poll
-            .registry()
-            .register(&mut listener, Token(PLACES + 1), Interest::READABLE)?;
+        let listener = listen(rt, address, self.poll.registry(), Token(PLACES + 1))?;
         self.doors = Some(Doors::new(rt.alloc(), listener, page)?);
         Ok(())
     }
@@ -238,6 +233,18 @@ impl Wire for Sockets {
     fn close(&mut self, client: u8) {
         self.clients[usize::from(client)] = None;
     }
+}
+
+/// Listens on an address and a port, and has it noted when somebody comes.
+fn listen<R: Net>(
+    rt: &R,
+    address: SocketAddr,
+    registry: &Registry,
+    token: Token,
+) -> io::Result<TcpListener> {
+    let mut listener = TcpListener::bind(rt, address)?;
+    registry.register(&mut listener, token, Interest::READABLE)?;
+    Ok(listener)
 }
 
 /// The shorter of two times, of which each may be without end.
