@@ -99,9 +99,7 @@ fn no_clients(alloc: Global) -> Result<Places, AllocError>
 {
     let (first, second, third, fourth) = four_places(alloc)?;
     let (fifth, sixth, seventh, eighth) = four_places(alloc)?;
-    Ok([
-        first, second, third, fourth, fifth, sixth, seventh, eighth,
-    ])
+    Ok([first, second, third, fourth, fifth, sixth, seventh, eighth])
 }
 
 /// Four places without a client.
