@@ -25,7 +25,8 @@ use Rattle.bus.specs.Kept.{IsKept}
 use Rattle.bus.specs.Layout.{bytes_on, layout_asked, layout_event, layout_events, turn_of}
 use Rattle.bus.specs.Time.{HasPassed}
 use Rattle.bus.proofs.Account.{enough}
-use Rattle.bus.proofs.Steps.{Bounded, at_most}
+use Rattle.bus.specs.Below.{TurnsAreBounded}
+use Rattle.bus.proofs.Steps.{at_most}
 
 -- The events of the layout of events, and of more behind them.
 
@@ -122,28 +123,28 @@ asked_short station client None = All-nil IsShort
 asked_short station client (Some (Refused reason)) = All-nil IsShort
 asked_short station client (Some (Send message)) = All-nil IsShort
 
-turn_short : Bounded → (bus : SeenBus) → All IsShort (lasting (Turned (packet_of_turn bus.station)))
+turn_short : TurnsAreBounded → (bus : SeenBus) → All IsShort (lasting (Turned (packet_of_turn bus.station)))
 turn_short laws bus = All-cons IsShort (lasts (packet_of_turn bus.station)) [] (at_most laws bus.station) (All-nil IsShort)
 
-passing_short : Bounded → (bus : SeenBus) (ends : Bool) → All IsShort (lasting (if ends then Turned (packet_of_turn bus.station) else Nothing))
+passing_short : TurnsAreBounded → (bus : SeenBus) (ends : Bool) → All IsShort (lasting (if ends then Turned (packet_of_turn bus.station) else Nothing))
 passing_short laws bus true = turn_short laws bus
 passing_short laws bus false = All-nil IsShort
 
-event_short : Bounded → (bus : SeenBus) (event : Event) → All IsShort (lasting (told_by bus event))
+event_short : TurnsAreBounded → (bus : SeenBus) (event : Event) → All IsShort (lasting (told_by bus event))
 event_short laws bus (Joins client) = All-nil IsShort
 event_short laws bus (Leaves client) = All-nil IsShort
 event_short laws bus (Hears client byte) = asked_short bus.station client (ask_at (client_of bus client) byte)
 event_short laws bus (Passes micros missed) = passing_short laws bus (nat_le bus.left micros)
 event_short laws bus (Turn missed) = turn_short laws bus
 
-pub all_short : Bounded → (events : List Event) (bus : SeenBus) → All IsShort (turns_lasting (told_of bus events))
+pub all_short : TurnsAreBounded → (events : List Event) (bus : SeenBus) → All IsShort (turns_lasting (told_of bus events))
 all_short laws [] bus = All-nil IsShort
 all_short laws (event ∷ events) bus =
     All-append IsShort (lasting (told_by bus event)) (turns_lasting (told_of (after_event bus event) events)) (event_short laws bus event) (all_short laws events (after_event bus event))
 
 -- So a cycle of enough time has enough turns.
 
-enough_turns : Bounded → (bus : SeenBus) (cycle : List Event) (slots : ℕ) → IsKept bus
+enough_turns : TurnsAreBounded → (bus : SeenBus) (cycle : List Event) (slots : ℕ) → IsKept bus
     → HasPassed bus.left (micros_in bus cycle) (turns_lasting (told_of bus cycle)) (after_events bus cycle).left
     → 171840 * slots ≤ micros_in bus cycle → 16 * slots ≤ turns_in (calls_in (layout_events bus cycle))
 enough_turns laws bus cycle slots h passed long =
@@ -151,7 +152,7 @@ enough_turns laws bus cycle slots h passed long =
     enough bus.left (micros_in bus cycle) (after_events bus cycle).left 10740 (turns_lasting (told_of bus cycle)) passed h.longest (all_short laws cycle bus) (16 * slots) (omega (arith, long)) in
     omega (arith, many, turns_told cycle bus)
 
-full : Bounded → (slot a : ℕ) (e : Entry) (known : Known) (bus : SeenBus) (cycle : List Event) → IsKept bus
+full : TurnsAreBounded → (slot a : ℕ) (e : Entry) (known : Known) (bus : SeenBus) (cycle : List Event) → IsKept bus
     → HasPassed bus.left (micros_in bus cycle) (turns_lasting (told_of bus cycle)) (after_events bus cycle).left
     → IsTimedCycleOf slot a e known bus cycle → IsCycleOf slot a e known (calls_in (layout_events bus cycle))
 full laws slot a e known bus cycle h passed timed = record {
@@ -170,7 +171,7 @@ end_legal : (these those : List Event) → AreEvents (these ++ those) → AreEve
 end_legal [] those legal = legal
 end_legal (event ∷ these) those legal = end_legal these those ((and_parts (is_event event) (list_all is_event (these ++ those)) legal).1)
 
-pub runs_in_time : Bounded → ((bus : SeenBus) (events : List Event) → IsKept bus → AreEvents events → IsKept (after_events bus events))
+pub runs_in_time : TurnsAreBounded → ((bus : SeenBus) (events : List Event) → IsKept bus → AreEvents events → IsKept (after_events bus events))
     → ((bus : SeenBus) (events : List Event) → IsKept bus → AreEvents events → HasPassed bus.left (micros_in bus events) (turns_lasting (told_of bus events)) (after_events bus events).left)
     → (start : SeenBus) (events : List Event) (old new : List Node) → IsKept start → AreEvents events
     → RunsAsWanted (known_of start.station) (layout_events start events) old new → RunsInTime start events old new

@@ -13,7 +13,8 @@ use Rattle.bus.specs.Kept.{IsKept}
 use Rattle.bus.specs.Layout.{layout_event, layout_events}
 use Rattle.bus.specs.Time.{HasPassed}
 use Rattle.bus.proofs.Account.{adds_up, nothing}
-use Rattle.bus.proofs.Steps.{Bounded, Played, keeps, passed_by, plays}
+use Rattle.bus.specs.Below.{StationMoves, TurnsAreBounded}
+use Rattle.bus.proofs.Steps.{keeps, passed_by, plays}
 
 pub first_legal : (event : Event) (events : List Event) → AreEvents (event ∷ events) → is_event event ≡ true
 first_legal event events legal = (and_parts (is_event event) (list_all is_event events) legal).0
@@ -26,7 +27,7 @@ legal_at (event ∷ events) (suc i) d below legal = legal_at events i d (omega a
 pub rest_legal : (event : Event) (events : List Event) → AreEvents (event ∷ events) → AreEvents events
 rest_legal event events legal = (and_parts (is_event event) (list_all is_event events) legal).1
 
-pub all_kept : Bounded → (events : List Event) (bus : SeenBus) → IsKept bus → AreEvents events → IsKept (after_events bus events)
+pub all_kept : TurnsAreBounded → (events : List Event) (bus : SeenBus) → IsKept bus → AreEvents events → IsKept (after_events bus events)
 all_kept laws [] bus h legal = h
 all_kept laws (event ∷ events) bus h legal =
     all_kept laws events (after_event bus event) (keeps laws bus event h (first_legal event events legal)) (rest_legal event events legal)
@@ -36,7 +37,7 @@ played-append : (these those : List LayoutEvent) (seen : Seen) → played seen (
 played-append [] those seen = refl
 played-append (event ∷ these) those seen = played-append these those (Rattle.layout_core.specs.Played.after_event seen event)
 
-pub all_played : Bounded → Played → (events : List Event) (bus : SeenBus) → IsKept bus → AreEvents events
+pub all_played : TurnsAreBounded → StationMoves → (events : List Event) (bus : SeenBus) → IsKept bus → AreEvents events
     → played bus.station (layout_events bus events) ≡ (after_events bus events).station
 all_played bounds laws [] bus h legal = refl
 all_played bounds laws (event ∷ events) bus h legal =
@@ -45,7 +46,7 @@ all_played bounds laws (event ∷ events) bus h legal =
     ∙ ap (λ (seen : Seen). played seen (layout_events later events)) (plays laws bus event h (first_legal event events legal))
     ∙ all_played bounds laws events later (keeps bounds bus event h (first_legal event events legal)) (rest_legal event events legal)
 
-pub all_passed : Bounded → (events : List Event) (bus : SeenBus) → IsKept bus → AreEvents events
+pub all_passed : TurnsAreBounded → (events : List Event) (bus : SeenBus) → IsKept bus → AreEvents events
     → HasPassed bus.left (micros_in bus events) (turns_lasting (told_of bus events)) (after_events bus events).left
 all_passed laws [] bus h legal = nothing bus.left h.under_way
 all_passed laws (event ∷ events) bus h legal =

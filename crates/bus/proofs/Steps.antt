@@ -23,36 +23,29 @@ use Rattle.bus.specs.declared.event.Event.{Event}
 use Rattle.bus.specs.declared.event.Event.TheVariants.{Joins, Hears, Leaves, Passes, Turn}
 use Rattle.bus.specs.declared.event.Told.{Told}
 use Rattle.bus.specs.declared.event.Told.TheVariants.{Nothing, Turned}
+use Rattle.bus.specs.Below.{StationMoves, TurnsAreBounded}
 use Rattle.bus.specs.Bus.{SeenBus, after_event, ask_at, client_of, is_event, kept_at, lasts, station_asked, told_asked, told_by, turned}
 use Rattle.bus.specs.Course.{lasting, micros_of}
 use Rattle.bus.specs.Kept.{IsKept}
 use Rattle.bus.specs.Layout.{layout_asked, layout_event, turn_of}
 use Rattle.bus.specs.Time.{HasPassed}
 use Rattle.bus.proofs.Account.{begins, nothing, passes}
-use Rattle.bus.proofs.Whole.{Promised, whole_after}
+use Rattle.bus.proofs.Whole.{whole_after}
 
 -- What turns last.
 
-pub record Bounded : Type 0 where
-  pub some : (seen : Seen) → IfSome (packet_of_turn seen) (λ packet. 3 ≤ length packet)
-  pub few : (seen : Seen) → IfSome (packet_of_turn seen) (λ packet. length packet ≤ 5)
-  pub checked : (seen : Seen) → IfSome (packet_of_turn seen) (λ packet. IsTrue (is_checked packet))
-  pub shortest : (packet : List ℕ) → 3 ≤ length packet → IsTrue (is_checked packet) → 5796 ≤ duration_of packet
-  pub longest : (packet : List ℕ) → length packet ≤ 5 → duration_of packet ≤ 10740
-  pub idle : duration_of idle_bytes ≡ 5796
-
-least_lasts : Bounded → (sent : Option (List ℕ)) → IfSome sent (λ packet. 3 ≤ length packet) → IfSome sent (λ packet. IsTrue (is_checked packet)) → 5796 ≤ lasts sent
+least_lasts : TurnsAreBounded → (sent : Option (List ℕ)) → IfSome sent (λ packet. 3 ≤ length packet) → IfSome sent (λ packet. IsTrue (is_checked packet)) → 5796 ≤ lasts sent
 least_lasts laws None some checked = omega (arith, laws.idle)
 least_lasts laws (Some packet) some checked = laws.shortest packet some checked
 
-most_lasts : Bounded → (sent : Option (List ℕ)) → IfSome sent (λ packet. length packet ≤ 5) → lasts sent ≤ 10740
+most_lasts : TurnsAreBounded → (sent : Option (List ℕ)) → IfSome sent (λ packet. length packet ≤ 5) → lasts sent ≤ 10740
 most_lasts laws None few = omega (arith, laws.idle)
 most_lasts laws (Some packet) few = laws.longest packet few
 
-pub at_least : Bounded → (seen : Seen) → 5796 ≤ lasts (packet_of_turn seen)
+pub at_least : TurnsAreBounded → (seen : Seen) → 5796 ≤ lasts (packet_of_turn seen)
 at_least laws seen = least_lasts laws (packet_of_turn seen) (laws.some seen) (laws.checked seen)
 
-pub at_most : Bounded → (seen : Seen) → lasts (packet_of_turn seen) ≤ 10740
+pub at_most : TurnsAreBounded → (seen : Seen) → lasts (packet_of_turn seen) ≤ 10740
 at_most laws seen = most_lasts laws (packet_of_turn seen) (laws.few seen)
 
 -- What is asked to be sent is a whole message.
@@ -120,7 +113,7 @@ asked_lines station None = refl
 asked_lines station (Some (Refused reason)) = refl
 asked_lines station (Some (Send message)) = refl
 
-kept_turned : Bounded → (bus : SeenBus) (micros : ℕ) → IsKept bus → bus.left ≤ micros → micros ≤ bus.left + 5795 → IsKept (turned bus micros)
+kept_turned : TurnsAreBounded → (bus : SeenBus) (micros : ℕ) → IsKept bus → bus.left ≤ micros → micros ≤ bus.left + 5795 → IsKept (turned bus micros)
 kept_turned laws bus micros h ends soon = record {
   idle = h.idle;
   places = h.places;
@@ -131,7 +124,7 @@ kept_turned laws bus micros h ends soon = record {
 kept_waiting : (bus : SeenBus) (micros : ℕ) → IsKept bus → micros < bus.left → IsKept (record bus { left = bus.left - micros })
 kept_waiting bus micros h less = record { idle = h.idle; places = h.places; under_way = omega (arith, less); longest = omega (arith, h.longest) }
 
-pub keeps : Bounded → (bus : SeenBus) (event : Event) → IsKept bus → is_event event ≡ true → IsKept (after_event bus event)
+pub keeps : TurnsAreBounded → (bus : SeenBus) (event : Event) → IsKept bus → is_event event ≡ true → IsKept (after_event bus event)
 keeps laws bus (Joins client) h legal = kept_clients bus bus.station client (Some []) h refl
 keeps laws bus (Leaves client) h legal = kept_clients bus bus.station client None h refl
 keeps laws bus (Hears client byte) h legal =
@@ -145,17 +138,13 @@ keeps laws bus (Passes micros missed) h legal = elim (cases_lt micros bus.left) 
 
 -- What it is to the layout.
 
-pub record Played : Type 0 where
-  pub promised : Promised
-  pub turn : (seen : Seen) → state_of seen TurnCall ≡ after_turn seen
-
-asked_station : Played → (station : Seen) (client : ℕ) (ask : Option Ask) → station.lines ≡ replicate 8 [] → client < 8 → IsWholeAsk ask
+asked_station : StationMoves → (station : Seen) (client : ℕ) (ask : Option Ask) → station.lines ≡ replicate 8 [] → client < 8 → IsWholeAsk ask
     → played station (layout_asked client ask) ≡ station_asked station ask
 asked_station laws station client None idle below whole = refl
 asked_station laws station client (Some (Refused reason)) idle below whole = refl
-asked_station laws station client (Some (Send message)) idle below whole = whole_after laws.promised station client message idle below whole
+asked_station laws station client (Some (Send message)) idle below whole = whole_after laws station client message idle below whole
 
-pub plays : Played → (bus : SeenBus) (event : Event) → IsKept bus → is_event event ≡ true → played bus.station (layout_event bus event) ≡ (after_event bus event).station
+pub plays : StationMoves → (bus : SeenBus) (event : Event) → IsKept bus → is_event event ≡ true → played bus.station (layout_event bus event) ≡ (after_event bus event).station
 plays laws bus (Joins client) h legal = refl
 plays laws bus (Leaves client) h legal = refl
 plays laws bus (Hears client byte) h legal =
@@ -176,7 +165,7 @@ asked_lasting station client (Some (Send message)) = refl
 no_time : (left left' : ℕ) (turns : List ℕ) → 0 < left → turns ≡ [] → HasPassed left 0 turns left
 no_time left left' turns some none = subst (λ (t : List ℕ). HasPassed left 0 t left) (sym none) (nothing left some)
 
-turn_passed : Bounded → (bus : SeenBus) (micros : ℕ) → bus.left ≤ micros → micros ≤ bus.left + 5795 → HasPassed bus.left micros (lasts (packet_of_turn bus.station) ∷ []) (turned bus micros).left
+turn_passed : TurnsAreBounded → (bus : SeenBus) (micros : ℕ) → bus.left ≤ micros → micros ≤ bus.left + 5795 → HasPassed bus.left micros (lasts (packet_of_turn bus.station) ∷ []) (turned bus micros).left
 turn_passed laws bus micros ends soon = begins bus.left micros (lasts (packet_of_turn bus.station)) ends (omega (arith, at_least laws bus.station, soon))
 
 agrees : (bus : SeenBus) (event : Event) (micros : ℕ) (told : Told) (later : SeenBus) → told_by bus event ≡ told → after_event bus event ≡ later
@@ -185,7 +174,7 @@ agrees bus event micros told later e f passed =
     subst (λ (t : Told). HasPassed bus.left micros (lasting t) (after_event bus event).left) (sym e)
     (subst (λ (b : SeenBus). HasPassed bus.left micros (lasting told) b.left) (sym f) passed)
 
-pub passed_by : Bounded → (bus : SeenBus) (event : Event) → IsKept bus → is_event event ≡ true
+pub passed_by : TurnsAreBounded → (bus : SeenBus) (event : Event) → IsKept bus → is_event event ≡ true
     → HasPassed bus.left (micros_of bus event) (lasting (told_by bus event)) (after_event bus event).left
 passed_by laws bus (Joins client) h legal = nothing bus.left h.under_way
 passed_by laws bus (Leaves client) h legal = nothing bus.left h.under_way

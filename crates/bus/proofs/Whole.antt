@@ -18,17 +18,9 @@ use Rattle.layout_core.specs.declared.node.Node.{Node}
 use Rattle.layout_core.specs.Heard.{HearsAll, sounds_in}
 use Rattle.layout_core.specs.Played.{after_event, after_events, answer_to, answers_to}
 use Rattle.layout_core.specs.World.{HaveHeard}
+use Rattle.bus.specs.Below.{StationMoves}
 use Rattle.bus.specs.Bus.{message_in, reply_to}
 use Rattle.bus.specs.Layout.{bytes_on}
-
--- what the layers below promise of a byte and of a whole message
-pub record Promised : Type 0 where
-  pub after : (seen : Seen) (line byte : ℕ) → state_of seen (ByteCall line byte) ≡ after_byte seen line byte
-  pub answer : (seen : Seen) (line byte : ℕ) → answer_of seen (ByteCall line byte) ≡ replied (answer_to_byte seen line byte)
-  pub ends : (message : List ℕ) → IsWhole message → message_at_end message ≡ Some message
-  pub leaves : (message : List ℕ) → IsWhole message → unfinished_of message ≡ []
-  pub fronts : (front rest : List ℕ) (byte : ℕ) → IsWhole (front ++ byte ∷ rest) → unfinished_of front ≡ front
-  pub none : (front rest : List ℕ) (byte next : ℕ) → IsWhole (front ++ byte ∷ next ∷ rest) → message_at_end (front ++ byte ∷ []) ≡ None
 
 -- the station with these bytes unfinished on a line
 abbrev pub with_line : Seen → ℕ → List ℕ → Seen
@@ -64,12 +56,12 @@ lined seen line front left None = ap (λ (lines : List (List ℕ)). record seen 
 lined seen line front left (Some message) =
     ap (λ (lines : List (List ℕ)). record (after_message seen (Some message)) { lines = lines }) (set-set seen.lines line front left)
 
-after_one : Promised → (seen : Seen) (line byte : ℕ) (front : List ℕ) (message : Option (List ℕ)) (left : List ℕ) → line < length seen.lines
+after_one : StationMoves → (seen : Seen) (line byte : ℕ) (front : List ℕ) (message : Option (List ℕ)) (left : List ℕ) → line < length seen.lines
     → message_at_end (front ++ byte ∷ []) ≡ message → unfinished_of (front ++ byte ∷ []) ≡ left
     → after_event (with_line seen line front) (Byte line byte) ≡ with_line (after_message seen message) line left
 after_one laws seen line byte front message left within m l =
     let before : Seen = with_line seen line front in
-    laws.after before line byte
+    laws.byte before line byte
     ∙ ap₂ (λ (end : Option (List ℕ)) (rest : List ℕ). record (after_message before end) { lines = slice_set before.lines line rest })
     (ended seen line byte front message within m) (left_over seen line byte front left within l)
     ∙ lined seen line front left message
@@ -78,7 +70,7 @@ same_answer : (seen : Seen) (line : ℕ) (front : List ℕ) (message : Option (L
 same_answer seen line front None = refl
 same_answer seen line front (Some message) = refl
 
-answer_one : Promised → (seen : Seen) (line byte : ℕ) (front : List ℕ) (message : Option (List ℕ)) → line < length seen.lines
+answer_one : StationMoves → (seen : Seen) (line byte : ℕ) (front : List ℕ) (message : Option (List ℕ)) → line < length seen.lines
     → message_at_end (front ++ byte ∷ []) ≡ message
     → message_in (answer_to (with_line seen line front) (Byte line byte)) ≡ option_map reply_bytes (answer_to_message seen message)
 answer_one laws seen line byte front message within m =
@@ -92,10 +84,10 @@ answer_one laws seen line byte front message within m =
 joined : (front more : List ℕ) (byte next : ℕ) → (front ++ byte ∷ []) ++ next ∷ more ≡ front ++ byte ∷ next ∷ more
 joined front more byte next = append_assoc front (byte ∷ []) (next ∷ more)
 
-further : Promised → (front more : List ℕ) (byte next : ℕ) → IsWhole (front ++ byte ∷ next ∷ more) → unfinished_of (front ++ byte ∷ []) ≡ front ++ byte ∷ []
+further : StationMoves → (front more : List ℕ) (byte next : ℕ) → IsWhole (front ++ byte ∷ next ∷ more) → unfinished_of (front ++ byte ∷ []) ≡ front ++ byte ∷ []
 further laws front more byte next whole = laws.fronts (front ++ byte ∷ []) more next (subst IsWhole (sym (joined front more byte next)) whole)
 
-fed : Promised → (rest front : List ℕ) (byte line : ℕ) (seen : Seen) → line < length seen.lines → IsWhole (front ++ byte ∷ rest)
+fed : StationMoves → (rest front : List ℕ) (byte line : ℕ) (seen : Seen) → line < length seen.lines → IsWhole (front ++ byte ∷ rest)
     → after_events (with_line seen line front) (bytes_on line (byte ∷ rest)) ≡ with_line (after_message seen (Some (front ++ byte ∷ rest))) line []
 fed laws [] front byte line seen within whole =
     after_one laws seen line byte front (Some (front ++ byte ∷ [])) [] within (laws.ends (front ++ byte ∷ []) whole) (laws.leaves (front ++ byte ∷ []) whole)
@@ -106,7 +98,7 @@ fed laws (next ∷ more) front byte line seen within whole =
     ∙ fed laws more (front ++ byte ∷ []) next line seen within (subst IsWhole (sym e) whole)
     ∙ ap (λ (message : List ℕ). with_line (after_message seen (Some message)) line []) e
 
-answered : Promised → (rest front : List ℕ) (byte line : ℕ) (seen : Seen) (message : Option (List ℕ)) → line < length seen.lines → IsWhole (front ++ byte ∷ rest)
+answered : StationMoves → (rest front : List ℕ) (byte line : ℕ) (seen : Seen) (message : Option (List ℕ)) → line < length seen.lines → IsWhole (front ++ byte ∷ rest)
     → last_message message (answers_to (with_line seen line front) (bytes_on line (byte ∷ rest))) ≡ reply_to seen (front ++ byte ∷ rest)
 answered laws [] front byte line seen message within whole =
     answer_one laws seen line byte front (Some (front ++ byte ∷ [])) within (laws.ends (front ++ byte ∷ []) whole)
@@ -137,7 +129,7 @@ idle_again seen line message idle below = ap (λ (lines : List (List ℕ)). reco
 from_idle : (seen : Seen) (line : ℕ) → IsIdle seen → line < 8 → with_line seen line [] ≡ seen
 from_idle seen line idle below = ap (λ (lines : List (List ℕ)). record seen { lines = lines }) (still seen line idle below)
 
-pub whole_after : Promised → (seen : Seen) (line : ℕ) (message : List ℕ) → IsIdle seen → line < 8 → IsWhole message
+pub whole_after : StationMoves → (seen : Seen) (line : ℕ) (message : List ℕ) → IsIdle seen → line < 8 → IsWhole message
     → after_events seen (bytes_on line message) ≡ after_message seen (Some message)
 whole_after laws seen line [] idle below whole = cc
 whole_after laws seen line (byte ∷ rest) idle below whole =
@@ -145,7 +137,7 @@ whole_after laws seen line (byte ∷ rest) idle below whole =
     ∙ fed laws rest [] byte line seen (within_eight seen line idle below) whole
     ∙ idle_again seen line (byte ∷ rest) idle below
 
-pub whole_answered : Promised → (seen : Seen) (line : ℕ) (message : List ℕ) → IsIdle seen → line < 8 → IsWhole message
+pub whole_answered : StationMoves → (seen : Seen) (line : ℕ) (message : List ℕ) → IsIdle seen → line < 8 → IsWhole message
     → last_message None (answers_to seen (bytes_on line message)) ≡ reply_to seen message
 whole_answered laws seen line [] idle below whole = cc
 whole_answered laws seen line (byte ∷ rest) idle below whole =

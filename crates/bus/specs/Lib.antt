@@ -1,3 +1,4 @@
+pub mod Below
 pub mod Bus
 pub mod Course
 pub mod Cycle

@@ -13,6 +13,7 @@ ghost use Rattle.bus.specs.declared.event.Event.{Event};
 ghost use Rattle.bus.specs.declared.event.Event.TheVariants.{Joins, Leaves};
 ghost use Rattle.bus.specs.declared.event.Told.{Told};
 ghost use Rattle.bus.specs.declared.event.Told.TheVariants.{Joined, Left};
+ghost use Rattle.bus.specs.Below.{StationMoves, TurnsAreBounded};
 ghost use Rattle.bus.specs.Bus.{AreEvents, SeenBus, after_event, after_events, client_of, first_bus, is_event, told_of};
 ghost use Rattle.bus.specs.Course.{is_time, micros_in, turns_lasting};
 ghost use Rattle.bus.specs.Cycle.{RunsInTime};
@@ -26,6 +27,22 @@ use half_bits::durations_are_bounded;
 use ln_frame::whole_message;
 use station_core::{calls_are_moves, packets_are_short};
 
+/// What a turn of the station may last.
+fn turns_are_bounded()
+    ensures { TurnsAreBounded }
+{
+    packets_are_short();
+    durations_are_bounded();
+}
+
+/// What bytes, whole messages and turns make of a station.
+pub(crate) fn station_moves()
+    ensures { StationMoves }
+{
+    calls_are_moves();
+    whole_message();
+}
+
 /// What events make of a bus: it keeps what a bus keeps, its station is that of the layout's events, and the turns are those
 /// of the time that passed.
 pub fn events_are_the_layout()
@@ -35,10 +52,8 @@ pub fn events_are_the_layout()
     ensures turns { (bus : SeenBus) (events : List Event) → IsKept bus → AreEvents events
         → HasPassed bus.left (micros_in bus events) (turns_lasting (told_of bus events)) (after_events bus events).left }
 {
-    calls_are_moves();
-    whole_message();
-    packets_are_short();
-    durations_are_bounded();
+    station_moves();
+    turns_are_bounded();
 }
 
 /// Time brings the same turns, however it is cut into events.
@@ -64,8 +79,7 @@ pub fn headline()
         → HaveHeard start.station (layout_events start events) old new → RunsInTime start events old new }
 {
     events_are_the_layout();
-    packets_are_short();
-    durations_are_bounded();
+    turns_are_bounded();
     layout_core::events_add_up();
     layout_core::headline();
 }

@@ -6,10 +6,11 @@ ghost use Rattle.station_core.specs.Moved.{after_message};
 ghost use Rattle.bus.specs.Bus.{message_in, reply_to};
 ghost use Rattle.bus.specs.Layout.{bytes_on};
 
+use crate::laws::station_moves;
 use layout_core::{Event, World};
-use ln_frame::{Msg, whole_message};
+use ln_frame::Msg;
 use ln_ops::to_msg;
-use station_core::{Step, calls_are_moves};
+use station_core::Step;
 
 /// Lets a message come on a line on which nothing is unfinished, byte by byte, and answers what the station answers to it.
 ///
@@ -23,8 +24,7 @@ pub(crate) fn send(world: &mut World, line: u8, message: &Msg) -> Option<Msg>
     ensures same { IsSameLayout world.old world.new }
     ensures idle { world.new.station.lines ≡ replicate 8 [] }
 {
-    calls_are_moves();
-    whole_message();
+    station_moves();
     let mut reply = None;
     for byte in message.bytes() {
         reply = hear(world, line, *byte);

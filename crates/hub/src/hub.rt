@@ -1,5 +1,5 @@
 //! The bus, and what waits for its clients.
-ghost use Rattle.std.specs.Prelude.{◌≡◌, ◌<◌, ◌≤◌, ◌&&◌, ◌∷◌, [], IfOk, IsTrue, is_some, length, not, slice_index_or, slice_set, drop, take, map, replicate, None, Some, true};
+ghost use Rattle.std.specs.Prelude.{◌≡◌, ◌<◌, ◌≤◌, ◌&&◌, ◌∷◌, [], IfOk, IsTrue, is_some, length, not, slice_index_or, slice_set, drop, take, map, None, Some, true};
 ghost use Rattle.std.specs.List.{list_all};
 ghost use Rattle.outbox.specs.Waiting.{has_room, waits};
 ghost use Rattle.hub.specs.Places.{is_placed, told_all, waiting_after};
@@ -7,15 +7,9 @@ ghost use Rattle.hub.specs.Places.{is_placed, told_all, waiting_after};
 use crate::wire::{Wire, Wrote};
 use bus::{Bus, Event, Told};
 use layout_core::NodeList;
-use outbox::Waiting;
+use outbox::{Places, no_clients};
 use over_tcp::Text;
 use std::alloc::{AllocError, Global};
-
-/// The most clients at once.
-pub const PLACES: usize = 8;
-
-/// What waits for each client.
-type Places = [Waiting; PLACES];
 
 /// The bus, and what waits for its clients.
 #[derive(Drop)]
@@ -88,36 +82,6 @@ impl Hub {
     {
         self.bus.has(client) && !self.places[usize::from(client)].is_open()
     }
-}
-
-/// Room for eight clients.
-///
-/// It comes in pairs, and in pairs of these: a function that may return early eight times, with up to seven rooms to let go,
-/// took more than a minute to prove.
-fn no_clients(alloc: Global) -> Result<Places, AllocError>
-    ensures { IfOk result (λ places. places ≡ replicate 8 None) }
-{
-    let (first, second, third, fourth) = four_places(alloc)?;
-    let (fifth, sixth, seventh, eighth) = four_places(alloc)?;
-    Ok([first, second, third, fourth, fifth, sixth, seventh, eighth])
-}
-
-/// Four places without a client.
-fn four_places(alloc: Global) -> Result<(Waiting, Waiting, Waiting, Waiting), AllocError>
-    ensures { IfOk result (λ places. (places.0 ≡ None) × (places.1 ≡ None) × (places.2 ≡ None) × (places.3 ≡ None)) }
-{
-    let (first, second) = two_places(alloc)?;
-    let (third, fourth) = two_places(alloc)?;
-    Ok((first, second, third, fourth))
-}
-
-/// Two places without a client.
-fn two_places(alloc: Global) -> Result<(Waiting, Waiting), AllocError>
-    ensures { IfOk result (λ places. (places.0 ≡ None) × (places.1 ≡ None)) }
-{
-    let first = Waiting::new(alloc)?;
-    let second = Waiting::new(alloc)?;
-    Ok((first, second))
 }
 
 /// The first bytes that wait for a client, some where any wait.

@@ -6,6 +6,6 @@ mod hub;
 mod server;
 mod wire;
 
-pub use hub::PLACES;
+pub use outbox::PLACES;
 pub use server::Server;
 pub use wire::{Heard, Wire, Wrote};

@@ -3,7 +3,7 @@ ghost use Rattle.std.specs.Prelude.{◌≡◌, ◌<◌, Option, List, [], ◌∷
 ghost use Rattle.hub.specs.Wire.{Closed, Grows, IsRead, IsWritten, Passed, read_of, taken_place, turned_away, write_of};
 
 /// What a read came to.
-#[derive(Clone, Copy, Debug, PartialEq, Eq)]
+#[derive(Clone, Copy)]
 pub enum Heard {
     /// So many bytes.
     Bytes(usize),
@@ -14,7 +14,7 @@ pub enum Heard {
 }
 
 /// What a write came to.
-#[derive(Clone, Copy, Debug, PartialEq, Eq)]
+#[derive(Clone, Copy)]
 pub enum Wrote {
     /// So many bytes were taken from the front.
     Taken(usize),

@@ -89,8 +89,7 @@ impl Doors {
         let mut least = None;
         for door in &self.doors {
             if let Door::Asked(visitor) = door {
-                let patience = visitor.patience(now);
-                least = Some(least.map_or(patience, |least: u64| least.min(patience)));
+                least = Some(visitor.patience(now).min(least.unwrap_or(u64::MAX)));
             }
         }
         least
@@ -139,21 +138,21 @@ fn go_on(door: &mut Door, alloc: Global, page: &[u8], now: u64) -> bool {
     let Door::Asked(visitor) = door else {
         return false;
     };
-    let next = visitor.go_on(page, now);
-    if next == Next::Joins || next == Next::Ends {
-        leave(door, alloc, next);
+    match visitor.go_on(page, now) {
+        Next::Waits => return false,
+        Next::GoesOn => {}
+        Next::Joins => join(door, alloc),
+        Next::Ends => *door = Door::Free,
     }
-    next != Next::Waits
+    true
 }
 
-/// Lets go who was at a door, or lets it wait for a place on the bus.
-fn leave(door: &mut Door, alloc: Global, next: Next) {
+/// Lets who was at a door wait for a place on the bus. It is let go where there is no memory for it.
+fn join(door: &mut Door, alloc: Global) {
     let Door::Asked(visitor) = mem::replace(door, Door::Free) else {
         return;
     };
-    if next == Next::Joins {
-        if let Ok(page) = visitor.into_page(alloc) {
-            *door = Door::Joined(page);
-        }
+    if let Ok(page) = visitor.into_page(alloc) {
+        *door = Door::Joined(page);
     }
 }

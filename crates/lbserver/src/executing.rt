@@ -46,11 +46,21 @@ pub(crate) fn execute<O: Write, E: Write>(
 
 /// Does what the words ask for.
 ///
-/// It goes on from function to function, since one that may return early with much to let go is dear to prove.
+/// It goes on from function to function, each of which makes one thing and lends it, since one that may return early with
+/// something to let go is dear to prove.
 fn run<O: Write>(rt: &HostRuntime, words: &[&str], output: &mut O) -> Result<(), RunFault> {
     let mut order = server_order(rt.alloc(), words)?;
+    run_order(rt, &mut order, output)
+}
+
+/// Does what was asked for.
+fn run_order<O: Write>(
+    rt: &HostRuntime,
+    order: &mut ServerOrder,
+    output: &mut O,
+) -> Result<(), RunFault> {
     let roster = read_roster(rt, order.roster.take())?;
-    run_layout(rt, &mut order, roster.as_ref(), output)
+    run_layout(rt, order, roster.as_ref(), output)
 }
 
 /// Does it for the decoders of this roster.
@@ -62,8 +72,21 @@ fn run_layout<O: Write>(
 ) -> Result<(), RunFault> {
     let losses = Losses::new(order.lose, u64::from(order.seed));
     let mut server = Server::new(rt.alloc(), decoders(roster), order.turns, losses)?;
+    run_server(rt, order, roster, &mut server, output)
+}
+
+/// Does it for this server.
+fn run_server<O: Write>(
+    rt: &HostRuntime,
+    order: &mut ServerOrder,
+    roster: Option<&Roster>,
+    server: &mut Server,
+    output: &mut O,
+) -> Result<(), RunFault>
+    requires { Watches (specs_of (entries_of roster)) server.old.hub }
+{
     let mut sockets = listen(rt, order)?;
-    run_server(rt, order, roster, &mut server, &mut sockets, output)
+    run_sockets(rt, order, roster, server, &mut sockets, output)
 }
 
 /// Listens where the words ask for it.
@@ -79,7 +102,7 @@ fn listen(rt: &HostRuntime, order: &mut ServerOrder) -> Result<Sockets, RunFault
 }
 
 /// Serves, and prints what happens.
-fn run_server<O: Write>(
+fn run_sockets<O: Write>(
     rt: &HostRuntime,
     order: &ServerOrder,
     roster: Option<&Roster>,

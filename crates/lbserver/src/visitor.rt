@@ -19,7 +19,6 @@ pub(crate) struct Visitor {
 }
 
 /// What became of a visitor.
-#[derive(Clone, Copy, Debug, PartialEq, Eq)]
 pub(crate) enum Next {
     /// Nothing can be done for it now.
     Waits,
@@ -53,13 +52,15 @@ impl Visitor {
             Stage::OnBus { .. } => Next::Joins,
             Stage::Leaves => self.pass_over(),
         };
-        if next != Next::Waits || self.patience(now) > 0 {
-            next
-        } else if self.visit.run_out(now) {
-            Next::GoesOn
-        } else {
-            Next::Ends
+        match next {
+            Next::Waits if self.patience(now) == 0 => self.run_out(now),
+            next => next,
         }
+    }
+
+    /// Its time is over: it is told so, or let go.
+    fn run_out(&mut self, now: u64) -> Next {
+        if self.visit.run_out(now) { Next::GoesOn } else { Next::Ends }
     }
 
     /// The page that it has become.

@@ -12,120 +12,59 @@ fn check(rt: &impl Abort, packet: &Packet, bytes: &[u8]) {
     assert_eq!(rt; packet.bytes(), bytes);
 }
 
+const SHORT_3: Address = Address::Short(3);
+
+const SHORT_4: Address = Address::Short(4);
+
+const SHORT_55: Address = Address::Short(55);
+
+const LONG_1234: Address = Address::Long(1234);
+
+const LONG_10239: Address = Address::Long(10239);
+
+const S14: Steps = Steps::S14;
+
+const S28: Steps = Steps::S28;
+
+const S128: Steps = Steps::S128;
+
 /// An address, steps, SPD, forward and F0, and the bytes of the packet.
 type SpeedRow = (Address, Steps, u8, bool, bool, &'static [u8]);
 
 const SPEED_ROWS: [SpeedRow; 13] = [
     // The last of 128 steps, forward, and a stop in reverse.
-    (
-        Address::Short(3),
-        Steps::S128,
-        127,
-        true,
-        false,
-        &[0x03, 0x3F, 0xFF, 0xC3],
-    ),
-    (
-        Address::Short(3),
-        Steps::S128,
-        0,
-        false,
-        false,
-        &[0x03, 0x3F, 0x00, 0x3C],
-    ),
+    (SHORT_3, S128, 127, true, false, &[0x03, 0x3F, 0xFF, 0xC3]),
+    (SHORT_3, S128, 0, false, false, &[0x03, 0x3F, 0x00, 0x3C]),
     // 28 steps: emergency stop, the first step and the last.
-    (
-        Address::Short(3),
-        Steps::S28,
-        1,
-        true,
-        false,
-        &[0x03, 0x61, 0x62],
-    ),
-    (
-        Address::Short(3),
-        Steps::S28,
-        2,
-        true,
-        false,
-        &[0x03, 0x62, 0x61],
-    ),
-    (
-        Address::Short(3),
-        Steps::S28,
-        127,
-        true,
-        false,
-        &[0x03, 0x7F, 0x7C],
-    ),
+    (SHORT_3, S28, 1, true, false, &[0x03, 0x61, 0x62]),
+    (SHORT_3, S28, 2, true, false, &[0x03, 0x62, 0x61]),
+    (SHORT_3, S28, 127, true, false, &[0x03, 0x7F, 0x7C]),
     // 14 steps: the last with F0.
-    (
-        Address::Short(3),
-        Steps::S14,
-        127,
-        true,
-        true,
-        &[0x03, 0x7F, 0x7C],
-    ),
+    (SHORT_3, S14, 127, true, true, &[0x03, 0x7F, 0x7C]),
     // The standard's example: address 55 at step 6 of 28, forward.
-    (
-        Address::Short(55),
-        Steps::S28,
-        25,
-        true,
-        false,
-        &[0x37, 0x74, 0x43],
-    ),
+    (SHORT_55, S28, 25, true, false, &[0x37, 0x74, 0x43]),
     // Two-byte addresses.
     (
-        Address::Long(10239),
-        Steps::S128,
+        LONG_10239,
+        S128,
         0,
         true,
         false,
         &[0xE7, 0xFF, 0x3F, 0x80, 0xA7],
     ),
     (
-        Address::Long(1234),
-        Steps::S128,
+        LONG_1234,
+        S128,
         64,
         true,
         false,
         &[0xC4, 0xD2, 0x3F, 0xC0, 0xE9],
     ),
     // One SPD with 128, 28 and 14 steps.
-    (
-        Address::Short(3),
-        Steps::S128,
-        64,
-        true,
-        false,
-        &[0x03, 0x3F, 0xC0, 0xFC],
-    ),
-    (
-        Address::Short(3),
-        Steps::S28,
-        64,
-        true,
-        false,
-        &[0x03, 0x78, 0x7B],
-    ),
-    (
-        Address::Short(3),
-        Steps::S14,
-        64,
-        true,
-        false,
-        &[0x03, 0x68, 0x6B],
-    ),
-    (
-        Address::Short(3),
-        Steps::S14,
-        64,
-        true,
-        true,
-        &[0x03, 0x78, 0x7B],
-    ),
+    (SHORT_3, S128, 64, true, false, &[0x03, 0x3F, 0xC0, 0xFC]),
+    (SHORT_3, S28, 64, true, false, &[0x03, 0x78, 0x7B]),
+    (SHORT_3, S14, 64, true, false, &[0x03, 0x68, 0x6B]),
+    (SHORT_3, S14, 64, true, true, &[0x03, 0x78, 0x7B]),
 ];
 
 #[test]
@@ -143,7 +82,7 @@ type FunctionRow = (Address, u16, &'static [u8], &'static [u8], &'static [u8]);
 
 const FUNCTION_ROWS: [FunctionRow; 6] = [
     (
-        Address::Short(3),
+        SHORT_3,
         0,
         &[0x03, 0x80, 0x83],
         &[0x03, 0xB0, 0xB3],
@@ -151,7 +90,7 @@ const FUNCTION_ROWS: [FunctionRow; 6] = [
     ),
     // F1, whose bit is the lowest of group one.
     (
-        Address::Short(3),
+        SHORT_3,
         1 << 1,
         &[0x03, 0x81, 0x82],
         &[0x03, 0xB0, 0xB3],
@@ -159,7 +98,7 @@ const FUNCTION_ROWS: [FunctionRow; 6] = [
     ),
     // F0, F5 and F7.
     (
-        Address::Short(4),
+        SHORT_4,
         1 | 1 << 5 | 1 << 7,
         &[0x04, 0x90, 0x94],
         &[0x04, 0xB5, 0xB1],
@@ -167,7 +106,7 @@ const FUNCTION_ROWS: [FunctionRow; 6] = [
     ),
     // F9, whose bit is the lowest of group three.
     (
-        Address::Short(3),
+        SHORT_3,
         1 << 9,
         &[0x03, 0x80, 0x83],
         &[0x03, 0xB0, 0xB3],
@@ -175,7 +114,7 @@ const FUNCTION_ROWS: [FunctionRow; 6] = [
     ),
     // F9 of a long address.
     (
-        Address::Long(1234),
+        LONG_1234,
         1 << 9,
         &[0xC4, 0xD2, 0x80, 0x96],
         &[0xC4, 0xD2, 0xB0, 0xA6],
@@ -183,7 +122,7 @@ const FUNCTION_ROWS: [FunctionRow; 6] = [
     ),
     // All functions, those past F12 too.
     (
-        Address::Short(3),
+        SHORT_3,
         0xFFFF,
         &[0x03, 0x9F, 0x9C],
         &[0x03, 0xBF, 0xBC],

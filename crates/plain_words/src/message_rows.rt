@@ -6,6 +6,26 @@ use crate::fields::Field::{
 use crate::rows::Part::{Choice, Hex, Number, On, Text};
 use crate::rows::Row;
 
+/// How a programmer's task is done, by bits 2 to 5 of its command.
+const TASK_MODES: [&'static str; 16] = [
+    ", unknown mode",
+    ", unknown mode",
+    ", direct bit mode",
+    ", unknown mode",
+    ", register mode",
+    ", unknown mode",
+    ", unknown mode",
+    ", unknown mode",
+    ", paged mode",
+    ", unknown mode",
+    ", direct byte mode",
+    ", unknown mode",
+    ", register mode",
+    ", unknown mode",
+    ", unknown mode",
+    ", unknown mode",
+];
+
 /// What a whole message says, by its bytes.
 pub(crate) const MESSAGES: [Row; 53] = [
     // OPC_BUSY
@@ -338,27 +358,7 @@ pub(crate) const MESSAGES: [Row; 53] = [
             (Number(TaskValue), &[]),
             (Text, &[" to CV "]),
             (Number(TaskVariable), &[]),
-            (
-                Choice(Task),
-                &[
-                    ", unknown mode",
-                    ", unknown mode",
-                    ", direct bit mode",
-                    ", unknown mode",
-                    ", register mode",
-                    ", unknown mode",
-                    ", unknown mode",
-                    ", unknown mode",
-                    ", paged mode",
-                    ", unknown mode",
-                    ", direct byte mode",
-                    ", unknown mode",
-                    ", register mode",
-                    ", unknown mode",
-                    ", unknown mode",
-                    ", unknown mode",
-                ],
-            ),
+            (Choice(Task), &TASK_MODES),
         ],
     ),
     (
@@ -366,27 +366,7 @@ pub(crate) const MESSAGES: [Row; 53] = [
         &[
             (Text, &["programmer: read CV "]),
             (Number(TaskVariable), &[]),
-            (
-                Choice(Task),
-                &[
-                    ", unknown mode",
-                    ", unknown mode",
-                    ", direct bit mode",
-                    ", unknown mode",
-                    ", register mode",
-                    ", unknown mode",
-                    ", unknown mode",
-                    ", unknown mode",
-                    ", paged mode",
-                    ", unknown mode",
-                    ", direct byte mode",
-                    ", unknown mode",
-                    ", register mode",
-                    ", unknown mode",
-                    ", unknown mode",
-                    ", unknown mode",
-                ],
-            ),
+            (Choice(Task), &TASK_MODES),
         ],
     ),
     // its result: PSTAT is 0 where the task was done

@@ -11,13 +11,16 @@ use std::io::Write;
 #[derive(Clone, Copy, Debug)]
 pub struct BadLine;
 
-/// What a program draws of what `station` prints, where a line tells a `Told` or nothing.
-pub trait Drawing<Told> {
+/// What a program draws of what `station` prints.
+pub trait Drawing {
+    /// What a line tells, if it tells anything.
+    type Told: Drop;
+
     /// Whether a line tells this. One that has a fault tells neither something nor nothing.
-    ghost tells: { List ℕ → Option Told → Type 0 };
+    ghost tells: { List ℕ → Option Self.Told → Type 0 };
 
     /// What is drawn of what the lines tell, in order.
-    ghost drawn: { List Told → List ℕ };
+    ghost drawn: { List Self.Told → List ℕ };
 
     /// Whether nothing is written where memory runs out.
     ghost is_whole: { Bool };
@@ -29,12 +32,17 @@ pub trait Drawing<Told> {
     fn line(&self) -> &'static str;
 
     /// What a line tells, or `None` where it is none of those that are drawn.
-    fn read(&self, line: &[u8]) -> Result<Option<Told>, BadLine>
+    fn read(&self, line: &[u8]) -> Result<Option<Self::Told>, BadLine>
         ensures told { IfOk result (λ told. tells line.now told) }
-        ensures exact { (told : Option Told) → tells line.now told → result ≡ Ok told };
+        ensures exact { (told : Option Self.Told) → tells line.now told → result ≡ Ok told };
 
     /// Draws what lines tell, at most 16,777,216 of them.
-    fn draw<O: Write>(&self, alloc: Global, told: &[Told], output: &mut O) -> Result<(), DrawFault>
+    fn draw<O: Write>(
+        &self,
+        alloc: Global,
+        told: &[Self::Told],
+        output: &mut O,
+    ) -> Result<(), DrawFault>
         requires { length told.now ≤ 16777216 }
         ensures text { OnOk result (Appends (O.contents output.old) (O.contents output.new) (drawn told.now)) }
         ensures fault { IfErr result (λ e. (e ≡ Output) ⊎ (e ≡ NoMemory)) }

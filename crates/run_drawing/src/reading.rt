@@ -12,14 +12,14 @@ use std::alloc::Global;
 /// What the lines of a text tell, in order.
 ///
 /// The first fault decides: a text longer than [`LONGEST_TEXT`], and then the first line that has a fault.
-pub(crate) fn read_lines<Told: Drop, D: Drawing<Told>>(
+pub(crate) fn read_lines<D: Drawing>(
     alloc: Global,
     drawing: &D,
     text: &[u8],
-) -> Result<Vec<Told>, DrawFault>
+) -> Result<Vec<D::Told>, DrawFault>
     ensures told { IfOk result (λ v. TextTells D.tells text.now v.items) }
     ensures few { IfOk result (λ v. length v.items ≤ 16777216) }
-    ensures exact { (things : List Told) → TextTells D.tells text.now things → MatchResult result (λ v. v.items ≡ things) (λ e. e ≡ NoMemory) }
+    ensures exact { (things : List D.Told) → TextTells D.tells text.now things → MatchResult result (λ v. v.items ≡ things) (λ e. e ≡ NoMemory) }
     ensures fault { IfErr result (λ e. (e ≡ NoMemory) ⊎ Refuses D.tells text.now e) }
 {
     if text.len() > LONGEST_TEXT {

@@ -14,7 +14,7 @@ use std::io::Write;
 /// Draws what the lines of `input` tell, to its end, and answers the exit status, 0 to 6.
 ///
 /// What is drawn goes to `output`. Where the status is not 0, `faults` gets one line that begins with the program's name.
-pub fn execute<Told, D, I, O, E>(
+pub fn execute<D, I, O, E>(
     drawing: &D,
     alloc: Global,
     input: &mut I,
@@ -22,8 +22,7 @@ pub fn execute<Told, D, I, O, E>(
     faults: &mut E,
 ) -> u8
 where
-    Told: Drop,
-    D: Drawing<Told>,
+    D: Drawing,
     I: Input,
     O: Write,
     E: Write,
@@ -42,7 +41,7 @@ where
 }
 
 /// Tells a fault, and answers its status. Where it cannot be told, nobody can be told that.
-fn tell<Told, D: Drawing<Told>, E: Write>(drawing: &D, fault: DrawFault, faults: &mut E) -> u8
+fn tell<D: Drawing, E: Write>(drawing: &D, fault: DrawFault, faults: &mut E) -> u8
     ensures { result ≡ status_of fault }
 {
     let name = drawing.name();
@@ -57,7 +56,7 @@ fn tell<Told, D: Drawing<Told>, E: Write>(drawing: &D, fault: DrawFault, faults:
 }
 
 /// Reads the input, whole, and then draws what its lines tell. Where a line has a fault nothing is written.
-fn draw_input<Told: Drop, D: Drawing<Told>, I: Input, O: Write>(
+fn draw_input<D: Drawing, I: Input, O: Write>(
     drawing: &D,
     alloc: Global,
     input: &mut I,

@@ -9,5 +9,5 @@ mod words;
 
 pub use line::{NoTurn, is_of_turn, packet_told};
 pub use lines::{LONGEST_TEXT, cut_line};
-pub use node::{is_of_node, node_told};
+pub use node::{is_of_node, last_of, node_told};
 pub use standing::{Name, Seen, Standing, Switches};

@@ -15,8 +15,8 @@ pub fn is_of_node(line: &[u8]) -> bool
     line == b"node".as_slice() || line.starts_with(b"node ".as_slice())
 }
 
-/// The last of the steps.
-fn last_of(steps: Steps) -> u32
+/// The last speed step of a mode: 14, 28 or 126.
+pub fn last_of(steps: Steps) -> u32
     ensures { result ≡ last_of steps }
 {
     match steps {

@@ -2,13 +2,13 @@
 ghost use Rattle.std.specs.Prelude.{◌≡◌, ◌≤◌, ◌<◌, Some, IfSome};
 ghost use Rattle.std.specs.Str.{bytes_eq};
 ghost use Rattle.dcc_packet.specs.Reading.{instruction_of};
-ghost use Rattle.station_text.specs.Node.{is_on, last_of};
+ghost use Rattle.station_text.specs.Node.{is_on};
 ghost use Rattle.timeline.specs.Rows.{counts, height_of, is_address, is_emergency, is_for, is_for_loco, is_for_module, is_in, is_packets, is_part, is_stop, is_switch, lane_height, mark_if, part_of, place_of, speed_height, standing_height, switch_height};
 
 use crate::event::Event;
 use crate::row::{Kind, Part, Row};
-use dcc_packet::{Address, Instr, Module, Motion, Packet, Steps, read};
-use station_text::{Name, Seen, Standing, Switches};
+use dcc_packet::{Address, Instr, Module, Motion, Packet, read};
+use station_text::{Name, Seen, Standing, Switches, last_of};
 
 /// Where a packet goes.
 fn part_of(instr: &Option<Instr>) -> Part
@@ -101,16 +101,6 @@ fn is_for(standing: &Standing, packet: &Packet) -> bool
     }
 }
 
-fn last_of(steps: Steps) -> u64
-    ensures { result ≡ last_of steps }
-{
-    match steps {
-        Steps::S14 => 14,
-        Steps::S28 => 28,
-        Steps::S128 => 126,
-    }
-}
-
 /// 48 for the last step, and for the others that part of it.
 fn speed_height(motion: Motion) -> u64
     ensures value { result ≡ speed_height motion }
@@ -118,7 +108,7 @@ fn speed_height(motion: Motion) -> u64
 {
     match motion {
         Motion::Stop | Motion::Emergency => 0,
-        Motion::Step { of, n } => (48 * u64::from(n) / last_of(of)).min(48),
+        Motion::Step { of, n } => (48 * u64::from(n) / u64::from(last_of(of))).min(48),
     }
 }
 

@@ -12,11 +12,9 @@ mod rows;
 mod timeline;
 
 pub use event::Event;
-use input_text::Noting;
 pub use mark::Mark;
 pub use row::{Kind, Part, Row};
-use run_drawing::execute;
-use std::io;
+use run_drawing::draw_standard;
 use std::process::ExitCode;
 pub use timeline::Timeline;
 
@@ -24,11 +22,5 @@ pub use timeline::Timeline;
 mod tests;
 
 fn main(rt: HostRuntime) -> ExitCode {
-    ExitCode::from(execute(
-        &Timeline,
-        rt.alloc(),
-        &mut Noting::new(rt.reader()),
-        &mut io::writer(&rt),
-        &mut rt.stderr(),
-    ))
+    draw_standard(&Timeline, &rt)
 }

@@ -5,20 +5,15 @@ mod lines;
 mod memory;
 
 use crate::Timeline;
-use failing_streams::Program;
-use input_text::Input;
-use run_drawing::execute;
-use std::alloc::Global;
-use std::io::Write;
+use drawing_tests::{Drawn, FaultLines};
 
-impl Program for Timeline {
-    fn execute<I: Input, O: Write, E: Write>(
-        &self,
-        alloc: Global,
-        input: &mut I,
-        output: &mut O,
-        faults: &mut E,
-    ) -> u8 {
-        execute(self, alloc, input, output, faults)
-    }
-}
+/// The program, as the tests run it.
+const PROGRAM: Drawn<Timeline> = Drawn(Timeline);
+
+/// What it tells of its streams and of memory.
+const FAULTS: FaultLines = FaultLines {
+    unread: b"timeline: cannot read -\n",
+    too_long: b"timeline: too long\n",
+    unwritten: b"timeline: output\n",
+    no_memory: b"timeline: no memory\n",
+};

@@ -13,7 +13,9 @@ use std::io::Write;
 /// The picture of a run. It is drawn whole before it is written.
 pub struct Timeline;
 
-impl Drawing<Event> for Timeline {
+impl Drawing for Timeline {
+    type Told = Event;
+
     ghost tells = { Shows };
 
     ghost drawn = { picture_of };

@@ -5,21 +5,13 @@
 mod drawing;
 mod signal;
 
-use input_text::Noting;
-use run_drawing::execute;
+use run_drawing::draw_standard;
 pub use signal::TrackSignal;
-use std::io;
 use std::process::ExitCode;
 
 #[cfg(test)]
 mod tests;
 
 fn main(rt: HostRuntime) -> ExitCode {
-    ExitCode::from(execute(
-        &TrackSignal,
-        rt.alloc(),
-        &mut Noting::new(rt.reader()),
-        &mut io::writer(&rt),
-        &mut rt.stderr(),
-    ))
+    draw_standard(&TrackSignal, &rt)
 }

@@ -13,7 +13,9 @@ use std::io::Write;
 /// The signal on the rails. It is written packet by packet.
 pub struct TrackSignal;
 
-impl Drawing<Packet> for TrackSignal {
+impl Drawing for TrackSignal {
+    type Told = Packet;
+
     ghost tells = { Tells };
 
     ghost drawn = { dump_of };

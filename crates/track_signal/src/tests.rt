@@ -5,20 +5,15 @@ mod lines;
 mod memory;
 
 use crate::TrackSignal;
-use failing_streams::Program;
-use input_text::Input;
-use run_drawing::execute;
-use std::alloc::Global;
-use std::io::Write;
+use drawing_tests::{Drawn, FaultLines};
 
-impl Program for TrackSignal {
-    fn execute<I: Input, O: Write, E: Write>(
-        &self,
-        alloc: Global,
-        input: &mut I,
-        output: &mut O,
-        faults: &mut E,
-    ) -> u8 {
-        execute(self, alloc, input, output, faults)
-    }
-}
+/// The program, as the tests run it.
+const PROGRAM: Drawn<TrackSignal> = Drawn(TrackSignal);
+
+/// What it tells of its streams and of memory.
+const FAULTS: FaultLines = FaultLines {
+    unread: b"track_signal: cannot read -\n",
+    too_long: b"track_signal: too long\n",
+    unwritten: b"track_signal: output\n",
+    no_memory: b"track_signal: no memory\n",
+};

@@ -3,27 +3,18 @@
 //!
 //! This test takes the memory of the process, and so needs the allocator of the C library: `rt test`, and not `rt try`.
 
-use crate::Timeline;
-use failing_streams::run_as_room_grows;
+use super::{FAULTS, PROGRAM};
+use drawing_tests::run_with_little_memory;
 use std::test::Fail;
 
-/// Six idle packets and a decoder, so that the lists of events and of rows grow more than once.
-const IDLES: &[u8] = b"track 1 FF 00 FF
-track 2 FF 00 FF
-track 3 FF 00 FF
-track 4 FF 00 FF
-track 5 FF 00 FF
-track 6 FF 00 FF
-node shunter short 3 step 63 of 128 reverse F 1010000000000
-";
+/// A decoder, so that the list of rows grows more than once.
+const DECODER: &[u8] = b"node shunter short 3 step 63 of 128 reverse F 1010000000000\n";
 
 #[test]
 fn a_run_grows_or_says_so(rt: HostRuntime) -> Result<(), Fail> {
-    let told = b"timeline: no memory\n";
-    let (refused, ran) = run_as_room_grows(&Timeline, rt.alloc(), IDLES, told)?;
+    let end = b"</g>\n</svg>\n";
+    let (refused, drew_all) = run_with_little_memory(&PROGRAM, rt.alloc(), &FAULTS, DECODER, end)?;
     println!(rt; "refused {refused} times")?;
-    assert!(rt; refused > 0);
-    assert!(rt; ran.status == 0 && ran.faults.is_empty());
-    assert!(rt; ran.output.as_slice().ends_with(b"</g>\n</svg>\n"));
+    assert!(rt; refused > 0 && drew_all);
     Ok(())
 }

@@ -1,6 +1,6 @@
 //! Lines, and what is drawn of them, worked out by hand from the figures of S-9.1 and S-9.2 and the format of IEEE 1364.
 
-use crate::TrackSignal;
+use super::PROGRAM;
 use failing_streams::run;
 use std::alloc::Global;
 use std::io::Write;
@@ -54,7 +54,7 @@ fn packets_are_drawn(rt: HostRuntime) -> Result<(), Fail> {
         ),
     ];
     for (text, bits) in rows {
-        let ran = run(&TrackSignal, rt.alloc(), text);
+        let ran = run(&PROGRAM, rt.alloc(), text);
         assert!(rt; ran.is(0, drawn(rt.alloc(), bits)?.as_slice(), b""));
     }
     Ok(())
@@ -64,7 +64,7 @@ fn packets_are_drawn(rt: HostRuntime) -> Result<(), Fail> {
 fn two_packets_end_at_their_sum(rt: HostRuntime) {
     // 7,596 microseconds and 5,796.
     let ran = run(
-        &TrackSignal,
+        &PROGRAM,
         rt.alloc(),
         b"track 1 03 3F C0 FC\ntrack 2 FF 00 FF\n",
     );
@@ -100,7 +100,7 @@ fn lines_with_a_fault_are_refused(rt: HostRuntime) -> Result<(), Fail> {
         (b"\n\n\ntrack 1 FF 00 FF\n\ntrack 2 on\n", 6),
     ];
     for (text, line) in rows {
-        let ran = run(&TrackSignal, rt.alloc(), text);
+        let ran = run(&PROGRAM, rt.alloc(), text);
         let told = format!(in rt.alloc(); "track_signal: line {line}: bad track line\n")?;
         assert!(rt; ran.is(5, b"", told.as_str().as_bytes()));
     }

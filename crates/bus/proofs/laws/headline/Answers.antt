@@ -5,18 +5,7 @@ use Rattle.layout_core.specs.World.{HaveHeard}
 use Rattle.bus.specs.Layout.{layout_events}
 use Rattle.bus.specs.Bus.{after_events}
 use Rattle.bus.proofs.InTime.{layout-append, runs_in_time}
-use Rattle.bus.proofs.Steps.{Bounded}
 use Rattle.bus.proofs.laws.headline.Goals as goal
-
-abbrev bounded : goal.After-headline → Bounded
-bounded c = record {
-  some = c.packets_are_short.ensures.some;
-  few = c.packets_are_short.ensures.few;
-  checked = c.packets_are_short.ensures.checked;
-  shortest = c.durations_are_bounded.ensures.shortest;
-  longest = c.durations_are_bounded.ensures.longest;
-  idle = c.durations_are_bounded.ensures.idle;
-}
 
 pub returns-clause-more : goal.returns-clause-more
 returns-clause-more c bus events later old mid new h legal first second =
@@ -29,5 +18,5 @@ returns-clause-headline c start events old new desk heard = c.headline.ensures.h
 
 pub returns-clause-in_time : goal.returns-clause-in_time
 returns-clause-in_time c start events old new h legal desk heard =
-    runs_in_time (bounded c) c.events_are_the_layout.ensures.kept c.events_are_the_layout.ensures.turns start events old new h legal
+    runs_in_time c.turns_are_bounded.ensures c.events_are_the_layout.ensures.kept c.events_are_the_layout.ensures.turns start events old new h legal
     (c.headline.ensures.headline start.station (layout_events start events) old new desk heard)

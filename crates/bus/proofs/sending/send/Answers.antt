@@ -5,18 +5,8 @@ use Rattle.layout_core.specs.declared.event.Event.{Event}
 use Rattle.layout_core.specs.Played.{after_events, answers_to}
 use Rattle.layout_core.specs.Nodes.{spec_of}
 use Rattle.bus.specs.Layout.{bytes_on}
-use Rattle.bus.proofs.Whole.{Promised, heard_bytes, last_message, whole_after, whole_answered}
+use Rattle.bus.proofs.Whole.{heard_bytes, last_message, whole_after, whole_answered}
 use Rattle.bus.proofs.sending.send.Goals as goal
-
-abbrev promised : goal.After-loop-byte → Promised
-promised c = record {
-  after = c.calls_are_moves.ensures.after_byte;
-  answer = c.calls_are_moves.ensures.to_byte;
-  ends = c.whole_message.ensures.ends;
-  leaves = c.whole_message.ensures.leaves;
-  fronts = c.whole_message.ensures.fronts;
-  none = c.whole_message.ensures.none;
-}
 
 whole : (c : goal.After-loop-byte) → IsWhole c.args.message.now
 whole c = subst IsWhole c.bytes-byte-items.ensures.value c.bytes-byte-items.ensures.whole
@@ -33,7 +23,7 @@ returns-clause-station c =
     ap (after_events c.loop-byte.world.station) (none_left c)
     ∙ c.loop-byte.invariant.station
     ∙ ap (λ (bytes : List ℕ). after_events seen (bytes_on c.args.line bytes)) c.bytes-byte-items.ensures.value
-    ∙ whole_after (promised c) seen c.args.line c.args.message.now c.requires.idle c.requires.line (whole c)
+    ∙ whole_after c.station_moves.ensures seen c.args.line c.args.message.now c.requires.idle c.requires.line (whole c)
 
 pub returns-clause-reply : goal.returns-clause-reply
 returns-clause-reply c =
@@ -41,7 +31,7 @@ returns-clause-reply c =
     ap (λ (events : List Event). last_message c.loop-byte.reply (answers_to c.loop-byte.world.station events)) (none_left c)
     ∙ c.loop-byte.invariant.reply
     ∙ ap (λ (bytes : List ℕ). last_message None (answers_to seen (bytes_on c.args.line bytes))) c.bytes-byte-items.ensures.value
-    ∙ whole_answered (promised c) seen c.args.line c.args.message.now c.requires.idle c.requires.line (whole c)
+    ∙ whole_answered c.station_moves.ensures seen c.args.line c.args.message.now c.requires.idle c.requires.line (whole c)
 
 pub returns-clause-idle : goal.returns-clause-idle
 returns-clause-idle c = ap (λ (seen : Seen). seen.lines) (returns-clause-station c) ∙ c.requires.idle

@@ -1,6 +1,6 @@
-use Rattle.std.proofs.Common.{◌≡◌, ◌+◌, List, [], ◌∷◌, ◌++◌, take, drop, ap, subst, sym, ◌∙◌, arith, rules, append_assoc, drop_of_length-le, length-set}
+use Rattle.std.proofs.Common.{◌≡◌, ◌+◌, List, [], ◌∷◌, ◌++◌, take, drop, ap, subst, sym, ◌∙◌, arith, append_assoc, append-nil, drop_of_length-le, length-set}
 use Rattle.std.specs.List.{slice_index_or}
-use Rattle.std.proofs.lemmas.List.{drop_more, take_more_set}
+use Rattle.std.proofs.lemmas.List.{drop_more, take_all, take_more_set}
 use Rattle.station_core.specs.Powered.{HasDesk}
 use Rattle.station_core.specs.Seen.{Seen}
 use Rattle.layout_core.specs.declared.node.Node.{Node}
@@ -54,7 +54,11 @@ loop-i-preserved c =
       heard = λ new rest.
           c.loop-i.invariant.heard new
           (subst (λ (events : List Event). HaveHeard (before c).station (layout_events (before c) events) c.loop-i.self.world.nodes new) (sym more) (next_heard c new rest));
-      same = search rules;
+      same = record {
+        lines = c.step.ensures.same.lines ∙ c.loop-i.invariant.same.lines;
+        specs = c.step.ensures.same.specs ∙ c.loop-i.invariant.same.specs;
+        count = c.step.ensures.same.count ∙ c.loop-i.invariant.same.count;
+      };
     }
 
 abbrev seen_first : goal.After-loop-i → SeenBus
@@ -65,6 +69,28 @@ heard_all c =
     c.loop-i.invariant.heard c.loop-i.self.world.nodes
     (subst (λ (events : List Event). HaveHeard c.loop-i.self.world.station (layout_events (seen_of c.loop-i.self) events) c.loop-i.self.world.nodes c.loop-i.self.world.nodes)
     (sym (drop_of_length-le c.args.events.now c.loop-i-test.false)) (c.events_add_up.ensures.none c.loop-i.self.world.station c.loop-i.self.world.nodes))
+
+none_left : (c : goal.After-loop-i) → drop c.loop-i.i c.args.events.now ≡ []
+none_left c = drop_of_length-le c.args.events.now c.loop-i-test.false
+
+pub returns-clause-bus : goal.returns-clause-bus
+returns-clause-bus c = subst (λ (events : List Event). after_events (seen_of c.loop-i.self) events ≡ after_events (seen_first c) c.args.events.now) (none_left c) c.loop-i.invariant.rest
+
+pub returns-clause-told : goal.returns-clause-told
+returns-clause-told c =
+    sym (append-nil (take c.loop-i.i c.loop-i.told) ∙ take_all c.loop-i.i c.loop-i.told (omega (arith, c.loop-i-test.false, c.loop-i.invariant.same_length)))
+    ∙ subst (λ (events : List Event). take c.loop-i.i c.loop-i.told ++ told_of (seen_of c.loop-i.self) events ≡ told_of (seen_first c) c.args.events.now) (none_left c) c.loop-i.invariant.written
+
+pub returns-clause-nodes : goal.returns-clause-nodes
+returns-clause-nodes c = heard_all c
+
+pub returns-clause-same : goal.returns-clause-same
+returns-clause-same c = c.loop-i.invariant.same
+
+pub returns-clause-layout : goal.returns-clause-layout
+returns-clause-layout c =
+    ap (λ (bus : SeenBus). bus.station) (returns-clause-bus c)
+    ∙ sym (c.events_are_the_layout.ensures.station (seen_first c) c.args.events.now (kept_of c.args.self.now) c.requires.events)
 
 desk : (c : goal.After-loop-i) → HasDesk (seen_first c).station.powered
 desk c = subst (λ (seen : Seen). HasDesk seen.powered) c.station.ensures c.always_legal.ensures.desk

@@ -1,0 +1,22 @@
+//! A drawing as a program.
+
+use failing_streams::Program;
+use input_text::Input;
+use run_drawing::{Drawing, execute};
+use std::alloc::Global;
+use std::io::Write;
+
+/// The program that draws this.
+pub struct Drawn<D>(pub D);
+
+impl<D: Drawing> Program for Drawn<D> {
+    fn execute<I: Input, O: Write, E: Write>(
+        &self,
+        alloc: Global,
+        input: &mut I,
+        output: &mut O,
+        faults: &mut E,
+    ) -> u8 {
+        execute(&self.0, alloc, input, output, faults)
+    }
+}

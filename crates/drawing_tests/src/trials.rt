@@ -1,0 +1,114 @@
+//! What every program that draws does on streams that fail and with little memory.
+
+use crate::drawn::Drawn;
+use failing_streams::{
+    Broken, Ran, Spaces, Uneven, run, run_as_room_grows, run_from, run_to, run_untold,
+};
+use run_drawing::Drawing;
+use std::alloc::{AllocError, Global};
+use std::io::ErrorKind;
+
+const ONE_PACKET: &[u8] = b"track 1 FF 00 FF\n";
+
+/// Six idle packets, so that lists of what lines tell grow more than once.
+const IDLES: &[u8] = b"track 1 FF 00 FF
+track 2 FF 00 FF
+track 3 FF 00 FF
+track 4 FF 00 FF
+track 5 FF 00 FF
+track 6 FF 00 FF
+";
+
+/// What a program tells of its streams and of memory, a line each.
+pub struct FaultLines {
+    /// The input cannot be read.
+    pub unread: &'static [u8],
+    /// The input is longer than the limit.
+    pub too_long: &'static [u8],
+    /// The output cannot be written.
+    pub unwritten: &'static [u8],
+    /// Want of memory.
+    pub no_memory: &'static [u8],
+}
+
+/// Whether an input that cannot be read is told.
+fn is_told_unread<D: Drawing>(drawing: &Drawn<D>, alloc: Global, unread: &[u8]) -> bool {
+    let mut stops = Uneven::new(ONE_PACKET, 20, Some(ErrorKind::Other));
+    run_from(drawing, alloc, &mut stops).is(2, b"", unread)
+        && run_from(drawing, alloc, &mut Broken::new()).is(2, b"", unread)
+}
+
+/// Whether reads that are interrupted are tried again.
+fn stands_interrupts<D: Drawing>(drawing: &Drawn<D>, alloc: Global, end: &[u8]) -> bool {
+    let ran = run_from(drawing, alloc, &mut Uneven::new(ONE_PACKET, 5, None));
+    ran.status == 0 && ran.output.as_slice().ends_with(end)
+}
+
+/// Whether a long input is read one byte past the limit.
+fn is_read_to_the_limit<D: Drawing>(drawing: &Drawn<D>, alloc: Global, too_long: &[u8]) -> bool {
+    let mut spaces = Spaces { read: 0 };
+    let ran = run_from(drawing, alloc, &mut spaces);
+    ran.is(5, b"", too_long) && spaces.read == 16_777_217
+}
+
+/// Whether an output that cannot be written is told.
+fn is_told_unwritten<D: Drawing>(drawing: &Drawn<D>, alloc: Global, unwritten: &[u8]) -> bool {
+    let mut text = ONE_PACKET;
+    let (status, faults) = run_to(drawing, alloc, &mut text, &mut Broken::new());
+    status == 4 && faults.as_slice() == unwritten
+}
+
+/// Whether a fault that cannot be told ends the program as one that can.
+fn stands_untold<D: Drawing>(drawing: &Drawn<D>, alloc: Global) -> bool {
+    let mut text = b"track\n".as_slice();
+    run_untold(drawing, alloc, &mut text) == 5
+}
+
+/// Which device a program does not stand as it should, of standard streams that fail and an input without end: none, if all
+/// is well. What is drawn of one packet ends so.
+pub fn first_not_stood<D: Drawing>(
+    drawing: &Drawn<D>,
+    alloc: Global,
+    faults: &FaultLines,
+    end: &[u8],
+) -> Option<&'static str> {
+    if !is_told_unread(drawing, alloc, faults.unread) {
+        return Some("standard input cannot be read");
+    }
+    if !stands_interrupts(drawing, alloc, end) {
+        return Some("standard input is interrupted");
+    }
+    if !is_read_to_the_limit(drawing, alloc, faults.too_long) {
+        return Some("standard input is without end");
+    }
+    if !is_told_unwritten(drawing, alloc, faults.unwritten) {
+        return Some("standard output cannot be written");
+    }
+    if !stands_untold(drawing, alloc) {
+        return Some("standard error cannot be written");
+    }
+    None
+}
+
+/// Runs on packets and what stands behind them, with so few bytes of memory left, from none until one succeeds: how many
+/// told want of memory, and whether the first other one drew all, to this end.
+///
+/// This takes the memory of the process, and so needs the allocator of the C library: `rt test`, and not `rt try`.
+///
+/// # Errors
+///
+/// There was no memory for the test.
+pub fn run_with_little_memory<D: Drawing>(
+    drawing: &Drawn<D>,
+    alloc: Global,
+    faults: &FaultLines,
+    more: &[u8],
+    end: &[u8],
+) -> Result<(u32, bool), AllocError> {
+    let mut text = Vec::new(alloc);
+    text.extend_from_slice(IDLES)?;
+    text.extend_from_slice(more)?;
+    let (refused, ran) = run_as_room_grows(drawing, alloc, text.as_slice(), faults.no_memory)?;
+    let drew_all = ran.status == 0 && ran.faults.is_empty() && ran.output.as_slice().ends_with(end);
+    Ok((refused, drew_all))
+}
