@@ -60,7 +60,11 @@ impl Visitor {
 
     /// Its time is over: it is told so, or let go.
     fn run_out(&mut self, now: u64) -> Next {
-        if self.visit.run_out(now) { Next::GoesOn } else { Next::Ends }
+        if self.visit.run_out(now) {
+            Next::GoesOn
+        } else {
+            Next::Ends
+        }
     }
 
     /// The page that it has become.
