@@ -11,7 +11,8 @@ use Rattle.ln_frame.specs.Message.{IsWhole, has_form, is_whole}
 use Rattle.over_tcp.specs.declared.ask.Ask.{Ask}
 use Rattle.over_tcp.specs.declared.ask.Ask.TheVariants.{Send, Refused}
 use Rattle.over_tcp.specs.declared.ask.Reason.TheVariants.{TooLong, NoMessage, WrongCheck}
-use Rattle.over_tcp.specs.Asked.{ask_to_send, asked_of, bytes_of, is_blank, is_send, words_of}
+use Rattle.ascii_words.specs.Words.{is_blank, words_of}
+use Rattle.over_tcp.specs.Asked.{ask_to_send, asked_of, bytes_of, is_send}
 use Rattle.over_tcp.specs.Text.{is_end}
 use Rattle.station_core.specs.declared.call.Call.TheVariants.{Turn as TurnCall}
 use Rattle.station_core.specs.Moved.{after_turn, packet_of_turn}

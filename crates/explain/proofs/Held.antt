@@ -2,7 +2,8 @@
 use Rattle.std.proofs.Common.{◌≡◌, ℕ, ◌+◌, ◌<◌, Bool, true, false, List, [], ◌∷◌, ◌++◌, length, length-append, append_assoc, append-nil, refl, ap, sym, ◌∙◌, arith}
 use Rattle.std.specs.Prelude.{flat_map}
 use Rattle.std.proofs.lemmas.Bool.{lt-ltb}
-use Rattle.over_tcp.specs.Asked.{words_of, bytes_of}
+use Rattle.ascii_words.specs.Words.{words_of}
+use Rattle.over_tcp.specs.Asked.{are_pairs, bytes_of, leading}
 use Rattle.explain.specs.Explained.{explained, shown}
 use Rattle.explain.specs.Lines.{body_of, end_of, is_open, lines_of, onto_line}
 use Rattle.explain.specs.Subjects.{message_in, note_of}
@@ -78,7 +79,7 @@ unfolding explained
 explained-ended xs more h = ap (flat_map shown) (lines-ended xs more h)
 
 explained-none : explained [] ≡ shown []
-unfolding explained message_in words_of bytes_of
+unfolding explained message_in words_of bytes_of are_pairs leading
 explained-none = refl
 
 explained-last : (xs : List ℕ) → is_open xs ≡ true → explained (xs ++ []) ≡ shown xs

@@ -1,6 +1,5 @@
 mod Ends
 mod Held
-mod Leads
 mod Passing
 mod Pieces
 mod Told

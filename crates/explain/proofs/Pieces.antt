@@ -1,10 +1,8 @@
 -- A text is cut at its line feeds.
-use Rattle.std.proofs.Common.{◌≡◌, ℕ, ◌+◌, ◌<◌, ◌≤◌, ◌==◌, Bool, true, false, List, [], ◌∷◌, ◌++◌, suc, length, take, drop, Some, None, position, cond, nat_lt, slice_index, Option, refl, ap, sym, inl, inr, ◌∙◌, eqb-true, arith}
+use Rattle.std.proofs.Common.{◌≡◌, ℕ, ◌+◌, ◌<◌, ◌≤◌, ◌==◌, Bool, true, false, List, [], ◌∷◌, ◌++◌, suc, length, take, drop, Some, None, position, cond, nat_lt, refl, ap, sym, inl, inr, ◌∙◌, eqb-true, arith}
 use Rattle.std.specs.List.{position_or_len}
-use Rattle.std.proofs.lemmas.Bool.{ltb-true, ltb-false, lt-ltb, le-ltb, false_from_ne_true, cases_Bool}
+use Rattle.std.proofs.lemmas.Bool.{ltb-true, ltb-false, cases_Bool}
 use Rattle.std.proofs.lemmas.List.{take_all, take_rest}
-use Rattle.std.proofs.lemmas.List.Sums.{position_or_len_is}
-use Rattle.memchr.specs.Find.{IsFirstByte, is_byte}
 use Rattle.explain.specs.Lines.{is_open}
 
 abbrev place : List ℕ → ℕ
@@ -68,18 +66,5 @@ pub line_parts : (text : List ℕ) (at : ℕ) → position (λ b. b == 10) text 
 line_parts text at h =
     let first = first_place text at h in
     parts-at text first.1 ∙ ap (λ k. take k text ++ 10 ∷ drop (k + 1) text) first.0
-
--- what a search of memory finds
-at-place : (text : List ℕ) (at : ℕ) → place text ≡ at → at < length text → Some at ≡ position (λ b. b == 10) text
-at-place text at is within = sym (ap (λ k. cond (nat_lt k (length text)) (Some k) None) is ∙ rw (lt-ltb at (length text) within) refl)
-
-at-no_place : (text : List ℕ) → place text ≡ length text → None ≡ position (λ b. b == 10) text
-at-no_place text is = sym (ap (λ k. cond (nat_lt k (length text)) (Some k) None) is ∙ rw (le-ltb (length text) (length text) (omega arith)) refl)
-
-pub first_is_position : (text : List ℕ) (found : Option ℕ) → IsFirstByte (is_byte 10) text found → found ≡ position (λ b. b == 10) text
-first_is_position text None nowhere =
-    at-no_place text (position_or_len_is (λ b. b == 10) text (length text) 0 (omega arith) (λ k l. false_from_ne_true (slice_index text k == 10) (nowhere k (omega arith) l)) (λ l. absurd (omega (arith, l))))
-first_is_position text (Some at) first =
-    at-place text at (position_or_len_is (λ b. b == 10) text at 0 (omega (arith, first.0.high)) (λ k l. false_from_ne_true (slice_index text k == 10) (first.0.before k (omega arith) l)) (λ l. first.1)) first.0.high
 
 pub ruleset cuts = (no_line, line_open, line_parts, take_rest)

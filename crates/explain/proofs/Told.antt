@@ -1,11 +1,11 @@
 -- What LocoNet over TCP tells is read back.
-use Rattle.std.proofs.Common.{◌≡◌, ℕ, ◌+◌, ◌/◌, ◌%◌, Bool, true, false, List, [], ◌∷◌, ◌++◌, length, Option, Some, None, nat_lt, if◌then◌else◌, refl, ap, sym, ◌∙◌}
+use Rattle.std.proofs.Common.{◌≡◌, ℕ, ◌/◌, ◌%◌, Bool, true, false, List, [], ◌∷◌, ◌++◌, length, Option, Some, None, nat_lt, if◌then◌else◌, ap}
 use Rattle.std.specs.Prelude.{codes}
 use Rattle.ln_frame.specs.Message.{has_form, is_whole}
-use Rattle.over_tcp.specs.declared.ask.Ask.{Ask}
 use Rattle.over_tcp.specs.declared.ask.Ask.TheVariants.{Send, Refused}
-use Rattle.over_tcp.specs.declared.ask.Reason.TheVariants.{TooLong, NotHex, NoMessage, WrongCheck}
-use Rattle.over_tcp.specs.Asked.{ask_to_send, asked_of, bytes_of, words_of}
+use Rattle.over_tcp.specs.declared.ask.Reason.TheVariants.{TooLong, NoMessage, WrongCheck}
+use Rattle.ascii_words.specs.Words.{words_of}
+use Rattle.over_tcp.specs.Asked.{are_pairs, ask_to_send, asked_of, bytes_of, leading}
 use Rattle.over_tcp.specs.Told.{hex_char, hex_words}
 use Rattle.plain_words.specs.Messages.{message_words}
 use Rattle.explain.specs.Subjects.{message_in, said_by, words_about}
@@ -32,11 +32,11 @@ unfolding message_in
 read b bs e = ap (said_by message_words) (sent (nat_lt 400 (length (codes "SEND" ++ hex_words (b ∷ bs)))) (bytes_of (words_of (tail b bs))) (b ∷ bs) e)
 
 pub received-words : (message : List ℕ) → asked_of (codes "SEND" ++ hex_words message) ≡ Some (Send message) → words_about (codes "RECEIVE" ++ hex_words message) ≡ message_words message
-unfolding message_in bytes_of words_of
+unfolding message_in bytes_of are_pairs leading words_of
 received-words [] e = cc
 received-words (b ∷ bs) e = read b bs e
 
 pub sent-words : (message : List ℕ) → asked_of (codes "SEND" ++ hex_words message) ≡ Some (Send message) → words_about (codes "SEND" ++ hex_words message) ≡ message_words message
-unfolding message_in bytes_of words_of
+unfolding message_in bytes_of are_pairs leading words_of
 sent-words [] e = cc
 sent-words (b ∷ bs) e = read b bs e

@@ -2,7 +2,8 @@
 use Rattle.std.specs.Prelude.{ℕ, Bool, if◌then◌else◌, nat_lt, List, [], ◌∷◌, length, Option, Some, None, codes}
 use Rattle.std.specs.List.{before_first, after_first}
 use Rattle.std.specs.Str.{bytes_eq}
-use Rattle.over_tcp.specs.Asked.{is_blank, words_of, pair_of, bytes_of}
+use Rattle.ascii_words.specs.Words.{is_blank, words_of}
+use Rattle.over_tcp.specs.Asked.{bytes_of, leading}
 use Rattle.plain_words.specs.Messages.{message_words}
 use Rattle.plain_words.specs.Packets.{packet_words}
 
@@ -19,15 +20,6 @@ message_in text = said_by message_words (bytes_of (words_of text))
 -- what a turn sent: `off`, or the words of a packet and nothing else
 unfoldable pub turn_in : List ℕ → List ℕ
 turn_in text = if bytes_eq text (codes "off") then codes "no power, nothing is sent" else said_by packet_words (bytes_of (words_of text))
-
-abbrev pub led_by : Option ℕ → List ℕ → List ℕ
-led_by None bytes = []
-led_by (Some byte) bytes = byte ∷ bytes
-
--- the bytes of the words up to the first that is no pair
-unfoldable pub leading : List (List ℕ) → List ℕ
-leading [] = []
-leading (word ∷ words) = led_by (pair_of word) (leading words)
 
 -- a message, and behind it words that tell it another way, none of which begins with a pair
 unfoldable pub monitored_in : List ℕ → List ℕ

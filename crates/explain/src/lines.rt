@@ -1,23 +1,16 @@
 //! Lines, and what is written of them.
-ghost use Rattle.std.specs.Prelude.{◌≡◌, ◌==◌, ◌<◌, ◌∷◌, ◌++◌, [], IsTrue, IfSome, OnOk, Some, None, length, position};
+ghost use Rattle.std.specs.Prelude.{◌≡◌, ◌<◌, ◌∷◌, ◌++◌, [], IsTrue, IfSome, OnOk, Some, None, length};
 ghost use Rattle.explain.specs.Explained.{shown};
 ghost use Rattle.explain.specs.Lines.{body_of, end_of, is_open};
 ghost use Rattle.explain.specs.Subjects.{note_of};
 
 use crate::subjects::tell_line;
-use memchr::memchr;
+use ascii_words::line_feed_at;
 use plain_words::Words;
 use std::alloc::AllocError;
 
 /// The most characters of a line that is explained.
 pub(crate) const LONGEST: usize = 400;
-
-#[tactic(auto, using(crate::proofs::Pieces::first_is_position))]
-fn line_feed_at(text: &[u8]) -> Option<usize>
-    ensures { result ≡ position (λ b. b == 10) text.now }
-{
-    memchr(b'\n', text)
-}
 
 /// What stands before the first line feed, and what stands behind it.
 #[tactic(auto, using(crate::proofs::Pieces::cuts))]

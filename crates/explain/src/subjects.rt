@@ -1,10 +1,12 @@
 //! What a line is about, and what is said of it.
 ghost use Rattle.std.specs.Prelude.{◌≡◌, ◌≤◌, length, Option, Some, None, MatchOption};
-ghost use Rattle.over_tcp.specs.Asked.{words_of};
+ghost use Rattle.ascii_words.specs.Words.{words_of};
 ghost use Rattle.plain_words.specs.Messages.{message_words};
-ghost use Rattle.explain.specs.Subjects.{leading, message_in, monitored_in, said_by, turn_in, words_about};
+ghost use Rattle.over_tcp.specs.Asked.{leading};
+ghost use Rattle.explain.specs.Subjects.{message_in, monitored_in, said_by, turn_in, words_about};
 
-use over_tcp::{Bytes, bytes_of, cut_piece, hex_pair};
+use ascii_words::cut_piece;
+use over_tcp::{Bytes, bytes_of, leading};
 use plain_words::{Words, tell_message, tell_packet};
 
 /// What the words of a text say, a message and nothing else.
@@ -52,26 +54,6 @@ fn tell(text: &[u8], words: &mut Words)
 {
     words.clear();
     let _fits = words.try_extend_from_slice(text);
-}
-
-/// The bytes of the words up to the first that is no pair of hexadecimal digits.
-fn leading(text: &[u8]) -> Bytes
-    requires { length text.now ≤ 400 }
-    ensures { result.items ≡ leading (words_of text.now) }
-{
-    let mut bytes = Bytes::new();
-    let mut rest = text;
-    while !rest.is_empty() {
-        let (piece, behind) = cut_piece(rest);
-        if !piece.is_empty() {
-            let Some(byte) = hex_pair(piece) else {
-                return bytes;
-            };
-            bytes.push(byte);
-        }
-        rest = behind;
-    }
-    bytes
 }
 
 /// What a message says that has words behind it which tell it another way.

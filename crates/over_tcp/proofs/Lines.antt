@@ -10,7 +10,8 @@ use Rattle.over_tcp.specs.declared.ask.Ask.{Ask}
 use Rattle.over_tcp.specs.declared.ask.Ask.TheVariants.{Refused}
 use Rattle.over_tcp.specs.declared.ask.Reason.TheVariants.{TooLong}
 use Rattle.over_tcp.specs.Text.{is_end, is_open, onto_line, lines_of}
-use Rattle.over_tcp.specs.Asked.{asked_of, ask_to_send, bytes_of, words_of, is_blank, is_send}
+use Rattle.ascii_words.specs.Words.{words_of, is_blank}
+use Rattle.over_tcp.specs.Asked.{asked_of, ask_to_send, bytes_of, is_send}
 use Rattle.over_tcp.specs.Reading.{asks_in, asks_of, ask_of_byte, kept_after, asks_along}
 
 -- bytes before the first line; before no line, nothing

@@ -1,62 +1,34 @@
 -- What a line of a client asks, in LocoNet over TCP. What the protocol leaves open is the project's own rule: the
 -- longest line, the case of the digits, the tab as a blank, and what is answered to what cannot be sent.
-use Rattle.std.specs.Prelude.{ℕ, Bool, true, false, ◌&&◌, ◌||◌, ◌==◌, ◌+◌, ◌*◌, ◌-◌, if◌then◌else◌, nat_le, nat_lt, List, [], ◌∷◌, length, filter, Option, Some, None, codes}
-use Rattle.std.specs.List.{slice_split, before_first, after_first}
-use Rattle.std.specs.Char.{is_ascii_digit}
+use Rattle.std.specs.Prelude.{ℕ, Bool, if◌then◌else◌, nat_lt, List, [], ◌∷◌, length, Option, Some, None, codes}
+use Rattle.std.specs.List.{list_all, before_first, after_first}
+use Rattle.std.specs.Option.{is_some}
 use Rattle.std.specs.Str.{bytes_eq}
+use Rattle.ascii_words.specs.Words.{is_blank, words_of, pair_of}
 use Rattle.ln_frame.specs.Message.{has_form, is_whole}
 use Rattle.over_tcp.specs.declared.ask.Ask.{Ask}
 use Rattle.over_tcp.specs.declared.ask.Ask.TheVariants.{Send, Refused}
 use Rattle.over_tcp.specs.declared.ask.Reason.TheVariants.{TooLong, NotHex, NoMessage, WrongCheck}
 
--- a space or a tab
-abbrev pub is_blank : ℕ → Bool
-is_blank b = b == 32 || b == 9
+-- a pair of hexadecimal digits
+abbrev pub is_pair : List ℕ → Bool
+is_pair word = is_some (pair_of word)
 
--- an empty piece is no word
-abbrev pub is_word : List ℕ → Bool
-is_word [] = false
-is_word (b ∷ bs) = true
+unfoldable pub are_pairs : List (List ℕ) → Bool
+are_pairs words = list_all is_pair words
 
--- the words of a text, separated by blanks
-unfoldable pub words_of : List ℕ → List (List ℕ)
-words_of text = filter is_word (slice_split is_blank text)
+abbrev pub led_by : Option ℕ → List ℕ → List ℕ
+led_by None bytes = []
+led_by (Some byte) bytes = byte ∷ bytes
 
--- a piece, if it is a word, before other words
-abbrev pub with_piece : List ℕ → List (List ℕ) → List (List ℕ)
-with_piece [] words = words
-with_piece (b ∷ bs) words = (b ∷ bs) ∷ words
-
--- Two hexadecimal digits of either case.
-
-abbrev pub digit_of : ℕ → Option ℕ
-digit_of b =
-    if is_ascii_digit b then Some (b - 48)
-    else if nat_le 65 b && nat_le b 70 then Some (b - 55)
-    else if nat_le 97 b && nat_le b 102 then Some (b - 87)
-    else None
-
-abbrev pub both : Option ℕ → Option ℕ → Option ℕ
-both (Some high) (Some low) = Some (16 * high + low)
-both (Some high) None = None
-both None low = None
-
-abbrev pub pair_of : List ℕ → Option ℕ
-pair_of [] = None
-pair_of (high ∷ []) = None
-pair_of (high ∷ low ∷ []) = both (digit_of high) (digit_of low)
-pair_of (high ∷ low ∷ b ∷ bs) = None
-
--- a byte before others, where all are written
-abbrev pub with_byte : Option ℕ → Option (List ℕ) → Option (List ℕ)
-with_byte (Some byte) (Some bytes) = Some (byte ∷ bytes)
-with_byte (Some byte) None = None
-with_byte None bytes = None
+-- the bytes of the words up to the first that is no pair
+unfoldable pub leading : List (List ℕ) → List ℕ
+leading [] = []
+leading (word ∷ words) = led_by (pair_of word) (leading words)
 
 -- the bytes that words write, a pair of digits each; none where a word is no such pair
 unfoldable pub bytes_of : List (List ℕ) → Option (List ℕ)
-bytes_of [] = Some []
-bytes_of (word ∷ words) = with_byte (pair_of word) (bytes_of words)
+bytes_of words = if are_pairs words then Some (leading words) else None
 
 -- to send the bytes, if they are a whole message
 abbrev pub ask_to_send : Option (List ℕ) → Ask

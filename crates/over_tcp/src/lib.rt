@@ -10,7 +10,7 @@ mod reader;
 mod telling;
 
 pub use ask::{Ask, Reason};
-pub use asked::{Bytes, KEPT, bytes_of, cut_piece, hex_pair};
+pub use asked::{Bytes, KEPT, bytes_of, leading};
 pub use laws::{any_cut, told_is_asked};
 pub use reader::Reader;
 pub use telling::{Text, push_no_place, push_receive, push_sent_error, push_sent_ok, push_version};

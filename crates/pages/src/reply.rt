@@ -149,18 +149,5 @@ fn push_number(head: &mut Head, n: u32)
     ensures text { head.new.items ≡ head.old.items ++ decimal n }
     ensures len { array_vec_len head.new ≤ array_vec_len head.old + 10 }
 {
-    push_digits(head, u64::from(n));
-}
-
-fn push_digits(head: &mut Head, n: u64)
-    requires { array_vec_len head.old + length (decimal n) ≤ 640 }
-    ensures { head.new.items ≡ head.old.items ++ decimal n }
-{
-    match n {
-        0..=9 => head.push(b'0' + n as u8),
-        _ => {
-            push_digits(head, n / 10);
-            head.push(b'0' + (n % 10) as u8);
-        }
-    }
+    push_text(head, ascii_words::decimal(u64::from(n)).as_slice());
 }

@@ -1,11 +1,10 @@
 -- A table says the same wherever its texts lie in memory.
 use Rattle.std.proofs.Common.{◌≡◌, ℕ, zero, suc, ◌++◌, Bool, true, false, List, [], ◌∷◌, map, if◌then◌else◌, refl, ap, ap₂, sym, ◌∙◌}
 use Rattle.std.specs.Borrow.{Bor}
-use Rattle.std.specs.Fmt.{decimal}
 use Rattle.plain_words.specs.declared.fields.Field.{Field}
 use Rattle.plain_words.specs.declared.rows.Part.{Part}
 use Rattle.plain_words.specs.declared.rows.Part.TheVariants.{Text, Number, Hex, Choice, On}
-use Rattle.plain_words.specs.Rows.{Said, Row, applies, choice_text, made_text, part_text, parts_of, parts_text, row_text}
+use Rattle.plain_words.specs.Rows.{Said, Row, applies, choice_text, made_text, parts_of, parts_text, row_text}
 
 -- a part and its texts, and a row, without the places of the texts
 abbrev PlainSaid : Type 0

@@ -1,6 +1,6 @@
 -- A message that bytes are.
 use Rattle.std.proofs.Common.{◌≡◌, ℕ, Bool, true, false, List, if◌then◌else◌, refl}
-use Rattle.std.specs.Prelude.{Option, Some, None}
+use Rattle.std.specs.Prelude.{Some, None}
 use Rattle.ln_frame.specs.Message.{is_whole}
 
 whole_if : (test : Bool) (bytes message : List ℕ) → (if test then Some bytes else None) ≡ Some message → (test ≡ true) × (bytes ≡ message)

@@ -1,5 +1,5 @@
 -- What messages of a LocoNet line say, in plain words (LocoNet Personal Use Edition 1.0).
-use Rattle.std.specs.Prelude.{ℕ, ◌+◌, ◌-◌, ◌*◌, ◌/◌, ◌%◌, ◌==◌, ◌&&◌, ◌||◌, Bool, true, false, nat_lt, nat_le, if◌then◌else◌, List, [], ◌∷◌, ◌++◌, map, take, codes}
+use Rattle.std.specs.Prelude.{ℕ, ◌+◌, ◌-◌, ◌*◌, ◌/◌, ◌%◌, ◌==◌, ◌&&◌, Bool, true, false, nat_lt, nat_le, if◌then◌else◌, List, [], ◌∷◌, ◌++◌, map, take, codes}
 use Rattle.std.specs.Fmt.{decimal}
 use Rattle.ln_frame.specs.Message.{are_data, has_form, is_whole}
 use Rattle.ln_ops.specs.Fields.{SlotBytes}

@@ -22,27 +22,13 @@ pub(crate) fn push_text(words: &mut Words, text: &str)
     let _fits = words.try_extend_from_slice(text.as_bytes());
 }
 
-/// Appends a number in decimal digits.
-fn push_digits(words: &mut Words, n: u64)
-    requires { array_vec_len words.old + length (decimal n) ≤ 400 }
-    ensures { words.new.items ≡ words.old.items ++ decimal n }
-{
-    match n {
-        0..=9 => words.push(b'0' + n as u8),
-        _ => {
-            push_digits(words, n / 10);
-            words.push(b'0' + (n % 10) as u8);
-        }
-    }
-}
-
 /// Appends a small number in decimal digits, at most 5.
 pub(crate) fn push_number(words: &mut Words, n: u16)
     requires { array_vec_len words.old + 5 ≤ 400 }
     ensures text { words.new.items ≡ words.old.items ++ decimal n }
     ensures len { array_vec_len words.new ≤ array_vec_len words.old + 5 }
 {
-    push_digits(words, u64::from(n));
+    let _fits = words.try_extend_from_slice(ascii_words::decimal(u64::from(n)).as_slice());
 }
 
 /// Appends a label and a small number.

@@ -11,7 +11,8 @@ use Rattle.std.proofs.lemmas.Slice.Eq.{bytes_eq-Decides}
 use Rattle.show_text.specs.declared.command.Why.{Why}
 use Rattle.show_text.specs.declared.command.Why.TheVariants.{BadLine, BadNumber, BadWord}
 use Rattle.show_text.specs.declared.command.Command.TheVariants.{Turns}
-use Rattle.show_text.specs.Words.{begins_blank, both, decimal_of, digit_of, ends_word, is_blank, is_empty, is_first, is_name, is_word, pair_of, words_of}
+use Rattle.ascii_words.specs.Words.{both, digit_of, is_blank, is_word, pair_of, words_of}
+use Rattle.show_text.specs.Words.{begins_blank, decimal_of, ends_word, is_empty, is_first, is_name}
 use Rattle.show_text.specs.Script.{◌>>=◌, command_of, first_number_of, is_count, line_of, missed_of, some_bytes, turn_of}
 
 -- blanks before the first word

@@ -5,7 +5,7 @@ use Rattle.std.proofs.lemmas.List.{take_rest}
 use Rattle.show_text.specs.Sequence.{before, followed_by}
 use Rattle.show_text.specs.declared.hex.HexFault.{HexFault}
 use Rattle.show_text.specs.declared.hex.HexWhy.TheVariants.{BadHex, TooLong}
-use Rattle.show_text.specs.Words.{pair_of}
+use Rattle.ascii_words.specs.Words.{pair_of}
 use Rattle.show_text.specs.Hex.{is_space, hex_fault, one_byte, piece_of, pieces_of, hex_of}
 use Rattle.show_text.proofs.Sequences.{after_none, ends, goes_on}
 use Rattle.std.proofs.lemmas.Bool.{lt-ltb}

@@ -23,7 +23,8 @@ use Rattle.show_text.specs.Hex.{hex_of, is_space, one_byte, pieces_of}
 use Rattle.show_text.specs.Lines.{hex_byte, hex_words}
 use Rattle.show_text.specs.Script.{◌>>=◌, at_line, below, bytes_of, command_of, commands_of, count_of, is_count, line_commands, missed_of, nodes_of, or_fault, script_of, set_with, some_nodes, with_node}
 use Rattle.show_text.specs.Sequence.{followed_by}
-use Rattle.show_text.specs.Words.{both, decimal_of, digit_of, is_blank, is_word, pair_of, words_of}
+use Rattle.ascii_words.specs.Words.{both, digit_of, is_blank, is_word, pair_of, words_of}
+use Rattle.show_text.specs.Words.{decimal_of}
 use Rattle.show_text.specs.Written.{can_be_asked, command_text, missed_text, named_below, number_words, script_text}
 use Rattle.show_text.proofs.Cuts.{parts_after}
 use Rattle.show_text.proofs.Decimals.{all_digits, own}

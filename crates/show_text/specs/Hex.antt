@@ -5,7 +5,7 @@ use Rattle.show_text.specs.declared.hex.HexWhy.{HexWhy}
 use Rattle.show_text.specs.declared.hex.HexWhy.TheVariants.{BadHex, TooLong}
 use Rattle.show_text.specs.declared.hex.HexFault.{HexFault}
 use Rattle.show_text.specs.Sequence.{followed_by}
-use Rattle.show_text.specs.Words.{pair_of}
+use Rattle.ascii_words.specs.Words.{pair_of}
 
 -- a space, a tab, a carriage return or a line feed
 abbrev pub is_space : ℕ → Bool

@@ -9,7 +9,8 @@ use Rattle.show_text.specs.declared.command.Why.{Why}
 use Rattle.show_text.specs.declared.command.Why.TheVariants.{BadWord, BadHex, BadNumber, BadLine, BadNode, TooLong, NoMemory}
 use Rattle.show_text.specs.declared.command.ScriptFault.{ScriptFault}
 use Rattle.show_text.specs.Sequence.{before, followed_by}
-use Rattle.show_text.specs.Words.{is_empty, words_of, decimal_of, pair_of}
+use Rattle.ascii_words.specs.Words.{words_of, pair_of}
+use Rattle.show_text.specs.Words.{is_empty, decimal_of}
 
 infixl 10 ◌>>=◌
 abbrev pub ◌>>=◌ : {A B : Type 0} → Result A Why → (A → Result B Why) → Result B Why

@@ -3,36 +3,18 @@ ghost use Rattle.std.specs.Prelude.{◌≡◌, ◌<◌, ◌==◌, ◌∷◌, ◌
 ghost use Rattle.std.specs.Iterator.{YieldsFirstRef, item_count};
 ghost use Rattle.std.specs.List.{list_all};
 ghost use Rattle.std.specs.Str.Lines.{lines, strip_carriage_return};
-ghost use Rattle.show_text.specs.Words.{begins_blank, decimal_of, ends_word, is_blank, is_empty, is_first, is_name, pair_of, words_of, with_piece};
+ghost use Rattle.ascii_words.specs.Words.{is_blank, pair_of, words_of, with_piece};
+ghost use Rattle.show_text.specs.Words.{begins_blank, decimal_of, ends_word, is_empty, is_first, is_name};
 ghost use Rattle.show_text.specs.Script.{first_byte_of, first_number_of};
 
 use crate::command::Why;
-use crate::words::{decimal, hex_byte, hex_pair};
-use memchr::memchr;
-
-fn is_blank(byte: u8) -> bool
-    ensures { result ≡ is_blank byte }
-{
-    byte == b' ' || byte == b'\t'
-}
+use crate::words::decimal;
+use ascii_words::{cut_piece, hex_byte, hex_pair, is_blank, line_feed_at};
 
 fn are_blank(bytes: &[u8]) -> bool
     ensures { result ≡ list_all is_blank bytes.now }
 {
     bytes.iter().all(|byte| is_blank(*byte))
-}
-
-fn blank_at(bytes: &[u8]) -> Option<usize>
-    ensures { result ≡ position is_blank bytes.now }
-{
-    bytes.iter().position(|byte| is_blank(*byte))
-}
-
-#[tactic(auto, using(crate::proofs::Cuts::first_is_position))]
-fn line_feed_at(bytes: &[u8]) -> Option<usize>
-    ensures { result ≡ position (λ b. b == 10) bytes.now }
-{
-    memchr(b'\n', bytes)
 }
 
 fn without_carriage_return(line: &[u8]) -> &[u8]
@@ -50,19 +32,6 @@ fn cut_line(text: &[u8]) -> (&[u8], &[u8])
     match line_feed_at(text) {
         None => (text, &[]),
         Some(at) => (without_carriage_return(&text[..at]), &text[at + 1..]),
-    }
-}
-
-/// The piece before the first blank, and what follows that blank.
-#[tactic(auto, using(crate::proofs::Cuts::word_cuts))]
-fn cut_piece(text: &[u8]) -> (&[u8], &[u8])
-    requires { 0 < length text.now }
-    ensures words { words_of text.now ≡ with_piece result.0.now (words_of result.1.now) }
-    ensures shorter { length result.1.now < length text.now }
-{
-    match blank_at(text) {
-        None => (text, &[]),
-        Some(at) => (&text[..at], &text[at + 1..]),
     }
 }
 

@@ -6,7 +6,7 @@ ghost use Rattle.show_text.specs.Sequence.{followed_by};
 ghost use Rattle.show_text.specs.Hex.{is_space, piece_of, pieces_of, hex_of};
 
 use crate::script::LONGEST_TEXT;
-use crate::words::hex_pair;
+use ascii_words::hex_pair;
 use std::alloc::{AllocFailed, Global};
 
 /// What is wrong with hex text.

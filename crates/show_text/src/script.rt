@@ -1,7 +1,7 @@
 //! Scripts, line by line.
 ghost use Rattle.std.specs.Prelude.{◌≡◌, ◌≢◌, ◌≤◌, ◌∷◌, [], IfOk, IfErr, Ok, Err, if◌then◌else◌, nat_lt};
 ghost use Rattle.show_text.specs.declared.command.Why.TheVariants.{NoMemory};
-ghost use Rattle.show_text.specs.Words.{words_of};
+ghost use Rattle.ascii_words.specs.Words.{words_of};
 ghost use Rattle.show_text.specs.Script.{Adds, AreCounted, AreOnLines, below, is_count, bytes_of, some_bytes, line_of, nodes_of, set_with, missed_of, turn_of, show_of, command_of, line_commands, fault_at, script_of};
 
 use crate::command::{Command, ScriptFault, Why};

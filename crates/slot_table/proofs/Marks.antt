@@ -1,7 +1,8 @@
 -- What a call makes of the mark.
 use Rattle.std.proofs.Common.{◌≡◌, ◌≢◌, ℕ, ◌==◌, ◌&&◌, not, Bool, true, false, if◌then◌else◌, Option, Some, None, is_ok, refl, ap, ◌∙◌, eqb-true, eq-eqb}
 use Rattle.std.proofs.lemmas.Bool.{and_parts, cond_both}
-use Rattle.std.specs.FinMap.{get}
+use Rattle.std.specs.FinMap.{FinMap, get, insert}
+use Rattle.std.specs.Ordering.{nat_cmp}
 use Rattle.ln_ops.specs.Fields.{SlotBytes}
 use Rattle.ln_ops.specs.Slot.{is_held, is_address, is_slot, state_of, address_of}
 use Rattle.slot_table.specs.declared.field.Field.{Field}
@@ -13,16 +14,20 @@ use Rattle.slot_table.specs.Writes.{take_at, after_take, keeps_slot, with_field,
 use Rattle.slot_table.specs.Moves.{dispatch_get_at, after_dispatch_get, may_move, can_shift, move_place, moved_mark, after_shift}
 use Rattle.slot_table.specs.Laws.{LosesMark, MarkFollows}
 
-pub mark-changed : (desk : Desk) (n : ℕ) (f : Entry → Entry) → (changed desk n f).mark ≡ desk.mark
-mark-changed desk n f = by_place (get desk.place n)
+-- what a change leaves alone: whatever does not look at what is asked
+pub unasked : {X : Type 0} (part : Desk → X) (desk : Desk) (n : ℕ) (f : Entry → Entry) → ((asked : FinMap nat_cmp Entry) → part (record desk { asked = asked }) ≡ part desk) → part (changed desk n f) ≡ part desk
+unasked part desk n f stays = by_place (get desk.place n)
   where
-    by_entry : (a : ℕ) (o : Option Entry) → (change_entry desk a f o).mark ≡ desk.mark
+    by_entry : (a : ℕ) (o : Option Entry) → part (change_entry desk a f o) ≡ part desk
     by_entry a None = refl
-    by_entry a (Some e) = refl
+    by_entry a (Some e) = stays (insert desk.asked a (f e))
 
-    by_place : (o : Option ℕ) → (change_at desk f o).mark ≡ desk.mark
+    by_place : (o : Option ℕ) → part (change_at desk f o) ≡ part desk
     by_place None = refl
     by_place (Some a) = by_entry a (get desk.asked a)
+
+pub mark-changed : (desk : Desk) (n : ℕ) (f : Entry → Entry) → (changed desk n f).mark ≡ desk.mark
+mark-changed desk n f = unasked (λ d. d.mark) desk n f (λ asked. refl)
 
 mark-take : (desk : Desk) (a : ℕ) → (after_take desk a).mark ≡ desk.mark
 mark-take desk a = cond_both (is_address a) (take_at desk a (slot_of desk a) (free_slot desk)) desk (λ d. d.mark ≡ desk.mark) (λ legal. by_slots (slot_of desk a) (free_slot desk)) (λ not. refl)

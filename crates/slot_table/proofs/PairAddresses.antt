@@ -116,6 +116,16 @@ module _ (pairs : List Pair) (rising : IsRising pairs) (apart : AreApart pairs) 
 
 -- ---- a pair leaves
 
+-- numbers that lie as two others do are equal where those are
+one_origin : (i j before after : ℕ) → (i < j → before < after) → (j < i → after < before) → before ≡ after → i ≡ j
+one_origin i j before after rise fall e = elim (cases_lt i j) [
+  | inl lt ↦ absurd (omega (arith, rise lt))
+  | inr le ↦ elim (cases_lt j i) [
+    | inl gt ↦ absurd (omega (arith, fall gt))
+    | inr ge ↦ omega arith
+  ]
+]
+
 module _ (pairs : List Pair) (k : ℕ) (inside : k < length pairs) where
   -- where a pair that is left stood
   pub record Stood (j : ℕ) : Type 0 where
@@ -151,13 +161,7 @@ module _ (pairs : List Pair) (k : ℕ) (inside : k < length pairs) where
       by_cases (inr a) (inr b) = omega (arith, a, b)
 
   back : (i j : ℕ) (s : Stood i) (t : Stood j) → s.at ≡ t.at → i ≡ j
-  back i j s t e = elim (cases_lt i j) [
-    | inl lt ↦ absurd (omega (arith, order i j s t lt))
-    | inr le ↦ elim (cases_lt j i) [
-      | inl gt ↦ absurd (omega (arith, order j i t s gt))
-      | inr ge ↦ omega arith
-    ]
-  ]
+  back i j s t = one_origin i j s.at t.at (order i j s t) (order j i t s)
 
   not_k : (j : ℕ) (s : Stood j) → s.at ≢ k
   not_k j s e = by_case s.moved
@@ -251,15 +255,6 @@ module _ (pairs : List Pair) (k : ℕ) (le : k ≤ length pairs) (new : Pair) wh
       by_cases (inr a) (inl b) = omega (arith, a, b)
       by_cases (inr a) (inr b) = omega (arith, a, b)
 
-  one_origin : (i j : ℕ) (s : Came i) (t : Came j) → s.at ≡ t.at → i ≡ j
-  one_origin i j s t e = elim (cases_lt i j) [
-    | inl lt ↦ absurd (omega (arith, before i j s t lt))
-    | inr le ↦ elim (cases_lt j i) [
-      | inl gt ↦ absurd (omega (arith, before j i t s gt))
-      | inr ge ↦ omega arith
-    ]
-  ]
-
   under : (i : ℕ) (s : Came i) → i < k → s.at < k
   under i s lt = by_case s.moved
     where
@@ -303,7 +298,7 @@ module _ (pairs : List Pair) (k : ℕ) (le : k ≤ length pairs) (new : Pair) wh
         by_cases (inl a) (inl b) = a ∙ sym b
         by_cases (inl a) (inr t) = absurd (other_slot j t (sym e ∙ ap (λ (p : Pair). p.slot) (here i a)))
         by_cases (inr s) (inl b) = absurd (other_slot i s (e ∙ ap (λ (p : Pair). p.slot) (here j b)))
-        by_cases (inr s) (inr t) = one_origin i j s t (apart s.at t.at s.low t.low (sym (ap (λ (p : Pair). p.slot) s.pair) ∙ e ∙ ap (λ (p : Pair). p.slot) t.pair))
+        by_cases (inr s) (inr t) = one_origin i j s.at t.at (before i j s t) (before j i t s) (apart s.at t.at s.low t.low (sym (ap (λ (p : Pair). p.slot) s.pair) ∙ e ∙ ap (λ (p : Pair). p.slot) t.pair))
 
     -- its slot has its address then, and the others keep theirs
     pub inserted-addresses : addresses_of (insert_in pairs k new) ≡ insert (addresses_of pairs) new.slot new.address

@@ -4,7 +4,7 @@ ghost use Rattle.std.specs.FinMap.{get, empty};
 ghost use Rattle.slot_table.specs.Entry.{IsSlot};
 ghost use Rattle.slot_table.specs.Index.{slot_with, first_free, with_address};
 
-use crate::bits::{least_bit, with_bit};
+use crate::bits::{least_bit, with_bit, without_bit};
 use crate::pairs::{Pair, position};
 use arrayvec::ArrayVec;
 use std::marker::Model;
@@ -93,7 +93,7 @@ impl Index {
         };
         if let Ok(k) = position(self.pairs.as_slice(), address) {
             self.pairs.remove(k);
-            self.free = with_bit(self.free, slot, true);
+            self.free = with_bit(self.free, slot);
         }
     }
 
@@ -106,7 +106,7 @@ impl Index {
     {
         if let Err(k) = position(self.pairs.as_slice(), address) {
             self.pairs.insert(k, Pair { address, slot });
-            self.free = with_bit(self.free, slot, false);
+            self.free = without_bit(self.free, slot);
         }
     }
 }

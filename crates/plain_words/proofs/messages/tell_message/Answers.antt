@@ -1,6 +1,6 @@
-use Rattle.std.proofs.Common.{◌++◌, ap, sym, subst, ◌≡◌, List, ℕ, ◌∙◌}
+use Rattle.std.proofs.Common.{◌++◌, ap, sym, ◌∙◌}
 use Rattle.ln_ops.specs.Message.{op_of}
-use Rattle.plain_words.specs.Messages.{fault_words, whole_words}
+use Rattle.plain_words.specs.Messages.{whole_words}
 use Rattle.plain_words.proofs.Whole.{whole_of}
 use Rattle.plain_words.proofs.messages.tell_message.Goals as goal
 

@@ -1,5 +1,5 @@
 use Rattle.std.proofs.Common.{◌≡◌, length}
-use Rattle.show_text.specs.Words.{words_of}
+use Rattle.ascii_words.specs.Words.{words_of}
 use Rattle.show_text.proofs.cursors.from_word.Given as goal
 
 abbrev pub invariant-loop-rest : goal.invariant-loop-rest

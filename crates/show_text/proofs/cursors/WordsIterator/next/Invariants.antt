@@ -1,5 +1,5 @@
 use Rattle.std.proofs.Common.{◌≡◌, length}
-use Rattle.show_text.specs.Words.{words_of}
+use Rattle.ascii_words.specs.Words.{words_of}
 use Rattle.show_text.proofs.cursors.WordsIterator.next.Given as goal
 
 abbrev pub invariant-loop-piece : goal.invariant-loop-piece

@@ -21,10 +21,10 @@ insert-requires c =
 
 pub invariant_of-self : goal.invariant_of-self
 invariant_of-self c = rw c.insert.ensures.items
-    (inserted-index c.self.inside.pairs.items c.self.inside.free c.with_bit-self-inside.result c.self.invariant c.in-Err.k (record { address = c.args.address; slot = c.args.slot }) (end c) c.requires.slot (free c)
+    (inserted-index c.self.inside.pairs.items c.self.inside.free c.without_bit-self-inside.result c.self.invariant c.in-Err.k (record { address = c.args.address; slot = c.args.slot }) (end c) c.requires.slot (free c)
     (subst (λ (l : List Pair). (i : ℕ) → i < c.in-Err.k → (pair_at l i).address < c.args.address) c.as_slice.ensures.value c.in-Err.ensures.below)
     (subst (λ (l : List Pair). (i : ℕ) → c.in-Err.k ≤ i → i < length l → c.args.address < (pair_at l i).address) c.as_slice.ensures.value c.in-Err.ensures.above)
-    c.with_bit-self-inside.ensures.same c.with_bit-self-inside.ensures.others)
+    c.without_bit-self-inside.ensures.same c.without_bit-self-inside.ensures.others)
 
 pub returns-in-Err : goal.returns-in-Err
 returns-in-Err c =

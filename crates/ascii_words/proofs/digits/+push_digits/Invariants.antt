@@ -1,4 +1,4 @@
-use Rattle.plain_words.proofs.pieces.+push_digits.Given as goal
+use Rattle.ascii_words.proofs.digits.+push_digits.Given as goal
 
 abbrev pub decreases-push_digits : goal.decreases-push_digits
 decreases-push_digits l = l.n

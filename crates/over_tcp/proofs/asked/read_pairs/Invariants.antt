@@ -1,12 +1,13 @@
 use Rattle.std.proofs.Common.{◌≡◌, ◌+◌, ◌*◌, ◌≤◌, ◌++◌, length}
-use Rattle.over_tcp.specs.Asked.{words_of}
-use Rattle.explain.specs.Subjects.{leading}
-use Rattle.explain.proofs.subjects.leading.Given as goal
+use Rattle.ascii_words.specs.Words.{words_of}
+use Rattle.over_tcp.specs.Asked.{leading, are_pairs}
+use Rattle.over_tcp.proofs.asked.read_pairs.Given as goal
 
 -- the bytes so far, and those that the rest begins with, are those that the text begins with
 abbrev pub invariant-loop-rest : goal.invariant-loop-rest
 invariant-loop-rest l = record {
   led : l.bytes.items ++ leading (words_of l.rest) ≡ leading (words_of l.text);
+  are : are_pairs (words_of l.rest) ≡ are_pairs (words_of l.text);
   room : 2 * length l.bytes.items + length l.rest ≤ length l.text;
 }
 

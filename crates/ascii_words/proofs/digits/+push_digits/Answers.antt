@@ -1,7 +1,7 @@
 use Rattle.std.proofs.Common.{◌+◌, ◌/◌, ◌%◌, ◌++◌, ◌∷◌, [], length, arith, ap, sym, ◌∙◌, append_assoc, length-append}
 use Rattle.std.specs.Fmt.{decimal}
 use Rattle.std.proofs.lemmas.Fmt.{decimal_digit, decimal_step}
-use Rattle.pages.proofs.reply.+push_digits.Goals as goal
+use Rattle.ascii_words.proofs.digits.+push_digits.Goals as goal
 
 pub push-requires : goal.push-requires
 push-requires t c = omega (arith, ap length (decimal_digit c.args.n (omega arith)))
@@ -14,7 +14,7 @@ push_digits-requires t c =
 pub push-requires-in_default : goal.push-requires-in_default
 push-requires-in_default t c =
     let more = ap length (decimal_step c.args.n (omega arith) (omega arith)) ∙ length-append (decimal (c.args.n / 10)) _ in
-    omega (arith, more, ap length c.push_digits.ensures, length-append c.args.head.now.items (decimal (c.args.n / 10)))
+    omega (arith, more, ap length c.push_digits.ensures, length-append c.args.digits.now.items (decimal (c.args.n / 10)))
 
 pub returns-in-0-to-9 : goal.returns-in-0-to-9
 returns-in-0-to-9 t c = rw (decimal_digit c.args.n (omega arith)) c.push.ensures.items
@@ -23,4 +23,4 @@ pub returns-in_default : goal.returns-in_default
 returns-in_default t c =
     let last = (48 + c.args.n % 10) ∷ [] in
     c.push-in_default.ensures.items ∙ ap (λ l. l ++ last) c.push_digits.ensures
-    ∙ append_assoc c.args.head.now.items (decimal (c.args.n / 10)) last ∙ ap (λ l. c.args.head.now.items ++ l) (sym (decimal_step c.args.n (omega arith) (omega arith)))
+    ∙ append_assoc c.args.digits.now.items (decimal (c.args.n / 10)) last ∙ ap (λ l. c.args.digits.now.items ++ l) (sym (decimal_step c.args.n (omega arith) (omega arith)))

@@ -1,0 +1,86 @@
+-- A text is cut at the first of its bytes that passes a test.
+use Rattle.std.proofs.Common.{◌≡◌, ℕ, ◌+◌, ◌<◌, ◌≤◌, ◌==◌, Bool, true, false, List, [], ◌∷◌, length, take, drop, Option, Some, None, position, cond, not, nat_lt, slice_index, refl, ap, sym, ◌∙◌, arith}
+use Rattle.std.specs.List.{slice_split, onto_first, before_first, after_first, position_or_len}
+use Rattle.std.proofs.lemmas.Bool.{ltb-true, ltb-false, lt-ltb, le-ltb, false_from_ne_true}
+use Rattle.std.proofs.lemmas.List.{take_all, drop_all, take_rest}
+use Rattle.std.proofs.lemmas.List.Splits.{slice_split_first}
+use Rattle.std.proofs.lemmas.List.Sums.{position_or_len_is}
+use Rattle.memchr.specs.Find.{IsFirstByte, is_byte}
+use Rattle.ascii_words.specs.Words.{is_blank, is_word, words_of, with_piece}
+
+not_found : (within : Bool) (place : ℕ) → cond within (Some place) None ≡ None → within ≡ false
+not_found true place h = cc
+not_found false place h = refl
+
+found_at : (within : Bool) (place at : ℕ) → cond within (Some place) None ≡ Some at → (within ≡ true) × (place ≡ at)
+found_at true place at h = (refl, cc)
+found_at false place at h = cc
+
+pub no_place : {X : Type 0} (p : X → Bool) (xs : List X) → position p xs ≡ None → length xs ≤ position_or_len p xs
+no_place p xs h = ltb-false (position_or_len p xs) (length xs) (not_found (nat_lt (position_or_len p xs) (length xs)) (position_or_len p xs) h)
+
+pub first_place : {X : Type 0} (p : X → Bool) (xs : List X) (at : ℕ) → position p xs ≡ Some at → (position_or_len p xs ≡ at) × (at < length xs)
+first_place p xs at h =
+    let found = found_at (nat_lt (position_or_len p xs) (length xs)) (position_or_len p xs) at h in
+    (found.1, rw (← found.1) (ltb-true (position_or_len p xs) (length xs) found.0))
+
+split_whole : {X : Type 0} (p : X → Bool) (xs : List X) → length xs ≤ position_or_len p xs → slice_split p xs ≡ xs ∷ []
+split_whole p [] h = refl
+split_whole p (x ∷ xs) h = elim (p x) as (λ passes. length (x ∷ xs) ≤ cond (not passes) (1 + position_or_len p xs) 0 → cond passes ([] ∷ slice_split p xs) (onto_first x (slice_split p xs)) ≡ (x ∷ xs) ∷ [])
+    [ true ↦ λ long. absurd (omega (arith, long)) | false ↦ λ long. ap (onto_first x) (split_whole p xs (omega (arith, long))) ] h
+
+-- a list of which nothing passes is one part, and another is cut at the first element that passes
+
+pub whole : {X : Type 0} (p : X → Bool) (xs : List X) → position p xs ≡ None → slice_split p xs ≡ xs ∷ []
+whole p xs h = split_whole p xs (no_place p xs h)
+
+pub split_first : {X : Type 0} (p : X → Bool) (xs : List X) (at : ℕ) → X → position p xs ≡ Some at → slice_split p xs ≡ take at xs ∷ slice_split p (drop (at + 1) xs)
+split_first p xs at d h =
+    let found = first_place p xs at h in
+    rw (← found.0) (slice_split_first p xs d (omega arith))
+
+-- A text with no blank is its first piece.
+
+pub whole-before : (text : List ℕ) → position is_blank text ≡ None → text ≡ before_first is_blank text
+whole-before text h = sym (take_all (position_or_len is_blank text) text (no_place is_blank text h))
+
+pub whole-after : (text : List ℕ) → position is_blank text ≡ None → [] ≡ after_first is_blank text
+whole-after text h =
+    let long = no_place is_blank text h in
+    sym (drop_all (position_or_len is_blank text + 1) text (omega arith))
+
+kept : (piece : List ℕ) (words : List (List ℕ)) → cond (is_word piece) (piece ∷ words) words ≡ with_piece piece words
+kept [] words = refl
+kept (b ∷ bs) words = refl
+
+pub whole-words : (text : List ℕ) → position is_blank text ≡ None → words_of text ≡ with_piece text (words_of [])
+unfolding words_of
+whole-words text h = rw (whole is_blank text h) (kept text [])
+
+-- Another is cut at its first blank.
+
+pub cut-before : (text : List ℕ) (at : ℕ) → position is_blank text ≡ Some at → take at text ≡ before_first is_blank text
+cut-before text at h = ap (λ k. take k text) (sym (first_place is_blank text at h).0)
+
+pub cut-after : (text : List ℕ) (at : ℕ) → position is_blank text ≡ Some at → drop (at + 1) text ≡ after_first is_blank text
+cut-after text at h = ap (λ k. drop (k + 1) text) (sym (first_place is_blank text at h).0)
+
+pub cut-words : (text : List ℕ) (at : ℕ) → position is_blank text ≡ Some at → words_of text ≡ with_piece (take at text) (words_of (drop (at + 1) text))
+unfolding words_of
+cut-words text at h = rw (split_first is_blank text at 0 h) (kept (take at text) _)
+
+pub ruleset cuts = (whole-before, whole-after, whole-words, cut-before, cut-after, cut-words, take_rest)
+
+-- what a search of memory finds
+
+at-place : (text : List ℕ) (at : ℕ) → position_or_len (λ b. b == 10) text ≡ at → at < length text → Some at ≡ position (λ b. b == 10) text
+at-place text at is within = sym (ap (λ k. cond (nat_lt k (length text)) (Some k) None) is ∙ rw (lt-ltb at (length text) within) refl)
+
+at-no_place : (text : List ℕ) → position_or_len (λ b. b == 10) text ≡ length text → None ≡ position (λ b. b == 10) text
+at-no_place text is = sym (ap (λ k. cond (nat_lt k (length text)) (Some k) None) is ∙ rw (le-ltb (length text) (length text) (omega arith)) refl)
+
+pub first_is_position : (text : List ℕ) (found : Option ℕ) → IsFirstByte (is_byte 10) text found → found ≡ position (λ b. b == 10) text
+first_is_position text None nowhere =
+    at-no_place text (position_or_len_is (λ b. b == 10) text (length text) 0 (omega arith) (λ k l. false_from_ne_true (slice_index text k == 10) (nowhere k (omega arith) l)) (λ l. absurd (omega (arith, l))))
+first_is_position text (Some at) first =
+    at-place text at (position_or_len_is (λ b. b == 10) text at 0 (omega (arith, first.0.high)) (λ k l. false_from_ne_true (slice_index text k == 10) (first.0.before k (omega arith) l)) (λ l. first.1)) first.0.high

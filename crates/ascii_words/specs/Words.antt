@@ -1,0 +1,43 @@
+-- The words of a text, and the bytes that they write. The tab as a blank and the digits of either case are the project's own
+-- rule.
+use Rattle.std.specs.Prelude.{ℕ, Bool, true, false, ◌&&◌, ◌||◌, ◌==◌, ◌+◌, ◌*◌, ◌-◌, if◌then◌else◌, nat_le, List, [], ◌∷◌, filter, Option, Some, None}
+use Rattle.std.specs.Char.{is_ascii_digit}
+use Rattle.std.specs.List.{slice_split}
+
+-- a space or a tab
+abbrev pub is_blank : ℕ → Bool
+is_blank b = b == 32 || b == 9
+
+-- an empty piece is no word
+abbrev pub is_word : List ℕ → Bool
+is_word [] = false
+is_word (b ∷ bs) = true
+
+-- the words of a text, separated by blanks
+unfoldable pub words_of : List ℕ → List (List ℕ)
+words_of text = filter is_word (slice_split is_blank text)
+
+-- a piece, if it is a word, before other words
+abbrev pub with_piece : List ℕ → List (List ℕ) → List (List ℕ)
+with_piece [] words = words
+with_piece (b ∷ bs) words = (b ∷ bs) ∷ words
+
+-- Two hexadecimal digits of either case.
+
+abbrev pub digit_of : ℕ → Option ℕ
+digit_of b =
+    if is_ascii_digit b then Some (b - 48)
+    else if nat_le 65 b && nat_le b 70 then Some (b - 55)
+    else if nat_le 97 b && nat_le b 102 then Some (b - 87)
+    else None
+
+abbrev pub both : Option ℕ → Option ℕ → Option ℕ
+both (Some high) (Some low) = Some (16 * high + low)
+both (Some high) None = None
+both None low = None
+
+abbrev pub pair_of : List ℕ → Option ℕ
+pair_of [] = None
+pair_of (high ∷ []) = None
+pair_of (high ∷ low ∷ []) = both (digit_of high) (digit_of low)
+pair_of (high ∷ low ∷ b ∷ bs) = None

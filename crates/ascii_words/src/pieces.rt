@@ -1,0 +1,47 @@
+//! Where a text is cut: at its blanks, and at its line feeds.
+ghost use Rattle.std.specs.Prelude.{◌≡◌, ◌+◌, ◌<◌, ◌≤◌, ◌==◌, length, position};
+ghost use Rattle.std.specs.List.{before_first, after_first};
+ghost use Rattle.ascii_words.specs.Words.{is_blank, words_of, with_piece};
+
+use memchr::memchr;
+
+/// Where the first line feed stands.
+#[inline]
+#[tactic(auto, using(crate::proofs::Cuts::first_is_position))]
+pub fn line_feed_at(text: &[u8]) -> Option<usize>
+    ensures { result ≡ position (λ b. b == 10) text.now }
+{
+    memchr(b'\n', text)
+}
+
+/// What stands before the first blank, a space or a tab, and what stands behind that blank. A text without a blank is all
+/// before it.
+#[inline]
+#[tactic(auto, using(crate::proofs::Cuts::cuts))]
+pub fn cut_piece(text: &[u8]) -> (&[u8], &[u8])
+    ensures first { result.0.now ≡ before_first is_blank text.now }
+    ensures rest { result.1.now ≡ after_first is_blank text.now }
+    ensures words { words_of text.now ≡ with_piece result.0.now (words_of result.1.now) }
+    ensures within { length result.0.now + length result.1.now ≤ length text.now }
+    ensures shorter { 0 < length text.now → length result.1.now < length text.now }
+{
+    match blank_at(text) {
+        None => (text, &[]),
+        Some(at) => (&text[..at], &text[at + 1..]),
+    }
+}
+
+#[inline]
+fn blank_at(text: &[u8]) -> Option<usize>
+    ensures { result ≡ position is_blank text.now }
+{
+    text.iter().position(|byte| is_blank(*byte))
+}
+
+/// Whether it is a space or a tab.
+#[inline]
+pub fn is_blank(byte: u8) -> bool
+    ensures { result ≡ is_blank byte }
+{
+    byte == b' ' || byte == b'\t'
+}
