@@ -57,25 +57,20 @@ unfinished-skip x xs h = rw h refl
 unfinished-here : (x : ℕ) (xs : List ℕ) → is_unfinished (x ∷ xs) ≡ true → unfinished_of (x ∷ xs) ≡ x ∷ xs
 unfinished-here x xs h = rw h refl
 
-pub at_end-rest : (xs : List ℕ) (b : ℕ) → message_at_end (xs ++ b ∷ []) ≡ message_at_end (unfinished_of xs ++ b ∷ [])
-at_end-rest [] b = refl
-at_end-rest (x ∷ xs) b = elim (cases_Bool (is_unfinished (x ∷ xs))) [
-  | inl here ↦ ap (λ (w : List ℕ). message_at_end (w ++ b ∷ [])) (sym (unfinished-here x xs here))
-  | inr past ↦
-      at_end-skip x (xs ++ b ∷ []) (not-from _ _ (unfinished-before_whole x xs b) past)
-      ∙ at_end-rest xs b
-      ∙ ap (λ (w : List ℕ). message_at_end (w ++ b ∷ [])) (sym (unfinished-skip x xs past))
+-- what passes over a byte that begins nothing unfinished looks, with one byte more, at what is unfinished alone
+rest-by : {X : Type 0} (f : List ℕ → X) (b : ℕ) → ((x : ℕ) (xs : List ℕ) → is_unfinished (x ∷ xs) ≡ false → f (x ∷ (xs ++ b ∷ [])) ≡ f (xs ++ b ∷ []))
+    → (xs : List ℕ) → f (xs ++ b ∷ []) ≡ f (unfinished_of xs ++ b ∷ [])
+rest-by f b skip [] = refl
+rest-by f b skip (x ∷ xs) = elim (cases_Bool (is_unfinished (x ∷ xs))) [
+  | inl here ↦ ap (λ (w : List ℕ). f (w ++ b ∷ [])) (sym (unfinished-here x xs here))
+  | inr past ↦ skip x xs past ∙ rest-by f b skip xs ∙ ap (λ (w : List ℕ). f (w ++ b ∷ [])) (sym (unfinished-skip x xs past))
 ]
 
+pub at_end-rest : (xs : List ℕ) (b : ℕ) → message_at_end (xs ++ b ∷ []) ≡ message_at_end (unfinished_of xs ++ b ∷ [])
+at_end-rest xs b = rest-by message_at_end b (λ x ys past. at_end-skip x (ys ++ b ∷ []) (not-from _ _ (unfinished-before_whole x ys b) past)) xs
+
 pub unfinished-rest : (xs : List ℕ) (b : ℕ) → unfinished_of (xs ++ b ∷ []) ≡ unfinished_of (unfinished_of xs ++ b ∷ [])
-unfinished-rest [] b = refl
-unfinished-rest (x ∷ xs) b = elim (cases_Bool (is_unfinished (x ∷ xs))) [
-  | inl here ↦ ap (λ (w : List ℕ). unfinished_of (w ++ b ∷ [])) (sym (unfinished-here x xs here))
-  | inr past ↦
-      unfinished-skip x (xs ++ b ∷ []) (not-from _ _ (unfinished-before x xs b) past)
-      ∙ unfinished-rest xs b
-      ∙ ap (λ (w : List ℕ). unfinished_of (w ++ b ∷ [])) (sym (unfinished-skip x xs past))
-]
+unfinished-rest xs b = rest-by unfinished_of b (λ x ys past. unfinished-skip x (ys ++ b ∷ []) (not-from _ _ (unfinished-before x ys b) past)) xs
 
 pub unfinished-whole : (w : List ℕ) → is_unfinished w ≡ true → unfinished_of w ≡ w
 unfinished-whole [] h = refl

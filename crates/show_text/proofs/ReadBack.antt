@@ -88,14 +88,17 @@ all-append q (x ∷ xs) ys h k =
     let p = and_parts (q x) (list_all q xs) h in
     and_from (q x) (list_all q (xs ++ ys)) p.0 (all-append q xs ys p.1 k)
 
+all-weaker : (p q : ℕ → Bool) → ((x : ℕ) → p x ≡ true → q x ≡ true) → (xs : List ℕ) → list_all p xs ≡ true → list_all q xs ≡ true
+all-weaker p q weaker [] h = refl
+all-weaker p q weaker (x ∷ xs) h =
+    let both = and_parts (p x) (list_all p xs) h in
+    and_from (q x) (list_all q xs) (weaker x both.0) (all-weaker p q weaker xs both.1)
+
 mark-shown : (b : ℕ) → is_mark b ≡ true → is_shown b ≡ true
 mark-shown b h = grind (arith, nat_tests)
 
 marks-shown : (xs : List ℕ) → list_all is_mark xs ≡ true → list_all is_shown xs ≡ true
-marks-shown [] h = refl
-marks-shown (x ∷ xs) h =
-    let p = and_parts (is_mark x) (list_all is_mark xs) h in
-    and_from (is_shown x) (list_all is_shown xs) (mark-shown x p.0) (marks-shown xs p.1)
+marks-shown = all-weaker is_mark is_shown mark-shown
 
 after-shown : (words : List (List ℕ)) → AllByRecursion IsWord words → list_all is_shown (after words) ≡ true
 after-shown [] k = refl
@@ -141,10 +144,7 @@ digit-mark : (b : ℕ) → is_ascii_digit b ≡ true → is_mark b ≡ true
 digit-mark b h = grind (arith, nat_tests)
 
 digits-marks : (xs : List ℕ) → list_all is_ascii_digit xs ≡ true → list_all is_mark xs ≡ true
-digits-marks [] h = refl
-digits-marks (x ∷ xs) h =
-    let p = and_parts (is_ascii_digit x) (list_all is_ascii_digit xs) h in
-    and_from (is_mark x) (list_all is_mark xs) (digit-mark x p.0) (digits-marks xs p.1)
+digits-marks = all-weaker is_ascii_digit is_mark digit-mark
 
 decimal-digits : (n : ℕ) → n < 2 ^ 64 → list_all is_ascii_digit (decimal n) ≡ true
 decimal-digits n h = all_digits (decimal n) ∙ digits_decimal own n h
