@@ -5,7 +5,7 @@ use Rattle.slot_table.specs.Entry.{Entry, IsSlot}
 use Rattle.station_core.specs.Known.{Known, told_all}
 use Rattle.station_core.specs.Moments.{AtEveryMoment, IsLive, slots_refreshed}
 use Rattle.station_core.specs.Seen.{known_of}
-use Rattle.decoder_node.specs.LocoDecoder.{LocoDecoder, IsBetween as IsBetweenLoco}
+use Rattle.decoder_node.specs.Decoder.{LocoDecoder, IsBetween as IsBetweenPackets}
 use Rattle.layout_core.specs.declared.node.Node.{Node}
 use Rattle.layout_core.specs.declared.node.Node.TheVariants.{Loco}
 use Rattle.layout_core.specs.Cycle.{HearsCycle, StandsIn}
@@ -34,7 +34,7 @@ RunsInTime start events old new =
     → events ≡ before ++ cycle
     → i < length old
     → slice_index_or old i none ≡ Loco loco
-    → IsBetweenLoco loco
+    → IsBetweenPackets loco
     → HearsCycle i a e loco (layout_events (after_events start before) cycle)
     → IsTimedCycleOf slot a e (told_all (known_of start.station) (calls_in (layout_events start before))) (after_events start before) cycle
-    → running_of (slice_index_or new i none) ≡ Some (wanted e loco.cv.reversed)
+    → running_of (slice_index_or new i none) ≡ Some (wanted e loco.settings.reversed)

@@ -1,13 +1,9 @@
 pub use Rattle.decoder_rx.specs.Position
 pub use Rattle.decoder_rx.specs.Table
-pub mod Accessory
-pub mod AccessoryDecoder
 pub mod Bits
 pub mod Concerned
 pub mod Decoder
 pub mod Heard
-pub mod Loco
-pub mod LocoDecoder
 pub mod Obey
 pub mod Running
 pub mod Switched

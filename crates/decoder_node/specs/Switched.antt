@@ -1,9 +1,13 @@
 -- What packets do to an accessory decoder; (own) marks this project's profile.
-use Rattle.std.specs.Prelude.{ℕ, ◌+◌, ◌*◌, ◌%◌, ◌==◌, Bool, if◌then◌else◌, List, fold}
+use Rattle.std.specs.Prelude.{ℕ, ◌+◌, ◌*◌, ◌%◌, ◌^◌, ◌<◌, ◌==◌, Bool, if◌then◌else◌, List, fold}
 use Rattle.dcc_packet.specs.declared.instr.Instr.{Instr}
 use Rattle.dcc_packet.specs.declared.instr.Instr.TheVariants.{Idle, Reset, StopAll, Speed, Speed128, GroupOne, GroupTwo, GroupThree, Accessory}
 use Rattle.decoder_node.specs.Bits.{with_bits}
 use Rattle.decoder_node.specs.Heard.{obeying}
+
+-- there are eight outputs
+abbrev pub AreOutputs : ℕ → Type 0
+AreOutputs outputs = outputs < 2 ^ 8
 
 -- S-9.2.1, 2.4.1: the output DDD, which is the pair and whether its second output, closed, is meant
 abbrev pub output_of : ℕ → Bool → ℕ

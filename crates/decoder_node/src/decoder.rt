@@ -1,5 +1,5 @@
 //! A decoder, whatever instructions do to it.
-ghost use Rattle.std.specs.Prelude.{◌≡◌, ℕ, List, IsTrue};
+ghost use Rattle.std.specs.Prelude.{◌≡◌, ℕ, List, None};
 ghost use Rattle.std.specs.Iterator.{IsFinite, Drains};
 ghost use Rattle.dcc_packet.specs.declared.instr.Instr.{Instr as InstrValue};
 ghost use Rattle.decoder_node.specs.Heard.{obeying, told};
@@ -8,46 +8,71 @@ use crate::ONE;
 use dcc_packet::{Instr, Packet, read};
 use decoder_rx::{Rx, bit_of};
 use half_bits::{halves, halves_are_a_wave};
+use std::marker::Model;
 
 /// Settings by which a state obeys instructions.
-pub(crate) trait Obeys<State> {
+pub trait Obeys<State> {
+    /// The state of a decoder that has heard nothing.
+    ghost start: { State };
+
     /// The state after an instruction.
     ghost does: { Self → State → InstrValue → State };
 
+    /// What is true of the state at any time.
+    ghost holds: { State → Type 0 };
+
+    /// The state of a decoder that has heard nothing.
+    fn first() -> State
+        ensures is { result ≡ start }
+        ensures holds { holds result };
+
     /// The state obeys what a packet spells, and stays as it is where that is nothing.
     fn obey(&self, state: &mut State, instr: &Option<Instr>)
-        ensures { state.new ≡ told (does self.now) state.old instr.now };
+        requires { holds state.old }
+        ensures obeys { state.new ≡ told (does self.now) state.old instr.now }
+        ensures holds { holds state.new };
 }
 
 /// A decoder on the track, which hears it half by half: its settings, the state that obeys by them, and its receiver.
 #[derive(Debug, Drop)]
-pub(crate) struct Decoder<Settings, State> {
+pub struct Decoder<Settings: Obeys<State>, State> {
     pub(crate) settings: Settings,
     pub(crate) state: State,
-    pub(crate) rx: Rx,
+    rx: Rx,
+}
+
+impl<Settings: Obeys<State>, State> Model for Decoder<Settings, State> {
+    ghost use Rattle.decoder_node.specs.Decoder.{Decoder};
+
+    ghost Value = { Decoder Settings State };
+
+    ghost view = { λ decoder. record { settings = decoder.settings; state = decoder.state; receiver = decoder.rx } };
+
+    ghost invariant = { λ decoder. Settings.holds decoder.state };
 }
 
 impl<Settings: Obeys<State>, State> Decoder<Settings, State> {
     ghost use Rattle.dcc_packet.specs.Reading.{instruction_of};
     ghost use Rattle.half_bits.specs.Halves.{halves_of};
-    ghost use Rattle.decoder_rx.specs.Position.{Hunting, is_hunting};
-    ghost use Rattle.decoder_node.specs.Decoder.{heard, heard_all};
+    ghost use Rattle.decoder_rx.specs.Table.{given};
+    ghost use Rattle.decoder_node.specs.Decoder.{fresh, heard, heard_all, Hears, IsBetween};
 
-    /// A decoder with these settings and this state, which has heard nothing.
-    pub(crate) fn new(settings: Settings, state: State) -> Self
-        ensures { result ≡ record { settings = settings; state = state; rx = Hunting 0 } }
+    /// A decoder with these settings, in its first state, which has heard nothing.
+    pub fn new(settings: Settings) -> Self
+        ensures { result ≡ fresh settings Settings.start }
     {
         Decoder {
             settings,
-            state,
+            state: Settings::first(),
             rx: Rx::new(),
         }
     }
 
     /// Hears the next half of the track, of this many microseconds, and obeys the packet that it ends, if it ends one.
     #[inline]
-    pub(crate) fn hear(&mut self, half: u16)
-        ensures { self.new ≡ heard Settings.does self.old half }
+    pub fn hear(&mut self, half: u16)
+        ensures heard { self.new ≡ heard Settings.does self.old half }
+        ensures quiet { given self.old.receiver half ≡ None → self.new.state ≡ self.old.state }
     {
         if let Some(packet) = self.rx.hear(half) {
             self.obey_packet(&packet);
@@ -63,11 +88,16 @@ impl<Settings: Obeys<State>, State> Decoder<Settings, State> {
     }
 
     /// Hears each item in order.
-    pub(crate) fn hear_all<I: Iterator<Item = u16> + Drop>(&mut self, halves: I)
+    ///
+    /// A decoder with no packet under way that hears a wave obeys its packet; any decoder that hears a wave has no
+    /// packet under way then.
+    pub fn hear_all<I: Iterator<Item = u16> + Drop>(&mut self, halves: I)
         requires can { I.can_next halves }
         requires ends { IsFinite (I.remaining halves) }
-        ensures { (items : List ℕ) × Drains I.next_gives halves items × (self.new ≡ heard_all Settings.does self.old items) }
+        ensures { (items : List ℕ) × Drains I.next_gives halves items × Hears Settings.does self.old items self.new }
     {
+        decoder_rx::complete();
+        decoder_rx::settles();
         let mut halves = halves;
         // The two halves of a bit are heard together, which is quicker.
         while let Some(first) = halves.next() {
@@ -105,12 +135,14 @@ impl<Settings: Obeys<State>, State> Decoder<Settings, State> {
 
     /// Hears all half-bits of a packet that spells this instruction, or none, as `hear_all` does, and quicker where no
     /// packet is under way: then it looks at the instruction alone.
+    ///
+    /// No packet is under way then, and a decoder that had none under way has obeyed this one.
     #[inline]
-    pub(crate) fn hear_packet(&mut self, packet: &Packet, instr: &Option<Instr>)
+    pub fn hear_packet(&mut self, packet: &Packet, instr: &Option<Instr>)
         requires read { instr.now ≡ instruction_of packet.now }
-        ensures heard { self.new ≡ heard_all Settings.does self.old (halves_of packet.now) }
-        ensures settles { IsTrue (is_hunting self.new.rx) }
-        ensures obeys { IsTrue (is_hunting self.old.rx) → self.new.state ≡ obeying (Settings.does self.old.settings) self.old.state packet.now }
+        ensures hears { Hears Settings.does self.old (halves_of packet.now) self.new }
+        ensures settles { IsBetween self.new }
+        ensures obeys { IsBetween self.old → self.new.state ≡ obeying (Settings.does self.old.settings) self.old.state packet.now }
     {
         decoder_rx::complete();
         decoder_rx::settles();

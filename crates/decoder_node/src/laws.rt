@@ -1,15 +1,14 @@
 //! What decoders make of whole lists of half-bits, each heard by a call of `hear`.
 ghost use Rattle.std.specs.Prelude.{ℕ, List};
-ghost use Rattle.decoder_node.specs.Accessory.{HearsAccessory, heard_all as heard_all_accessory};
-ghost use Rattle.decoder_node.specs.AccessoryDecoder.{AccessoryDecoder};
-ghost use Rattle.decoder_node.specs.Loco.{HearsLoco, heard_all as heard_all_loco};
-ghost use Rattle.decoder_node.specs.LocoDecoder.{LocoDecoder};
+ghost use Rattle.decoder_node.specs.Decoder.{AccessoryDecoder, Hears, LocoDecoder, heard_all};
+ghost use Rattle.decoder_node.specs.Obey.{obeyed};
+ghost use Rattle.decoder_node.specs.Switched.{switched};
 
 /// A decoder with no packet under way that hears the halves of a wave, one after another, obeys its packet; any decoder
 /// that hears them has no packet under way then.
 pub fn waves_are_obeyed()
-    ensures loco { (old : LocoDecoder) (halves : List ℕ) → HearsLoco old halves (heard_all_loco old halves) }
-    ensures accessory { (old : AccessoryDecoder) (halves : List ℕ) → HearsAccessory old halves (heard_all_accessory old halves) }
+    ensures loco { (old : LocoDecoder) (halves : List ℕ) → Hears obeyed old halves (heard_all obeyed old halves) }
+    ensures accessory { (old : AccessoryDecoder) (halves : List ℕ) → Hears switched old halves (heard_all switched old halves) }
 {
     decoder_rx::complete();
     decoder_rx::settles();

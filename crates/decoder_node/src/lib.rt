@@ -14,6 +14,7 @@ mod running;
 mod switch;
 
 pub use accessory::Accessory;
+pub use decoder::Decoder;
 pub use laws::waves_are_obeyed;
 pub use loco::Loco;
 pub use node::{NodeList, NodeSpec};

@@ -1,13 +1,24 @@
 //! What a packet does to an accessory decoder.
 ghost use Rattle.std.specs.Prelude.{◌≡◌, ◌<◌, Bool, if◌then◌else◌};
 ghost use Rattle.decoder_node.specs.Bits.{with_bits};
-ghost use Rattle.decoder_node.specs.Switched.{switched, output_of};
+ghost use Rattle.decoder_node.specs.Switched.{AreOutputs, switched, output_of};
 
 use crate::decoder::Obeys;
 use dcc_packet::{Instr, Module};
 
+/// The outputs as a decoder starts.
+const ALL_OFF: u8 = 0;
+
 impl Obeys<u8> for Module {
+    ghost start = { 0 };
+
     ghost does = { switched };
+
+    ghost holds = { AreOutputs };
+
+    fn first() -> u8 {
+        ALL_OFF
+    }
 
     #[inline]
     fn obey(&self, outputs: &mut u8, instr: &Option<Instr>) {

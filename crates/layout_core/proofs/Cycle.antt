@@ -32,7 +32,7 @@ use Rattle.station_core.specs.Sent.{IsPacketOfDesk, IsRunningPacket}
 use Rattle.decoder_cv.specs.Answering.{AgreesInSteps, answers_to}
 use Rattle.decoder_cv.specs.Settings.{Settings}
 use Rattle.decoder_node.specs.declared.node.NodeSpec.TheVariants.{Loco as LocoSpec}
-use Rattle.decoder_node.specs.LocoDecoder.{LocoDecoder}
+use Rattle.decoder_node.specs.Decoder.{LocoDecoder}
 use Rattle.decoder_node.specs.Obey.{runs}
 use Rattle.decoder_node.specs.declared.running.Running.{Running}
 use Rattle.layout_core.specs.declared.event.Event.{Event}
@@ -344,11 +344,11 @@ quiet_behind i (Noise node half ∷ events) later quiet = quiet_behind i events 
 -- ---- a locomotive over a cycle
 
 -- a node that is made from a locomotive's settings is a locomotive with these
-is_loco : (node : Node) (cv : Settings) → spec_of node ≡ LocoSpec cv → (loco : LocoDecoder) × (node ≡ Loco loco) × (loco.cv ≡ cv)
-is_loco (Loco loco) cv e = (loco, refl, same_cv loco.cv cv e)
+is_loco : (node : Node) (cv : Settings) → spec_of node ≡ LocoSpec cv → (loco : LocoDecoder) × (node ≡ Loco loco) × (loco.settings ≡ cv)
+is_loco (Loco loco) cv e = (loco, refl, same_cv loco.settings cv e)
 is_loco (Accessory accessory) cv e = cc
 
-running_from : (packets : List (List ℕ)) (loco : LocoDecoder) (new : Node) → Obeyed packets (Loco loco) new → running_of new ≡ Some (runs loco.cv loco.running packets)
+running_from : (packets : List (List ℕ)) (loco : LocoDecoder) (new : Node) → Obeyed packets (Loco loco) new → running_of new ≡ Some (runs loco.settings loco.state packets)
 running_from packets loco (Loco new) obeyed = ap Some obeyed
 running_from packets loco (Accessory new) obeyed = absurd obeyed
 
@@ -362,8 +362,8 @@ over_cycle laws i slot a e cv mine steps seen known follows desk cycle full miss
     let done = whole_obeyed (sounds_in i seen cycle) old new (sounds_are_whole i seen cycle quiet) hears between in
     let obeyed : Obeyed (heard i seen cycle) (Loco loco) new = subst (λ (node : Node). Obeyed (heard i seen cycle) node new) is.1 done.0 in (
       running_from (heard i seen cycle) loco new obeyed
-          ∙ ap (λ (c : Settings). Some (runs c loco.running (heard i seen cycle))) is.2
-          ∙ ap Some (settled laws cv i slot a e mine steps seen known follows desk cycle full misses loco.running),
+          ∙ ap (λ (c : Settings). Some (runs c loco.state (heard i seen cycle))) is.2
+          ∙ ap Some (settled laws cv i slot a e mine steps seen known follows desk cycle full misses loco.state),
       done.1,
     )
 
@@ -387,7 +387,7 @@ runs_as_wanted laws start events old new desk has before cycle i slot a e loco n
     subst (λ (node : Node). HearsAll (sounds_in i start before ++ sounds_in i mid cycle) node here) is (subst (λ (sounds : List Sound). HearsAll sounds (slice_index_or old i none) here) all (has.each i none below)) in
     let cut = all_split (sounds_in i start before) (sounds_in i mid cycle) (Loco loco) here heard_all in
     let so_far = whole_obeyed (sounds_in i start before) (Loco loco) cut.0 (sounds_are_whole i start before quiet) cut.1 between in
-    (over_cycle laws i slot a e loco.cv hears.answers hears.steps mid (told_all (known_of start) (calls_in before)) (follows_events laws start before) (desk_after_events laws start before desk) cycle full hears.misses hears.quiet
+    (over_cycle laws i slot a e loco.settings hears.answers hears.steps mid (told_all (known_of start) (calls_in before)) (follows_events laws start before) (desk_after_events laws start before desk) cycle full hears.misses hears.quiet
     cut.0 here (all_keep (sounds_in i start before) (Loco loco) cut.0 cut.1) so_far.1 cut.2).0
 
 -- The headline after noise: the packet of the first turn leaves no packet under way, and the rest is a cycle.
@@ -448,5 +448,5 @@ runs_after_noise laws start events old new desk has before cycle i slot a e loco
     let heard_all : HearsAll (sounds_in i start before ++ sounds_in i mid cycle) (Loco loco) here =
     subst (λ (node : Node). HearsAll (sounds_in i start before ++ sounds_in i mid cycle) node here) is (subst (λ (sounds : List Sound). HearsAll sounds (slice_index_or old i none) here) all (has.each i none below)) in
     let cut = all_split (sounds_in i start before) (sounds_in i mid cycle) (Loco loco) here heard_all in
-    over_longer_cycle laws i slot a e loco.cv hears.answers hears.steps mid (told_all (known_of start) (calls_in before)) (follows_events laws start before) (desk_after_events laws start before desk) cycle full more hears.misses hears.quiet
+    over_longer_cycle laws i slot a e loco.settings hears.answers hears.steps mid (told_all (known_of start) (calls_in before)) (follows_events laws start before) (desk_after_events laws start before desk) cycle full more hears.misses hears.quiet
     cut.0 here (all_keep (sounds_in i start before) (Loco loco) cut.0 cut.1) cut.2

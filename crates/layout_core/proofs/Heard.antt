@@ -5,8 +5,7 @@ use Rattle.std.proofs.lemmas.Grind.{fold-append}
 use Rattle.decoder_cv.specs.Settings.{Settings}
 use Rattle.decoder_node.specs.declared.running.Running.{Running}
 use Rattle.decoder_node.specs.declared.node.NodeSpec.TheVariants.{Loco as LocoSpec, Accessory as AccessorySpec}
-use Rattle.decoder_node.specs.AccessoryDecoder.{AccessoryDecoder}
-use Rattle.decoder_node.specs.LocoDecoder.{LocoDecoder}
+use Rattle.decoder_node.specs.Decoder.{AccessoryDecoder, LocoDecoder}
 use Rattle.decoder_node.specs.Obey.{obey, runs}
 use Rattle.decoder_node.specs.Switched.{switch, switches}
 use Rattle.station_core.specs.declared.call.Call.TheVariants.{Turn as TurnCall}
@@ -37,14 +36,14 @@ same_number a b e = cc
 obeyed_more : (ps qs : List (List ℕ)) (old mid new : Node) → spec_of mid ≡ spec_of old → Obeyed ps old mid → Obeyed qs mid new → Obeyed (ps ++ qs) old new
 obeyed_more ps qs (Loco old) (Loco mid) (Loco new) kept first then' =
     then'
-    ∙ ap (λ (cv : Settings). runs cv mid.running qs) (same_cv mid.cv old.cv kept)
-    ∙ ap (λ (r : Running). runs old.cv r qs) first
-    ∙ sym (fold-append (obey old.cv) old.running ps qs)
+    ∙ ap (λ (cv : Settings). runs cv mid.state qs) (same_cv mid.settings old.settings kept)
+    ∙ ap (λ (r : Running). runs old.settings r qs) first
+    ∙ sym (fold-append (obey old.settings) old.state ps qs)
 obeyed_more ps qs (Accessory old) (Accessory mid) (Accessory new) kept first then' =
     then'
-    ∙ ap (λ (number : ℕ). switches number mid.outputs qs) (same_number mid.number old.number kept)
-    ∙ ap (λ (outputs : ℕ). switches old.number outputs qs) first
-    ∙ sym (fold-append (switch old.number) old.outputs ps qs)
+    ∙ ap (λ (number : ℕ). switches number mid.state qs) (same_number mid.settings old.settings kept)
+    ∙ ap (λ (outputs : ℕ). switches old.settings outputs qs) first
+    ∙ sym (fold-append (switch old.settings) old.state ps qs)
 obeyed_more ps qs (Loco old) (Loco mid) (Accessory new) kept first then' = absurd then'
 obeyed_more ps qs (Loco old) (Accessory mid) new kept first then' = absurd first
 obeyed_more ps qs (Accessory old) (Accessory mid) (Loco new) kept first then' = absurd then'
@@ -52,8 +51,8 @@ obeyed_more ps qs (Accessory old) (Loco mid) new kept first then' = absurd first
 
 -- a half leaves what the node was made from
 pub half_keeps : (half : ℕ) (old new : Node) → HeardHalves (half ∷ []) old new → spec_of new ≡ spec_of old
-half_keeps half (Loco old) (Loco new) h = ap (λ (loco : LocoDecoder). LocoSpec loco.cv) h
-half_keeps half (Accessory old) (Accessory new) h = ap (λ (accessory : AccessoryDecoder). AccessorySpec accessory.number) h
+half_keeps half (Loco old) (Loco new) h = ap (λ (loco : LocoDecoder). LocoSpec loco.settings) h
+half_keeps half (Accessory old) (Accessory new) h = ap (λ (accessory : AccessoryDecoder). AccessorySpec accessory.settings) h
 half_keeps half (Loco old) (Accessory new) h = absurd h
 half_keeps half (Accessory old) (Loco new) h = absurd h
 

@@ -26,8 +26,9 @@ use Rattle.station_core.specs.Moments.{AtEveryMoment, IsLive, ever_refreshed, sl
 use Rattle.station_core.specs.Powered.{PoweredDesk}
 use Rattle.station_core.specs.Refreshed.{is_driven, is_refreshed}
 use Rattle.decoder_cv.specs.Settings.{settings}
-use Rattle.decoder_node.specs.LocoDecoder.{LocoDecoder, fresh}
-use Rattle.decoder_node.specs.Loco.{heard_all}
+use Rattle.decoder_node.specs.Decoder.{LocoDecoder, fresh, heard_all}
+use Rattle.decoder_node.specs.Obey.{obeyed}
+use Rattle.decoder_node.specs.Running.{first_running}
 use Rattle.layout_core.specs.declared.event.Event.{Event}
 use Rattle.layout_core.specs.declared.event.Event.TheVariants.{Turn, Noise}
 use Rattle.layout_core.specs.declared.node.Node.{Node}
@@ -53,10 +54,10 @@ start = record { lines = [] ∷ []; powered = running first }
 
 -- a decoder of address 3 in 28 or 128 steps that else is as this one, and a new one
 abbrev at_3 : LocoDecoder → LocoDecoder
-at_3 loco = record loco { cv = settings 3 0 0 2 }
+at_3 loco = record loco { settings = settings 3 0 0 2 }
 
 abbrev new_at_3 : LocoDecoder
-new_at_3 = fresh (settings 3 0 0 2)
+new_at_3 = fresh (settings 3 0 0 2) first_running
 
 -- ---- moments at which slot 1 alone is refreshed
 
@@ -316,7 +317,7 @@ after_a_busy_cycle new law =
 abbrev dirt : List ℕ
 dirt = replicate 20 58 ++ 100 ∷ 100 ∷ []
 
-in_mid_packet : ¬ (IsBetween (Loco (heard_all new_at_3 dirt)))
+in_mid_packet : ¬ (IsBetween (Loco (heard_all obeyed new_at_3 dirt)))
 in_mid_packet between = cc
 
 -- However the locomotive ran, and wherever its receiver was and noise left it: after seventeen turns it runs at step 63

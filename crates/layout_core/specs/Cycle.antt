@@ -10,7 +10,7 @@ use Rattle.station_core.specs.Known.{Known, told_all}
 use Rattle.station_core.specs.Moments.{AtEveryMoment, IsFullCycle, slots_refreshed, turns_in}
 use Rattle.station_core.specs.Powered.{PoweredDesk}
 use Rattle.decoder_cv.specs.Answering.{answers_to, AgreesInSteps}
-use Rattle.decoder_node.specs.LocoDecoder.{LocoDecoder, IsBetween as IsBetweenLoco}
+use Rattle.decoder_node.specs.Decoder.{LocoDecoder, IsBetween as IsBetweenPackets}
 use Rattle.layout_core.specs.declared.event.Event.{Event}
 use Rattle.layout_core.specs.declared.event.Event.TheVariants.{Byte, Turn, Noise}
 use Rattle.layout_core.specs.declared.node.Node.{Node}
@@ -45,8 +45,8 @@ pub record IsCycleOf (slot a : ℕ) (e : Entry) (known : Known) (calls : List Ca
 -- The locomotive answers to the address of the cycle and agrees with its entry in the step mode; and, as node i, it
 -- misses no turn of the cycle, and no noise of the cycle names it.
 pub record HearsCycle (i a : ℕ) (e : Entry) (loco : LocoDecoder) (cycle : List Event) : Type 0 where
-  pub answers : IsTrue (answers_to loco.cv a)
-  pub steps : AgreesInSteps loco.cv e.kind
+  pub answers : IsTrue (answers_to loco.settings a)
+  pub steps : AgreesInSteps loco.settings e.kind
   pub misses : MissesNone i cycle
   pub quiet : NoNoise i cycle
 
@@ -58,11 +58,11 @@ RunsAsWanted start events old new =
     → events ≡ before ++ cycle
     → i < length old
     → slice_index_or old i none ≡ Loco loco
-    → IsBetweenLoco loco
+    → IsBetweenPackets loco
     → NoNoise i before
     → HearsCycle i a e loco cycle
     → IsCycleOf slot a e (told_all start (calls_in before)) (calls_in cycle)
-    → running_of (slice_index_or new i none) ≡ Some (wanted e loco.cv.reversed)
+    → running_of (slice_index_or new i none) ≡ Some (wanted e loco.settings.reversed)
 
 -- The headline after noise. Whatever noise came before the cycle, and wherever it left the receiver: where the cycle has
 -- one turn more than a full one needs, the locomotive runs as the entry wants it then, and no packet is under way.
@@ -75,4 +75,4 @@ RunsAfterNoise start events old new =
     → HearsCycle i a e loco cycle
     → IsCycleOf slot a e (told_all start (calls_in before)) (calls_in cycle)
     → 4 * kinds * slots_refreshed (told_all start (calls_in before)) (calls_in cycle) + 1 ≤ turns_in (calls_in cycle)
-    → (running_of (slice_index_or new i none) ≡ Some (wanted e loco.cv.reversed)) × IsBetween (slice_index_or new i none)
+    → (running_of (slice_index_or new i none) ≡ Some (wanted e loco.settings.reversed)) × IsBetween (slice_index_or new i none)

@@ -1,25 +1,24 @@
 -- What the decoders of a layout make of the packets that they hear.
 use Rattle.std.specs.Prelude.{ℕ, ◌≡◌, Bool, true, false, List, [], ◌∷◌}
 use Rattle.half_bits.specs.Halves.{halves_of}
-use Rattle.decoder_node.specs.Accessory.{heard_all as heard_all_accessory}
-use Rattle.decoder_node.specs.Loco.{heard_all as heard_all_loco}
-use Rattle.decoder_node.specs.Obey.{runs}
-use Rattle.decoder_node.specs.Switched.{switches}
+use Rattle.decoder_node.specs.Decoder.{heard_all}
+use Rattle.decoder_node.specs.Obey.{obeyed, runs}
+use Rattle.decoder_node.specs.Switched.{switched, switches}
 use Rattle.layout_core.specs.declared.node.Node.{Node}
 use Rattle.layout_core.specs.declared.node.Node.TheVariants.{Loco, Accessory}
 use Rattle.layout_core.specs.Nodes.{spec_of, IsBetween}
 
 -- it obeyed these packets, one after another, and nothing else
 abbrev pub Obeyed : List (List ℕ) → Node → Node → Type 0
-Obeyed packets (Loco old) (Loco new) = new.running ≡ runs old.cv old.running packets
-Obeyed packets (Accessory old) (Accessory new) = new.outputs ≡ switches old.number old.outputs packets
+Obeyed packets (Loco old) (Loco new) = new.state ≡ runs old.settings old.state packets
+Obeyed packets (Accessory old) (Accessory new) = new.state ≡ switches old.settings old.state packets
 Obeyed packets (Loco old) (Accessory new) = ⊥
 Obeyed packets (Accessory old) (Loco new) = ⊥
 
 -- these half-bits came to its receiver, one after another
 abbrev pub HeardHalves : List ℕ → Node → Node → Type 0
-HeardHalves halves (Loco old) (Loco new) = new ≡ heard_all_loco old halves
-HeardHalves halves (Accessory old) (Accessory new) = new ≡ heard_all_accessory old halves
+HeardHalves halves (Loco old) (Loco new) = new ≡ heard_all obeyed old halves
+HeardHalves halves (Accessory old) (Accessory new) = new ≡ heard_all switched old halves
 HeardHalves halves (Loco old) (Accessory new) = ⊥
 HeardHalves halves (Accessory old) (Loco new) = ⊥
 

@@ -74,10 +74,11 @@ impl Node {
 
 impl Default for Node {
     ghost use Rattle.decoder_cv.specs.Settings.{settings};
-    ghost use Rattle.decoder_node.specs.LocoDecoder.{fresh};
+    ghost use Rattle.decoder_node.specs.Decoder.{fresh};
+    ghost use Rattle.decoder_node.specs.Running.{first_running};
     ghost use Rattle.layout_core.specs.declared.node.Node.TheVariants.{Loco};
 
-    ghost is_default = { λ node. node ≡ Loco (fresh (settings 3 0 0 0)) };
+    ghost is_default = { λ node. node ≡ Loco (fresh (settings 3 0 0 0) first_running) };
 
     /// The locomotive decoder of the default settings.
     fn default() -> Node {

@@ -54,9 +54,9 @@ shows_as_wanted obeyed headline start entries commands desk many between passed 
     let new : World = there.0 in
     let all : HasDone events start new = there.1 in
     let quiet : NoNoise i before = quiet_front i before cycle (subst (NoNoise i) parts (quiet_in i earlier)) in
-    let runs : running_of (slice_index_or new.nodes i none) ≡ Some (wanted e loco.cv.reversed) =
+    let runs : running_of (slice_index_or new.nodes i none) ≡ Some (wanted e loco.settings.reversed) =
     headline start.station events start.nodes new.nodes desk all.nodes before cycle i slot a e loco none parts below is (subst IsBetween is (between i none below)) quiet hears full in
-    let told : Standing = record { running = Some (wanted e loco.cv.reversed); outputs = None } in
+    let told : Standing = record { running = Some (wanted e loco.settings.reversed); outputs = None } in
     let stand : map standing_of new.nodes ≡ standings_after start events = stands_as_told obeyed earlier start new between all in
     let shown : List (List ℕ) = decoder_lines entries (standings_after start events) in
     let so_many : length (standings_after start events) ≡ length entries = ap length (sym stand) ∙ length-map new.nodes standing_of ∙ all.nodes.count ∙ many in
@@ -67,7 +67,7 @@ shows_as_wanted obeyed headline start entries commands desk many between passed 
     let here : slice_index_or (standings_after start events) i told ≡ told =
     ap (λ (standings : List Standing). slice_index_or standings i told) (sym stand)
     ∙ get_or-map standing_of new.nodes i none told (omega (arith, below, all.nodes.count))
-    ∙ stands_so (slice_index_or new.nodes i none) (wanted e loco.cv.reversed) runs in (
+    ∙ stands_so (slice_index_or new.nodes i none) (wanted e loco.settings.reversed) runs in (
       shown,
       printed,
       length-decoder_lines entries (standings_after start events) so_many,

@@ -2,7 +2,7 @@
 use Rattle.std.specs.Prelude.{ℕ, ◌≡◌, ◌<◌, List, [], ◌∷◌, ◌++◌, Some, None, length}
 use Rattle.std.specs.List.{slice_index_or}
 use Rattle.decoder_cv.specs.Settings.{Settings}
-use Rattle.decoder_node.specs.LocoDecoder.{LocoDecoder}
+use Rattle.decoder_node.specs.Decoder.{LocoDecoder}
 use Rattle.layout_core.specs.declared.event.Event.{Event}
 use Rattle.layout_core.specs.declared.node.Node.{Node}
 use Rattle.layout_core.specs.declared.node.Node.TheVariants.{Loco}
@@ -37,4 +37,4 @@ ShowsAsWanted start entries commands =
     → HearsCycle i a e loco cycle
     → IsCycleOf slot a e (told_all (known_of start.station) (calls_in before)) (calls_in cycle)
     → (shown : List (List ℕ)) × (commands_text start entries [] commands ≡ commands_text start entries [] earlier ++ (lines_text shown ++ commands_text start entries (events_in earlier) later))
-    × (length shown ≡ length entries) × (slice_index_or shown i [] ≡ wanted_line (slice_index_or entries i entry) e loco.cv)
+    × (length shown ≡ length entries) × (slice_index_or shown i [] ≡ wanted_line (slice_index_or entries i entry) e loco.settings)

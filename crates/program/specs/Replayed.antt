@@ -44,8 +44,8 @@ pub record HasDone (events : List Event) (old new : World) : Type 0 where
 
 -- how a decoder stands that obeyed these packets, and nothing else
 abbrev pub standing_after : List (List ℕ) → Node → Standing
-standing_after packets (Loco loco) = record { running = Some (runs loco.cv loco.running packets); outputs = None }
-standing_after packets (Accessory accessory) = record { running = None; outputs = Some (switches accessory.number accessory.outputs packets) }
+standing_after packets (Loco loco) = record { running = Some (runs loco.settings loco.state packets); outputs = None }
+standing_after packets (Accessory accessory) = record { running = None; outputs = Some (switches accessory.settings accessory.state packets) }
 
 -- the decoders from decoder i on, each after the packets that it heard of these events
 abbrev pub standings_from : ℕ → Seen → List Event → List Node → List Standing

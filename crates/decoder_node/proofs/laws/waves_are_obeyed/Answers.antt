@@ -1,5 +1,8 @@
-use Rattle.decoder_node.proofs.Accessories.{hears as accessory_hears}
-use Rattle.decoder_node.proofs.Locos.{hears as loco_hears}
+use Rattle.std.proofs.Common.{refl}
+use Rattle.decoder_node.specs.Decoder.{heard_all}
+use Rattle.decoder_node.specs.Obey.{obeyed}
+use Rattle.decoder_node.specs.Switched.{switched}
+use Rattle.decoder_node.proofs.Decoders.{hears}
 use Rattle.decoder_node.proofs.Waves.{Laws}
 use Rattle.decoder_node.proofs.laws.waves_are_obeyed.Goals as goal
 
@@ -7,7 +10,7 @@ laws : goal.After-settles → Laws
 laws c = record { reads = c.complete.ensures.wave; passes = c.complete.ensures.wrong; settles = c.settles.ensures.between }
 
 pub returns-clause-loco : goal.returns-clause-loco
-returns-clause-loco c old halves = loco_hears (laws c) old halves
+returns-clause-loco c old halves = hears obeyed (laws c) old (heard_all obeyed old halves) halves refl
 
 pub returns-clause-accessory : goal.returns-clause-accessory
-returns-clause-accessory c old halves = accessory_hears (laws c) old halves
+returns-clause-accessory c old halves = hears switched (laws c) old (heard_all switched old halves) halves refl

@@ -1,7 +1,8 @@
 use Rattle.std.proofs.Common.{refl, ◌≡◌, ◌∙◌}
 use Rattle.std.proofs.iter.Next as it
 use Rattle.decoder_node.specs.Decoder.{heard, heard_all}
-use Rattle.decoder_node.proofs.Decoders.{heard_next}
+use Rattle.decoder_node.proofs.Decoders.{heard_next, hears}
+use Rattle.decoder_node.proofs.Waves.{Laws}
 use Rattle.decoder_node.proofs.decoder.Decoder.hear_all.Goals as goal
 
 pub loop-first-init : goal.loop-first-init
@@ -18,10 +19,14 @@ loop-first-preserved g c =
 
 pub returns-in_default-next : goal.returns-in_default-next
 returns-in_default-next g c =
+    let laws : Laws = record { reads = c.complete.ensures.wave; passes = c.complete.ensures.wrong; settles = c.settles.ensures.between } in
+    let does = g.Settings.Obeys.does in
     let i = c.loop-first.invariant in
-    let j = it.again i {Q = λ xs. heard g.Settings.Obeys.does c.loop-first.self c.in-Some.first ≡ heard_all g.Settings.Obeys.does c.args.self.now xs} c.in-Some.first c.in-Some.is (c.next.ensures.steps, c.next.ensures.goes) (heard_next g.Settings.Obeys.does c.args.self.now c.loop-first.self i.seen c.in-Some.first i.holds) in
-    (j.seen, it.drained j c.in_default-next.is c.next-in-Some.ensures.steps, ◌∙◌ {b = heard g.Settings.Obeys.does c.loop-first.self c.in-Some.first} c.hear.ensures j.holds)
+    let j = it.again i {Q = λ xs. heard does c.loop-first.self c.in-Some.first ≡ heard_all does c.args.self.now xs} c.in-Some.first c.in-Some.is (c.next.ensures.steps, c.next.ensures.goes) (heard_next does c.args.self.now c.loop-first.self i.seen c.in-Some.first i.holds) in
+    (j.seen, it.drained j c.in_default-next.is c.next-in-Some.ensures.steps, hears does laws c.args.self.now c.hear.new.self j.seen (◌∙◌ {b = heard does c.loop-first.self c.in-Some.first} c.hear.ensures.heard j.holds))
 
 pub returns : goal.returns
 returns g c =
-    let i = c.loop-first.invariant in (i.seen, it.drained i c.in_default.is c.next.ensures.steps, i.holds)
+    let laws : Laws = record { reads = c.complete.ensures.wave; passes = c.complete.ensures.wrong; settles = c.settles.ensures.between } in
+    let i = c.loop-first.invariant in
+    (i.seen, it.drained i c.in_default.is c.next.ensures.steps, hears g.Settings.Obeys.does laws c.args.self.now c.loop-first.self i.seen i.holds)
