@@ -17,7 +17,7 @@ ghost use Rattle.station_core.specs.Immediate.{more_asked, with_more};
 ghost use Rattle.station_core.specs.Moved.{after_change, after_op};
 
 use crate::immediate::{counted, more_asked};
-use crate::schedule::{Change, change_of, follow, note};
+use crate::schedule::{Change, change_of, refresh_if_driven, schedule_changes};
 use crate::slot_data::slot_fields;
 use crate::station::Station;
 use ln_ops::{Op, Reply, SlotFields};
@@ -113,7 +113,7 @@ impl Station {
         if self.table.set_field(slot, field).is_err() {
             return None;
         }
-        note(&self.table, &mut self.schedule, slot, change_of(field));
+        schedule_changes(&self.table, &mut self.schedule, slot, change_of(field));
         None
     }
 
@@ -158,7 +158,7 @@ impl Station {
     {
         others_stay();
         let slot = self.table.dispatch_get()?;
-        note(&self.table, &mut self.schedule, slot, Change::All);
+        schedule_changes(&self.table, &mut self.schedule, slot, Change::All);
         Ok(slot)
     }
 
@@ -169,7 +169,7 @@ impl Station {
     {
         others_stay();
         let slot = self.table.null_move(slot)?;
-        note(&self.table, &mut self.schedule, slot, Change::All);
+        schedule_changes(&self.table, &mut self.schedule, slot, Change::All);
         Ok(slot)
     }
 
@@ -180,7 +180,7 @@ impl Station {
     {
         others_stay();
         let slot = self.table.dispatch_put(src)?;
-        note(&self.table, &mut self.schedule, slot, Change::All);
+        schedule_changes(&self.table, &mut self.schedule, slot, Change::All);
         Ok(slot)
     }
 
@@ -191,8 +191,8 @@ impl Station {
     {
         others_stay();
         let slot = self.table.shift(src, dest)?;
-        follow(&self.table, &mut self.schedule, src);
-        note(&self.table, &mut self.schedule, slot, Change::All);
+        refresh_if_driven(&self.table, &mut self.schedule, src);
+        schedule_changes(&self.table, &mut self.schedule, slot, Change::All);
         Ok(slot)
     }
 
@@ -214,7 +214,7 @@ impl Station {
     {
         others_stay();
         let slot = self.table.take(address)?;
-        note(&self.table, &mut self.schedule, slot, Change::Nothing);
+        schedule_changes(&self.table, &mut self.schedule, slot, Change::Nothing);
         Ok(slot)
     }
 
@@ -228,7 +228,7 @@ impl Station {
         if self.table.write_row(fields).is_err() {
             return Some(refusal(WR_SL_DATA));
         }
-        note(&self.table, &mut self.schedule, fields.slot, Change::All);
+        schedule_changes(&self.table, &mut self.schedule, fields.slot, Change::All);
         Some(Reply::LongAck {
             opc: WR_SL_DATA,
             ack: ACCEPTED,

@@ -60,8 +60,8 @@ pub(crate) fn change_of(field: Field) -> Change
     }
 }
 
-// The schedule goes by what a slot now reads as.
-pub(crate) fn follow(table: &SlotTable, schedule: &mut Schedule<BitRing>, slot: u8)
+// The slot is refreshed where it now reads as driven, and not where it does not.
+pub(crate) fn refresh_if_driven(table: &SlotTable, schedule: &mut Schedule<BitRing>, slot: u8)
     requires { IsSlot slot }
     ensures state { schedule.new ≡ after_refresh slot (is_refreshed table.now slot) schedule.old }
     ensures legal { IsScheduled schedule.new }
@@ -69,13 +69,18 @@ pub(crate) fn follow(table: &SlotTable, schedule: &mut Schedule<BitRing>, slot: 
     schedule.refresh(slot, is_driven(table.row(slot).state));
 }
 
-// The schedule goes by what a slot now reads as, and its changed packets wait where it is refreshed.
-pub(crate) fn note(table: &SlotTable, schedule: &mut Schedule<BitRing>, slot: u8, change: Change)
+// The same, and the packets that a change alters wait to be sent first, where the slot is refreshed.
+pub(crate) fn schedule_changes(
+    table: &SlotTable,
+    schedule: &mut Schedule<BitRing>,
+    slot: u8,
+    change: Change,
+)
     requires { IsSlot slot }
     ensures state { schedule.new ≡ after_places (places_with slot change) (after_refresh slot (is_refreshed table.now slot) schedule.old) }
     ensures legal { IsScheduled schedule.new }
 {
-    follow(table, schedule, slot);
+    refresh_if_driven(table, schedule, slot);
     match change {
         Change::Nothing => {}
         Change::Speed => schedule.changed(slot, Kind::Speed),

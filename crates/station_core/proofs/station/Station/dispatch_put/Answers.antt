@@ -7,7 +7,7 @@ use Rattle.station_core.proofs.Follows.{Others, noted_as, in_step, given_slot}
 use Rattle.station_core.proofs.station.Station.dispatch_put.Goals as goal
 use Rattle.slot_table.specs.Moves.{after_dispatch_put}
 
-others : (c : goal.After-note) → Others c.self.inside.table c.dispatch_put.new.self c.in_ok-slot.slot
+others : (c : goal.After-schedule_changes) → Others c.self.inside.table c.dispatch_put.new.self c.in_ok-slot.slot
 others c = λ m ne.
     ap (λ (d : Desk). row_of d m) c.dispatch_put.ensures.after
     ∙ (c.others_stay.ensures c.self.inside.table m c.self.invariant.in_step.desk).dispatch_put c.args.src (λ e. ne (e ∙ sym (given_slot (is_placed c.self.inside.table c.args.src) c.args.src c.in_ok-slot.slot c.in_ok-slot.ensures.answer)))
@@ -16,10 +16,10 @@ pub invariant_of-self-2 : goal.invariant_of-self-2
 invariant_of-self-2 c = record {
   lines = c.self.invariant.lines;
   unfinished = c.self.invariant.unfinished;
-  in_step = in_step c.self.inside.table c.dispatch_put.new.self c.in_ok-slot.slot c.self.inside.schedule c.note.new.schedule (places_with c.in_ok-slot.slot All) c.dispatch_put.ensures.desk c.note.ensures.legal c.in_ok-slot.ensures.slot c.self.invariant.in_step.slots (others c) c.note.ensures.state;
+  in_step = in_step c.self.inside.table c.dispatch_put.new.self c.in_ok-slot.slot c.self.inside.schedule c.schedule_changes.new.schedule (places_with c.in_ok-slot.slot All) c.dispatch_put.ensures.desk c.schedule_changes.ensures.legal c.in_ok-slot.ensures.slot c.self.invariant.in_step.slots (others c) c.schedule_changes.ensures.state;
 }
 
 pub returns-clause-state : goal.returns-clause-state
 returns-clause-state c =
-    rw (← c.self.view_is) (noted_as c.self.inside.framers.items c.self.inside.power c.self.inside.table c.dispatch_put.new.self (after_dispatch_put c.self.inside.table c.args.src) c.in_ok-slot.slot c.self.inside.schedule c.note.new.schedule (places_with c.in_ok-slot.slot All) _
-    c.in_ok-slot.ensures.slot c.self.invariant.in_step.slots (others c) c.note.ensures.state c.dispatch_put.ensures.after refl)
+    rw (← c.self.view_is) (noted_as c.self.inside.framers.items c.self.inside.power c.self.inside.table c.dispatch_put.new.self (after_dispatch_put c.self.inside.table c.args.src) c.in_ok-slot.slot c.self.inside.schedule c.schedule_changes.new.schedule (places_with c.in_ok-slot.slot All) _
+    c.in_ok-slot.ensures.slot c.self.invariant.in_step.slots (others c) c.schedule_changes.ensures.state c.dispatch_put.ensures.after refl)
