@@ -4,7 +4,7 @@
 
 mod bus;
 mod event;
-mod laws;
+pub mod laws;
 mod sending;
 mod texts;
 mod time;

@@ -6,7 +6,7 @@
 mod address;
 mod build;
 mod instr;
-mod laws;
+pub mod laws;
 mod module;
 mod packet;
 mod reading;

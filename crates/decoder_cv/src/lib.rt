@@ -7,7 +7,7 @@
 mod cv_fault;
 mod cv_pair;
 mod cv_set;
-mod laws;
+pub mod laws;
 mod list;
 
 pub use cv_fault::CvFault;

@@ -7,7 +7,7 @@ ghost use Rattle.decoder_node.specs.Heard.{obeying, told};
 use crate::ONE;
 use dcc_packet::{Instr, Packet, read};
 use decoder_rx::{Rx, bit_of};
-use half_bits::{halves, halves_are_a_wave};
+use half_bits::halves;
 use std::marker::Model;
 
 /// Settings by which a state obeys instructions.
@@ -96,8 +96,8 @@ impl<Settings: Obeys<State>, State> Decoder<Settings, State> {
         requires ends { IsFinite (I.remaining halves) }
         ensures { (items : List ℕ) × Drains I.next_gives halves items × Hears Settings.does self.old items self.new }
     {
-        decoder_rx::complete();
-        decoder_rx::settles();
+        decoder_rx::laws::complete();
+        decoder_rx::laws::settles();
         let mut halves = halves;
         // The two halves of a bit are heard together, which is quicker.
         while let Some(first) = halves.next() {
@@ -144,9 +144,9 @@ impl<Settings: Obeys<State>, State> Decoder<Settings, State> {
         ensures settles { IsBetween self.new }
         ensures obeys { IsBetween self.old → self.new.state ≡ obeying (Settings.does self.old.settings) self.old.state packet.now }
     {
-        decoder_rx::complete();
-        decoder_rx::settles();
-        halves_are_a_wave(packet);
+        decoder_rx::laws::complete();
+        decoder_rx::laws::settles();
+        half_bits::laws::halves_are_a_wave(packet);
         self.hear_wave(packet, instr);
     }
 
@@ -156,9 +156,9 @@ impl<Settings: Obeys<State>, State> Decoder<Settings, State> {
         requires read { instr.now ≡ instruction_of packet.now }
         ensures { self.new ≡ heard_all Settings.does self.old (halves_of packet.now) }
     {
-        decoder_rx::complete();
-        decoder_rx::settles();
-        halves_are_a_wave(packet);
+        decoder_rx::laws::complete();
+        decoder_rx::laws::settles();
+        half_bits::laws::halves_are_a_wave(packet);
         if !self.rx.hear_wave() {
             return self.hear_halves(packet);
         }

@@ -10,6 +10,6 @@ pub fn waves_are_obeyed()
     ensures loco { (old : LocoDecoder) (halves : List ℕ) → Hears obeyed old halves (heard_all obeyed old halves) }
     ensures accessory { (old : AccessoryDecoder) (halves : List ℕ) → Hears switched old halves (heard_all switched old halves) }
 {
-    decoder_rx::complete();
-    decoder_rx::settles();
+    decoder_rx::laws::complete();
+    decoder_rx::laws::settles();
 }

@@ -6,7 +6,7 @@
 
 mod accessory;
 mod decoder;
-mod laws;
+pub mod laws;
 mod loco;
 mod node;
 mod obey;

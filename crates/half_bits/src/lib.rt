@@ -10,7 +10,7 @@ ghost use Rattle.dcc_packet.specs.Wave.{IsWave};
 ghost use Rattle.half_bits.specs.Halves.{halves_of};
 
 mod duration;
-mod laws;
+pub mod laws;
 mod wave;
 
 use dcc_packet::Packet;

@@ -14,7 +14,7 @@ use crate::world::World;
 use crate::writing::{put_all, put_line};
 use ln_ops::to_msg;
 use show_text::{off_line, reply_line, track_line};
-use station_core::{Step, calls_are_moves};
+use station_core::Step;
 
 /// How far a connection is served.
 #[derive(Clone, Copy, Debug, PartialEq, Eq)]
@@ -222,7 +222,7 @@ pub fn serve<S: Source, K: Sink, T: Sink>(
     ensures same { IsSameLayout world.old world.new }
 {
     headline();
-    calls_are_moves();
+    station_core::laws::calls_are_moves();
     world.station.always_legal();
     let mut counts = Counts {
         replies: 0,

@@ -16,20 +16,14 @@ ghost use Rattle.layout_core.specs.Wanted.{wanted};
 ghost use Rattle.layout_core.specs.Played.{after_events, answer_to};
 ghost use Rattle.layout_core.specs.World.{AfterEvent, HaveHeard, HaveObeyed};
 
-use dcc_packet::{sent_packets_spell, speeds_are_told, spellings_are_read};
-use slot_table::rows_are_legal;
-use station_core::{
-    calls_are_moves, coverage, desk_of_messages, packets_of_the_desk, stays_a_desk,
-};
-
 /// A decoder that an address and its entry concern, and that hears each of the entry's packets, and besides
 /// only these and what leaves it as it is, ends as the entry wants it, however it ran before.
 pub fn settling()
     ensures { (cv : Settings) (a : ℕ) (e : Entry) (start : Running) (packets : List (List ℕ)) → IsAskedBy cv a e → TellsAll cv a e packets → runs cv start packets ≡ wanted e cv.reversed }
 {
-    spellings_are_read();
-    sent_packets_spell();
-    speeds_are_told();
+    dcc_packet::laws::spellings_are_read();
+    dcc_packet::laws::sent_packets_spell();
+    dcc_packet::laws::speeds_are_told();
 }
 
 /// The packets of other addresses, idle packets and the packets of switches leave a locomotive decoder as it is.
@@ -39,8 +33,8 @@ pub fn others_leave_it()
     ensures idle { (cv : Settings) → LeavesAsItIs cv idle_bytes }
     ensures accessory { (cv : Settings) (number : ℕ) (closed on : Bool) → LeavesAsItIs cv (accessory_bytes number closed on) }
 {
-    spellings_are_read();
-    sent_packets_spell();
+    dcc_packet::laws::spellings_are_read();
+    dcc_packet::laws::sent_packets_spell();
 }
 
 /// What the nodes of a layout heard of events, they heard one thing after another, however the list is cut into calls. So
@@ -58,12 +52,12 @@ pub fn headline()
     ensures headline { (start : Seen) (events : List Event) (old new : List Node) → HasDesk start.powered → HaveHeard start events old new → RunsAsWanted (known_of start) events old new }
     ensures after_noise { (start : Seen) (events : List Event) (old new : List Node) → HasDesk start.powered → HaveHeard start events old new → RunsAfterNoise (known_of start) events old new }
 {
-    calls_are_moves();
-    desk_of_messages();
-    stays_a_desk();
-    coverage();
-    packets_of_the_desk();
-    rows_are_legal();
+    station_core::laws::calls_are_moves();
+    station_core::laws::desk_of_messages();
+    station_core::laws::stays_a_desk();
+    station_core::laws::coverage();
+    station_core::laws::packets_of_the_desk();
+    slot_table::laws::rows_are_legal();
     settling();
     others_leave_it();
 }

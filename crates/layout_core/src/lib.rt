@@ -4,7 +4,7 @@
 mod device;
 mod engine;
 mod event;
-mod laws;
+pub mod laws;
 mod node;
 mod nodes;
 mod port;

@@ -20,7 +20,7 @@ use crate::laws::headline;
 use crate::nodes::Nodes;
 use crate::standing::Standing;
 use decoder_node::{NodeList, Running};
-use station_core::{Station, StationFault, Step, calls_are_moves, stays_a_desk};
+use station_core::{Station, StationFault, Step};
 use std::alloc::Global;
 
 /// A station, and the decoders on its track: nothing but its packets moves them.
@@ -126,7 +126,7 @@ impl World {
         ensures after_noise { RunsAfterNoise (known_of self.old.station) events.now self.old.nodes self.new.nodes }
     {
         headline();
-        stays_a_desk();
+        station_core::laws::stays_a_desk();
         self.station.always_legal();
         for (i, event) in events.iter().enumerate() {
             steps[i] = self.step(*event);
@@ -143,7 +143,7 @@ impl World {
         ensures same { IsSameLayout self.old self.new }
         ensures sendable { IsSendableAnswer result }
     {
-        calls_are_moves();
+        station_core::laws::calls_are_moves();
         match self.station.byte(line, byte) {
             Some(reply) => Step::Reply(reply),
             None => Step::Quiet,
@@ -159,7 +159,7 @@ impl World {
         ensures same { IsSameLayout self.old self.new }
         ensures sendable { IsSendableAnswer result }
     {
-        calls_are_moves();
+        station_core::laws::calls_are_moves();
         match self.station.turn() {
             Some(packet) => {
                 self.nodes.hear(&packet, missed);

@@ -5,7 +5,7 @@
 
 mod ask;
 mod asked;
-mod laws;
+pub mod laws;
 mod reader;
 mod telling;
 

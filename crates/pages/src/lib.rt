@@ -9,7 +9,7 @@
 mod answering;
 mod asked;
 mod gate;
-mod laws;
+pub mod laws;
 mod lines;
 mod origin;
 mod page;

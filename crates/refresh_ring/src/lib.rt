@@ -11,7 +11,7 @@ mod bits;
 mod fault;
 mod job;
 mod kind;
-mod laws;
+pub mod laws;
 mod pick;
 mod place;
 mod place_set;

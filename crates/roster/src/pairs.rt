@@ -10,7 +10,7 @@ use crate::decoder::loco;
 use crate::fault::Why;
 use crate::pair::Pair;
 use arrayvec::ArrayVec;
-use decoder_cv::{CvPair, CvSet, long_lists_are_refused};
+use decoder_cv::{CvPair, CvSet};
 use decoder_node::NodeSpec;
 use std::marker::Model;
 use toml::Value;
@@ -74,7 +74,7 @@ impl<'a> Pairs<'a> {
             Some(pairs) => loco(CvSet::of_list(pairs.as_slice())),
             // No `u16` holds one of the numbers, or there are more pairs than variables.
             None => {
-                long_lists_are_refused();
+                decoder_cv::laws::long_lists_are_refused();
                 Err(Why::BadCvList)
             }
         }

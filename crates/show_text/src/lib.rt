@@ -6,7 +6,7 @@
 mod command;
 mod cursors;
 mod hex;
-mod laws;
+pub mod laws;
 mod line;
 mod messages;
 mod nodes;

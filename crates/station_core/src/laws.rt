@@ -19,8 +19,6 @@ ghost use Rattle.station_core.specs.declared.call.Call.{Call as CallOf};
 ghost use Rattle.station_core.specs.declared.call.Call.TheVariants.{Byte as ByteCall, Turn as TurnCall};
 
 use ln_frame::{any_cut, left_is_enough};
-use refresh_ring::{four_turns, picks_are_due};
-use slot_table::leaves_desk;
 
 /// What a call makes of a station, and what it answers, by its kind: a byte is answered by a reply or by nothing, a turn by
 /// a packet or, while off, by none.
@@ -38,14 +36,14 @@ pub fn coverage()
     ensures { (start : Seen) (calls : List CallOf) → Covers start calls }
 {
     left_is_enough();
-    four_turns();
+    refresh_ring::laws::four_turns();
 }
 
 /// What a turn sends is a packet of the desk at that moment, and never of an older value.
 pub fn packets_of_the_desk()
     ensures { (seen : Seen) → IsPacketOfDesk seen.powered.power seen (packet_of_turn seen) }
 {
-    picks_are_due();
+    refresh_ring::laws::picks_are_due();
 }
 
 /// What a turn sends has 3 to 5 bytes, the last of them a right check.
@@ -61,22 +59,22 @@ pub fn changes_first()
     ensures { (start : Seen) (calls : List CallOf) → ChangesFirst start calls }
 {
     left_is_enough();
-    refresh_ring::changes_first();
+    refresh_ring::laws::changes_first();
 }
 
 /// Each place that an accepted message changes waits then, where its slot is refreshed.
 pub fn changes_wait()
     ensures { (seen : Seen) (op : OpOf) → ChangesWait seen op }
 {
-    refresh_ring::changes_first();
-    refresh_ring::switches_in_order();
+    refresh_ring::laws::changes_first();
+    refresh_ring::laws::switches_in_order();
 }
 
 /// From any start, switch requests are sent in order, each twice.
 pub fn switches_in_order()
     ensures { (start : Seen) (calls : List CallOf) → SwitchesInOrder start calls }
 {
-    refresh_ring::switches_in_order();
+    refresh_ring::laws::switches_in_order();
 }
 
 /// From a start that a station can have, all that was to send of switch requests is sent in 2,160 turns with power.
@@ -84,16 +82,16 @@ pub fn switches_are_sent()
     ensures { (start : Seen) (calls : List CallOf) → IsScheduled (scheduled start) → SwitchesAreSent start calls }
 {
     left_is_enough();
-    refresh_ring::switches_in_order();
+    refresh_ring::laws::switches_in_order();
 }
 
 /// From a start that a station can have, no two neighbouring packets go to one locomotive address or one module.
 pub fn neighbours()
     ensures { (start : Seen) (calls : List CallOf) → IsScheduled (scheduled start) → NeighboursApart start calls }
 {
-    refresh_ring::neighbours();
-    refresh_ring::switches_in_order();
-    picks_are_due();
+    refresh_ring::laws::neighbours();
+    refresh_ring::laws::switches_in_order();
+    refresh_ring::laws::picks_are_due();
 }
 
 /// From any start, the power and the desk of a station are what throttles can know: those that the messages of its lines
@@ -118,5 +116,5 @@ pub fn messages_of_a_line()
 pub fn stays_a_desk()
     ensures { (known : Known) (calls : List CallOf) → HasDesk known.powered → AtEveryMoment HasDesk known calls }
 {
-    leaves_desk();
+    slot_table::laws::leaves_desk();
 }

@@ -5,7 +5,7 @@
 
 mod call;
 mod immediate;
-mod laws;
+pub mod laws;
 mod meaning;
 mod messages;
 mod packets;

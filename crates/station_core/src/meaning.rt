@@ -21,7 +21,6 @@ ghost use Rattle.station_core.specs.Reads.{WritesItsBytes};
 ghost use Rattle.station_core.specs.Seen.{Seen};
 
 use crate::laws::changes_wait;
-use slot_table::{others_stay, own_slots, rows_are_legal};
 
 /// A slot asks for F0 to F12 bit by bit, and for no function above. Bit 5 of DIRF is the direction, 0 forward.
 pub fn functions_are_bits()
@@ -36,8 +35,8 @@ pub fn what_is_new_waits()
     ensures { (seen : Seen) (op : OpOf) (slot : ℕ) (kind : KindOf) → HasDesk seen.powered → IsSlot slot → IsNew seen op slot kind → WaitsAfter seen op slot kind }
 {
     changes_wait();
-    others_stay();
-    own_slots();
+    slot_table::laws::others_stay();
+    slot_table::laws::own_slots();
 }
 
 /// After a message that leaves a whole slot each packet of the slot waits, whether it changed or not.
@@ -72,7 +71,7 @@ pub fn off_ends_by_power_on()
 pub fn messages_write_their_bytes()
     ensures { (powered : PoweredDesk) (slot : ℕ) → HasDesk powered → IsSlot slot → WritesItsBytes powered slot }
 {
-    rows_are_legal();
-    others_stay();
-    own_slots();
+    slot_table::laws::rows_are_legal();
+    slot_table::laws::others_stay();
+    slot_table::laws::own_slots();
 }

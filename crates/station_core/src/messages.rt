@@ -22,7 +22,7 @@ use crate::slot_data::slot_fields;
 use crate::station::Station;
 use ln_ops::{Op, Reply, SlotFields};
 use refresh_ring::Power;
-use slot_table::{Field, SlotFault, others_stay};
+use slot_table::{Field, SlotFault};
 
 // What OPC_LONG_ACK answers to: opcodes with bit 7 clear.
 const SW_REQ: u8 = 0x30;
@@ -109,7 +109,7 @@ impl Station {
         ensures reply { result ≡ None }
         ensures state { self.new ≡ after_change self.old (after_field self.old.powered.desk slot field) (of_field self.old.powered.desk slot field) }
     {
-        others_stay();
+        slot_table::laws::others_stay();
         if self.table.set_field(slot, field).is_err() {
             return None;
         }
@@ -156,7 +156,7 @@ impl Station {
         ensures slot { IfOk result IsSlot }
         ensures state { self.new ≡ after_change self.old (after_dispatch_get self.old.powered.desk) (of_slot result) }
     {
-        others_stay();
+        slot_table::laws::others_stay();
         let slot = self.table.dispatch_get()?;
         schedule_changes(&self.table, &mut self.schedule, slot, Change::All);
         Ok(slot)
@@ -167,7 +167,7 @@ impl Station {
         ensures slot { IfOk result IsSlot }
         ensures state { self.new ≡ after_change self.old (after_null_move self.old.powered.desk slot) (of_slot result) }
     {
-        others_stay();
+        slot_table::laws::others_stay();
         let slot = self.table.null_move(slot)?;
         schedule_changes(&self.table, &mut self.schedule, slot, Change::All);
         Ok(slot)
@@ -178,7 +178,7 @@ impl Station {
         ensures slot { IfOk result IsSlot }
         ensures state { self.new ≡ after_change self.old (after_dispatch_put self.old.powered.desk src) (of_slot result) }
     {
-        others_stay();
+        slot_table::laws::others_stay();
         let slot = self.table.dispatch_put(src)?;
         schedule_changes(&self.table, &mut self.schedule, slot, Change::All);
         Ok(slot)
@@ -189,7 +189,7 @@ impl Station {
         ensures slot { IfOk result IsSlot }
         ensures state { self.new ≡ after_change self.old (after_shift self.old.powered.desk src dest) (of_slot result) }
     {
-        others_stay();
+        slot_table::laws::others_stay();
         let slot = self.table.shift(src, dest)?;
         refresh_if_driven(&self.table, &mut self.schedule, src);
         schedule_changes(&self.table, &mut self.schedule, slot, Change::All);
@@ -212,7 +212,7 @@ impl Station {
         ensures slot { IfOk result IsSlot }
         ensures state { self.new ≡ after_change self.old (after_take self.old.powered.desk address) [] }
     {
-        others_stay();
+        slot_table::laws::others_stay();
         let slot = self.table.take(address)?;
         schedule_changes(&self.table, &mut self.schedule, slot, Change::Nothing);
         Ok(slot)
@@ -224,7 +224,7 @@ impl Station {
         ensures state { self.new ≡ after_op self.old (Op.SlotWrite fields.now) }
         ensures sendable { IfSome result IsSendable }
     {
-        others_stay();
+        slot_table::laws::others_stay();
         if self.table.write_row(fields).is_err() {
             return Some(refusal(WR_SL_DATA));
         }

@@ -33,7 +33,7 @@ use arrayvec::ArrayVec;
 use dcc_packet::{Packet, accessory, idle, stop_all};
 use ln_frame::{Framer, left_is_enough};
 use ln_ops::{Reply, Row, read};
-use refresh_ring::{BitRing, Kind, Pick, Power, Schedule, picks_are_due};
+use refresh_ring::{BitRing, Kind, Pick, Power, Schedule};
 use slot_table::SlotTable;
 use std::alloc::Global;
 use std::marker::Model;
@@ -195,7 +195,7 @@ impl Station {
         // No address has two slots, and each slot that is not free has its entry.
         ensures desk { IsDesk self.old.powered.desk }
     {
-        picks_are_due();
+        refresh_ring::laws::picks_are_due();
         packets_of_the_desk();
         let view = Addresses { table: &self.table };
         let pick = self.schedule.pick(&view, self.power);
