@@ -3,6 +3,8 @@
 #![tactic(auto)]
 
 #[cfg(test)]
+mod test_ascii_words;
+#[cfg(test)]
 mod test_dcc_packet;
 #[cfg(test)]
 mod test_dcc_packet_steps;
