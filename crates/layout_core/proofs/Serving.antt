@@ -1,6 +1,7 @@
 -- Events that are served one after another add up.
 use Rattle.std.proofs.Common.{zero, suc, ◌*◌, replicate, Option, Some, None, ◌≡◌, ℕ, ◌+◌, ◌<◌, ◌≤◌, List, [], ◌∷◌, ◌++◌, length, length-append, take, get_or, refl, ap, ap₂, sym, subst, ◌∙◌, append_assoc, arith}
 use Rattle.std.proofs.lemmas.List.{append-nil, replicate_more, take_all, take_more}
+use Rattle.std.proofs.KnownBytes.{Appends-nil, Appends-trans, Consumes-kept, Consumes-nil, Consumes-trans}
 use Rattle.std.specs.Io.KnownBytes.{Appends, Consumes, Keeps}
 use Rattle.station_core.specs.declared.call.Step.{Step}
 use Rattle.ln_ops.specs.declared.reply.Reply.{Reply as ReplyValue}
@@ -14,7 +15,7 @@ use Rattle.layout_core.specs.Served.{HasRead, Input, Moment, Serves, byte_events
 use Rattle.layout_core.specs.Played.{after_event, after_events, answer_to, answers_to}
 use Rattle.layout_core.specs.World.{AfterEvent, HaveHeard, IsSameLayout}
 use Rattle.layout_core.proofs.Counting.{few_of}
-use Rattle.layout_core.proofs.Known.{appends_more, appends_none, consumes_end, consumes_kept, consumes_more, consumes_none}
+use Rattle.layout_core.proofs.Known.{Consumes-end}
 use Rattle.layout_core.proofs.Played.{both_heard, next_heard, nothing_heard}
 use Rattle.layout_core.proofs.Same.{same_still, same_then}
 
@@ -55,8 +56,8 @@ pub serves_none : (line : ℕ) (moment : Moment) → Serves line [] moment momen
 serves_none line moment = record {
   station = refl;
   nodes = nothing_heard moment.world.station moment.world.nodes;
-  written = appends_none moment.written;
-  traced = appends_none moment.traced;
+  written = Appends-nil moment.written;
+  traced = Appends-nil moment.traced;
   replies = omega arith;
   turns = omega arith;
   same = same_still moment.world;
@@ -104,11 +105,11 @@ serves_more line events later old mid new first second =
           (subst (λ (s : Seen). HaveHeard s later mid.world.nodes new.world.nodes) from second.nodes);
       written =
           subst (λ (bs : List ℕ). Appends old.written new.written bs) (sym (ap written_for all ∙ written-append front back))
-          (appends_more old.written mid.written new.written (written_for front) (written_for back) first.written
+          (Appends-trans old.written mid.written new.written (written_for front) (written_for back) first.written
           (subst (λ (steps : List Step). Appends mid.written new.written (written_for steps)) here second.written));
       traced =
           subst (λ (bs : List ℕ). Appends old.traced new.traced bs) (sym (ap (traced_from line (old.turns + 1)) all ∙ traced-append line (old.turns + 1) front back))
-          (appends_more old.traced mid.traced new.traced (traced_from line (old.turns + 1) front) (traced_from line (old.turns + 1 + turns_in front) back) first.traced
+          (Appends-trans old.traced mid.traced new.traced (traced_from line (old.turns + 1) front) (traced_from line (old.turns + 1 + turns_in front) back) first.traced
           (subst (λ (bs : List ℕ). Appends mid.traced new.traced bs) (ap₂ (λ (t : ℕ) (steps : List Step). traced_from line t steps) turn here) second.traced));
       replies =
           let counted : replies_in (answers_to seen (events ++ later)) ≡ replies_in front + replies_in back = ap replies_in all ∙ replies-append front back in
@@ -161,12 +162,12 @@ IsServedSoFar line turns reads count input input' old new =
 
 -- nothing is read so far
 pub reads_none : (input : Input) → HasRead 0 [] input input
-reads_none input = record { consumed = consumes_none input.left; counted = omega arith; few = omega arith }
+reads_none input = record { consumed = Consumes-nil input.left; counted = omega arith; few = omega arith }
 
 -- one more read, of at most 64 bytes
 pub reads_more : (made : ℕ) (bytes more : List ℕ) (old mid new : Input) → HasRead made bytes old mid → Consumes mid.left new.left more → new.reads ≡ mid.reads + 1 → length more ≤ 64 → HasRead (made + 1) (bytes ++ more) old new
 reads_more made bytes more old mid new so_far consumed counted few = record {
-  consumed = consumes_more old.left mid.left new.left bytes more so_far.consumed consumed;
+  consumed = Consumes-trans old.left mid.left new.left bytes more so_far.consumed consumed;
   counted = omega (arith, so_far.counted, counted);
   few = omega (arith, so_far.few, few, length-append bytes more);
 }
@@ -180,7 +181,7 @@ reads_chunk made n bytes buf old mid new so_far consumed counted bound whole =
 -- one more read, of none
 pub reads_end : (made : ℕ) (bytes : List ℕ) (old mid new : Input) → HasRead made bytes old mid → Consumes mid.left new.left [] → new.reads ≡ mid.reads + 1 → HasRead (made + 1) bytes old new
 reads_end made bytes old mid new so_far consumed counted = record {
-  consumed = consumes_end old.left mid.left new.left bytes so_far.consumed consumed;
+  consumed = Consumes-end old.left mid.left new.left bytes so_far.consumed consumed;
   counted = omega (arith, so_far.counted, counted);
   few = omega (arith, so_far.few);
 }
@@ -188,7 +189,7 @@ reads_end made bytes old mid new so_far consumed counted = record {
 -- one more read that failed
 pub reads_failed : (made : ℕ) (bytes : List ℕ) (old mid new : Input) → HasRead made bytes old mid → Keeps mid.left new.left → new.reads ≡ mid.reads + 1 → HasRead (made + 1) bytes old new
 reads_failed made bytes old mid new so_far kept counted = record {
-  consumed = consumes_kept old.left mid.left new.left bytes so_far.consumed kept;
+  consumed = Consumes-kept old.left mid.left new.left bytes so_far.consumed kept;
   counted = omega (arith, so_far.counted, counted);
   few = omega (arith, so_far.few);
 }

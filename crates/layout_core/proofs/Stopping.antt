@@ -3,6 +3,7 @@ use Rattle.std.proofs.Common.{◌≡◌, ℕ, ◌+◌, ◌-◌, ◌<◌, List, [
 use Rattle.std.proofs.lemmas.List.{drop_more, replicate-append-replicate, take-append-drop}
 use Rattle.std.specs.Prelude.{Bool, false, Result, Ok, Err, IfErr}
 use Rattle.std.specs.Result.{IsErrAnd}
+use Rattle.std.proofs.KnownBytes.{Appends-trans}
 use Rattle.std.specs.Io.KnownBytes.{Appends}
 use Rattle.station_core.specs.declared.call.Step.{Step}
 use Rattle.station_core.specs.Seen.{Seen}
@@ -14,7 +15,7 @@ use Rattle.layout_core.specs.Faults.{AppendsFront, Leaves, PutsOut, ServesOrStop
 use Rattle.layout_core.specs.Served.{Moment, Serves, byte_events, bytes_of_answer, line_of_answer, served_events, traced_from, turns_in, written_for}
 use Rattle.layout_core.specs.Played.{after_event, after_events, answer_to, answers_to}
 use Rattle.layout_core.specs.World.{AfterEvent, HaveHeard, IsSameLayout}
-use Rattle.layout_core.proofs.Known.{appends_more, front_behind}
+use Rattle.layout_core.proofs.Known.{front_behind}
 use Rattle.layout_core.proofs.Played.{both_heard, next_heard, nothing_heard}
 use Rattle.layout_core.proofs.Same.{same_then}
 use Rattle.layout_core.proofs.Serving.{answers-append, served-append, state-append, traced-append, turns-append, written-append}
@@ -28,7 +29,7 @@ puts_out_behind Write line turn later front steps last w w' w'' t t' t'' at writ
     let lines : traced_from line turn (front ++ steps) ≡ traced_from line turn front ++ traced_from line later steps =
     traced-append line turn front steps ∙ ap (λ (n : ℕ). traced_from line turn front ++ traced_from line n steps) (sym at) in (
       subst (λ (bs : List ℕ). AppendsFront w w'' bs (bytes_of_answer last)) (sym (written-append front steps)) (front_behind w w' w'' (written_for front) (written_for steps) (bytes_of_answer last) written out.0),
-      subst (λ (bs : List ℕ). Appends t t'' bs) (sym lines) (appends_more t t' t'' (traced_from line turn front) (traced_from line later steps) traced out.1),
+      subst (λ (bs : List ℕ). Appends t t'' bs) (sym lines) (Appends-trans t t' t'' (traced_from line turn front) (traced_from line later steps) traced out.1),
     )
 puts_out_behind Trace line turn later front steps last w w' w'' t t' t'' at written traced out =
     let lines : traced_from line turn (front ++ steps) ≡ traced_from line turn front ++ traced_from line later steps =
@@ -37,7 +38,7 @@ puts_out_behind Trace line turn later front steps last w w' w'' t t' t'' at writ
     ap (λ (bs : List ℕ). bs ++ bytes_of_answer last) (written-append front steps) ∙ append_assoc (written_for front) (written_for steps) (bytes_of_answer last) in
     let counted : turns_in (front ++ steps) ≡ turns_in front + turns_in steps = turns-append front steps in
     let number : later + turns_in steps ≡ turn + turns_in (front ++ steps) = omega (arith, at, counted) in (
-      subst (λ (bs : List ℕ). Appends w w'' bs) (sym all) (appends_more w w' w'' (written_for front) (written_for steps ++ bytes_of_answer last) written out.0),
+      subst (λ (bs : List ℕ). Appends w w'' bs) (sym all) (Appends-trans w w' w'' (written_for front) (written_for steps ++ bytes_of_answer last) written out.0),
       subst (λ (n : ℕ). AppendsFront t t'' (traced_from line turn (front ++ steps)) (line_of_answer line n last)) number
           (subst (λ (bs : List ℕ). AppendsFront t t'' bs (line_of_answer line (later + turns_in steps) last)) (sym lines)
           (front_behind t t' t'' (traced_from line turn front) (traced_from line later steps) (line_of_answer line (later + turns_in steps) last) traced out.1)),
