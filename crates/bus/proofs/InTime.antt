@@ -175,10 +175,10 @@ pub runs_in_time : TurnsAreBounded → ((bus : SeenBus) (events : List Event) �
     → ((bus : SeenBus) (events : List Event) → IsKept bus → AreEvents events → HasPassed bus.left (micros_in bus events) (turns_lasting (told_of bus events)) (after_events bus events).left)
     → (start : SeenBus) (events : List Event) (old new : List Node) → IsKept start → AreEvents events
     → RunsAsWanted (known_of start.station) (layout_events start events) old new → RunsInTime start events old new
-runs_in_time laws keeps passes start events old new h legal runs before cycle i slot a e loco none split below stands between hears timed =
+runs_in_time laws keeps passes start events old new h legal runs before cycle i loco none split below stands slot a e between hears timed =
     let mid : SeenBus = after_events start before in
     let both : AreEvents (before ++ cycle) = subst AreEvents split legal in
     let kept : IsKept mid = keeps start before h (front_legal before cycle both) in
-    runs (layout_events start before) (layout_events mid cycle) i slot a e loco none
-    (ap (layout_events start) split ∙ layout-append before cycle start) below stands between (quiet i before start) hears
+    runs (layout_events start before) (layout_events mid cycle) i loco none
+    (ap (layout_events start) split ∙ layout-append before cycle start) below stands slot a e between (quiet i before start) hears
     (full laws slot a e (told_all (known_of start.station) (calls_in (layout_events start before))) mid cycle kept (passes mid cycle kept (end_legal before cycle both)) timed)

@@ -1,14 +1,12 @@
 -- The headline in time: a locomotive whose decoder hears everything for so much track time runs as its slot says.
-use Rattle.std.specs.Prelude.{ℕ, ◌≡◌, ◌*◌, ◌<◌, ◌≤◌, List, ◌++◌, Some, length}
-use Rattle.std.specs.List.{slice_index_or}
+use Rattle.std.specs.Prelude.{ℕ, ◌≡◌, ◌*◌, ◌≤◌, List, Some}
 use Rattle.slot_table.specs.Entry.{Entry, IsSlot}
 use Rattle.station_core.specs.Known.{Known, told_all}
 use Rattle.station_core.specs.Moments.{AtEveryMoment, IsLive, slots_refreshed}
 use Rattle.station_core.specs.Seen.{known_of}
-use Rattle.decoder_node.specs.Decoder.{LocoDecoder, IsBetween as IsBetweenPackets}
+use Rattle.decoder_node.specs.Decoder.{IsBetween as IsBetweenPackets}
 use Rattle.layout_core.specs.declared.node.Node.{Node}
-use Rattle.layout_core.specs.declared.node.Node.TheVariants.{Loco}
-use Rattle.layout_core.specs.Cycle.{HearsCycle, StandsIn}
+use Rattle.layout_core.specs.Cycle.{ForEachLoco, HearsCycle, StandsIn}
 use Rattle.layout_core.specs.Events.{calls_in}
 use Rattle.layout_core.specs.Nodes.{running_of}
 use Rattle.layout_core.specs.Wanted.{wanted}
@@ -29,12 +27,9 @@ pub record IsTimedCycleOf (slot a : ℕ) (e : Entry) (known : Known) (bus : Seen
 -- The headline in time. Where no packet was under way at the start, the locomotive, node i, that answers to the address,
 -- agrees in steps and misses no turn of the cycle runs as the entry wants it after the cycle, whatever came before.
 abbrev pub RunsInTime : SeenBus → List Event → (old new : List Node) → Type 0
-RunsInTime start events old new =
-    (before cycle : List Event) (i slot a : ℕ) (e : Entry) (loco : LocoDecoder) (none : Node)
-    → events ≡ before ++ cycle
-    → i < length old
-    → slice_index_or old i none ≡ Loco loco
+RunsInTime start = ForEachLoco (λ before cycle i loco node.
+    (slot a : ℕ) (e : Entry)
     → IsBetweenPackets loco
     → HearsCycle i a e loco (layout_events (after_events start before) cycle)
     → IsTimedCycleOf slot a e (told_all (known_of start.station) (calls_in (layout_events start before))) (after_events start before) cycle
-    → running_of (slice_index_or new i none) ≡ Some (wanted e loco.settings.reversed)
+    → running_of node ≡ Some (wanted e loco.settings.reversed))

@@ -1,5 +1,5 @@
 -- A full refresh cycle tells a locomotive all that its entry asks, and nothing else.
-use Rattle.std.proofs.Common.{◌≡◌, ◌⊎◌, ℕ, ◌+◌, ◌*◌, ◌≤◌, nat_eq, Bool, true, false, if◌then◌else◌, List, [], ◌∷◌, ◌++◌, length, Some, suc, refl, ap, sym, subst, ◌∙◌, arith, inl, inr, append_assoc}
+use Rattle.std.proofs.Common.{◌≡◌, ◌⊎◌, ℕ, ◌+◌, ◌*◌, ◌<◌, ◌≤◌, nat_eq, Bool, true, false, if◌then◌else◌, List, [], ◌∷◌, ◌++◌, length, Some, suc, refl, ap, sym, subst, ◌∙◌, arith, inl, inr, append_assoc}
 use Rattle.std.proofs.lemmas.Bool.{both_ways, cases_eq, or_right}
 use Rattle.std.proofs.lemmas.List.Elements.{All-from_recursion}
 use Rattle.std.specs.List.{AllByRecursion, filter, slice_index_or}
@@ -377,18 +377,25 @@ desk_after_events : (laws : Laws) (start : Seen) (events : List Event) → HasDe
 desk_after_events laws start events is =
     subst (λ (seen : Seen). HasDesk seen.powered) (sym (after_is start events)) (desk_behind laws start (calls_in events) is)
 
+-- what a node heard before the cycle, and of it
+heard_apart : (start : Seen) (events before cycle : List Event) (old new : List Node) → HaveHeard start events old new → events ≡ before ++ cycle
+    → (i : ℕ) (node none : Node) → i < length old → slice_index_or old i none ≡ node
+    → (mid : Node) × HearsAll (sounds_in i start before) node mid × HearsAll (sounds_in i (after_events start before) cycle) mid (slice_index_or new i none)
+heard_apart start events before cycle old new has parts i node none below is =
+    let here : Node = slice_index_or new i none in
+    let so_far : List Sound = sounds_in i start before in
+    let later : List Sound = sounds_in i (after_events start before) cycle in
+    let all : sounds_in i start events ≡ so_far ++ later = ap (sounds_in i start) parts ∙ sounds-append i start before cycle in
+    all_split so_far later node here
+    (subst (λ (from : Node). HearsAll (so_far ++ later) from here) is (subst (λ (sounds : List Sound). HearsAll sounds (slice_index_or old i none) here) all (has.each i none below)))
+
 -- the headline
 pub runs_as_wanted : Laws → (start : Seen) (events : List Event) (old new : List Node) → HasDesk start.powered → HaveHeard start events old new → RunsAsWanted (known_of start) events old new
-runs_as_wanted laws start events old new desk has before cycle i slot a e loco none parts below is between quiet hears full =
-    let mid : Seen = after_events start before in
-    let here : Node = slice_index_or new i none in
-    let all : sounds_in i start events ≡ sounds_in i start before ++ sounds_in i mid cycle = ap (sounds_in i start) parts ∙ sounds-append i start before cycle in
-    let heard_all : HearsAll (sounds_in i start before ++ sounds_in i mid cycle) (Loco loco) here =
-    subst (λ (node : Node). HearsAll (sounds_in i start before ++ sounds_in i mid cycle) node here) is (subst (λ (sounds : List Sound). HearsAll sounds (slice_index_or old i none) here) all (has.each i none below)) in
-    let cut = all_split (sounds_in i start before) (sounds_in i mid cycle) (Loco loco) here heard_all in
+runs_as_wanted laws start events old new desk has before cycle i loco none parts below is slot a e between quiet hears full =
+    let cut = heard_apart start events before cycle old new has parts i (Loco loco) none below is in
     let so_far = whole_obeyed (sounds_in i start before) (Loco loco) cut.0 (sounds_are_whole i start before quiet) cut.1 between in
-    (over_cycle laws i slot a e loco.settings hears.answers hears.steps mid (told_all (known_of start) (calls_in before)) (follows_events laws start before) (desk_after_events laws start before desk) cycle full hears.misses hears.quiet
-    cut.0 here (all_keep (sounds_in i start before) (Loco loco) cut.0 cut.1) so_far.1 cut.2).0
+    (over_cycle laws i slot a e loco.settings hears.answers hears.steps (after_events start before) (told_all (known_of start) (calls_in before)) (follows_events laws start before) (desk_after_events laws start before desk) cycle full hears.misses hears.quiet
+    cut.0 (slice_index_or new i none) (all_keep (sounds_in i start before) (Loco loco) cut.0 cut.1) so_far.1 cut.2).0
 
 -- The headline after noise: the packet of the first turn leaves no packet under way, and the rest is a cycle.
 module _ (laws : Laws) (i slot a : ℕ) (e : Entry) (cv : Settings) (mine : IsTrue (answers_to cv a)) (steps : AgreesInSteps cv e.kind) where
@@ -441,12 +448,7 @@ module _ (laws : Laws) (i slot a : ℕ) (e : Entry) (cv : Settings) (mine : IsTr
       misses_turn.1 quiet_turn second.0 new kept between second.2
 
 pub runs_after_noise : Laws → (start : Seen) (events : List Event) (old new : List Node) → HasDesk start.powered → HaveHeard start events old new → RunsAfterNoise (known_of start) events old new
-runs_after_noise laws start events old new desk has before cycle i slot a e loco none parts below is hears full more =
-    let mid : Seen = after_events start before in
-    let here : Node = slice_index_or new i none in
-    let all : sounds_in i start events ≡ sounds_in i start before ++ sounds_in i mid cycle = ap (sounds_in i start) parts ∙ sounds-append i start before cycle in
-    let heard_all : HearsAll (sounds_in i start before ++ sounds_in i mid cycle) (Loco loco) here =
-    subst (λ (node : Node). HearsAll (sounds_in i start before ++ sounds_in i mid cycle) node here) is (subst (λ (sounds : List Sound). HearsAll sounds (slice_index_or old i none) here) all (has.each i none below)) in
-    let cut = all_split (sounds_in i start before) (sounds_in i mid cycle) (Loco loco) here heard_all in
-    over_longer_cycle laws i slot a e loco.settings hears.answers hears.steps mid (told_all (known_of start) (calls_in before)) (follows_events laws start before) (desk_after_events laws start before desk) cycle full more hears.misses hears.quiet
-    cut.0 here (all_keep (sounds_in i start before) (Loco loco) cut.0 cut.1) cut.2
+runs_after_noise laws start events old new desk has before cycle i loco none parts below is slot a e hears full more =
+    let cut = heard_apart start events before cycle old new has parts i (Loco loco) none below is in
+    over_longer_cycle laws i slot a e loco.settings hears.answers hears.steps (after_events start before) (told_all (known_of start) (calls_in before)) (follows_events laws start before) (desk_after_events laws start before desk) cycle full more hears.misses hears.quiet
+    cut.0 (slice_index_or new i none) (all_keep (sounds_in i start before) (Loco loco) cut.0 cut.1) cut.2

@@ -1,58 +1,43 @@
 -- What is asked of decoders by the bytes of some slots, worked out by hand.
-use Rattle.std.proofs.Common.{◌≡◌, ℕ, true, false, List, [], ◌∷◌, ◌++◌, refl, ap₂, arith}
+use Rattle.std.proofs.Common.{◌≡◌, ℕ, Bool, true, false, List, [], ◌∷◌, ◌++◌, map, refl, ap₂, arith}
 use Rattle.std.proofs.lemmas.Fmt.{decimal_digit}
 use Rattle.std.specs.Prelude.{codes}
 use Rattle.dcc_packet.specs.declared.steps.Steps.TheVariants.{S14, S28, S128}
+use Rattle.dcc_packet.specs.declared.steps.Motion.{Motion}
 use Rattle.dcc_packet.specs.declared.steps.Motion.TheVariants.{Stop, Emergency, Step}
 use Rattle.slot_table.specs.Entry.{Entry, state_of_number}
 use Rattle.ln_ops.specs.declared.reply.Reply.TheVariants.{LongAck}
 use Rattle.station_core.specs.declared.call.Step.TheVariants.{Quiet, Reply, Packet, Off}
+use Rattle.decoder_node.specs.declared.running.Running.{Running}
 use Rattle.layout_core.specs.declared.event.Event.TheVariants.{Byte, Turn}
 use Rattle.layout_core.specs.Served.{ended_line, served_events, traced_from, written_for}
 use Rattle.layout_core.specs.Wanted.{wanted}
 
-entry : (kind spd dirf snd : ℕ) → Entry
+abbrev entry : (kind spd dirf snd : ℕ) → Entry
 entry kind spd dirf snd = record { state = state_of_number 3; kind = kind; spd = spd; dirf = dirf; snd = snd; more = 0; ss2 = 0; id1 = 0; id2 = 0 }
 
--- SPD 40 is step 63 of 128, 14 of 28 and 7 of 14
-in_128_steps : wanted (entry 3 0x40 0 0) false ≡ record { motion = Step S128 63; forward = true; functions = 0 }
-unfolding entry
-in_128_steps = refl
+abbrev runs : Motion → Bool → ℕ → Running
+runs motion forward functions = record { motion = motion; forward = forward; functions = functions }
 
-in_28_steps : wanted (entry 0 0x40 0 0) false ≡ record { motion = Step S28 14; forward = true; functions = 0 }
-unfolding entry
-in_28_steps = refl
+-- an entry, whether the decoder is reversed, and how it is to run
+abbrev worked_out : List (Entry × Bool × Running)
+worked_out =
+    -- SPD 40 is step 63 of 128, 14 of 28 and 7 of 14
+    (entry 3 0x40 0 0, false, runs (Step S128 63) true 0)
+    ∷ (entry 0 0x40 0 0, false, runs (Step S28 14) true 0)
+    ∷ (entry 2 0x40 0x10 0, false, runs (Step S14 7) true 1)
+    -- bit 5 of DIRF is the other direction, which a reversed decoder turns round
+    ∷ (entry 7 0x7F 0x20 0, false, runs (Step S128 126) false 0)
+    ∷ (entry 4 0x7F 0x20 0, true, runs (Step S28 28) true 0)
+    ∷ (entry 3 0 0 0, true, runs Stop false 0)
+    ∷ (entry 2 1 0x1A 0, false, runs Emergency true 0b10101)
+    -- F0, F5 and F7, and then F9
+    ∷ (entry 3 0x20 0x10 5, false, runs (Step S128 31) true 0b10100001)
+    ∷ (record (entry 3 0x20 0x10 5) { more = 1 }, false, runs (Step S128 31) true 0b1010100001)
+    ∷ []
 
-in_14_steps : wanted (entry 2 0x40 0x10 0) false ≡ record { motion = Step S14 7; forward = true; functions = 1 }
-unfolding entry
-in_14_steps = refl
-
--- bit 5 of DIRF is the other direction, which a reversed decoder turns round
-backward : wanted (entry 7 0x7F 0x20 0) false ≡ record { motion = Step S128 126; forward = false; functions = 0 }
-unfolding entry
-backward = refl
-
-turned_round : wanted (entry 4 0x7F 0x20 0) true ≡ record { motion = Step S28 28; forward = true; functions = 0 }
-unfolding entry
-turned_round = refl
-
-standing : wanted (entry 3 0 0 0) true ≡ record { motion = Stop; forward = false; functions = 0 }
-unfolding entry
-standing = refl
-
-at_once : wanted (entry 2 1 0x1A 0) false ≡ record { motion = Emergency; forward = true; functions = 0b10101 }
-unfolding entry
-at_once = refl
-
--- F0, F5 and F7
-functions_of_both : wanted (entry 3 0x20 0x10 5) false ≡ record { motion = Step S128 31; forward = true; functions = 0b10100001 }
-unfolding entry
-functions_of_both = refl
-
--- and F9
-functions_of_all : wanted (record (entry 3 0x20 0x10 5) { more = 1 }) false ≡ record { motion = Step S128 31; forward = true; functions = 0b1010100001 }
-unfolding entry
-functions_of_all = refl
+as_worked_out : map (λ (row : Entry × Bool × Running). wanted row.0 row.1) worked_out ≡ map (λ (row : Entry × Bool × Running). row.2) worked_out
+as_worked_out = refl
 
 -- two bytes with a turn after each: power comes on with the second
 two_bytes : served_events 0 1 (0x83 ∷ 0x7C ∷ []) ≡ Byte 0 0x83 ∷ Turn 0 ∷ Byte 0 0x7C ∷ Turn 0 ∷ []

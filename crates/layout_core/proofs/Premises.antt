@@ -190,7 +190,7 @@ after_sixteen_turns : (new : List Node) → RunsAsWanted start (turns 16) (Loco 
     → running_of (slice_index_or new 0 (Loco new_at_3)) ≡ Some (record { motion = Step S128 63; forward = true; functions = 0 })
 unfolding turns
 after_sixteen_turns new law =
-    law [] (turns 16) 0 1 3 asked new_at_3 (Loco new_at_3) refl (omega arith) refl refl tt (hears new_at_3 (turns 16) (none_missed 16) (no_noise 16))
+    law [] (turns 16) 0 new_at_3 (Loco new_at_3) refl (omega arith) refl 1 3 asked refl tt (hears new_at_3 (turns 16) (none_missed 16) (no_noise 16))
     (is_cycle start (calls_in (turns 16)) (at_turns 16) (omega arith))
 
 -- ---- another slot, and a switch
@@ -308,7 +308,7 @@ no_noise_of (byte ∷ bytes) = no_noise_of bytes
 after_a_busy_cycle : (new : List Node) → RunsAsWanted start busy (Loco new_at_3 ∷ []) new
     → running_of (slice_index_or new 0 (Loco new_at_3)) ≡ Some (record { motion = Step S128 63; forward = true; functions = 0 })
 after_a_busy_cycle new law =
-    law [] busy 0 1 3 asked new_at_3 (Loco new_at_3) refl (omega arith) refl refl tt (hears new_at_3 busy (none_missed_of others) (no_noise_of others))
+    law [] busy 0 new_at_3 (Loco new_at_3) refl (omega arith) refl 1 3 asked refl tt (hears new_at_3 busy (none_missed_of others) (no_noise_of others))
     (is_cycle start (calls_in busy) at_busy (omega arith))
 
 -- ---- noise, and turns
@@ -327,6 +327,6 @@ after_noise_and_turns : (loco : LocoDecoder) (new : List Node) → RunsAfterNois
     × IsBetween (slice_index_or new 0 (Loco loco))
 unfolding turns
 after_noise_and_turns loco new law =
-    law (map (Noise 0) dirt) (turns 17) 0 1 3 asked (at_3 loco) (Loco loco) refl (omega arith) refl (hears loco (turns 17) (none_missed 17) (no_noise 17))
+    law (map (Noise 0) dirt) (turns 17) 0 (at_3 loco) (Loco loco) refl (omega arith) refl 1 3 asked (hears loco (turns 17) (none_missed 17) (no_noise 17))
     (is_cycle start (calls_in (turns 17)) (at_turns 17) (omega arith))
     (subst (λ (slots : ℕ). 4 * kinds * slots + 1 ≤ 17) (sym (one_slot start (calls_in (turns 17)) (at_turns 17))) (omega arith))

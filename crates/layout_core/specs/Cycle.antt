@@ -50,29 +50,33 @@ pub record HearsCycle (i a : ℕ) (e : Entry) (loco : LocoDecoder) (cycle : List
   pub misses : MissesNone i cycle
   pub quiet : NoNoise i cycle
 
--- The headline. Where no packet was under way at the start, and no noise names the locomotive, node i: after the cycle it
--- runs as the entry wants it, whatever came before.
-abbrev pub RunsAsWanted : Known → List Event → (old new : List Node) → Type 0
-RunsAsWanted start events old new =
-    (before cycle : List Event) (i slot a : ℕ) (e : Entry) (loco : LocoDecoder) (none : Node)
+-- For each way to part the events into a cycle and what came before it, and for each locomotive: a claim of these, of the
+-- locomotive, node i, as it was at the start, and of the node as it is at the end.
+abbrev pub ForEachLoco : {Any : Type 0} (Claim : (before cycle : List Any) (i : ℕ) (loco : LocoDecoder) (node : Node) → Type 0) → List Any → (old new : List Node) → Type 0
+ForEachLoco {Any} Claim events old new =
+    (before cycle : List Any) (i : ℕ) (loco : LocoDecoder) (none : Node)
     → events ≡ before ++ cycle
     → i < length old
     → slice_index_or old i none ≡ Loco loco
+    → Claim before cycle i loco (slice_index_or new i none)
+
+-- The headline. Where no packet was under way at the start, and no noise names the locomotive: after the cycle it runs as
+-- the entry wants it, whatever came before.
+abbrev pub RunsAsWanted : Known → List Event → (old new : List Node) → Type 0
+RunsAsWanted start = ForEachLoco (λ before cycle i loco node.
+    (slot a : ℕ) (e : Entry)
     → IsBetweenPackets loco
     → NoNoise i before
     → HearsCycle i a e loco cycle
     → IsCycleOf slot a e (told_all start (calls_in before)) (calls_in cycle)
-    → running_of (slice_index_or new i none) ≡ Some (wanted e loco.settings.reversed)
+    → running_of node ≡ Some (wanted e loco.settings.reversed))
 
 -- The headline after noise. Whatever noise came before the cycle, and wherever it left the receiver: where the cycle has
 -- one turn more than a full one needs, the locomotive runs as the entry wants it then, and no packet is under way.
 abbrev pub RunsAfterNoise : Known → List Event → (old new : List Node) → Type 0
-RunsAfterNoise start events old new =
-    (before cycle : List Event) (i slot a : ℕ) (e : Entry) (loco : LocoDecoder) (none : Node)
-    → events ≡ before ++ cycle
-    → i < length old
-    → slice_index_or old i none ≡ Loco loco
+RunsAfterNoise start = ForEachLoco (λ before cycle i loco node.
+    (slot a : ℕ) (e : Entry)
     → HearsCycle i a e loco cycle
     → IsCycleOf slot a e (told_all start (calls_in before)) (calls_in cycle)
     → 4 * kinds * slots_refreshed (told_all start (calls_in before)) (calls_in cycle) + 1 ≤ turns_in (calls_in cycle)
-    → (running_of (slice_index_or new i none) ≡ Some (wanted e loco.settings.reversed)) × IsBetween (slice_index_or new i none)
+    → (running_of node ≡ Some (wanted e loco.settings.reversed)) × IsBetween node)

@@ -204,6 +204,34 @@ fn serve_ten_on(alloc: Global, mut world: World, devices: &Devices) -> Served
     }
 }
 
+/// These bytes on the last line of a new layout of so many lines.
+fn serve_last(alloc: Global, lines: u8, bytes: &[u8], limits: Limits) -> Result<Served, Fail>
+    requires { 1 ≤ lines }
+{
+    let mut world = World::new(alloc, lines, NodeList::new())?;
+    let mut unread = bytes;
+    let mut written = Vec::new(alloc);
+    let mut traced = Vec::new(alloc);
+    let mut source = Port::new(&mut unread);
+    let mut sink = Port::new(&mut written);
+    let mut trace = Port::new(&mut traced);
+    let outcome = serve(
+        &mut world,
+        lines - 1,
+        &mut source,
+        &mut sink,
+        &mut trace,
+        limits,
+    );
+    Ok(Served {
+        outcome,
+        unread: unread.len(),
+        written,
+        traced,
+        world,
+    })
+}
+
 /// Whether it ended so, with so much of the replies and of the lines.
 fn ended(served: &Served, outcome: Result<Summary, ServeFault>, done: (usize, usize)) -> bool {
     served.outcome == outcome
@@ -237,46 +265,32 @@ fn ends_in_use(
 
 #[test]
 fn power_comes_on(rt: HostRuntime) -> Result<(), Fail> {
-    let mut world = World::new(rt.alloc(), 1, NodeList::new())?;
-    let bytes: &[u8] = &[0x83, 0x7C];
-    let mut source = Port::new(bytes);
-    let mut written = Vec::new(rt.alloc());
-    let mut traced = Vec::new(rt.alloc());
-    let mut sink = Port::new(&mut written);
-    let mut trace = Port::new(&mut traced);
     let limits = Limits { reads: 2, turns: 1 };
+    let served = serve_last(rt.alloc(), 1, &[0x83, 0x7C], limits)?;
     let summary = Summary {
         reads: 2,
         bytes: 2,
         replies: 0,
         turns: 2,
     };
-    let outcome = serve(&mut world, 0, &mut source, &mut sink, &mut trace, limits);
-    assert!(rt; outcome == Ok(summary));
-    assert!(rt; written.is_empty());
-    assert!(rt; traced.as_slice() == b"track 1 off\ntrack 2 FF 00 FF\n".as_slice());
+    assert!(rt; served.outcome == Ok(summary));
+    assert!(rt; served.written.is_empty());
+    assert!(rt; served.traced.as_slice() == b"track 1 off\ntrack 2 FF 00 FF\n".as_slice());
     Ok(())
 }
 
 #[test]
 fn a_read_asks_for_64_bytes(rt: HostRuntime) -> Result<(), Fail> {
-    let mut world = World::new(rt.alloc(), 1, NodeList::new())?;
     // Two such reads, one of the byte behind them, and the one that finds the end.
-    let bytes = [0u8; 129];
-    let mut source = Port::new(bytes.as_slice());
-    let mut written = Vec::new(rt.alloc());
-    let mut traced = Vec::new(rt.alloc());
-    let mut sink = Port::new(&mut written);
-    let mut trace = Port::new(&mut traced);
     let limits = Limits { reads: 4, turns: 0 };
+    let served = serve_last(rt.alloc(), 1, &[0u8; 129], limits)?;
     let summary = Summary {
         reads: 4,
         bytes: 129,
         replies: 0,
         turns: 0,
     };
-    let outcome = serve(&mut world, 0, &mut source, &mut sink, &mut trace, limits);
-    assert!(rt; outcome == Ok(summary));
+    assert!(rt; served.outcome == Ok(summary));
     Ok(())
 }
 
@@ -289,29 +303,10 @@ fn replied_before(traced: usize) -> usize {
     }
 }
 
-/// The first message of the ten bytes on line 1 of two, with so many turns after each byte.
-fn on_line_1(alloc: Global, turns: u8) -> Result<Served, Fail> {
-    let mut world = World::new(alloc, 2, NodeList::new())?;
-    let mut bytes = &TEN[..4];
-    let mut source = Port::new(&mut bytes);
-    let mut written = Vec::new(alloc);
-    let mut traced = Vec::new(alloc);
-    let mut sink = Port::new(&mut written);
-    let mut trace = Port::new(&mut traced);
-    let limits = Limits { reads: 2, turns };
-    let outcome = serve(&mut world, 1, &mut source, &mut sink, &mut trace, limits);
-    Ok(Served {
-        outcome,
-        unread: bytes.len(),
-        written,
-        traced,
-        world,
-    })
-}
-
-/// Whether it ends well and is traced so, with so many turns after each byte.
+/// Whether the first message of the ten bytes, on line 1 of two, ends well and is traced so, with so many turns after each
+/// byte.
 fn turns_after(alloc: Global, turns: u8, lines: &[u8]) -> Result<bool, Fail> {
-    let served = on_line_1(alloc, turns)?;
+    let served = serve_last(alloc, 2, &TEN[..4], Limits { reads: 2, turns })?;
     let summary = Summary {
         reads: 2,
         bytes: 4,

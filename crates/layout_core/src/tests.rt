@@ -100,28 +100,16 @@ fn decoders_of_one_address_run_by_their_own_settings(rt: HostRuntime) -> Result<
     let mut nodes = nodes_of(&[at_3(2)?, at_3(3)?, at_3(0)?]);
     assert!(rt; nodes.len() == 3 && !nodes.is_empty());
     assert!(rt; all_run(&nodes, &[(Motion::Stop, true, 0); 3]));
-    hear_turns(&mut nodes, FORWARD)?;
-    assert!(rt;
-        all_run(
-            &nodes,
-            &[
-                (step(Steps::S128, 63), true, 0),
-                (step(Steps::S128, 63), false, 0),
-                (step(Steps::S14, 7), true, 1),
-            ]
-        )
-    );
-    hear_turns(&mut nodes, THE_OTHER_WAY)?;
-    assert!(rt;
-        all_run(
-            &nodes,
-            &[
-                (step(Steps::S28, 14), true, 0),
-                (step(Steps::S128, 63), true, 0),
-                (step(Steps::S14, 7), true, 1),
-            ]
-        )
-    );
+    let in_128 = step(Steps::S128, 63);
+    let in_28 = step(Steps::S28, 14);
+    let in_14 = step(Steps::S14, 7);
+    for (turns, first, second) in [
+        (FORWARD, (in_128, true, 0), (in_128, false, 0)),
+        (THE_OTHER_WAY, (in_28, true, 0), (in_128, true, 0)),
+    ] {
+        hear_turns(&mut nodes, turns)?;
+        assert!(rt; all_run(&nodes, &[first, second, (in_14, true, 1)]));
+    }
     Ok(())
 }
 

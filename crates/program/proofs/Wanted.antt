@@ -55,7 +55,7 @@ shows_as_wanted obeyed headline start entries commands desk many between passed 
     let all : HasDone events start new = there.1 in
     let quiet : NoNoise i before = quiet_front i before cycle (subst (NoNoise i) parts (quiet_in i earlier)) in
     let runs : running_of (slice_index_or new.nodes i none) ≡ Some (wanted e loco.settings.reversed) =
-    headline start.station events start.nodes new.nodes desk all.nodes before cycle i slot a e loco none parts below is (subst IsBetween is (between i none below)) quiet hears full in
+    headline start.station events start.nodes new.nodes desk all.nodes before cycle i loco none parts below is slot a e (subst IsBetween is (between i none below)) quiet hears full in
     let told : Standing = record { running = Some (wanted e loco.settings.reversed); outputs = None } in
     let stand : map standing_of new.nodes ≡ standings_after start events = stands_as_told obeyed earlier start new between all in
     let shown : List (List ℕ) = decoder_lines entries (standings_after start events) in
