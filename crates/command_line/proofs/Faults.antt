@@ -1,5 +1,5 @@
 -- Why words are no order.
-use Rattle.std.proofs.Common.{◌≡◌, ◌≢◌, ◌⊎◌, inl, inr, ◌==◌, ℕ, false, List, [], ◌∷◌, Option, Some, None, Result, Ok, Err, length, map, refl, sym, subst}
+use Rattle.std.proofs.Common.{◌≡◌, ◌≢◌, ◌⊎◌, ◌↔◌, inl, inr, ◌==◌, ℕ, false, List, [], ◌∷◌, Option, Some, None, Result, Ok, Err, length, map, refl, sym, subst}
 use Rattle.std.specs.Prelude.{IfErr, IsErrAnd, bytes_eq, is_none, find, option_and_then, option_map, slice_get}
 use Rattle.std.specs.Borrow.{Bor}
 use Rattle.clap.specs.Kinds.{HasKind, Kinds}
@@ -46,9 +46,10 @@ pub put_to_clap : (words : List (Bor Text)) → (length words == 0) ≡ false �
 put_to_clap [] some = cc
 put_to_clap (word ∷ words) some = refl
 
-pub of_order : (words : List (Bor Text)) (rows : Option (Text × List Row)) → (length words == 0) ≡ false → rows ≡ subcommand_of station_app (map (λ word. word.now) words) → (order : Order) → IsOrderOf (map (λ word. word.now) words) order → IsMatched rows order
-of_order [] rows some are order is = cc
-of_order (word ∷ words) rows some are order is = subst (λ (rows : Option (Text × List Row)). IsMatched rows order) (sym are) is
+pub of_order : (words : List (Bor Text)) (rows : Option (Text × List Row)) → (length words == 0) ≡ false → rows ≡ subcommand_of station_app (map (λ word. word.now) words)
+    → (order : Order) → IsOrderOf (map (λ word. word.now) words) order ↔ IsMatched rows order
+of_order [] rows some are order = cc
+of_order (word ∷ words) rows some are order = subst (λ (rows : Option (Text × List Row)). IsOrderOf (map (λ word. word.now) (word ∷ words)) order ↔ IsMatched rows order) (sym are) ((λ is. is), (λ is. is))
 
 -- an option that has a first value has one
 pub first_is_one : (id : Text) (rows : List Row) (text : Text) → first_of id rows ≡ Some text → one_of id rows ≢ None

@@ -1,20 +1,12 @@
 -- What clap's getters read, as what its matches hold.
-use Rattle.std.specs.Prelude.{◌≡◌, ◌==◌, ℕ, false, List, [], ◌∷◌, length, map, refl, MatchOption, Option, None, Some, Result, Ok, Err}
-use Rattle.std.specs.Borrow.{Bor}
+use Rattle.std.specs.Prelude.{◌≡◌, ℕ, List, refl, MatchOption, Option, None, Some, Result, Ok, Err}
 use Rattle.clap.specs.declared.parser.matches.Found.{Found}
-use Rattle.clap.specs.Words.{ReadsOne, Text, first_of, first_value, rows_of, subcommand_of}
+use Rattle.clap.specs.Words.{ReadsOne, Text, first_of, first_value, rows_of}
 use Rattle.clap.proofs.WalkLemmas.{first_value-rows}
-use Rattle.command_line.specs.declared.words.Order.{Order}
-use Rattle.command_line.specs.CommandLine.{station_app}
-use Rattle.command_line.specs.Order.{HasNone, IsMatched, IsOrderOf}
+use Rattle.command_line.specs.Order.{HasNone}
 
 pub first_in_rows : (found : Found) (id : Text) → first_value found id ≡ first_of id (rows_of found)
 first_in_rows = first_value-rows
-
-pub of_some_words : (words : List (Bor Text)) (order : Order) → (length words == 0) ≡ false
-    → IsMatched (subcommand_of station_app (map (λ word. word.now) words)) order → IsOrderOf (map (λ word. word.now) words) order
-of_some_words [] order some matched = cc
-of_some_words (word ∷ words) order some matched = matched
 
 -- what a getter reads of a text, by cases on what it answers
 pub read_one : {T E : Type 0} (gives : List ℕ → Result T E → Type 0) (Holds : Option Text → T → Type 0) (o : Option Text) (r : Option T)

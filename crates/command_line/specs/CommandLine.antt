@@ -1,10 +1,11 @@
 -- The command line, as clap reads it.
-use Rattle.std.specs.Prelude.{◌≡◌, ℕ, [], ◌∷◌, codes, Some, true, false, pos, Result, IfOk}
-use Rattle.clap.specs.Words.{App, Rule, Text, app_of, new_app, new_rule, with_rule, with_subcommand}
+use Rattle.std.specs.Prelude.{◌≡◌, ℕ, List, [], ◌∷◌, codes, Some, true, false, pos, Result, IfOk}
+use Rattle.clap.specs.Words.{App, Rule, Text, app_of, found_of, matches_of, new_app, new_rule, rows_of, subcommand_of, subcommand_rows_of, with_rule, with_subcommand}
 use Rattle.clap.specs.declared.builder.command.Command.{Command}
 use Rattle.clap.specs.declared.builder.Command.TheViews.{out-Command as fields_of}
 use Rattle.clap.specs.declared.builder.ArgAction.TheVariants.{Set}
 use Rattle.clap.specs.declared.builder.value_parser.ValueParser.TheVariants as vp
+use Rattle.clap.specs.declared.parser.matches.ArgMatches.{ArgMatches}
 
 -- a value that stands at its place
 abbrev pub value : Text → Rule
@@ -55,6 +56,10 @@ HasApp draft app = IfOk draft (λ c. app_of c ≡ app)
 
 abbrev pub HasNoGlobals : {E : Type 0} → Result Command E → Type 0
 HasNoGlobals draft = IfOk draft (λ c. (fields_of c).has_globals ≡ false)
+
+-- what clap's matches of the words hold, of the command and of the subcommand that they enter
+abbrev pub HasRows : App → List Text → ArgMatches → Type 0
+HasRows app words m = (rows_of (found_of m) ≡ matches_of app words) × (subcommand_rows_of m ≡ subcommand_of app words)
 
 -- The commands.
 

@@ -1,7 +1,7 @@
 //! The command line, as `clap` is told of it.
 ghost use Rattle.std.specs.Prelude.{◌≡◌, IfOk, false};
-ghost use Rattle.clap.specs.Words.{App, new_app, rule_of, with_rule, with_subcommand};
-ghost use Rattle.command_line.specs.CommandLine.{option, number, or_else, roster_rule, lines_rule, file_rule, port_rule, turns_rule, reads_rule, connections_rule, replay_app, monitor_app, served_app, serve_app, bare_app, station_app, HasApp, HasNoGlobals};
+ghost use Rattle.clap.specs.Words.{App, rule_of, with_rule, with_subcommand};
+ghost use Rattle.command_line.specs.CommandLine.{option, number, roster_rule, lines_rule, file_rule, port_rule, turns_rule, reads_rule, connections_rule, replay_app, monitor_app, served_app, serve_app, bare_app, station_app, HasApp, HasNoGlobals};
 
 use clap::{Arg, ArgAction, Command};
 use std::alloc::{AllocError, Global};
@@ -30,24 +30,6 @@ pub(crate) fn number<'a>(
 {
     let range = i64::from(least)..=i64::from(most);
     option(alloc, id, value_name).value_parser(clap::value_parser!(u32).range(range))
-}
-
-/// The same, where this number stands for one that is not given.
-pub(crate) fn number_or<'a>(
-    alloc: Global,
-    id: &'a str,
-    value_name: &'a str,
-    least: u32,
-    most: u32,
-    default: &'a str,
-    help: &'a str,
-) -> Arg<'a>
-    ensures rule { rule_of result ≡ or_else (number id.entry.now least most) default.entry.now }
-    ensures local { result.global ≡ false }
-{
-    number(alloc, id, value_name, least, most)
-        .default_value(default)
-        .help(help)
 }
 
 /// `--roster FILE`.
@@ -85,16 +67,41 @@ fn port<'a>(alloc: Global) -> Arg<'a>
         .help("The TCP port on 127.0.0.1, 1 to 65535")
 }
 
+/// `--turns T`.
+#[tactic(auto, unfolding(crate::specs::CommandLine::turns_rule))]
+fn turns<'a>(alloc: Global) -> Arg<'a>
+    ensures rule { rule_of result ≡ turns_rule }
+    ensures local { result.global ≡ false }
+{
+    number(alloc, "turns", "T", 0, 255)
+        .default_value("1")
+        .help("Track turns after each byte, 0 to 255")
+}
+
+/// `--reads R`.
+#[tactic(auto, unfolding(crate::specs::CommandLine::reads_rule))]
+fn reads<'a>(alloc: Global) -> Arg<'a>
+    ensures rule { rule_of result ≡ reads_rule }
+    ensures local { result.global ≡ false }
+{
+    number(alloc, "reads", "R", 1, u32::MAX)
+        .default_value("100000")
+        .help("The most reads of one connection")
+}
+
+/// `--connections C`.
+#[tactic(auto, unfolding(crate::specs::CommandLine::connections_rule))]
+fn connections<'a>(alloc: Global) -> Arg<'a>
+    ensures rule { rule_of result ≡ connections_rule }
+    ensures local { result.global ≡ false }
+{
+    number(alloc, "connections", "C", 1, 1000)
+        .default_value("1")
+        .help("How many connections are served, one after another, 1 to 1000")
+}
+
 /// A command that is being built, unless a growth was refused on the way.
 pub(crate) type Draft<'a> = Result<Command<'a>, AllocError>;
-
-/// A command of this name, with no arguments yet, what it is about and an example of it.
-fn described<'a>(alloc: Global, name: &'a str, about: &'a str, example: &'a str) -> Draft<'a>
-    ensures app { HasApp result (new_app name.entry.now) }
-    ensures local { HasNoGlobals result }
-{
-    Ok(Command::new(alloc, name).about(about).after_help(example))
-}
 
 /// The same command, with this argument behind those that it has.
 pub(crate) fn with_arg<'a>(draft: Draft<'a>, arg: Arg<'a>) -> Draft<'a>
@@ -119,22 +126,13 @@ fn replay<'a>(alloc: Global) -> Draft<'a>
     ensures app { HasApp result replay_app }
     ensures local { HasNoGlobals result }
 {
-    let command = described(
-        alloc,
-        "replay",
-        "Plays a script from standard input and prints replies, packets and decoders",
-        "Example: station replay --roster layout.toml < session.script",
-    );
-    let lines = number_or(
-        alloc,
-        "lines",
-        "N",
-        1,
-        8,
-        "1",
-        "The lines of the station, 1 to 8",
-    );
-    with_arg(with_arg(command, lines), roster(alloc))
+    let command = Command::new(alloc, "replay")
+        .about("Plays a script from standard input and prints replies, packets and decoders")
+        .after_help("Example: station replay --roster layout.toml < session.script");
+    let lines = number(alloc, "lines", "N", 1, 8)
+        .default_value("1")
+        .help("The lines of the station, 1 to 8");
+    with_arg(with_arg(Ok(command), lines), roster(alloc))
 }
 
 /// `station monitor FILE`.
@@ -142,13 +140,10 @@ fn monitor<'a>(alloc: Global) -> Draft<'a>
     ensures app { HasApp result monitor_app }
     ensures local { HasNoGlobals result }
 {
-    let command = described(
-        alloc,
-        "monitor",
-        "Prints the messages in captured bytes",
-        "Example: station monitor capture.hex",
-    );
-    with_arg(command, file(alloc))
+    let command = Command::new(alloc, "monitor")
+        .about("Prints the messages in captured bytes")
+        .after_help("Example: station monitor capture.hex");
+    with_arg(Ok(command), file(alloc))
 }
 
 /// Where throttles are served, and with what layout: `station serve --port P [--roster FILE]`.
@@ -156,13 +151,10 @@ fn served<'a>(alloc: Global) -> Draft<'a>
     ensures app { HasApp result served_app }
     ensures local { HasNoGlobals result }
 {
-    let command = described(
-        alloc,
-        "serve",
-        "Serves throttles over TCP, one connection after another",
-        "Example: station serve --port 5550 --roster layout.toml --turns 4",
-    );
-    with_arg(with_arg(command, port(alloc)), roster(alloc))
+    let command = Command::new(alloc, "serve")
+        .about("Serves throttles over TCP, one connection after another")
+        .after_help("Example: station serve --port 5550 --roster layout.toml --turns 4");
+    with_arg(with_arg(Ok(command), port(alloc)), roster(alloc))
 }
 
 /// The same, with how much is served: `[--turns T] [--reads R] [--connections C]`.
@@ -170,34 +162,8 @@ fn serve<'a>(alloc: Global) -> Draft<'a>
     ensures app { HasApp result serve_app }
     ensures local { HasNoGlobals result }
 {
-    let turns = number_or(
-        alloc,
-        "turns",
-        "T",
-        0,
-        255,
-        "1",
-        "Track turns after each byte, 0 to 255",
-    );
-    let reads = number_or(
-        alloc,
-        "reads",
-        "R",
-        1,
-        u32::MAX,
-        "100000",
-        "The most reads of one connection",
-    );
-    let connections = number_or(
-        alloc,
-        "connections",
-        "C",
-        1,
-        1000,
-        "1",
-        "How many connections are served, one after another, 1 to 1000",
-    );
-    with_arg(with_arg(with_arg(served(alloc), turns), reads), connections)
+    let paced = with_arg(with_arg(served(alloc), turns(alloc)), reads(alloc));
+    with_arg(paced, connections(alloc))
 }
 
 /// The program, which wants a command. Its words come without its name, so the usage is told the name.

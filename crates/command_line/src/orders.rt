@@ -1,7 +1,7 @@
 //! Reading the command line.
-ghost use Rattle.std.specs.Prelude.{◌≡◌, ℕ, [], Ok, None, IfErr, IfOk, IfSome, MatchOption, map, option_map, codes};
-ghost use Rattle.clap.specs.Words.{FailsBy, fault_of, first_of, found_of, one_of, rows_of, subcommand_of, subcommand_rows_of};
-ghost use Rattle.command_line.specs.CommandLine.{station_app};
+ghost use Rattle.std.specs.Prelude.{◌≡◌, ℕ, [], true, Ok, None, IfErr, IfOk, IfSome, MatchOption, map, option_map, codes};
+ghost use Rattle.clap.specs.Words.{App, FailsBy, fault_of, first_of, found_of, is_simple_and_free, one_of, rows_of, subcommand_rows_of};
+ghost use Rattle.command_line.specs.CommandLine.{HasApp, HasRows};
 ghost use Rattle.command_line.specs.declared.orders.OrderFault.TheVariants.{NoMemory};
 ghost use Rattle.command_line.specs.Fault.{IsOfClap, IsOfKind, IsOrderFault, IsUnmatched, refusals};
 ghost use Rattle.command_line.specs.Order.{HasNone, IsMatched, IsNumber, IsOrder, IsOrderOf, Writes, WritesNone};
@@ -93,11 +93,14 @@ fn out_of_range(alloc: Global) -> OrderFault {
 pub fn no_text(alloc: Global) -> OrderFault
     ensures { IsOfKind ErrorKind.InvalidValue result }
 {
-    usage(
-        station_command(alloc),
-        ErrorKind::InvalidValue,
-        "a word is not UTF-8",
-    )
+    not_utf8(station_command(alloc))
+}
+
+/// Tells the usage of a command, behind what is said of a word that is no text.
+pub(crate) fn not_utf8(draft: Draft<'_>) -> OrderFault
+    ensures { IsOfKind ErrorKind.InvalidValue result }
+{
+    usage(draft, ErrorKind::InvalidValue, "a word is not UTF-8")
 }
 
 /// Tells the usage of a command, behind this message.
@@ -112,6 +115,17 @@ pub(crate) fn usage(draft: Draft<'_>, kind: ErrorKind, message: &str) -> OrderFa
         Ok(error) => OrderFault::Usage(error),
         Err(_) => OrderFault::NoMemory,
     }
+}
+
+/// What clap makes of the words, by this command line.
+pub(crate) fn matches_of<'a>(
+    draft: Draft<'a>,
+    words: &'a [&'a str],
+) -> Result<ArgMatches<'a>, Error>
+    ensures rows { (app : App) → HasApp draft.entry app → is_simple_and_free app ≡ true → IfOk result (HasRows app (map (λ word. word.now) words.entry.now)) }
+    ensures kinds { (app : App) → HasApp draft.entry app → is_simple_and_free app ≡ true → FailsBy (fault_of app (map (λ word. word.now) words.entry.now)) result }
+{
+    draft?.try_get_matches_from(words)
 }
 
 fn replay(alloc: Global, found: &ArgMatches<'_>) -> Result<Order, OrderFault>
@@ -181,18 +195,9 @@ fn matched(alloc: Global, matches: &ArgMatches<'_>) -> Result<Order, OrderFault>
     }
 }
 
-/// What clap makes of the words.
-fn matches_of<'a>(alloc: Global, words: &'a [&'a str]) -> Result<ArgMatches<'a>, Error>
-    ensures rows { IfOk result (λ m. subcommand_rows_of m ≡ subcommand_of station_app (map (λ word. word.now) words.entry.now)) }
-    ensures kinds { FailsBy (fault_of station_app (map (λ word. word.now) words.entry.now)) result }
-{
-    station_command(alloc)?.try_get_matches_from(words)
-}
-
 /// What the words ask for.
 ///
 /// Words that the program does not know are `Usage`, and so are those that ask for help.
-#[tactic(auto, using(crate::proofs::Found::of_some_words))]
 pub fn order<'a>(alloc: Global, words: &'a [&'a str]) -> Result<Order, OrderFault>
     // An order holds what clap's matches of the words hold, each number in its range.
     ensures order { IfOk result (λ order. IsOrderOf (map (λ word. word.now) words.entry.now) order) }
@@ -209,6 +214,6 @@ pub fn order<'a>(alloc: Global, words: &'a [&'a str]) -> Result<Order, OrderFaul
             roster: None,
         });
     }
-    let matches = matches_of(alloc, words)?;
+    let matches = matches_of(station_command(alloc), words)?;
     matched(alloc, &matches)
 }

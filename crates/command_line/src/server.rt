@@ -1,15 +1,15 @@
 //! Reading the command line of `lbserver`.
 ghost use Rattle.std.specs.Prelude.{◌≡◌, [], IfErr, IfOk, MatchOption, map};
-ghost use Rattle.clap.specs.Words.{FailsBy, fault_of, found_of, matches_of, one_of, rows_of};
+ghost use Rattle.clap.specs.Words.{fault_of, found_of, one_of, rows_of};
 ghost use Rattle.command_line.specs.Fault.{IsOfKind, IsServerFault, IsUnmatched};
 ghost use Rattle.command_line.specs.Order.{HasNone};
 ghost use Rattle.command_line.specs.ServerLine.{IsAddress, IsDefaultOrder, IsFlag, IsNumberIfGiven, IsServerOrder, IsServerOrderOf, server_app};
 
-use crate::orders::{OrderFault, file_name, number, text, usage};
+use crate::orders::{OrderFault, file_name, matches_of, not_utf8, number, text, usage};
 use crate::server_command::server_command;
 use crate::words::ServerOrder;
+use clap::ArgMatches;
 use clap::error::ErrorKind;
-use clap::{ArgMatches, Error};
 use std::alloc::Global;
 use std::net::Ipv4Addr;
 
@@ -69,11 +69,7 @@ fn no_address(alloc: Global) -> OrderFault {
 pub fn no_server_text(alloc: Global) -> OrderFault
     ensures { IsOfKind ErrorKind.InvalidValue result }
 {
-    usage(
-        server_command(alloc),
-        ErrorKind::InvalidValue,
-        "a word is not UTF-8",
-    )
+    not_utf8(server_command(alloc))
 }
 
 fn matched(alloc: Global, found: &ArgMatches<'_>) -> Result<ServerOrder, OrderFault>
@@ -105,14 +101,6 @@ fn matched(alloc: Global, found: &ArgMatches<'_>) -> Result<ServerOrder, OrderFa
     })
 }
 
-/// What clap makes of the words.
-fn matches_of<'a>(alloc: Global, words: &'a [&'a str]) -> Result<ArgMatches<'a>, Error>
-    ensures rows { IfOk result (λ m. rows_of (found_of m) ≡ matches_of server_app (map (λ word. word.now) words.entry.now)) }
-    ensures kinds { FailsBy (fault_of server_app (map (λ word. word.now) words.entry.now)) result }
-{
-    server_command(alloc)?.try_get_matches_from(words)
-}
-
 /// What the words behind the name of `lbserver` ask for. No words ask for what stands for each option.
 ///
 /// # Errors
@@ -128,6 +116,6 @@ pub fn server_order<'a>(alloc: Global, words: &'a [&'a str]) -> Result<ServerOrd
     // its matches hold.
     ensures fault { IfErr result (IsServerFault (map (λ word. word.now) words.entry.now)) }
 {
-    let matches = matches_of(alloc, words)?;
+    let matches = matches_of(server_command(alloc), words)?;
     matched(alloc, &matches)
 }

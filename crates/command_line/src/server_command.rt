@@ -4,7 +4,7 @@ ghost use Rattle.clap.specs.Words.{rule_of};
 ghost use Rattle.command_line.specs.CommandLine.{HasApp, HasNoGlobals};
 ghost use Rattle.command_line.specs.ServerLine.{address_rule, port_rule, turns_rule, clients_rule, track_rule, page_rule, page_file_rule, lose_rule, seed_rule, bare_server_app, listening_app, paced_app, shown_app, server_app};
 
-use crate::command::{Draft, number, number_or, option, roster, with_arg};
+use crate::command::{Draft, number, option, roster, with_arg};
 use clap::{Arg, ArgAction, Command};
 use std::alloc::Global;
 
@@ -25,15 +25,9 @@ fn port<'a>(alloc: Global) -> Arg<'a>
     ensures rule { rule_of result ≡ port_rule }
     ensures local { result.global ≡ false }
 {
-    number_or(
-        alloc,
-        "port",
-        "P",
-        1,
-        65_535,
-        "1234",
-        "The TCP port, 1 to 65535",
-    )
+    number(alloc, "port", "P", 1, 65_535)
+        .default_value("1234")
+        .help("The TCP port, 1 to 65535")
 }
 
 /// `--turns T`.
@@ -98,15 +92,9 @@ fn lose<'a>(alloc: Global) -> Arg<'a>
     ensures rule { rule_of result ≡ lose_rule }
     ensures local { result.global ≡ false }
 {
-    number_or(
-        alloc,
-        "lose",
-        "N",
-        0,
-        99,
-        "0",
-        "How many of 100 packets each decoder misses, 0 to 99",
-    )
+    number(alloc, "lose", "N", 0, 99)
+        .default_value("0")
+        .help("How many of 100 packets each decoder misses, 0 to 99")
 }
 
 /// `--seed S`.
@@ -115,15 +103,9 @@ fn seed<'a>(alloc: Global) -> Arg<'a>
     ensures rule { rule_of result ≡ seed_rule }
     ensures local { result.global ≡ false }
 {
-    number_or(
-        alloc,
-        "seed",
-        "S",
-        0,
-        u32::MAX,
-        "0",
-        "What the draw of the missed packets begins with, 0 to 4294967295",
-    )
+    number(alloc, "seed", "S", 0, u32::MAX)
+        .default_value("0")
+        .help("What the draw of the missed packets begins with, 0 to 4294967295")
 }
 
 /// The program, with no options yet. Its words come without its name, so the usage is told the name.
