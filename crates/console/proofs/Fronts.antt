@@ -1,5 +1,5 @@
 -- A text that is written piece by piece, and a front of it.
-use Rattle.std.proofs.Common.{◌≡◌, ◌<◌, ℕ, suc, ◌+◌, ◌-◌, List, [], ◌∷◌, ◌++◌, length, length-append, length-take, take, drop, append_assoc, append-nil, Option, refl, ap, sym, subst, ◌∙◌, arith}
+use Rattle.std.proofs.Common.{◌≡◌, ◌<◌, ℕ, suc, ◌+◌, ◌-◌, List, [], ◌∷◌, ◌++◌, length, length-append, take, drop, append_assoc, append-nil, Option, refl, ap, sym, subst, ◌∙◌, arith}
 use Rattle.std.specs.Prelude.{Result, Ok, Err, OnErr}
 use Rattle.std.specs.Io.KnownBytes.{Appends, Keeps}
 use Rattle.std.proofs.KnownBytes.{Appends-kept, Appends-nil, Appends-trans}
@@ -13,18 +13,12 @@ HasWritten old new text rest = (written : List ℕ) × Appends old new written �
 pub written_none : (o : Option (List ℕ)) (text : List ℕ) → HasWritten o o text text
 written_none o text = ([], Appends-nil o, refl)
 
-pub written_more : (o p q : Option (List ℕ)) (text rest : List ℕ) (k : ℕ) → HasWritten o p text rest → Appends p q (take k rest) → HasWritten o q text (drop k rest)
-written_more o p q text rest k so_far more =
-    let written = so_far.0 in (
-      written ++ take k rest,
-      Appends-trans o p q written (take k rest) so_far.1 more,
-      so_far.2 ∙ ap (λ (bs : List ℕ). written ++ bs) (sym (take-append-drop k rest)) ∙ sym (append_assoc written (take k rest) (drop k rest)),
-    )
-
--- and this part of the rest is left
+-- so much more was written, and this is left
 pub written_part : (o p q : Option (List ℕ)) (text rest left : List ℕ) (k : ℕ) → HasWritten o p text rest → Appends p q (take k rest) → left ≡ take (length rest - k) (drop k rest) → HasWritten o q text left
 written_part o p q text rest left k so_far more is =
-    subst (λ (bs : List ℕ). HasWritten o q text bs) (sym (is ∙ take_rest rest k)) (written_more o p q text rest k so_far more)
+    let written = so_far.0 in
+    let parts : rest ≡ take k rest ++ left = sym (ap (λ (bs : List ℕ). take k rest ++ bs) (is ∙ take_rest rest k) ∙ take-append-drop k rest) in
+    (written ++ take k rest, Appends-trans o p q written (take k rest) so_far.1 more, so_far.2 ∙ ap (λ (bs : List ℕ). written ++ bs) parts ∙ sym (append_assoc written (take k rest) left))
 
 pub written_all : (o p : Option (List ℕ)) (text rest : List ℕ) → HasWritten o p text rest → length rest ≡ 0 → Appends o p text
 written_all o p text [] so_far none = subst (λ (bs : List ℕ). Appends o p bs) (sym (so_far.2 ∙ append-nil so_far.0)) so_far.1

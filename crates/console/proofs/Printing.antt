@@ -2,21 +2,12 @@
 use Rattle.std.proofs.Common.{◌≡◌, ℕ, List, [], ◌∷◌, ◌++◌, Option, Some, None, refl, ap, sym, subst, ◌∙◌, append_assoc}
 use Rattle.std.proofs.lemmas.List.{append-nil}
 use Rattle.std.specs.Io.KnownBytes.{Appends}
+use Rattle.std.proofs.KnownBytes.{Appends-nil, Appends-trans}
 use Rattle.std.specs.Option.{option_to_list}
 use Rattle.ln_frame.specs.Stream.{message_at_end, messages_of}
 use Rattle.ln_frame.specs.Unfinished.{messages_along, unfinished_of}
 use Rattle.show_text.specs.Messages.{message_text}
 use Rattle.console.specs.Printed.{ended, messages_text}
-
-pub appends_none : (a : Option (List ℕ)) → Appends a a []
-appends_none None = tt
-appends_none (Some xs) = sym (append-nil xs)
-
-pub appends_more : (a b c : Option (List ℕ)) (xs ys : List ℕ) → Appends a b xs → Appends b c ys → Appends a c (xs ++ ys)
-appends_more None b c xs ys h k = tt
-appends_more (Some s) None c xs ys h k = absurd h
-appends_more (Some s) (Some t) None xs ys h k = absurd k
-appends_more (Some s) (Some t) (Some u) xs ys h k = k ∙ ap (λ z. z ++ ys) h ∙ append_assoc s xs ys
 
 pub messages-append : (ms more : List (List ℕ)) → messages_text (ms ++ more) ≡ messages_text ms ++ messages_text more
 messages-append [] more = refl
@@ -29,14 +20,14 @@ pub record HasPrinted (all : List ℕ) (left : List ℕ) (rest : List ℕ) (old 
   pub all_are : so_far ++ messages_along left rest ≡ messages_along [] all
 
 pub printed_none : (all : List ℕ) (old : Option (List ℕ)) → HasPrinted all [] all old old
-printed_none all old = record { so_far = []; printed = appends_none old; all_are = refl }
+printed_none all old = record { so_far = []; printed = Appends-nil old; all_are = refl }
 
 -- one byte more
 pub printed_more : (all left : List ℕ) (byte : ℕ) (rest : List ℕ) (old now new : Option (List ℕ)) (given : Option (List ℕ)) (kept : List ℕ) → HasPrinted all left (byte ∷ rest) old now
     → given ≡ message_at_end (left ++ byte ∷ []) → kept ≡ unfinished_of (left ++ byte ∷ []) → Appends now new (messages_text (option_to_list given)) → HasPrinted all kept rest old new
 printed_more all left byte rest old now new given kept has is left_is more = record {
   so_far = has.so_far ++ option_to_list given;
-  printed = subst (λ bs. Appends old new bs) (sym (messages-append has.so_far (option_to_list given))) (appends_more old now new (messages_text has.so_far) (messages_text (option_to_list given)) has.printed more);
+  printed = subst (λ bs. Appends old new bs) (sym (messages-append has.so_far (option_to_list given))) (Appends-trans old now new (messages_text has.so_far) (messages_text (option_to_list given)) has.printed more);
   all_are =
       append_assoc has.so_far (option_to_list given) (messages_along kept rest)
       ∙ ap (λ (o : Option (List ℕ)). has.so_far ++ (option_to_list o ++ messages_along kept rest)) is
@@ -60,4 +51,4 @@ printed_one now new printed given message text is line same h =
 pub printed_nothing : (now new : Option (List ℕ)) (given : Option (List ℕ)) → given ≡ None → new ≡ now → Appends now new (messages_text (option_to_list given))
 printed_nothing now new given is same =
     subst (λ (o : Option (List ℕ)). Appends now new (messages_text (option_to_list o))) (sym is)
-    (subst (λ (o : Option (List ℕ)). Appends now o []) (sym same) (appends_none now))
+    (subst (λ (o : Option (List ℕ)). Appends now o []) (sym same) (Appends-nil now))

@@ -44,33 +44,13 @@ of_file file read.NoMemory = NoMemory
 
 -- a file could not be read
 abbrev pub is_unread_file : RunFault → Bool
-is_unread_file (Usage error) = false
-is_unread_file Lines = false
 is_unread_file (Unreadable file) = true
-is_unread_file UnreadableInput = false
-is_unread_file (TooLong file) = false
-is_unread_file (Roster number node) = false
-is_unread_file Network = false
-is_unread_file Output = false
-is_unread_file (Serve number) = false
-is_unread_file (Script number line) = false
-is_unread_file (Hex number at) = false
-is_unread_file NoMemory = false
+is_unread_file other = false
 
 -- standard input could not be read
 abbrev pub is_unread_input : RunFault → Bool
-is_unread_input (Usage error) = false
-is_unread_input Lines = false
-is_unread_input (Unreadable file) = false
 is_unread_input UnreadableInput = true
-is_unread_input (TooLong file) = false
-is_unread_input (Roster number node) = false
-is_unread_input Network = false
-is_unread_input Output = false
-is_unread_input (Serve number) = false
-is_unread_input (Script number line) = false
-is_unread_input (Hex number at) = false
-is_unread_input NoMemory = false
+is_unread_input other = false
 
 -- whether a run ended in such a fault
 abbrev pub ended_by : {A : Type 0} → (RunFault → Bool) → Result A RunFault → Bool

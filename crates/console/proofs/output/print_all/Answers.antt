@@ -1,6 +1,6 @@
 use Rattle.std.proofs.Common.{rules}
 use Rattle.console.specs.Printed.{AppendsFront}
-use Rattle.console.proofs.Fronts.{front_of, on_err, written_all, written_none, written_part}
+use Rattle.console.proofs.Fronts.{front_of, on_err, written_none, written_part}
 use Rattle.console.proofs.output.print_all.Goals as goal
 
 pub loop-rest-init : goal.loop-rest-init
