@@ -5,8 +5,6 @@ use Rattle.std.specs.List.{after_first}
 use Rattle.std.proofs.lemmas.Bool.{cases_lt, ltb-true, leb-true, le-leb, lt-leb}
 use Rattle.std.proofs.lemmas.List.{length-set}
 use Rattle.dcc_packet.specs.Packet.{is_checked}
-use Rattle.dcc_packet.specs.Sent.{idle_bytes}
-use Rattle.half_bits.specs.Halves.{duration_of}
 use Rattle.ln_frame.specs.Message.{IsWhole, has_form, is_whole}
 use Rattle.over_tcp.specs.declared.ask.Ask.{Ask}
 use Rattle.over_tcp.specs.declared.ask.Ask.TheVariants.{Send, Refused}
@@ -14,9 +12,7 @@ use Rattle.over_tcp.specs.declared.ask.Reason.TheVariants.{TooLong, NoMessage, W
 use Rattle.ascii_words.specs.Words.{is_blank, words_of}
 use Rattle.over_tcp.specs.Asked.{ask_to_send, asked_of, bytes_of, is_send}
 use Rattle.over_tcp.specs.Text.{is_end}
-use Rattle.station_core.specs.declared.call.Call.TheVariants.{Turn as TurnCall}
-use Rattle.station_core.specs.Moved.{after_turn, packet_of_turn}
-use Rattle.station_core.specs.Runs.{state_of}
+use Rattle.station_core.specs.Moved.{packet_of_turn}
 use Rattle.station_core.specs.Seen.{Seen}
 use Rattle.layout_core.specs.declared.event.Event.{Event as LayoutEvent}
 use Rattle.layout_core.specs.Played.{after_events as played}

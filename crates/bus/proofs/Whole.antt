@@ -8,11 +8,9 @@ use Rattle.ln_frame.specs.Stream.{message_at_end}
 use Rattle.ln_frame.specs.Unfinished.{unfinished_of}
 use Rattle.ln_ops.specs.Reply.{reply_bytes}
 use Rattle.ln_ops.specs.declared.reply.Reply.{Reply as ReplyOf}
-use Rattle.station_core.specs.declared.call.Call.TheVariants.{Byte as ByteCall}
 use Rattle.station_core.specs.declared.call.Step.{Step}
-use Rattle.station_core.specs.Runs.{answer_of, state_of}
 use Rattle.station_core.specs.Seen.{Seen, line_of}
-use Rattle.station_core.specs.Moved.{after_byte, after_message, answer_to_byte, answer_to_message, message_ended, replied}
+use Rattle.station_core.specs.Moved.{after_message, answer_to_message, message_ended, replied}
 use Rattle.layout_core.specs.declared.event.Event.TheVariants.{Byte}
 use Rattle.layout_core.specs.declared.node.Node.{Node}
 use Rattle.layout_core.specs.Heard.{HearsAll, sounds_in}

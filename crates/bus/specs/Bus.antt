@@ -8,7 +8,7 @@ use Rattle.over_tcp.specs.declared.ask.Ask.{Ask}
 use Rattle.over_tcp.specs.declared.ask.Ask.TheVariants.{Send, Refused as NoMessage}
 use Rattle.over_tcp.specs.Reading.{ask_of_byte, kept_after}
 use Rattle.station_core.specs.declared.call.Step.{Step}
-use Rattle.station_core.specs.declared.call.Step.TheVariants.{Quiet, Reply, Packet, Off}
+use Rattle.station_core.specs.declared.call.Step.TheVariants.{Reply}
 use Rattle.station_core.specs.Moved.{after_message, answer_to_message, after_turn, packet_of_turn}
 use Rattle.station_core.specs.Seen.{Seen, first_seen}
 use Rattle.bus.specs.declared.event.Event.{Event}
@@ -69,9 +69,7 @@ station_asked station (Some (Send message)) = after_message station (Some messag
 -- the message that an answer of the station is: that of its reply
 abbrev pub message_in : Step → Option (List ℕ)
 message_in (Reply reply) = Some (reply_bytes reply)
-message_in (Packet packet) = None
-message_in Quiet = None
-message_in Off = None
+message_in other = None
 
 -- the message that is answered to a message, if there is one
 abbrev pub reply_to : Seen → List ℕ → Option (List ℕ)

@@ -1,18 +1,16 @@
 -- How much track time events bring, and which turns begin in it.
 use Rattle.std.specs.Prelude.{ℕ, ◌+◌, Bool, true, false, List, [], ◌∷◌, ◌++◌}
 use Rattle.bus.specs.declared.event.Event.{Event}
-use Rattle.bus.specs.declared.event.Event.TheVariants.{Joins, Hears, Leaves, Passes, Turn}
+use Rattle.bus.specs.declared.event.Event.TheVariants.{Passes, Turn}
 use Rattle.bus.specs.declared.event.Told.{Told}
-use Rattle.bus.specs.declared.event.Told.TheVariants.{Nothing, Joined, Left, Refused, Sent, Turned}
+use Rattle.bus.specs.declared.event.Told.TheVariants.{Turned}
 use Rattle.bus.specs.Bus.{SeenBus, after_event, lasts}
 
 -- the microseconds of track time that an event brings
 abbrev pub micros_of : SeenBus → Event → ℕ
-micros_of bus (Joins client) = 0
-micros_of bus (Hears client byte) = 0
-micros_of bus (Leaves client) = 0
 micros_of bus (Passes micros missed) = micros
 micros_of bus (Turn missed) = bus.left
+micros_of bus other = 0
 
 abbrev pub micros_in : SeenBus → List Event → ℕ
 micros_in bus [] = 0
@@ -20,12 +18,8 @@ micros_in bus (event ∷ events) = micros_of bus event + micros_in (after_event 
 
 -- what the turns last that began, in order
 abbrev pub lasting : Told → List ℕ
-lasting Nothing = []
-lasting (Joined client) = []
-lasting (Left client) = []
-lasting (Refused client reason) = []
-lasting (Sent client message reply) = []
 lasting (Turned packet) = lasts packet ∷ []
+lasting other = []
 
 abbrev pub turns_lasting : List Told → List ℕ
 turns_lasting [] = []
@@ -33,8 +27,6 @@ turns_lasting (told ∷ all) = lasting told ++ turns_lasting all
 
 -- nothing but time
 abbrev pub is_time : Event → Bool
-is_time (Joins client) = false
-is_time (Hears client byte) = false
-is_time (Leaves client) = false
 is_time (Passes micros missed) = true
 is_time (Turn missed) = true
+is_time other = false

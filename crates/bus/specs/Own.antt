@@ -7,17 +7,13 @@ use Rattle.over_tcp.specs.declared.ask.Ask.TheVariants.{Send, Refused as NoMessa
 use Rattle.bus.specs.declared.event.Event.{Event}
 use Rattle.bus.specs.declared.event.Event.TheVariants.{Joins, Hears, Leaves, Passes, Turn}
 use Rattle.bus.specs.declared.event.Told.{Told}
-use Rattle.bus.specs.declared.event.Told.TheVariants.{Nothing, Joined, Left, Refused, Sent, Turned}
+use Rattle.bus.specs.declared.event.Told.TheVariants.{Sent}
 use Rattle.bus.specs.Bus.{ask_at, kept_at}
 
 -- the message that was put on line i
 abbrev pub message_on : (line : ℕ) → Told → List (List ℕ)
-message_on i Nothing = []
-message_on i (Joined client) = []
-message_on i (Left client) = []
-message_on i (Refused client reason) = []
 message_on i (Sent client message reply) = if client == i then message ∷ [] else []
-message_on i (Turned packet) = []
+message_on i other = []
 
 abbrev pub messages_on : (line : ℕ) → List Told → List (List ℕ)
 messages_on i tolds = flat_map (message_on i) tolds
@@ -42,20 +38,15 @@ sends_in (NoMessage reason ∷ asks) = sends_in asks
 abbrev pub is_staying : (client : ℕ) → Event → Bool
 is_staying i (Joins client) = not (client == i)
 is_staying i (Leaves client) = not (client == i)
-is_staying i (Hears client byte) = true
-is_staying i (Passes micros missed) = true
-is_staying i (Turn missed) = true
+is_staying i other = true
 
 abbrev pub keeps_place : (client : ℕ) → List Event → Bool
 keeps_place i events = list_all (is_staying i) events
 
 -- the bytes that come from client i
 abbrev pub bytes_from : (client : ℕ) → Event → List ℕ
-bytes_from i (Joins client) = []
-bytes_from i (Leaves client) = []
 bytes_from i (Hears client byte) = if client == i then byte ∷ [] else []
-bytes_from i (Passes micros missed) = []
-bytes_from i (Turn missed) = []
+bytes_from i other = []
 
 abbrev pub text_from : (client : ℕ) → List Event → List ℕ
 text_from i events = flat_map (bytes_from i) events

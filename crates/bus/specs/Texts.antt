@@ -5,7 +5,7 @@ use Rattle.std.specs.List.{flat_map, list_all}
 use Rattle.std.specs.Option.{option_to_list}
 use Rattle.over_tcp.specs.Told.{receive_text, sent_error_text, sent_ok_text, version_text}
 use Rattle.bus.specs.declared.event.Told.{Told}
-use Rattle.bus.specs.declared.event.Told.TheVariants.{Nothing, Joined, Left, Refused, Sent, Turned}
+use Rattle.bus.specs.declared.event.Told.TheVariants.{Joined, Left, Refused, Sent}
 
 -- a reply was on the line, if there is one
 abbrev pub reply_text : Option (List ℕ) → List ℕ
@@ -15,28 +15,18 @@ reply_text (Some reply) = receive_text reply
 -- What one client is told of an event. A message is told to everybody, its sender too, then to its sender that it was sent,
 -- then the reply to everybody.
 abbrev pub text_for : (client : ℕ) → Told → List ℕ
-text_for i Nothing = []
 text_for i (Joined client) = if client == i then version_text else []
-text_for i (Left client) = []
 text_for i (Refused client reason) = if client == i then sent_error_text reason else []
 text_for i (Sent client message reply) = receive_text message ++ (if client == i then sent_ok_text else []) ++ reply_text reply
-text_for i (Turned packet) = []
+text_for i other = []
 
 abbrev pub is_joining : (client : ℕ) → Told → Bool
-is_joining i Nothing = false
 is_joining i (Joined client) = client == i
-is_joining i (Left client) = false
-is_joining i (Refused client reason) = false
-is_joining i (Sent client message reply) = false
-is_joining i (Turned packet) = false
+is_joining i other = false
 
 abbrev pub is_leaving : (client : ℕ) → Told → Bool
-is_leaving i Nothing = false
-is_leaving i (Joined client) = false
 is_leaving i (Left client) = client == i
-is_leaving i (Refused client reason) = false
-is_leaving i (Sent client message reply) = false
-is_leaving i (Turned packet) = false
+is_leaving i other = false
 
 -- the client of this place joins or leaves
 abbrev pub moves : (client : ℕ) → Told → Bool
@@ -64,12 +54,9 @@ heard_since i tolds = flat_map (text_for i) (since_joined i tolds)
 
 -- the client asks to send
 abbrev pub asks_to_send : (client : ℕ) → Told → Bool
-asks_to_send i Nothing = false
-asks_to_send i (Joined client) = false
-asks_to_send i (Left client) = false
 asks_to_send i (Refused client reason) = client == i
 asks_to_send i (Sent client message reply) = client == i
-asks_to_send i (Turned packet) = false
+asks_to_send i other = false
 
 -- it asks to send nothing
 abbrev pub is_quiet : (client : ℕ) → List Told → Bool
@@ -77,12 +64,8 @@ is_quiet i tolds = list_all (λ told. not (asks_to_send i told)) tolds
 
 -- the messages on the bus: each one that is sent, and the reply behind it
 abbrev pub messages_in : Told → List (List ℕ)
-messages_in Nothing = []
-messages_in (Joined client) = []
-messages_in (Left client) = []
-messages_in (Refused client reason) = []
 messages_in (Sent client message reply) = message ∷ option_to_list reply
-messages_in (Turned packet) = []
+messages_in other = []
 
 abbrev pub traffic : List Told → List (List ℕ)
 traffic tolds = flat_map messages_in tolds
