@@ -17,6 +17,7 @@ use Rattle.bus.specs.Course.{is_time, micros_in}
 use Rattle.bus.specs.Kept.{IsKept}
 use Rattle.bus.specs.Layout.{layout_event, layout_events}
 use Rattle.hub.specs.declared.hub.Hub.{Hub}
+use Rattle.hub.specs.declared.server.Server.{Server}
 use Rattle.hub.specs.Hubs.{GoesOn, GoesOnCalmly, Watches, serving}
 use Rattle.hub.specs.Rounds.{Keeps}
 use Rattle.hub.specs.Served.{AreTurns, Does, HasPassed, HaveHappened, Serves, Serving, waiting_behind}
@@ -49,31 +50,44 @@ serves_more turns (passed ∷ first) second old mid new h rest = (h.0, h.1, serv
 abbrev pub Claim : Type 1
 Claim = List Passed → Serving → Type 0
 
-pub goes_nowhere : (Holds : Claim) (turns : Option ℕ) (passed : Option (List Passed)) (hub : Hub) → Holds [] (serving hub) → GoesOn Holds turns passed passed hub hub
-goes_nowhere Holds turns passed hub holds = ([], grows_none passed, refl, holds)
+-- One moment of a server: the turns behind each message, all that has passed on the wire so far, and the hub.
+pub record Moment : Type 0 where
+  pub turns : Option ℕ
+  pub passed : Option (List Passed)
+  pub hub : Hub
+
+abbrev pub moment : Server → Option (List Passed) → Moment
+moment server passed = record { turns = server.turns; passed = passed; hub = server.hub }
+
+pub goes_nowhere : (Holds : Claim) (now : Moment) → Holds [] (serving now.hub) → GoesOn Holds now.turns now.passed now.passed now.hub now.hub
+goes_nowhere Holds now holds = ([], grows_none now.passed, refl, holds)
+
+pub calm_nowhere : (Holds : Claim) (now : Moment) → Holds [] (serving now.hub) → GoesOnCalmly Holds now.turns now.passed now.passed now.hub now.hub
+calm_nowhere Holds now holds = goes_nowhere (λ more all. Keeps more (serving now.hub) all × Holds more all) now (keeps_same [] (serving now.hub), holds)
 
 pub goes_one : (Holds : Claim) (turns : Option ℕ) (a b : Option (List Passed)) (passed : Passed) (old new : Hub) → Grows a b (passed ∷ []) → Does turns passed (serving old) (serving new)
     → Holds (passed ∷ []) (serving new) → GoesOn Holds turns a b old new
 goes_one Holds turns a b passed old new grows does holds = (passed ∷ [], grows, (serving new, does, refl), holds)
 
 -- by the same number of turns
-pub goes_then : (P Q R : Claim) (turns turns' : Option ℕ) (a b c : Option (List Passed)) (old mid new : Hub) → turns' ≡ turns
-    → ((first second : List Passed) → P first (serving mid) → Q second (serving new) → R (first ++ second) (serving new))
-    → GoesOn P turns a b old mid → GoesOn Q turns' b c mid new → GoesOn R turns a c old new
-goes_then P Q R turns turns' a b c old mid new same both first second = (
+pub goes_then : (P Q R : Claim) (old mid new : Moment) → mid.turns ≡ old.turns
+    → ((first second : List Passed) → P first (serving mid.hub) → Q second (serving new.hub) → R (first ++ second) (serving new.hub))
+    → GoesOn P old.turns old.passed mid.passed old.hub mid.hub → GoesOn Q mid.turns mid.passed new.passed mid.hub new.hub → GoesOn R old.turns old.passed new.passed old.hub new.hub
+goes_then P Q R old mid new same both first second = (
   first.0 ++ second.0,
-  grows_more a b c first.0 second.0 first.1 second.1,
-  serves_more turns first.0 second.0 (serving old) (serving mid) (serving new) first.2 (subst (λ (t : Option ℕ). Serves t second.0 (serving mid) (serving new)) same second.2),
+  grows_more old.passed mid.passed new.passed first.0 second.0 first.1 second.1,
+  serves_more old.turns first.0 second.0 (serving old.hub) (serving mid.hub) (serving new.hub) first.2
+      (subst (λ (t : Option ℕ). Serves t second.0 (serving mid.hub) (serving new.hub)) same second.2),
   both first.0 second.0 first.3 second.3,
 )
 
-pub calm_then : (P Q R : Claim) (turns turns' : Option ℕ) (a b c : Option (List Passed)) (old mid new : Hub) → turns' ≡ turns
-    → ((first second : List Passed) → Keeps second (serving mid) (serving new) → P first (serving mid) → Q second (serving new) → R (first ++ second) (serving new))
-    → GoesOnCalmly P turns a b old mid → GoesOnCalmly Q turns' b c mid new → GoesOnCalmly R turns a c old new
-calm_then P Q R turns turns' a b c old mid new same both first second =
-    goes_then (λ more all. Keeps more (serving old) all × P more all) (λ more all. Keeps more (serving mid) all × Q more all) (λ more all. Keeps more (serving old) all × R more all)
-    turns turns' a b c old mid new same
-    (λ these those p q. (keeps_more these those (serving old) (serving mid) (serving new) p.0 q.0, both these those q.0 p.1 q.1))
+pub calm_then : (P Q R : Claim) (old mid new : Moment) → mid.turns ≡ old.turns
+    → ((first second : List Passed) → Keeps second (serving mid.hub) (serving new.hub) → P first (serving mid.hub) → Q second (serving new.hub) → R (first ++ second) (serving new.hub))
+    → GoesOnCalmly P old.turns old.passed mid.passed old.hub mid.hub → GoesOnCalmly Q mid.turns mid.passed new.passed mid.hub new.hub → GoesOnCalmly R old.turns old.passed new.passed old.hub new.hub
+calm_then P Q R old mid new same both first second =
+    goes_then (λ more all. Keeps more (serving old.hub) all × P more all) (λ more all. Keeps more (serving mid.hub) all × Q more all) (λ more all. Keeps more (serving old.hub) all × R more all)
+    old mid new same
+    (λ these those p q. (keeps_more these those (serving old.hub) (serving mid.hub) (serving new.hub) p.0 q.0, both these those q.0 p.1 q.1))
     first second
 
 -- something on the wire that changes nothing

@@ -9,7 +9,7 @@ use Rattle.hub.specs.Rounds.{AllWrittenTo, HasMorePlaces, IsRound, IsWrittenTo, 
 use Rattle.hub.specs.Served.{Does, HaveHappened, Serves, Serving, has_place, is_late}
 use Rattle.hub.specs.declared.wire.Wrote.TheVariants.{Later}
 use Rattle.hub.specs.Wire.{Brought, Full, Grows, NobodyWaits, Passed, Put, TurnedAway}
-use Rattle.hub.proofs.Going.{Claim, same_on_wire, serves_more}
+use Rattle.hub.proofs.Going.{Claim, Moment, calm_then, same_on_wire, serves_more}
 use Rattle.hub.proofs.Keeping.{any_before, any_behind, count-append, heard_now, left_keeps, left_waits, only_leaves, put_keeps, put_more, turned_away_all, written_behind}
 
 -- Who is written to.
@@ -31,10 +31,14 @@ one_on_time client first second mid new kept done late other within = elim (case
       (kept.written other first (done.0 other before).0, kept.on_time other (done.0 other before).1)
 ]
 
+-- so many pieces were written to a client
+abbrev pub HasPut : (client count : ℕ) → List Passed → Serving → Type 0
+HasPut client count more all = count ≤ length (filter (is_put client) more)
+
 -- What one write comes to.
 
 pub wrote_one : (turns : Option ℕ) (client : ℕ) (bytes : List ℕ) (a b : Option (List Passed)) (old new : Hub) → Grows a b (Put client bytes ∷ []) → Does None (Put client bytes) (serving old) (serving new)
-    → GoesOnCalmly (λ more _. 1 ≤ length (filter (is_put client) more)) turns a b old new
+    → GoesOnCalmly (HasPut client 1) turns a b old new
 wrote_one turns client bytes a b old new grows does =
     let none : 0 ≤ length (filter (is_put client) []) = omega arith in (
       Put client bytes ∷ [],
@@ -62,8 +66,15 @@ wrote_to_none turns client a b old new grows does =
 pub more_pieces : (client n : ℕ) (first second : List Passed) → n ≤ length (filter (is_put client) first) → 1 ≤ length (filter (is_put client) second) → n + 1 ≤ length (filter (is_put client) (first ++ second))
 more_pieces client n first second h k = omega (arith, h, k, count-append (is_put client) first second)
 
-pub calm_weaker : (P Q : Claim) (turns : Option ℕ) (a b : Option (List Passed)) (old new : Hub) → ((more : List Passed) → P more (serving new) → Q more (serving new)) → GoesOnCalmly P turns a b old new → GoesOnCalmly Q turns a b old new
-calm_weaker P Q turns a b old new weaker goes = (goes.0, goes.1, goes.2, (goes.3.0, weaker goes.0 goes.3.1))
+pub calm_weaker : (P Q : Claim) (old new : Moment) → ((more : List Passed) → P more (serving new.hub) → Q more (serving new.hub))
+    → GoesOnCalmly P old.turns old.passed new.passed old.hub new.hub → GoesOnCalmly Q old.turns old.passed new.passed old.hub new.hub
+calm_weaker P Q old new weaker goes = (goes.0, goes.1, goes.2, (goes.3.0, weaker goes.0 goes.3.1))
+
+-- behind some pieces, a write by which the client is written to
+pub put_then : (client count : ℕ) (old mid new : Moment) → mid.turns ≡ old.turns → GoesOnCalmly (HasPut client count) old.turns old.passed mid.passed old.hub mid.hub
+    → GoesOnCalmly (IsWrittenTo client) mid.turns mid.passed new.passed mid.hub new.hub → GoesOnCalmly (IsWrittenTo client) old.turns old.passed new.passed old.hub new.hub
+put_then client count old mid new same =
+    calm_then (HasPut client count) (IsWrittenTo client) (IsWrittenTo client) old mid new same (λ these those kept before done. written_behind client these those (serving new.hub) done)
 
 -- The round so far.
 
@@ -106,6 +117,10 @@ whole_round below all first second mid new so_far kept last =
     }
 
 -- Who waits.
+
+-- the places before this one are taken
+abbrev pub AreTaken : (below : ℕ) → List Passed → Serving → Type 0
+AreTaken below more all = (client : ℕ) → client < below → has_place all client ≡ true
 
 pub more_taken : (below : ℕ) (mid new : Serving) → ((client : ℕ) → client < below → has_place mid client ≡ true) → HasMorePlaces below mid new → (client : ℕ) → client < below + 1 → has_place new client ≡ true
 more_taken below mid new taken more client within = elim (cases_eq client below) [

@@ -2,56 +2,38 @@
 use Rattle.std.specs.Prelude.{ℕ, ◌≡◌, ◌⊎◌, ◌<◌, ◌≤◌, ◌==◌, Bool, true, false, List, [], ◌∷◌, ◌++◌, length, replicate, Option, None}
 use Rattle.std.specs.List.{filter, list_any, slice_index_or}
 use Rattle.bus.specs.declared.event.Event.{Event}
-use Rattle.bus.specs.declared.event.Event.TheVariants.{Joins, Hears, Leaves, Passes, Turn}
+use Rattle.bus.specs.declared.event.Event.TheVariants.{Joins, Hears, Leaves}
 use Rattle.hub.specs.Served.{Serving, has_place, is_late}
 use Rattle.outbox.specs.Waiting.{waits}
-use Rattle.hub.specs.Wire.{Brought, Closed, Full, Grows, NobodyWaits, Passed, Put, Quiet, TurnedAway}
+use Rattle.hub.specs.Wire.{Brought, Full, Grows, NobodyWaits, Passed, Put, Quiet, TurnedAway}
 
 -- an event is a byte of this client, or that it has gone
 abbrev pub is_of : (client : ℕ) → Event → Bool
-is_of i (Joins client) = false
 is_of i (Hears client byte) = client == i
 is_of i (Leaves client) = client == i
-is_of i (Passes micros missed) = false
-is_of i (Turn missed) = false
+is_of i other = false
 
 -- a client is heard: it says something, has sent nothing, or has gone
 abbrev pub is_heard : (client : ℕ) → Passed → Bool
 is_heard i (Brought event) = is_of i event
-is_heard i (Put client bytes) = false
-is_heard i (Closed client) = false
 is_heard i (Quiet client) = client == i
-is_heard i (Full client) = false
-is_heard i NobodyWaits = false
-is_heard i TurnedAway = false
+is_heard i other = false
 
 -- a piece of what waits is written to a client
 abbrev pub is_put : (client : ℕ) → Passed → Bool
-is_put i (Brought event) = false
 is_put i (Put client bytes) = client == i
-is_put i (Closed client) = false
-is_put i (Quiet client) = false
-is_put i (Full client) = false
-is_put i NobodyWaits = false
-is_put i TurnedAway = false
+is_put i other = false
 
 -- a client joins
 abbrev pub joins : (client : ℕ) → Event → Bool
 joins i (Joins client) = client == i
-joins i (Hears client byte) = false
-joins i (Leaves client) = false
-joins i (Passes micros missed) = false
-joins i (Turn missed) = false
+joins i other = false
 
 -- a client takes no more, or has only just come
 abbrev pub takes_later : (client : ℕ) → Passed → Bool
 takes_later i (Brought event) = joins i event
-takes_later i (Put client bytes) = false
-takes_later i (Closed client) = false
-takes_later i (Quiet client) = false
 takes_later i (Full client) = client == i
-takes_later i NobodyWaits = false
-takes_later i TurnedAway = false
+takes_later i other = false
 
 -- nothing waits for a client
 abbrev pub NothingWaits : (client : ℕ) → Serving → Type 0

@@ -6,14 +6,14 @@ use Rattle.layout_core.specs.declared.node.Node.{Node}
 use Rattle.layout_core.specs.Nodes.{node_of}
 use Rattle.layout_core.specs.World.{HaveHeard}
 use Rattle.bus.specs.declared.event.Event.{Event}
-use Rattle.bus.specs.declared.event.Event.TheVariants.{Joins, Hears, Leaves, Passes, Turn}
+use Rattle.bus.specs.declared.event.Event.TheVariants.{Joins, Leaves, Turn}
 use Rattle.bus.specs.declared.event.Told.{Told}
-use Rattle.bus.specs.declared.event.Told.TheVariants.{Nothing, Joined, Left, Refused, Sent, Turned}
+use Rattle.bus.specs.declared.event.Told.TheVariants.{Sent}
 use Rattle.bus.specs.Bus.{AreEvents, SeenBus, after_events, client_of, first_bus, told_by, told_of}
 use Rattle.bus.specs.Course.{is_time, micros_in}
 use Rattle.bus.specs.Layout.{layout_events}
 use Rattle.hub.specs.Places.{Places, waiting_after}
-use Rattle.hub.specs.Wire.{Brought, Closed, Full, NobodyWaits, Passed, Put, Quiet, TurnedAway}
+use Rattle.hub.specs.Wire.{Brought, Closed, Passed, Put, TurnedAway}
 
 -- what a server is: its bus, the decoders, and what waits for each client
 pub record Serving : Type 0 where
@@ -44,24 +44,14 @@ HasPassed micros old new = (events : List Event) × (list_all is_time events ≡
 
 -- how many turns follow a message, where they follow messages and not time
 abbrev pub turns_behind : Option ℕ → Told → ℕ
-turns_behind None told = 0
-turns_behind (Some turns) Nothing = 0
-turns_behind (Some turns) (Joined client) = 0
-turns_behind (Some turns) (Left client) = 0
-turns_behind (Some turns) (Refused client reason) = 0
 turns_behind (Some turns) (Sent client message reply) = turns
-turns_behind (Some turns) (Turned packet) = 0
+turns_behind turns other = 0
 
 -- so many turns, whoever misses them
 abbrev pub AreTurns : ℕ → List Event → Type 0
 AreTurns zero [] = Unit {0}
-AreTurns zero (event ∷ events) = ⊥
-AreTurns (suc n) [] = ⊥
-AreTurns (suc n) (Joins client ∷ events) = ⊥
-AreTurns (suc n) (Hears client byte ∷ events) = ⊥
-AreTurns (suc n) (Leaves client ∷ events) = ⊥
-AreTurns (suc n) (Passes micros missed ∷ events) = ⊥
 AreTurns (suc n) (Turn missed ∷ events) = AreTurns n events
+AreTurns n other = ⊥
 
 -- a client has its place on the bus
 abbrev pub has_place : Serving → (client : ℕ) → Bool
@@ -70,10 +60,7 @@ has_place serving client = is_some (client_of serving.bus client)
 -- who comes takes a place that was free
 abbrev pub finds_place : Serving → Event → Bool
 finds_place serving (Joins client) = not (has_place serving client)
-finds_place serving (Hears client byte) = true
-finds_place serving (Leaves client) = true
-finds_place serving (Passes micros missed) = true
-finds_place serving (Turn missed) = true
+finds_place serving other = true
 
 -- A client is late: it has its place, but too much would have waited for it, so that it is told nothing more.
 abbrev pub is_late : Serving → (client : ℕ) → Bool
@@ -90,9 +77,7 @@ Does turns (Put client bytes) old new =
 Does turns (Closed client) old new =
     (is_late old client ≡ true) × HaveHappened (Leaves client ∷ []) old new
 Does turns TurnedAway old new = ((client : ℕ) → client < 8 → has_place old client ≡ true) × (new ≡ old)
-Does turns (Quiet client) old new = new ≡ old
-Does turns (Full client) old new = new ≡ old
-Does turns NobodyWaits old new = new ≡ old
+Does turns other old new = new ≡ old
 
 -- one after another
 abbrev pub Serves : Option ℕ → List Passed → Serving → Serving → Type 0

@@ -1,5 +1,5 @@
-use Rattle.std.proofs.Common.{◌≡◌, ◌∷◌, [], ℕ, Bool, List, arith, replicate, subst}
-use Rattle.hub.specs.Wire.{Grows, NobodyWaits, Passed, TurnedAway, turned_away}
+use Rattle.std.proofs.Common.{◌≡◌, ◌∷◌, [], ℕ, List, arith, replicate, subst}
+use Rattle.hub.specs.Wire.{Grows, NobodyWaits, Passed, TurnedAway}
 use Rattle.hub.proofs.Going.{grows_more}
 use Rattle.hub.proofs.Keeping.{one_turned_more}
 use Rattle.hub.proofs.server.turn_away.Goals as goal
@@ -8,8 +8,7 @@ pub loop-turned-preserved : goal.loop-turned-preserved
 loop-turned-preserved g c =
     let passed = g.W.Wire.passed in
     let first = c.loop-turned in
-    let away : Grows (passed first.wire) (passed c.turn_away.new.self) (TurnedAway ∷ []) =
-    subst (λ (waits : Bool). Grows (passed first.wire) (passed c.turn_away.new.self) (turned_away waits)) c.if-not-turn_away.false c.turn_away.ensures in
+    let away = rw c.if-not-turn_away.false at c.turn_away.ensures in
     subst (λ (all : List Passed). Grows (passed c.args.wire.now) (passed c.turn_away.new.self) all) (one_turned_more first._turned)
     (grows_more (passed c.args.wire.now) (passed first.wire) (passed c.turn_away.new.self) (replicate first._turned TurnedAway) (TurnedAway ∷ []) first.invariant away)
 
@@ -17,8 +16,7 @@ pub returns-then-not-turn_away : goal.returns-then-not-turn_away
 returns-then-not-turn_away g c =
     let passed = g.W.Wire.passed in
     let first = c.loop-turned in
-    let nobody : Grows (passed first.wire) (passed c.turn_away.new.self) (NobodyWaits ∷ []) =
-    subst (λ (waits : Bool). Grows (passed first.wire) (passed c.turn_away.new.self) (turned_away waits)) c.if-not-turn_away.true c.turn_away.ensures in
+    let nobody = rw c.if-not-turn_away.true at c.turn_away.ensures in
     (first._turned, grows_more (passed c.args.wire.now) (passed first.wire) (passed c.turn_away.new.self) (replicate first._turned TurnedAway) (NobodyWaits ∷ []) first.invariant nobody)
 
 pub returns : goal.returns

@@ -1,17 +1,14 @@
 use Rattle.std.proofs.Common.{◌≡◌, ◌∷◌, [], false, refl, sym, ◌∙◌}
 use Rattle.hub.specs.Hubs.{serving}
-use Rattle.hub.specs.Rounds.{Keeps}
 use Rattle.hub.specs.Served.{is_late}
 use Rattle.hub.specs.Wire.{Closed}
-use Rattle.hub.proofs.Going.{goes_nowhere, whatever}
-use Rattle.hub.proofs.Keeping.{keeps_same, left_is_not_late, left_keeps}
+use Rattle.hub.proofs.Going.{calm_nowhere, moment, whatever}
+use Rattle.hub.proofs.Keeping.{left_is_not_late, left_keeps}
 use Rattle.hub.proofs.server.Server.let_go_late.Goals as goal
 
 pub returns-then-not-is_late-clause-served : goal.returns-then-not-is_late-clause-served
 returns-then-not-is_late-clause-served g c =
-    let all = serving c.args.self.now.hub in
-    goes_nowhere (λ more new. Keeps more all new × (is_late new c.args.client ≡ false)) c.args.self.now.turns (g.W.Wire.passed c.args.wire.now) c.args.self.now.hub
-    (keeps_same [] all, sym c.is_late.ensures ∙ c.if-not-is_late.true)
+    calm_nowhere (λ _ new. is_late new c.args.client ≡ false) (moment c.args.self.now (g.W.Wire.passed c.args.wire.now)) (sym c.is_late.ensures ∙ c.if-not-is_late.true)
 
 pub returns-clause-served : goal.returns-clause-served
 returns-clause-served g c =

@@ -1,17 +1,17 @@
 use Rattle.std.proofs.Common.{◌<◌, ◌∷◌, [], length, refl, sym, ◌∙◌, arith}
 use Rattle.bus.specs.declared.event.Event.TheVariants.{Joins}
 use Rattle.hub.specs.Hubs.{serving}
-use Rattle.hub.specs.Rounds.{HasMorePlaces, Keeps}
+use Rattle.hub.specs.Rounds.{HasMorePlaces}
 use Rattle.hub.specs.Wire.{Brought}
-use Rattle.hub.proofs.Going.{goes_nowhere}
-use Rattle.hub.proofs.Keeping.{joined_keeps, joined_places, keeps_same, only_joins}
+use Rattle.hub.proofs.Going.{calm_nowhere, moment}
+use Rattle.hub.proofs.Keeping.{joined_keeps, joined_places, only_joins}
 use Rattle.hub.proofs.server.Server.seat.Goals as goal
 
 pub returns-then-has-clause-seats : goal.returns-then-has-clause-seats
 returns-then-has-clause-seats g c =
     let all = serving c.args.self.now.hub in
-    goes_nowhere (λ more new. Keeps more all new × HasMorePlaces c.args.client all new) c.args.self.now.turns (g.W.Wire.passed c.args.wire.now) c.args.self.now.hub
-    (keeps_same [] all, record { takes = sym c.has.ensures ∙ c.if-has.true; keeps = λ other placed. placed })
+    calm_nowhere (λ _ new. HasMorePlaces c.args.client all new) (moment c.args.self.now (g.W.Wire.passed c.args.wire.now))
+    (record { takes = sym c.has.ensures ∙ c.if-has.true; keeps = λ other placed. placed })
 
 pub returns-clause-seats : goal.returns-clause-seats
 returns-clause-seats g c =
