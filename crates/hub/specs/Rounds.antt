@@ -7,6 +7,11 @@ use Rattle.hub.specs.Served.{Serving, has_place, is_late}
 use Rattle.outbox.specs.Waiting.{waits}
 use Rattle.hub.specs.Wire.{Brought, Full, Grows, NobodyWaits, Passed, Put, Quiet, TurnedAway}
 
+-- a client joins
+abbrev pub joins : (client : ℕ) → Event → Bool
+joins i (Joins client) = client == i
+joins i other = false
+
 -- an event is a byte of this client, or that it has gone
 abbrev pub is_of : (client : ℕ) → Event → Bool
 is_of i (Hears client byte) = client == i
@@ -23,11 +28,6 @@ is_heard i other = false
 abbrev pub is_put : (client : ℕ) → Passed → Bool
 is_put i (Put client bytes) = client == i
 is_put i other = false
-
--- a client joins
-abbrev pub joins : (client : ℕ) → Event → Bool
-joins i (Joins client) = client == i
-joins i other = false
 
 -- a client takes no more, or has only just come
 abbrev pub takes_later : (client : ℕ) → Passed → Bool

@@ -31,6 +31,9 @@ const MOST_WRITES: u8 = 4;
 /// The longest time in which at most one turn begins, in microseconds.
 const SHORTEST_TURN: u32 = 5_796;
 
+/// What a step of a round comes to: `Err` where the witness could not go on.
+type Step<P> = Result<(), <P as Witness>::Fault>;
+
 /// A bus with what waits for each of its clients, and how its track runs.
 #[derive(Drop)]
 pub struct Server {
@@ -127,7 +130,7 @@ impl Server {
     }
 
     /// Lets in who waits, where a place is free; who else waits is turned away.
-    fn let_in<W: Wire, P: Witness>(&mut self, wire: &mut W, witness: &mut P) -> Result<(), P::Fault>
+    fn let_in<W: Wire, P: Witness>(&mut self, wire: &mut W, witness: &mut P) -> Step<P>
         requires watched { Watches (P.decoders witness.old) self.old.hub }
         ensures watched { Watches (P.decoders witness.new) self.new.hub }
         ensures turns { self.new.turns ≡ self.old.turns }
@@ -168,13 +171,25 @@ impl Server {
         Ok(true)
     }
 
+    /// Lets a client go for whom too much waits.
+    fn let_go<W: Wire, P: Witness>(&mut self, client: u8, wire: &mut W, witness: &mut P) -> Step<P>
+        requires client { client < 8 }
+        requires watched { Watches (P.decoders witness.old) self.old.hub }
+        ensures watched { Watches (P.decoders witness.new) self.new.hub }
+        ensures turns { self.new.turns ≡ self.old.turns }
+        ensures served { OnOk result (GoesOnCalmly (λ _ all. is_late all client ≡ false) self.old.turns (W.passed wire.old) (W.passed wire.new) self.old.hub self.new.hub) }
+    {
+        if !self.hub.is_late(client) {
+            return Ok(());
+        }
+        wire.close(client);
+        witness.late(client)?;
+        let told = self.hub.step(Event::Leaves { client });
+        witness.told(&told, self.hub.bus.world())
+    }
+
     /// Hears what a client sent.
-    fn hear<W: Wire, P: Witness>(
-        &mut self,
-        client: u8,
-        wire: &mut W,
-        witness: &mut P,
-    ) -> Result<(), P::Fault>
+    fn hear<W: Wire, P: Witness>(&mut self, client: u8, wire: &mut W, witness: &mut P) -> Step<P>
         requires client { client < 8 }
         requires watched { Watches (P.decoders witness.old) self.old.hub }
         ensures watched { Watches (P.decoders witness.new) self.new.hub }
@@ -193,12 +208,7 @@ impl Server {
     }
 
     /// Hears bytes of a client.
-    fn hear_all<P: Witness>(
-        &mut self,
-        client: u8,
-        bytes: &[u8],
-        witness: &mut P,
-    ) -> Result<(), P::Fault>
+    fn hear_all<P: Witness>(&mut self, client: u8, bytes: &[u8], witness: &mut P) -> Step<P>
         requires client { client < 8 }
         requires watched { Watches (P.decoders witness.old) self.old.hub }
         ensures watched { Watches (P.decoders witness.new) self.new.hub }
@@ -218,11 +228,7 @@ impl Server {
     }
 
     /// Writes to each client, and lets those go for whom too much waits.
-    fn write_all<W: Wire, P: Witness>(
-        &mut self,
-        wire: &mut W,
-        witness: &mut P,
-    ) -> Result<(), P::Fault>
+    fn write_all<W: Wire, P: Witness>(&mut self, wire: &mut W, witness: &mut P) -> Step<P>
         requires watched { Watches (P.decoders witness.old) self.old.hub }
         ensures watched { Watches (P.decoders witness.new) self.new.hub }
         ensures turns { self.new.turns ≡ self.old.turns }
@@ -230,18 +236,13 @@ impl Server {
     {
         for client in 0..8u8 {
             self.write(client, wire, witness)?;
-            self.let_go_late(client, wire, witness)?;
+            self.let_go(client, wire, witness)?;
         }
         Ok(())
     }
 
     /// Writes what waits for a client, as much of it as is taken.
-    fn write<W: Wire, P: Witness>(
-        &mut self,
-        client: u8,
-        wire: &mut W,
-        witness: &mut P,
-    ) -> Result<(), P::Fault>
+    fn write<W: Wire, P: Witness>(&mut self, client: u8, wire: &mut W, witness: &mut P) -> Step<P>
         requires client { client < 8 }
         requires watched { Watches (P.decoders witness.old) self.old.hub }
         ensures watched { Watches (P.decoders witness.new) self.new.hub }
@@ -256,28 +257,6 @@ impl Server {
             }
         }
         Ok(())
-    }
-
-    /// Lets a client go for whom too much waits.
-    fn let_go_late<W: Wire, P: Witness>(
-        &mut self,
-        client: u8,
-        wire: &mut W,
-        witness: &mut P,
-    ) -> Result<(), P::Fault>
-        requires client { client < 8 }
-        requires watched { Watches (P.decoders witness.old) self.old.hub }
-        ensures watched { Watches (P.decoders witness.new) self.new.hub }
-        ensures turns { self.new.turns ≡ self.old.turns }
-        ensures served { OnOk result (GoesOnCalmly (λ _ all. is_late all client ≡ false) self.old.turns (W.passed wire.old) (W.passed wire.new) self.old.hub self.new.hub) }
-    {
-        if !self.hub.is_late(client) {
-            return Ok(());
-        }
-        wire.close(client);
-        witness.late(client)?;
-        let told = self.hub.step(Event::Leaves { client });
-        witness.told(&told, self.hub.bus.world())
     }
 
     /// So much track time passes, in microseconds, and nothing else happens.
@@ -328,7 +307,7 @@ impl Server {
     }
 
     /// What comes of a client, with the turns behind it.
-    fn happen<P: Witness>(&mut self, event: Event, witness: &mut P) -> Result<(), P::Fault>
+    fn happen<P: Witness>(&mut self, event: Event, witness: &mut P) -> Step<P>
         requires event { IsTrue (is_event event) }
         requires place { IsTrue (finds_place (serving self.old.hub) event) }
         requires watched { Watches (P.decoders witness.old) self.old.hub }
@@ -345,7 +324,7 @@ impl Server {
     }
 
     /// So many turns.
-    fn run_turns<P: Witness>(&mut self, turns: u8, witness: &mut P) -> Result<(), P::Fault>
+    fn run_turns<P: Witness>(&mut self, turns: u8, witness: &mut P) -> Step<P>
         requires watched { Watches (P.decoders witness.old) self.old.hub }
         ensures watched { Watches (P.decoders witness.new) self.new.hub }
         ensures turns { self.new.turns ≡ self.old.turns }

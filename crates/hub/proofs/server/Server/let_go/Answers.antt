@@ -4,7 +4,7 @@ use Rattle.hub.specs.Served.{is_late}
 use Rattle.hub.specs.Wire.{Closed}
 use Rattle.hub.proofs.Going.{calm_nowhere, moment, whatever}
 use Rattle.hub.proofs.Keeping.{left_is_not_late, left_keeps}
-use Rattle.hub.proofs.server.Server.let_go_late.Goals as goal
+use Rattle.hub.proofs.server.Server.let_go.Goals as goal
 
 pub returns-then-not-is_late-clause-served : goal.returns-then-not-is_late-clause-served
 returns-then-not-is_late-clause-served g c =
