@@ -8,7 +8,7 @@ use Rattle.layout_core.specs.declared.standing.Standing.{Standing}
 use Rattle.layout_core.specs.Standings.{decoder_line, same_standing, standing_of}
 use Rattle.roster.specs.Entry.{Entry}
 use Rattle.console.specs.Printed.{ended, lines_text}
-use Rattle.console.proofs.Printing.{appends_more, appends_none}
+use Rattle.std.proofs.KnownBytes.{Appends-nil, Appends-trans}
 use Rattle.bus_lines.specs.Lines.{changed_lines}
 
 -- one standing more
@@ -49,19 +49,19 @@ rest_more entries before standings i entry last now old mid new below many all r
     let next : suc i ≡ i + 1 = omega arith in
     subst (λ (n : ℕ). Rest entries before standings n old new) next (λ final later.
     rest final (subst (λ (bs : List ℕ). Appends mid final bs) (sym (changed_first entries before standings i entry last now below many all))
-    (appends_more mid new final (lines_text (line_if (get_or entries i entry) (get_or before i last) (get_or standings i now))) (lines_text (changed_lines (drop (suc i) entries) (drop (suc i) before) (drop (suc i) standings))) one later)))
+    (Appends-trans mid new final (lines_text (line_if (get_or entries i entry) (get_or before i last) (get_or standings i now))) (lines_text (changed_lines (drop (suc i) entries) (drop (suc i) before) (drop (suc i) standings))) one later)))
 
 -- nothing is left
 pub rest_none : (entries : List Entry) (before standings : List Standing) (i : ℕ) (old now : Option (List ℕ)) → length entries ≤ i → Rest entries before standings i old now → Appends old now (lines_text (changed_lines entries before standings))
 rest_none entries before standings i old now over rest =
     let none : drop i entries ≡ [] = drop_of_length-le entries over in
-    rest now (subst (λ (es : List Entry). Appends now now (lines_text (changed_lines es (drop i before) (drop i standings)))) (sym none) (appends_none now))
+    rest now (subst (λ (es : List Entry). Appends now now (lines_text (changed_lines es (drop i before) (drop i standings)))) (sym none) (Appends-nil now))
 
 -- one that stands as before is not printed
 pub unchanged : (entry : Entry) (last now : Standing) (old new : Option (List ℕ)) → same_standing last now ≡ true → new ≡ old → Appends old new (lines_text (line_if entry last now))
 unchanged entry last now old new same kept =
     let none : line_if entry last now ≡ [] = ap (λ (is : Bool). if is then [] else decoder_line entry.name entry.spec now ∷ []) same in
-    subst (λ (lines : List (List ℕ)). Appends old new (lines_text lines)) (sym none) (subst (λ (o : Option (List ℕ)). Appends old o []) (sym kept) (appends_none old))
+    subst (λ (lines : List (List ℕ)). Appends old new (lines_text lines)) (sym none) (subst (λ (o : Option (List ℕ)). Appends old o []) (sym kept) (Appends-nil old))
 
 -- one that does not is
 pub changed : (entry : Entry) (last now : Standing) (line : List ℕ) (old new : Option (List ℕ)) → same_standing last now ≡ false → line ≡ decoder_line entry.name entry.spec now → Appends old new (line ++ 10 ∷ []) → Appends old new (lines_text (line_if entry last now))

@@ -30,12 +30,9 @@ one_more count = if nat_lt count 0xFFFFFFFFFFFFFFFF then count + 1 else count
 
 -- what is remembered then, as the decoders stand so
 abbrev pub remembered_after : Remembered → Told → (standings : List Standing) → Remembered
-remembered_after before Nothing standings = before
-remembered_after before (Joined client) standings = before
 remembered_after before (Left client) standings = record before { gone = one_more before.gone }
-remembered_after before (Refused client reason) standings = before
-remembered_after before (Sent client message reply) standings = before
 remembered_after before (Turned packet) standings = record before { turns = one_more before.turns; standings = standings }
+remembered_after before other standings = before
 
 -- what a client does, 0 to 7; for people they are counted from 1
 abbrev pub client_line : (client : ℕ) → (does : List ℕ) → List ℕ

@@ -3,7 +3,7 @@ use Rattle.std.proofs.lemmas.Result.{on_ok_weaker}
 use Rattle.std.specs.Io.KnownBytes.{Appends}
 use Rattle.std.specs.Option.{option_to_list}
 use Rattle.console.specs.Printed.{ended, lines_text}
-use Rattle.console.proofs.Printing.{appends_more}
+use Rattle.std.proofs.KnownBytes.{Appends-trans}
 use Rattle.show_text.specs.Messages.{message_text}
 use Rattle.bus_lines.proofs.printer.print_messages.Goals as goal
 
@@ -13,6 +13,6 @@ returns g c =
     let message : Appends (contents c.args.output.now) (contents c.print.new.output) (ended (message_text c.args.message.now)) =
     subst (λ (bs : List ℕ). Appends (contents c.args.output.now) (contents c.print.new.output) (bs ++ 10 ∷ [])) c.message_line.ensures c.in_ok-print.ensures.printed in
     on_ok_weaker c.print_reply.result
-    (λ reply. appends_more (contents c.args.output.now) (contents c.print.new.output) (contents c.print_reply.new.output)
+    (λ reply. Appends-trans (contents c.args.output.now) (contents c.print.new.output) (contents c.print_reply.new.output)
     (ended (message_text c.args.message.now)) (lines_text (map message_text (option_to_list c.args.reply.now))) message reply)
     c.print_reply.ensures
