@@ -2,7 +2,7 @@
 use Rattle.std.proofs.Common.{◌≡◌, ◌≢◌, ℕ, zero, suc, ◌+◌, ◌*◌, ◌<◌, ◌≤◌, ◌==◌, Bool, true, false, min, List, [], ◌∷◌, ◌++◌, length, not, take, append_assoc, length-append, length-take, get_or, refl, ap, sym, subst, inl, inr, ◌⊎◌, ◌∙◌, arith, eqb-true, Ok, Err, Result}
 use Rattle.std.specs.Prelude.{if◌then◌else◌, All, IsTrue, nat_lt}
 use Rattle.std.specs.List.{flat_map}
-use Rattle.std.proofs.lemmas.Bool.{and_parts, cases_Bool, ltb-true, le-ltb, lt-ltb}
+use Rattle.std.proofs.lemmas.Bool.{and_parts, cases_Bool, cases_lt, ltb-true, le-ltb, lt-ltb}
 use Rattle.std.proofs.lemmas.List.{take_min, take-append-le}
 use Rattle.std.proofs.lemmas.List.Folds.{list_all-append}
 use Rattle.std.proofs.lemmas.List.Sums.{list_all-from_AllPass}
@@ -178,17 +178,34 @@ waiting_answered text lines a is none may same =
     still never (inl made) = never made.0 made.1 [] made.2
     still never (inr ends) = lines_no_target text (subst EndsInTarget (sym is) ends)
 
-pub unfinished-short : (text : List ℕ) → length text < 8192 → Later ≡ unfinished text
+unfinished-short : (text : List ℕ) → length text < 8192 → Later ≡ unfinished text
 unfinished-short text short = sym (ap (λ c. if c then Later else Refused TooLong) (lt-ltb (length text) 8192 short))
 
-pub unfinished-long : (text : List ℕ) → 8192 ≤ length text → Refused TooLong ≡ unfinished text
+unfinished-long : (text : List ℕ) → 8192 ≤ length text → Refused TooLong ≡ unfinished text
 unfinished-long text long = sym (ap (λ c. if c then Later else Refused TooLong) (le-ltb (length text) 8192 long))
 
-pub waiting_stands : (text lines : List ℕ) → lines_so_far text ≡ lines → HasNoRequest lines → MayBecomeRequest lines
-    → 8192 ≤ length text → (more : List ℕ) → IsAnswered (text ++ more) (Refused TooLong)
-waiting_stands text lines is none may long more =
-    waiting_answered (text ++ more) lines (Refused TooLong) (lines_full text more long ∙ is) none may
-    (unfinished-long (text ++ more) (omega (arith, long, length-append text more)))
+apart : Later ≢ Refused TooLong
+apart same = cc
+
+pub waiting_room : (text : List ℕ) (a : Answer) → a ≡ unfinished text → a ≡ Later → length text < 8192
+waiting_room text a same later = elim (cases_lt (length text) 8192) [
+  | inl short ↦ short
+  | inr long ↦ absurd (apart (sym later ∙ same ∙ sym (unfinished-long text long)))
+]
+
+refused_long : (text : List ℕ) (a : Answer) → a ≡ unfinished text → a ≢ Later → (a ≡ Refused TooLong) × (8192 ≤ length text)
+refused_long text a same now = elim (cases_lt (length text) 8192) [
+  | inl short ↦ absurd (now (same ∙ sym (unfinished-short text short)))
+  | inr long ↦ (same ∙ sym (unfinished-long text long), long)
+]
+
+pub waiting_stands : (text lines : List ℕ) (a : Answer) → lines_so_far text ≡ lines → HasNoRequest lines → MayBecomeRequest lines
+    → a ≡ unfinished text → a ≢ Later → (more : List ℕ) → IsAnswered (text ++ more) a
+waiting_stands text lines a is none may same now more =
+    let refused = refused_long text a same now in
+    let longer : 8192 ≤ length (text ++ more) = omega (arith, refused.1, length-append text more) in
+    subst (λ (b : Answer). IsAnswered (text ++ more) b) (sym refused.0)
+    (waiting_answered (text ++ more) lines (Refused TooLong) (lines_full text more refused.1 ∙ is) none may (unfinished-long (text ++ more) longer))
 
 -- ---- no head, whatever follows
 

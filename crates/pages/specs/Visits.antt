@@ -1,5 +1,5 @@
 -- One who asks by HTTP, from the first byte of a request to the end of the connection.
-use Rattle.std.specs.Prelude.{◌≡◌, ℕ, ◌+◌, ◌-◌, if◌then◌else◌, min, nat_lt, List, [], ◌++◌, drop, length}
+use Rattle.std.specs.Prelude.{◌≡◌, ℕ, ◌+◌, if◌then◌else◌, min, nat_lt, List, [], ◌++◌, drop, length}
 use Rattle.websocket.specs.Handshake.{response_bytes}
 use Rattle.pages.specs.declared.asked.Answer.{Answer}
 use Rattle.pages.specs.declared.asked.Answer.TheVariants.{Later, Page, Joins, Refused}

@@ -3,7 +3,7 @@ ghost use Rattle.std.specs.Prelude.{◌≡◌, ◌≢◌, ◌<◌, ◌++◌, Lis
 ghost use Rattle.httparse.specs.Spans.{IsRequestWithin, span_bytes};
 ghost use Rattle.websocket.specs.Headers.{fields_of};
 ghost use Rattle.pages.specs.declared.asked.Answer.TheVariants.{Later};
-ghost use Rattle.pages.specs.Answers.{IsAnswered};
+ghost use Rattle.pages.specs.Answers.{IsAnswered, unfinished};
 ghost use Rattle.pages.specs.Heads.{IsAnswerTo, HasJoined};
 ghost use Rattle.pages.specs.Lines.{whole_lines};
 
@@ -40,9 +40,19 @@ pub fn answer(text: &[u8]) -> Answer
     let mut spans = [EMPTY_HEADER_SPAN; ROOM];
     match parse_request(lines, &mut spans) {
         Ok(Status::Complete(request)) => answer_to(lines, &request, &spans),
-        Ok(Status::Partial) if text.len() < LONGEST => Answer::Later,
-        Ok(Status::Partial) => Answer::Refused(Refusal::TooLong),
+        Ok(Status::Partial) => unfinished(text),
         Err(_) => Answer::Refused(Refusal::BadRequest),
+    }
+}
+
+/// What a head is answered that has not ended.
+fn unfinished(text: &[u8]) -> Answer
+    ensures { result ≡ unfinished text.now }
+{
+    if text.len() < LONGEST {
+        Answer::Later
+    } else {
+        Answer::Refused(Refusal::TooLong)
     }
 }
 

@@ -1,6 +1,6 @@
-use Rattle.std.proofs.Common.{◌++◌, [], ap, sym, ◌∙◌, arith, append-nil}
+use Rattle.std.proofs.Common.{◌++◌, [], ap, sym, ◌∙◌, append-nil}
 use Rattle.httparse.specs.Spans.{IsRequestOf}
-use Rattle.pages.proofs.Standing.{answer_by_parts, complete-of, head_answered, lines_are, lines_more, never_answered, never_by_error, partial-of, unfinished-long, unfinished-short, waiting_answered, waiting_stands}
+use Rattle.pages.proofs.Standing.{answer_by_parts, complete-of, head_answered, lines_are, lines_more, never_answered, never_by_error, partial-of, waiting_answered, waiting_room, waiting_stands}
 use Rattle.pages.proofs.answering.answer.Goals as goal
 
 pub returns-in-Ok-Complete-clause-answer : goal.returns-in-Ok-Complete-clause-answer
@@ -25,23 +25,17 @@ returns-in-Ok-Partial-clause-answer c =
     let lines = c.whole_lines-lines.result.now in
     let is = lines_are c.args.text.now lines c.min.result c.min.ensures c.whole_lines-lines.ensures in
     waiting_answered c.args.text.now lines _ (sym is) (partial-of _ c.in-Ok-Partial.field-0 c.in-Ok-Partial.field-0-is c.in-Ok-Partial.ensures.partial)
-    (partial-of _ c.in-Ok-Partial.field-0 c.in-Ok-Partial.field-0-is c.in-Ok-Partial.ensures.unfinished)
-    (unfinished-short c.args.text.now (omega arith))
+    (partial-of _ c.in-Ok-Partial.field-0 c.in-Ok-Partial.field-0-is c.in-Ok-Partial.ensures.unfinished) c.unfinished.ensures
 
-pub returns-in-Ok-Partial-2-clause-answer : goal.returns-in-Ok-Partial-2-clause-answer
-returns-in-Ok-Partial-2-clause-answer c =
+pub returns-in-Ok-Partial-clause-stands : goal.returns-in-Ok-Partial-clause-stands
+returns-in-Ok-Partial-clause-stands c = λ now more.
     let lines = c.whole_lines-lines.result.now in
     let is = lines_are c.args.text.now lines c.min.result c.min.ensures c.whole_lines-lines.ensures in
-    waiting_answered c.args.text.now lines _ (sym is) (partial-of _ c.in-Ok-Partial.field-0 c.in-Ok-Partial.field-0-is c.in-Ok-Partial.ensures.partial)
-    (partial-of _ c.in-Ok-Partial.field-0 c.in-Ok-Partial.field-0-is c.in-Ok-Partial.ensures.unfinished)
-    (unfinished-long c.args.text.now (omega arith))
+    waiting_stands c.args.text.now lines _ (sym is) (partial-of _ c.in-Ok-Partial.field-0 c.in-Ok-Partial.field-0-is c.in-Ok-Partial.ensures.partial)
+    (partial-of _ c.in-Ok-Partial.field-0 c.in-Ok-Partial.field-0-is c.in-Ok-Partial.ensures.unfinished) c.unfinished.ensures now more
 
-pub returns-in-Ok-Partial-2-clause-stands : goal.returns-in-Ok-Partial-2-clause-stands
-returns-in-Ok-Partial-2-clause-stands c = λ _ more.
-    let lines = c.whole_lines-lines.result.now in
-    let is = lines_are c.args.text.now lines c.min.result c.min.ensures c.whole_lines-lines.ensures in
-    waiting_stands c.args.text.now lines (sym is) (partial-of _ c.in-Ok-Partial.field-0 c.in-Ok-Partial.field-0-is c.in-Ok-Partial.ensures.partial)
-    (partial-of _ c.in-Ok-Partial.field-0 c.in-Ok-Partial.field-0-is c.in-Ok-Partial.ensures.unfinished) (omega arith) more
+pub returns-in-Ok-Partial-clause-room : goal.returns-in-Ok-Partial-clause-room
+returns-in-Ok-Partial-clause-room c = λ later. waiting_room c.args.text.now _ c.unfinished.ensures later
 
 pub returns-in-Err-clause-answer : goal.returns-in-Err-clause-answer
 returns-in-Err-clause-answer c =
