@@ -25,7 +25,7 @@ use Rattle.console.specs.Printed.{AppendsFront as PrintedFront}
 use Rattle.program.specs.Fault.{of_serve}
 use Rattle.program.specs.Replayed.{HasDone}
 use Rattle.roster.specs.Entry.{Entry}
-use Rattle.console.proofs.Printing.{appends_more, appends_none}
+use Rattle.std.proofs.KnownBytes.{Appends-nil, Appends-trans}
 use Rattle.program.proofs.Replaying.{HeardMore, HeardNone, done_more, done_none}
 
 pub done_whole : (events : List Event) (old new : Moment) → EngineServes 0 events old new → HasDone events old.world new.world
@@ -105,7 +105,7 @@ HasServedSoFar limits count entries old new old_output new_output =
     × (text : List ℕ) × AreServed limits entries connections old new text × Appends old_output new_output text
 
 pub served_none : HeardNone → (limits : Limits) (entries : List Entry) (world : World) (output : Option (List ℕ)) → HasServedSoFar limits 0 entries world world output output
-served_none law limits entries world output = ([], refl, done_none law world, [], (refl, refl), appends_none output)
+served_none law limits entries world output = ([], refl, done_none law world, [], (refl, refl), Appends-nil output)
 
 -- a connection behind others
 served_behind : (limits : Limits) (entries : List Entry) (connections : List (List ℕ)) (bytes : List ℕ) (old mid new : World) (text : List ℕ) → AreServed limits entries connections old mid text → IsServed limits bytes mid new
@@ -139,7 +139,7 @@ served_more law limits count entries old mid new output so_far traced shown has 
       subst (λ (es : List Event). HasDone es old new) (sym all) (done_more law front events old mid new has.2 one.1.done),
       has.3 ++ (trace ++ nodes_text entries new),
       served_behind limits entries has.0 one.0 old mid new has.3 has.4 one.1,
-      appends_more output so_far shown has.3 (trace ++ nodes_text entries new) has.5 (appends_more so_far traced shown trace (nodes_text entries new) one.2 nodes),
+      Appends-trans output so_far shown has.3 (trace ++ nodes_text entries new) has.5 (Appends-trans so_far traced shown trace (nodes_text entries new) one.2 nodes),
     )
 
 -- all of them
@@ -152,7 +152,7 @@ served_all law limits count all entries old new output shown desk same has =
 -- behind a text that was printed before
 pub served_after : {A E : Type 0} (r : Result A E) (limits : Limits) (count : ℕ) (entries : List Entry) (old new : World) (front : List ℕ) (output told shown : Option (List ℕ)) → Appends output told front
     → OnOk r (HasServed limits count entries old new [] told shown) → OnOk r (HasServed limits count entries old new front output shown)
-served_after (Ok a) limits count entries old new front output told shown before has = (has.0, has.1, has.2, has.3, has.4, has.5, appends_more output told shown front has.4 before has.6)
+served_after (Ok a) limits count entries old new front output told shown before has = (has.0, has.1, has.2, has.3, has.4, has.5, Appends-trans output told shown front has.4 before has.6)
 served_after (Err e) limits count entries old new front output told shown before has = tt
 
 -- and one that was given up
@@ -229,4 +229,4 @@ passed_up (Err e) told P is p = subst P (sym is) p
 pub stops_showing : (limits : Limits) (entries : List Entry) (old new : World) (output traced shown : Option (List ℕ)) → Serves limits old new output traced → PrintedFront traced shown (nodes_text entries new)
     → StopsShowing limits entries old new output shown
 stops_showing limits entries old new output traced shown one front =
-    (one.0, one.1, (front.0, front.1, appends_more output traced shown (trace_text old.station (served_events 0 limits.turns one.0)) (take front.0 (nodes_text entries new)) one.2 front.2))
+    (one.0, one.1, (front.0, front.1, Appends-trans output traced shown (trace_text old.station (served_events 0 limits.turns one.0)) (take front.0 (nodes_text entries new)) one.2 front.2))

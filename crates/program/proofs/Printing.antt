@@ -4,7 +4,7 @@ use Rattle.std.proofs.lemmas.List.{append-nil, drop_more, take-append-drop, take
 use Rattle.std.specs.Io.KnownBytes.{Appends}
 use Rattle.console.specs.Printed.{AppendsFront, ended, lines_text}
 use Rattle.console.proofs.Fronts.{front_before, front_behind}
-use Rattle.console.proofs.Printing.{appends_more}
+use Rattle.std.proofs.KnownBytes.{Appends-trans}
 
 drop_more_get : (lines : List (List ℕ)) (i : ℕ) → i < length lines → drop i lines ≡ get_or lines i [] ∷ drop (i + 1) lines
 drop_more_get lines i below = drop_more lines i [] below
@@ -22,7 +22,7 @@ one_line_more lines i line old now new below is so_far more =
     ∙ lines-append (take i lines) (get_or lines i [] ∷ [])
     ∙ ap (λ (l : List ℕ). lines_text (take i lines) ++ (ended l ++ [])) is
     ∙ ap (λ (bs : List ℕ). lines_text (take i lines) ++ bs) (append-nil (ended line)) in
-    subst (λ (bs : List ℕ). Appends old new bs) (sym all) (appends_more old now new (lines_text (take i lines)) (ended line) so_far more)
+    subst (λ (bs : List ℕ). Appends old new bs) (sym all) (Appends-trans old now new (lines_text (take i lines)) (ended line) so_far more)
 
 -- a front of the next one is a front of all
 pub front_of_line : (lines : List (List ℕ)) (i : ℕ) (line : List ℕ) (old now new : Option (List ℕ)) → i < length lines → get_or lines i [] ≡ line → Appends old now (lines_text (take i lines)) → AppendsFront now new (line ++ 10 ∷ [])

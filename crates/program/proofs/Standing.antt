@@ -20,7 +20,7 @@ use Rattle.program.specs.Layout.{AreBetween}
 use Rattle.layout_core.specs.declared.standing.Standing.{Standing}
 use Rattle.layout_core.specs.Standings.{standing_of}
 use Rattle.program.specs.Replayed.{HasDone, Scene, command_text, commands_text, events_in, events_of, scene_after, scene_of, standing_after, standings_after, standings_from, turns_among}
-use Rattle.console.proofs.Printing.{appends_more, appends_none}
+use Rattle.std.proofs.KnownBytes.{Appends-nil, Appends-trans}
 use Rattle.program.proofs.Replaying.{HasPassed, HeardMore, HeardNone, passed_more, passed_none, text_more, done_more, done_none, events-append, turns-append}
 
 -- no command brings noise
@@ -80,7 +80,7 @@ pub record HasReplayed (entries : List Entry) (commands : List Command) (turn : 
   pub passed : HasPassed commands start
 
 pub replayed_none : HeardNone → (entries : List Entry) (start : World) (old : Option (List ℕ)) → HasReplayed entries [] 1 start start old old
-replayed_none law entries start old = record { numbered = refl; done = done_none law start; printed = appends_none old; passed = passed_none law start }
+replayed_none law entries start old = record { numbered = refl; done = done_none law start; printed = Appends-nil old; passed = passed_none law start }
 
 pub replayed_more : HeardMore → ((seen : Seen) (events : List Event) (old new : List Node) → HaveHeard seen events old new → HaveObeyed seen events old new)
     → (entries : List Entry) (commands : List Command) (command : Command) (turn next : ℕ) (start mid now : World) (old so_far new : Option (List ℕ)) → AreBetween start.nodes
@@ -99,7 +99,7 @@ replayed_more more obeyed entries commands command turn next start mid now old s
       done = after;
       printed =
           subst (λ (bs : List ℕ). Appends old new bs) (sym (text_more start entries commands command))
-          (appends_more old so_far new (commands_text start entries [] commands) (command_text entries (scene_after start (events_in commands)) command) has.printed
+          (Appends-trans old so_far new (commands_text start entries [] commands) (command_text entries (scene_after start (events_in commands)) command) has.printed
           (subst (λ (scene : Scene). Appends so_far new (command_text entries scene command)) scene line));
       passed = passed_more commands command start now has.passed after;
     }

@@ -5,7 +5,6 @@ use Rattle.std.specs.List.{slice_index_or}
 use Rattle.decoder_node.specs.declared.node.NodeSpec.{NodeSpec}
 use Rattle.layout_core.specs.declared.node.Node.{Node}
 use Rattle.decoder_node.specs.declared.node.NodeSpec.TheVariants as spec
-use Rattle.layout_core.specs.declared.node.Node.TheVariants.{Loco, Accessory}
 use Rattle.layout_core.specs.Nodes.{node_of, spec_of}
 use Rattle.roster.specs.Entry.{Entry, name_of, spec_of as spec_of_entry}
 use Rattle.program.specs.Layout.{AreBetween, IsWorldOf, entries_in}
@@ -29,7 +28,7 @@ length-decoder_lines (e ∷ entries) (s ∷ standings) same =
     omega (arith, rest)
 
 -- the line that is printed of decoder i
-pub told_line : (entries : List Entry) (nodes : List Node) (specs : List NodeSpec) (i : ℕ) (name : List ℕ) (spec : NodeSpec) (standing : Standing)
+told_line : (entries : List Entry) (nodes : List Node) (specs : List NodeSpec) (i : ℕ) (name : List ℕ) (spec : NodeSpec) (standing : Standing)
     → specs ≡ map spec_of_entry entries → i < length specs → length nodes ≡ length specs → spec ≡ slice_index_or specs i spec
     → ((none : Entry) → name ≡ name_of (slice_index_or entries i none)) → ((none : Node) → standing ≡ standing_of (slice_index_or nodes i none))
     → get_or (decoder_lines entries (map standing_of nodes)) i [] ≡ decoder_line name spec standing
@@ -48,6 +47,17 @@ told_line entries nodes specs i name spec standing are inside same at names stan
     ∙ sym (ap (λ (n : List ℕ). decoder_line n spec standing) (names none)
     ∙ ap (λ (s : NodeSpec). decoder_line (slice_index_or entries i none).name s standing) of_entry
     ∙ ap (decoder_line (slice_index_or entries i none).name (slice_index_or entries i none).spec) (stands_so node))
+
+-- and it is among the lines of all decoders
+pub told_there : (entries : List Entry) (nodes : List Node) (specs : List NodeSpec) (i : ℕ) (name : List ℕ) (spec : NodeSpec) (standing : Standing)
+    → specs ≡ map spec_of_entry entries → map spec_of nodes ≡ map spec_of_entry entries → i < length specs → spec ≡ slice_index_or specs i spec
+    → ((none : Entry) → name ≡ name_of (slice_index_or entries i none)) → ((none : Node) → standing ≡ standing_of (slice_index_or nodes i none))
+    → (i < length (decoder_lines entries (map standing_of nodes))) × (get_or (decoder_lines entries (map standing_of nodes)) i [] ≡ decoder_line name spec standing)
+told_there entries nodes specs i name spec standing are made inside at names stands_so =
+    let count : length specs ≡ length entries = ap length are ∙ length-map entries spec_of_entry in
+    let same : length nodes ≡ length specs = sym (length-map nodes spec_of) ∙ ap length (made ∙ sym are) in
+    let lines : length (decoder_lines entries (map standing_of nodes)) ≡ length entries = length-decoder_lines entries (map standing_of nodes) (length-map nodes standing_of ∙ same ∙ count) in
+    (omega (arith, inside, count, lines), told_line entries nodes specs i name spec standing are inside same at names stands_so)
 
 -- no decoder of a new layout has a packet under way
 pub fresh_between : (specs : List NodeSpec) → AreBetween (map node_of specs)

@@ -15,7 +15,7 @@ use Rattle.layout_core.specs.Served.{line_of_answer, served_events, traced_from,
 use Rattle.roster.specs.Entry.{Entry}
 use Rattle.station_core.specs.Seen.{Seen, known_of}
 use Rattle.console.specs.declared.fault.RunFault.{RunFault}
-use Rattle.console.specs.declared.fault.RunFault.TheVariants.{Usage, Lines, Unreadable, UnreadableInput, TooLong, Roster, Network, Output, Serve, Script, Hex, NoMemory}
+use Rattle.console.specs.declared.fault.RunFault.TheVariants.{Network, Output, Serve}
 use Rattle.program.specs.Fault.{of_serve}
 use Rattle.console.specs.Printed.{lines_text}
 use Rattle.layout_core.specs.Standings.{standing_of}
@@ -67,17 +67,7 @@ ServesSource limits old new source source' written written' old_output new_outpu
 -- whether a run ended in the fault of serving with this number
 abbrev pub is_serve : ℕ → RunFault → Bool
 is_serve n (Serve number) = n == number
-is_serve n (Usage error) = false
-is_serve n Lines = false
-is_serve n (Unreadable file) = false
-is_serve n UnreadableInput = false
-is_serve n (TooLong file) = false
-is_serve n (Roster number node) = false
-is_serve n Network = false
-is_serve n Output = false
-is_serve n (Script number line) = false
-is_serve n (Hex number at) = false
-is_serve n NoMemory = false
+is_serve n other = false
 
 -- the line that tells the port
 abbrev pub listening_text : (port : ℕ) → List ℕ

@@ -41,14 +41,14 @@ where
     // A fault of the words, of what is read, of a roster, a script or a hex text prints nothing.
     ensures untouched { result ≢ 0 → result ≢ 4 → result ≢ 6 → output.new ≡ output.old }
 {
-    match run(rt, words, input, output) {
+    match obey(rt, words, input, output) {
         Ok(()) => 0,
         Err(fault) => tell(&fault, faults),
     }
 }
 
 /// Does what the words ask for.
-fn run<R, I, O>(rt: &R, words: &[&str], input: &mut I, output: &mut O) -> Result<(), RunFault>
+fn obey<R, I, O>(rt: &R, words: &[&str], input: &mut I, output: &mut O) -> Result<(), RunFault>
 where
     R: Files + AllocGlobal + Net<Listener = TcpListener, Stream = TcpStream>,
     I: Input,

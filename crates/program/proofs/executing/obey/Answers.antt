@@ -1,6 +1,6 @@
 use Rattle.std.proofs.Common.{map}
 use Rattle.program.proofs.Ordering.{no_order}
-use Rattle.program.proofs.executing.run.Goals as goal
+use Rattle.program.proofs.executing.obey.Goals as goal
 
 pub returns-in_err-order-clause-ends : goal.returns-in_err-order-clause-ends
 returns-in_err-order-clause-ends g c =

@@ -1,4 +1,4 @@
-use Rattle.std.proofs.Common.{arith, ◌≡◌, ◌≤◌, ◌<◌, ◌∙◌, length, List, ℕ, map, ap, sym, subst}
+use Rattle.std.proofs.Common.{arith, ◌≡◌, ◌≤◌, ◌∙◌, length, List, ℕ, map, ap, sym, subst}
 use Rattle.std.proofs.lemmas.List.{length-map, take_all}
 use Rattle.std.specs.Io.KnownBytes.{Appends}
 use Rattle.decoder_node.specs.declared.node.NodeSpec.{NodeSpec}
@@ -11,7 +11,7 @@ use Rattle.std.specs.List.{slice_index_or}
 use Rattle.program.specs.Printed.{decoder_lines}
 use Rattle.program.proofs.Printing.{front_of_line, one_line_more}
 use Rattle.console.proofs.Fronts.{on_err}
-use Rattle.program.proofs.Told.{length-decoder_lines, told_line}
+use Rattle.program.proofs.Told.{length-decoder_lines, told_there}
 use Rattle.program.proofs.layout.print_decoders.Goals as goal
 
 pub line-line-requires-clause-told : goal.line-line-requires-clause-told
@@ -21,40 +21,20 @@ line-line-requires-clause-told g c =
 
 pub loop-i-preserved : goal.loop-i-preserved
 loop-i-preserved g c =
-    let nodes = c.args.world.now.nodes in
-    let entries = c.args.roster.now in
-    let specs : List NodeSpec = c.as_slice-spec-items.result.now in
-    let are : specs ≡ map spec_of_entry entries = c.as_slice-spec-items.ensures.value ∙ c.nodes.ensures.nodes in
-    let below : c.loop-i.i < length specs = c.loop-i-test.true in
-    let same : map spec_of nodes ≡ specs = c.requires ∙ sym are in
-    let count : length nodes ≡ length specs = sym (length-map nodes spec_of) ∙ ap length same in
-    let as_many : length (map standing_of nodes) ≡ length entries = length-map nodes standing_of ∙ count ∙ ap length are ∙ length-map entries spec_of_entry in
-    let so_many : length (decoder_lines entries (map standing_of nodes)) ≡ length entries = length-decoder_lines entries (map standing_of nodes) as_many in
-    let same_length : length specs ≡ length entries = ap length are ∙ length-map entries spec_of_entry in
-    let inside : c.loop-i.i < length entries = omega (arith, below, same_length) in
-    one_line_more (decoder_lines entries (map standing_of nodes)) c.loop-i.i c.line-line.result.bytes (g.O.Write.contents c.args.output.now) (g.O.Write.contents c.loop-i.output) (g.O.Write.contents c.print.new.output)
-    (omega (arith, inside, so_many))
-    (told_line entries nodes specs c.loop-i.i c.name.result.now c.spec-item.result c.standing.result are below count c.spec-item.is c.name.ensures.value c.standing.ensures.standing ∙ sym c.line-line.ensures)
-    c.loop-i.invariant c.in_ok-print.ensures.printed
+    let lines = decoder_lines c.args.roster.now (map standing_of c.args.world.now.nodes) in
+    let told = told_there c.args.roster.now c.args.world.now.nodes c.as_slice-spec-items.result.now c.loop-i.i c.name.result.now c.spec-item.result c.standing.result
+    (c.as_slice-spec-items.ensures.value ∙ c.nodes.ensures.nodes) c.requires c.loop-i-test.true c.spec-item.is c.name.ensures.value c.standing.ensures.standing in
+    one_line_more lines c.loop-i.i c.line-line.result.bytes (g.O.Write.contents c.args.output.now) (g.O.Write.contents c.loop-i.output) (g.O.Write.contents c.print.new.output)
+    told.0 (told.1 ∙ sym c.line-line.ensures) c.loop-i.invariant c.in_ok-print.ensures.printed
 
 pub returns-in_err-print-clause-front : goal.returns-in_err-print-clause-front
 returns-in_err-print-clause-front g c =
-    let nodes = c.args.world.now.nodes in
-    let entries = c.args.roster.now in
-    let specs : List NodeSpec = c.as_slice-spec-items.result.now in
-    let are : specs ≡ map spec_of_entry entries = c.as_slice-spec-items.ensures.value ∙ c.nodes.ensures.nodes in
-    let below : c.loop-i.i < length specs = c.loop-i-test.true in
-    let same : map spec_of nodes ≡ specs = c.requires ∙ sym are in
-    let count : length nodes ≡ length specs = sym (length-map nodes spec_of) ∙ ap length same in
-    let as_many : length (map standing_of nodes) ≡ length entries = length-map nodes standing_of ∙ count ∙ ap length are ∙ length-map entries spec_of_entry in
-    let so_many : length (decoder_lines entries (map standing_of nodes)) ≡ length entries = length-decoder_lines entries (map standing_of nodes) as_many in
-    let same_length : length specs ≡ length entries = ap length are ∙ length-map entries spec_of_entry in
-    let inside : c.loop-i.i < length entries = omega (arith, below, same_length) in
+    let lines = decoder_lines c.args.roster.now (map standing_of c.args.world.now.nodes) in
+    let told = told_there c.args.roster.now c.args.world.now.nodes c.as_slice-spec-items.result.now c.loop-i.i c.name.result.now c.spec-item.result c.standing.result
+    (c.as_slice-spec-items.ensures.value ∙ c.nodes.ensures.nodes) c.requires c.loop-i-test.true c.spec-item.is c.name.ensures.value c.standing.ensures.standing in
     on_err c.from_residual.result _
-    (front_of_line (decoder_lines entries (map standing_of nodes)) c.loop-i.i c.line-line.result.bytes (g.O.Write.contents c.args.output.now) (g.O.Write.contents c.loop-i.output) (g.O.Write.contents c.print.new.output)
-    (omega (arith, inside, so_many))
-    (told_line entries nodes specs c.loop-i.i c.name.result.now c.spec-item.result c.standing.result are below count c.spec-item.is c.name.ensures.value c.standing.ensures.standing ∙ sym c.line-line.ensures)
-    c.loop-i.invariant c.in_err-print.ensures.front)
+    (front_of_line lines c.loop-i.i c.line-line.result.bytes (g.O.Write.contents c.args.output.now) (g.O.Write.contents c.loop-i.output) (g.O.Write.contents c.print.new.output)
+    told.0 (told.1 ∙ sym c.line-line.ensures) c.loop-i.invariant c.in_err-print.ensures.front)
 
 pub returns : goal.returns
 returns g c =

@@ -1,4 +1,4 @@
-use Rattle.std.proofs.Common.{◌≡◌, ◌+◌, ◌∙◌, refl, arith, rules}
+use Rattle.std.proofs.Common.{◌≡◌, ◌+◌, refl, arith, rules}
 use Rattle.program.proofs.Replaying.{turned_all, turned_more, turned_none}
 use Rattle.program.proofs.replay.play_turns.Goals as goal
 
