@@ -49,15 +49,15 @@ told_line entries nodes specs i name spec standing are inside same at names stan
     ∙ ap (decoder_line (slice_index_or entries i none).name (slice_index_or entries i none).spec) (stands_so node))
 
 -- and it is among the lines of all decoders
-pub told_there : (entries : List Entry) (nodes : List Node) (specs : List NodeSpec) (i : ℕ) (name : List ℕ) (spec : NodeSpec) (standing : Standing)
+pub told_there : (entries : List Entry) (nodes : List Node) (specs : List NodeSpec) (i : ℕ) (name : List ℕ) (spec : NodeSpec) (standing : Standing) (line : List ℕ)
     → specs ≡ map spec_of_entry entries → map spec_of nodes ≡ map spec_of_entry entries → i < length specs → spec ≡ slice_index_or specs i spec
     → ((none : Entry) → name ≡ name_of (slice_index_or entries i none)) → ((none : Node) → standing ≡ standing_of (slice_index_or nodes i none))
-    → (i < length (decoder_lines entries (map standing_of nodes))) × (get_or (decoder_lines entries (map standing_of nodes)) i [] ≡ decoder_line name spec standing)
-told_there entries nodes specs i name spec standing are made inside at names stands_so =
+    → line ≡ decoder_line name spec standing → (i < length (decoder_lines entries (map standing_of nodes))) × (get_or (decoder_lines entries (map standing_of nodes)) i [] ≡ line)
+told_there entries nodes specs i name spec standing line are made inside at names stands_so is =
     let count : length specs ≡ length entries = ap length are ∙ length-map entries spec_of_entry in
     let same : length nodes ≡ length specs = sym (length-map nodes spec_of) ∙ ap length (made ∙ sym are) in
     let lines : length (decoder_lines entries (map standing_of nodes)) ≡ length entries = length-decoder_lines entries (map standing_of nodes) (length-map nodes standing_of ∙ same ∙ count) in
-    (omega (arith, inside, count, lines), told_line entries nodes specs i name spec standing are inside same at names stands_so)
+    (omega (arith, inside, count, lines), told_line entries nodes specs i name spec standing are inside same at names stands_so ∙ sym is)
 
 -- no decoder of a new layout has a packet under way
 pub fresh_between : (specs : List NodeSpec) → AreBetween (map node_of specs)

@@ -6,7 +6,7 @@ ghost use Rattle.program.specs.Runs.{CarriesOut, ReplaysNew, Runs, ServesNew};
 
 use crate::layout::new_world;
 use crate::replay::replay;
-use crate::serving::serve_at;
+use crate::serving::{listen, serve_on};
 use command_line::{FileName, Order, order};
 use console::{RunFault, monitor, read_roster, tell};
 use input_text::Input;
@@ -132,9 +132,9 @@ where
 {
     let roster = read_roster(rt, roster)?;
     let mut world = new_world(rt.alloc(), 1, roster.as_ref())?;
-    serve_at(
-        rt,
-        port,
+    let listener = listen(rt, port, output)?;
+    serve_on(
+        &listener,
         &mut world,
         roster.as_ref(),
         limits,

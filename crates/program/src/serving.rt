@@ -14,38 +14,20 @@ use roster::Roster;
 use std::io::Write;
 use std::net::{Net, TcpListener, TcpStream};
 
-/// Binds the port on 127.0.0.1, tells so, and serves that many connections.
-pub(crate) fn serve_at<R, O>(
-    rt: &R,
-    port: u16,
-    world: &mut World,
-    roster: Option<&Roster>,
-    limits: Limits,
-    connections: u32,
-    output: &mut O,
-) -> Result<(), RunFault>
+/// Binds the port on 127.0.0.1, and tells so at once.
+pub(crate) fn listen<R, O>(rt: &R, port: u16, output: &mut O) -> Result<TcpListener, RunFault>
 where
     R: Net<Listener = TcpListener, Stream = TcpStream>,
     O: Write,
-    requires { IsWorldOf (roster_value roster) world.old.nodes }
-    // What is printed begins with the line that tells the port.
-    ensures served { OnOk result (HasServed limits connections (entries_in (roster_value roster.entry)) world.old world.new (listening_text port) (O.contents output.old) (O.contents output.new)) }
+    ensures printed { OnOk result (Appends (O.contents output.old) (O.contents output.new) (listening_text port)) }
     ensures status { IfErr result (λ e. status_of e ≡ 4) }
 {
     let Ok(listener) = TcpListener::bind(rt, ("127.0.0.1", port)) else {
         return Err(RunFault::Network);
     };
-    print_port(port, output)?;
-    serve_on(&listener, world, roster, limits, connections, output)
-}
-
-/// Tells the port that is bound, at once.
-fn print_port<O: Write>(port: u16, output: &mut O) -> Result<(), RunFault>
-    ensures printed { OnOk result (Appends (O.contents output.old) (O.contents output.new) (listening_text port)) }
-    ensures fault { IfErr result (λ e. e ≡ RunFault.Output) }
-{
     writeln!(output, "listening 127.0.0.1:{port}").map_err(|_| RunFault::Output)?;
-    output.flush().map_err(|_| RunFault::Output)
+    output.flush().map_err(|_| RunFault::Output)?;
+    Ok(listener)
 }
 
 /// Serves connections one after another, each on line 0 of the one layout, and prints their trace, and after each how

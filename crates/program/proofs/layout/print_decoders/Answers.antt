@@ -22,19 +22,19 @@ line-line-requires-clause-told g c =
 pub loop-i-preserved : goal.loop-i-preserved
 loop-i-preserved g c =
     let lines = decoder_lines c.args.roster.now (map standing_of c.args.world.now.nodes) in
-    let told = told_there c.args.roster.now c.args.world.now.nodes c.as_slice-spec-items.result.now c.loop-i.i c.name.result.now c.spec-item.result c.standing.result
-    (c.as_slice-spec-items.ensures.value ∙ c.nodes.ensures.nodes) c.requires c.loop-i-test.true c.spec-item.is c.name.ensures.value c.standing.ensures.standing in
+    let told = told_there c.args.roster.now c.args.world.now.nodes c.as_slice-spec-items.result.now c.loop-i.i c.name.result.now c.spec-item.result c.standing.result c.line-line.result.bytes
+    (c.as_slice-spec-items.ensures.value ∙ c.nodes.ensures.nodes) c.requires c.loop-i-test.true c.spec-item.is c.name.ensures.value c.standing.ensures.standing c.line-line.ensures in
     one_line_more lines c.loop-i.i c.line-line.result.bytes (g.O.Write.contents c.args.output.now) (g.O.Write.contents c.loop-i.output) (g.O.Write.contents c.print.new.output)
-    told.0 (told.1 ∙ sym c.line-line.ensures) c.loop-i.invariant c.in_ok-print.ensures.printed
+    told.0 told.1 c.loop-i.invariant c.in_ok-print.ensures.printed
 
 pub returns-in_err-print-clause-front : goal.returns-in_err-print-clause-front
 returns-in_err-print-clause-front g c =
     let lines = decoder_lines c.args.roster.now (map standing_of c.args.world.now.nodes) in
-    let told = told_there c.args.roster.now c.args.world.now.nodes c.as_slice-spec-items.result.now c.loop-i.i c.name.result.now c.spec-item.result c.standing.result
-    (c.as_slice-spec-items.ensures.value ∙ c.nodes.ensures.nodes) c.requires c.loop-i-test.true c.spec-item.is c.name.ensures.value c.standing.ensures.standing in
+    let told = told_there c.args.roster.now c.args.world.now.nodes c.as_slice-spec-items.result.now c.loop-i.i c.name.result.now c.spec-item.result c.standing.result c.line-line.result.bytes
+    (c.as_slice-spec-items.ensures.value ∙ c.nodes.ensures.nodes) c.requires c.loop-i-test.true c.spec-item.is c.name.ensures.value c.standing.ensures.standing c.line-line.ensures in
     on_err c.from_residual.result _
     (front_of_line lines c.loop-i.i c.line-line.result.bytes (g.O.Write.contents c.args.output.now) (g.O.Write.contents c.loop-i.output) (g.O.Write.contents c.print.new.output)
-    told.0 (told.1 ∙ sym c.line-line.ensures) c.loop-i.invariant c.in_err-print.ensures.front)
+    told.0 told.1 c.loop-i.invariant c.in_err-print.ensures.front)
 
 pub returns : goal.returns
 returns g c =
