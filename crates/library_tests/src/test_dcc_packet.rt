@@ -77,66 +77,43 @@ fn speed_packets_have_the_bytes_of_the_standard(rt: HostRuntime) {
     }
 }
 
-/// An address, functions, and the bytes of the packets of group one, group two and group three.
-type FunctionRow = (Address, u16, &'static [u8], &'static [u8], &'static [u8]);
-
-const FUNCTION_ROWS: [FunctionRow; 6] = [
-    (
-        SHORT_3,
-        0,
-        &[0x03, 0x80, 0x83],
-        &[0x03, 0xB0, 0xB3],
-        &[0x03, 0xA0, 0xA3],
-    ),
+/// A function group, an address, functions, and the bytes of the packet.
+const FUNCTION_ROWS: [(u8, Address, u16, &'static [u8]); 18] = [
+    (1, SHORT_3, 0, &[0x03, 0x80, 0x83]),
+    (2, SHORT_3, 0, &[0x03, 0xB0, 0xB3]),
+    (3, SHORT_3, 0, &[0x03, 0xA0, 0xA3]),
     // F1, whose bit is the lowest of group one.
-    (
-        SHORT_3,
-        1 << 1,
-        &[0x03, 0x81, 0x82],
-        &[0x03, 0xB0, 0xB3],
-        &[0x03, 0xA0, 0xA3],
-    ),
+    (1, SHORT_3, 1 << 1, &[0x03, 0x81, 0x82]),
+    (2, SHORT_3, 1 << 1, &[0x03, 0xB0, 0xB3]),
+    (3, SHORT_3, 1 << 1, &[0x03, 0xA0, 0xA3]),
     // F0, F5 and F7.
-    (
-        SHORT_4,
-        1 | 1 << 5 | 1 << 7,
-        &[0x04, 0x90, 0x94],
-        &[0x04, 0xB5, 0xB1],
-        &[0x04, 0xA0, 0xA4],
-    ),
+    (1, SHORT_4, 0b1010_0001, &[0x04, 0x90, 0x94]),
+    (2, SHORT_4, 0b1010_0001, &[0x04, 0xB5, 0xB1]),
+    (3, SHORT_4, 0b1010_0001, &[0x04, 0xA0, 0xA4]),
     // F9, whose bit is the lowest of group three.
-    (
-        SHORT_3,
-        1 << 9,
-        &[0x03, 0x80, 0x83],
-        &[0x03, 0xB0, 0xB3],
-        &[0x03, 0xA1, 0xA2],
-    ),
+    (1, SHORT_3, 1 << 9, &[0x03, 0x80, 0x83]),
+    (2, SHORT_3, 1 << 9, &[0x03, 0xB0, 0xB3]),
+    (3, SHORT_3, 1 << 9, &[0x03, 0xA1, 0xA2]),
     // F9 of a long address.
-    (
-        LONG_1234,
-        1 << 9,
-        &[0xC4, 0xD2, 0x80, 0x96],
-        &[0xC4, 0xD2, 0xB0, 0xA6],
-        &[0xC4, 0xD2, 0xA1, 0xB7],
-    ),
+    (1, LONG_1234, 1 << 9, &[0xC4, 0xD2, 0x80, 0x96]),
+    (2, LONG_1234, 1 << 9, &[0xC4, 0xD2, 0xB0, 0xA6]),
+    (3, LONG_1234, 1 << 9, &[0xC4, 0xD2, 0xA1, 0xB7]),
     // All functions, those past F12 too.
-    (
-        SHORT_3,
-        0xFFFF,
-        &[0x03, 0x9F, 0x9C],
-        &[0x03, 0xBF, 0xBC],
-        &[0x03, 0xAF, 0xAC],
-    ),
+    (1, SHORT_3, 0xFFFF, &[0x03, 0x9F, 0x9C]),
+    (2, SHORT_3, 0xFFFF, &[0x03, 0xBF, 0xBC]),
+    (3, SHORT_3, 0xFFFF, &[0x03, 0xAF, 0xAC]),
 ];
 
 #[test]
 fn function_packets_have_the_bytes_of_the_standard(rt: HostRuntime) {
-    for &(address, set, one, two, three) in &FUNCTION_ROWS {
+    for &(group, address, set, bytes) in &FUNCTION_ROWS {
         assert!(rt; address.is_legal());
-        check(&rt, &group_one(address, set), one);
-        check(&rt, &group_two(address, set), two);
-        check(&rt, &group_three(address, set), three);
+        let packet = match group {
+            1 => group_one(address, set),
+            2 => group_two(address, set),
+            _ => group_three(address, set),
+        };
+        check(&rt, &packet, bytes);
     }
 }
 
@@ -158,7 +135,7 @@ fn other_packets_have_the_bytes_of_the_standard(rt: HostRuntime) {
 }
 
 // Bytes, and the instruction that they spell.
-const READ_ROWS: [(&'static [u8], Option<Instr>); 22] = [
+const READ_ROWS: [(&'static [u8], Option<Instr>); 14] = [
     (&[0xFF, 0x00, 0xFF], Some(Instr::Idle)),
     (&[0x00, 0x00, 0x00], Some(Instr::Reset)),
     // Broadcast stop: S says which, D and C say nothing.
@@ -179,66 +156,6 @@ const READ_ROWS: [(&'static [u8], Option<Instr>); 22] = [
         Some(Instr::StopAll { emergency: true }),
     ),
     (&[0x00, 0x42, 0x42], None),
-    (
-        &[0x37, 0x74, 0x43],
-        Some(Instr::Speed {
-            address: Address::Short(55),
-            d: true,
-            low: 0x14,
-        }),
-    ),
-    (
-        &[0x03, 0x48, 0x4B],
-        Some(Instr::Speed {
-            address: Address::Short(3),
-            d: false,
-            low: 0x08,
-        }),
-    ),
-    (
-        &[0x03, 0x3F, 0xC0, 0xFC],
-        Some(Instr::Speed128 {
-            address: Address::Short(3),
-            d: true,
-            s: 64,
-        }),
-    ),
-    (
-        &[0xC4, 0xD2, 0x3F, 0xC0, 0xE9],
-        Some(Instr::Speed128 {
-            address: Address::Long(1234),
-            d: true,
-            s: 64,
-        }),
-    ),
-    (
-        &[0xE7, 0xFF, 0x80, 0x98],
-        Some(Instr::GroupOne {
-            address: Address::Long(10239),
-            bits: 0,
-        }),
-    ),
-    (
-        &[0x04, 0x90, 0x94],
-        Some(Instr::GroupOne {
-            address: Address::Short(4),
-            bits: 0x10,
-        }),
-    ),
-    (
-        &[0x04, 0xB5, 0xB1],
-        Some(Instr::GroupTwo {
-            address: Address::Short(4),
-            bits: 5,
-        }),
-    ),
-    (
-        &[0x03, 0xA1, 0xA2],
-        Some(Instr::GroupThree {
-            address: Address::Short(3),
-            bits: 1,
-        }),
-    ),
     // No module: 0, and 511, the broadcast to accessory decoders.
     (&[0x80, 0xF9, 0x79], None),
     (&[0xBF, 0x8E, 0x31], None),
@@ -263,6 +180,55 @@ fn check_reading(rt: &impl Abort, bytes: &[u8], instruction: Option<Instr>) -> R
 fn reads_listed_forms_alone(rt: HostRuntime) -> Result<(), Fail> {
     for &(bytes, instruction) in &READ_ROWS {
         check_reading(&rt, bytes, instruction)?;
+    }
+    Ok(())
+}
+
+/// An address, steps, the bit of the direction, the bits of the speed, and the bytes that tell it.
+const TOLD_SPEEDS: [(Address, Steps, bool, u8, &'static [u8]); 4] = [
+    (SHORT_55, S28, true, 0x14, &[0x37, 0x74, 0x43]),
+    (SHORT_3, S28, false, 0x08, &[0x03, 0x48, 0x4B]),
+    (SHORT_3, S128, true, 64, &[0x03, 0x3F, 0xC0, 0xFC]),
+    (LONG_1234, S128, true, 64, &[0xC4, 0xD2, 0x3F, 0xC0, 0xE9]),
+];
+
+#[test]
+fn reads_speeds(rt: HostRuntime) -> Result<(), Fail> {
+    for &(address, steps, d, bits, bytes) in &TOLD_SPEEDS {
+        let instruction = match steps {
+            Steps::S128 => Instr::Speed128 {
+                address,
+                d,
+                s: bits,
+            },
+            _ => Instr::Speed {
+                address,
+                d,
+                low: bits,
+            },
+        };
+        check_reading(&rt, bytes, Some(instruction))?;
+    }
+    Ok(())
+}
+
+/// A function group, an address, the bits of the functions, and the bytes that tell them.
+const TOLD_FUNCTIONS: [(u8, Address, u8, &'static [u8]); 4] = [
+    (1, LONG_10239, 0, &[0xE7, 0xFF, 0x80, 0x98]),
+    (1, SHORT_4, 0x10, &[0x04, 0x90, 0x94]),
+    (2, SHORT_4, 5, &[0x04, 0xB5, 0xB1]),
+    (3, SHORT_3, 1, &[0x03, 0xA1, 0xA2]),
+];
+
+#[test]
+fn reads_functions(rt: HostRuntime) -> Result<(), Fail> {
+    for &(group, address, bits, bytes) in &TOLD_FUNCTIONS {
+        let instruction = match group {
+            1 => Instr::GroupOne { address, bits },
+            2 => Instr::GroupTwo { address, bits },
+            _ => Instr::GroupThree { address, bits },
+        };
+        check_reading(&rt, bytes, Some(instruction))?;
     }
     Ok(())
 }

@@ -30,7 +30,7 @@ fn message(bytes: &[u8]) -> Option<Msg> {
     last
 }
 
-const MESSAGES: [(&'static [u8], Op); 25] = [
+const MESSAGES: [(&'static [u8], Op); 23] = [
     (&[0x82, 0x7D], Op::PowerOff),
     (&[0x83, 0x7C], Op::PowerOn),
     (&[0x85, 0x7A], Op::ForceIdle),
@@ -84,32 +84,6 @@ const MESSAGES: [(&'static [u8], Op); 25] = [
         ],
         Op::SlotWrite(SLOT_2),
     ),
-    (
-        &[
-            0xED, 0x0B, 0x7F, 0x23, 0x22, 0x03, 0x21, 0x00, 0x00, 0x00, 0x45,
-        ],
-        Op::Imm {
-            count: 2,
-            im1: 0x03,
-            im2: 0xA1,
-            im3: 0,
-            im4: 0,
-            im5: 0,
-        },
-    ),
-    (
-        &[
-            0xED, 0x0B, 0x7F, 0x33, 0x27, 0x44, 0x52, 0x21, 0x00, 0x00, 0x45,
-        ],
-        Op::Imm {
-            count: 3,
-            im1: 0xC4,
-            im2: 0xD2,
-            im3: 0xA1,
-            im4: 0,
-            im5: 0,
-        },
-    ),
     (&[0xED, 0x03, 0x11], Op::Other),
     (
         &[
@@ -129,13 +103,45 @@ const MESSAGES: [(&'static [u8], Op); 25] = [
     (&[0xD0, 0x00, 0x00, 0x00, 0x00, 0x2F], Op::Other),
 ];
 
-#[test]
-fn reads_each_message(rt: HostRuntime) -> Result<(), Fail> {
-    for &(bytes, op) in &MESSAGES {
+// Bytes, and what the message says that they end in.
+fn check_ops(rt: &impl Abort, rows: &[(&[u8], Op)]) -> Result<(), Fail> {
+    for &(bytes, op) in rows {
         let message = message(bytes).ok_or("no message")?;
         assert!(rt; read(&message) == op, "in {bytes:?}");
     }
     Ok(())
+}
+
+// The first three bytes of a packet, behind which there is nothing.
+fn packet(count: u8, [im1, im2, im3]: [u8; 3]) -> Op {
+    Op::Imm {
+        count,
+        im1,
+        im2,
+        im3,
+        im4: 0,
+        im5: 0,
+    }
+}
+
+#[test]
+fn reads_each_message(rt: HostRuntime) -> Result<(), Fail> {
+    check_ops(&rt, &MESSAGES)?;
+    let packets: [(&[u8], Op); 2] = [
+        (
+            &[
+                0xED, 0x0B, 0x7F, 0x23, 0x22, 0x03, 0x21, 0x00, 0x00, 0x00, 0x45,
+            ],
+            packet(2, [0x03, 0xA1, 0]),
+        ),
+        (
+            &[
+                0xED, 0x0B, 0x7F, 0x33, 0x27, 0x44, 0x52, 0x21, 0x00, 0x00, 0x45,
+            ],
+            packet(3, [0xC4, 0xD2, 0xA1]),
+        ),
+    ];
+    check_ops(&rt, &packets)
 }
 
 // The message has these bytes, and is read as this reply.

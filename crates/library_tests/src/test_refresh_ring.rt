@@ -87,57 +87,15 @@ fn check_turns<R: Ring>(rt: &impl Abort, schedule: &mut Schedule<R>, turns: &[(P
     }
 }
 
-// The packets of slot 1 and slot 2.
-const FIRST_SPEED: Pick = Pick::Place {
-    slot: 1,
-    kind: Kind::Speed,
-};
-
-const FIRST_GROUP_ONE: Pick = Pick::Place {
-    slot: 1,
-    kind: Kind::GroupOne,
-};
-
-const FIRST_GROUP_TWO: Pick = Pick::Place {
-    slot: 1,
-    kind: Kind::GroupTwo,
-};
-
-const FIRST_GROUP_THREE: Pick = Pick::Place {
-    slot: 1,
-    kind: Kind::GroupThree,
-};
-
-const SECOND_SPEED: Pick = Pick::Place {
-    slot: 2,
-    kind: Kind::Speed,
-};
-
-const SECOND_GROUP_ONE: Pick = Pick::Place {
-    slot: 2,
-    kind: Kind::GroupOne,
-};
-
-const LOCO_TURNS: [(Pick, u8); 12] = [
-    (FIRST_SPEED, 0),
-    (Pick::Idle, 0),
-    (FIRST_SPEED, 0),
-    (Pick::Idle, 0),
-    (FIRST_GROUP_ONE, 0),
-    (SECOND_SPEED, 0),
-    (FIRST_GROUP_TWO, 0),
-    (Pick::Idle, 0),
-    (FIRST_GROUP_ONE, 0),
-    (Pick::Idle, 0),
-    (FIRST_GROUP_THREE, 0),
-    (SECOND_GROUP_ONE, 0),
-];
-
 #[test]
 fn two_locomotives_take_turns_on_both_rings(rt: HostRuntime) -> Result<(), NoMemory> {
     two_locomotives_take_turns(&rt, Schedule::<PlainRing>::new(rt.alloc())?);
     two_locomotives_take_turns(&rt, Schedule::<BitRing>::new(rt.alloc())?);
     Ok(())
+}
+
+fn place(slot: u8, kind: Kind) -> Pick {
+    Pick::Place { slot, kind }
 }
 
 // The turns of a new schedule after both slots were loaded and changed.
@@ -151,31 +109,31 @@ fn two_locomotives_take_turns<R: Ring>(rt: &impl Abort, mut schedule: Schedule<R
             schedule.changed(slot, kind);
         }
     }
-    check_turns(rt, &mut schedule, &LOCO_TURNS);
+    let turns = [
+        (place(1, Kind::Speed), 0),
+        (Pick::Idle, 0),
+        (place(1, Kind::Speed), 0),
+        (Pick::Idle, 0),
+        (place(1, Kind::GroupOne), 0),
+        (place(2, Kind::Speed), 0),
+        (place(1, Kind::GroupTwo), 0),
+        (Pick::Idle, 0),
+        (place(1, Kind::GroupOne), 0),
+        (Pick::Idle, 0),
+        (place(1, Kind::GroupThree), 0),
+        (place(2, Kind::GroupOne), 0),
+    ];
+    check_turns(rt, &mut schedule, &turns);
 }
 
-// The packets of the two requests.
-const FIRST_SWITCH: Pick = Pick::Switch {
-    number: 0,
-    closed: true,
-    on: true,
-};
-
-const SECOND_SWITCH: Pick = Pick::Switch {
-    number: 4,
-    closed: true,
-    on: true,
-};
-
-const SWITCH_TURNS: [(Pick, u8); 7] = [
-    (FIRST_SWITCH, 2),
-    (Pick::Idle, 2),
-    (FIRST_SWITCH, 1),
-    (SECOND_SWITCH, 1),
-    (Pick::Idle, 1),
-    (SECOND_SWITCH, 0),
-    (Pick::Idle, 0),
-];
+// A switch that is to be closed, its output on.
+fn closed(number: u16) -> Pick {
+    Pick::Switch {
+        number,
+        closed: true,
+        on: true,
+    }
+}
 
 #[test]
 fn two_switch_requests_are_each_sent_twice(rt: HostRuntime) -> Result<(), NoMemory> {
@@ -183,7 +141,16 @@ fn two_switch_requests_are_each_sent_twice(rt: HostRuntime) -> Result<(), NoMemo
     assert!(rt; schedule.switch(0, true, true).is_ok());
     assert!(rt; schedule.switch(4, true, true).is_ok());
     assert!(rt; schedule.switches_waiting() == 2);
-    check_turns(&rt, &mut schedule, &SWITCH_TURNS);
+    let turns = [
+        (closed(0), 2),
+        (Pick::Idle, 2),
+        (closed(0), 1),
+        (closed(4), 1),
+        (Pick::Idle, 1),
+        (closed(4), 0),
+        (Pick::Idle, 0),
+    ];
+    check_turns(&rt, &mut schedule, &turns);
     Ok(())
 }
 

@@ -82,26 +82,13 @@ fn refuses_a_script_by_its_first_fault(rt: HostRuntime) {
 
 #[test]
 fn tells_the_line_of_the_first_fault(rt: HostRuntime) {
-    let fourth = ScriptFault {
-        why: Why::BadLine,
-        line: 4,
-    };
-    check_script(
-        &rt,
-        rt.alloc(),
-        b"\n# one\nline 0 83\nline 8\nline",
-        Some(fourth),
-    );
-    let third = ScriptFault {
-        why: Why::BadNode,
-        line: 3,
-    };
-    check_script(
-        &rt,
-        rt.alloc(),
-        b"show\r\nturn 1\r\nturn 1 miss 0 0\r\n",
-        Some(third),
-    );
+    let rows: [(&[u8], Why, u64); 2] = [
+        (b"\n# one\nline 0 83\nline 8\nline", Why::BadLine, 4),
+        (b"show\r\nturn 1\r\nturn 1 miss 0 0\r\n", Why::BadNode, 3),
+    ];
+    for (text, why, line) in rows {
+        check_script(&rt, rt.alloc(), text, Some(ScriptFault { why, line }));
+    }
 }
 
 fn check_hex(rt: &impl Abort, alloc: Global, text: &[u8], wanted: Option<HexFault>) {
@@ -216,67 +203,51 @@ fn prints_turns(rt: HostRuntime) -> Result<(), Fail> {
     Ok(())
 }
 
-// Bytes of CV17, CV18 and CV29, how the decoder runs, and the text.
-const LOCOMOTIVES: [(u8, u8, u8, Motion, bool, u16, &'static str); 5] = [
-    (
-        192,
-        0,
-        2,
-        Motion::Step {
-            of: Steps::S128,
-            n: 63,
-        },
-        true,
-        0,
-        "node a short 3 step 63 of 128 forward F 0000000000000",
-    ),
-    (
-        192,
-        0,
-        2,
-        Motion::Step {
-            of: Steps::S28,
-            n: 28,
-        },
-        false,
-        1,
-        "node a short 3 step 28 of 28 reverse F 1000000000000",
-    ),
-    (
-        192,
-        0,
-        0,
-        Motion::Step {
-            of: Steps::S14,
-            n: 1,
-        },
-        true,
-        0x106,
-        "node a short 3 step 1 of 14 forward F 0110000010000",
-    ),
-    (
-        196,
-        210,
-        34,
-        Motion::Stop,
-        false,
-        0x1FFF,
-        "node a long 1234 stop reverse F 1111111111111",
-    ),
-    (
-        196,
-        210,
-        34,
-        Motion::Emergency,
-        true,
-        0x220,
-        "node a long 1234 emergency forward F 0000010001000",
-    ),
-];
+fn step(n: u8, of: Steps) -> Motion {
+    Motion::Step { of, n }
+}
 
 #[test]
 fn prints_locomotives(rt: HostRuntime) -> Result<(), Fail> {
-    for (cv17, cv18, cv29, motion, forward, functions, text) in LOCOMOTIVES {
+    // How the decoder runs, its bytes of CV17, CV18 and CV29, and the text.
+    let rows = [
+        (
+            step(63, Steps::S128),
+            true,
+            0,
+            [192, 0, 2],
+            "node a short 3 step 63 of 128 forward F 0000000000000",
+        ),
+        (
+            step(28, Steps::S28),
+            false,
+            1,
+            [192, 0, 2],
+            "node a short 3 step 28 of 28 reverse F 1000000000000",
+        ),
+        (
+            step(1, Steps::S14),
+            true,
+            0x106,
+            [192, 0, 0],
+            "node a short 3 step 1 of 14 forward F 0110000010000",
+        ),
+        (
+            Motion::Stop,
+            false,
+            0x1FFF,
+            [196, 210, 34],
+            "node a long 1234 stop reverse F 1111111111111",
+        ),
+        (
+            Motion::Emergency,
+            true,
+            0x220,
+            [196, 210, 34],
+            "node a long 1234 emergency forward F 0000010001000",
+        ),
+    ];
+    for (motion, forward, functions, [cv17, cv18, cv29], text) in rows {
         let cv = CvSet::new(3, cv17, cv18, cv29).ok().ok_or("settings")?;
         let running = Running {
             motion,

@@ -141,20 +141,18 @@ fn comes_on_after_each_front(
     Ok(())
 }
 
-/// Each conversation cut anywhere, behind another.
-pub(super) fn cuts_conversations(
+/// A conversation behind another, cut anywhere.
+pub(super) fn cuts(
     rt: &impl Abort,
     alloc: Global,
+    name: &str,
     before: Conversation,
-    conversations: &[(&str, Conversation)],
+    conversation: Conversation,
 ) -> Result<(), Fail> {
-    for (name, conversation) in conversations {
-        let mut bytes = Vec::new(alloc);
-        sent_in(&mut bytes, before)?;
-        sent_in(&mut bytes, conversation)?;
-        comes_on_after_each_front(rt, alloc, name, bytes.as_slice())?;
-    }
-    Ok(())
+    let mut bytes = Vec::new(alloc);
+    sent_in(&mut bytes, before)?;
+    sent_in(&mut bytes, conversation)?;
+    comes_on_after_each_front(rt, alloc, name, bytes.as_slice())
 }
 
 /// The bytes that a throttle sends in a drive, behind some.
