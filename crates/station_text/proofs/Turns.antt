@@ -152,9 +152,10 @@ pub record IsCut (line : List ℕ) (told : Option (List ℕ)) (turn : ℕ) (rest
   pub line_is : line ≡ codes "track " ++ decimal turn ++ rest
   pub behind : Behind told rest
 
-pub is_cut : (line : List ℕ) (told : Option (List ℕ)) (turn : ℕ) (rest : List ℕ) → IsTurn line told
+pub is_cut : (line : List ℕ) (told : Option (List ℕ)) (turn : ℕ) (rest : List ℕ) → Tells line told → is_of_turn line ≡ true
     → ((t : ℕ) (r : List ℕ) → t < 2 ^ 64 → line ≡ codes "track " ++ decimal t ++ 32 ∷ r → (turn ≡ t) × (rest ≡ 32 ∷ r)) → IsCut line told turn rest
-is_cut line told turn rest is cut =
+is_cut line told turn rest tells as_turn cut =
+    let is : IsTurn line told = is_turn line told tells as_turn in
     let same = cut is.turn is.rest is.small is.line_is in
     record {
       line_is = is.line_is ∙ sym (ap₂ (λ (t : ℕ) (r : List ℕ). codes "track " ++ decimal t ++ r) same.0 same.1);

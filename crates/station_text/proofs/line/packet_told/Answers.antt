@@ -12,22 +12,19 @@ returns-in_default-clause-exact c = λ told tells.
 
 pub returns-then-is_text-clause-exact : goal.returns-then-is_text-clause-exact
 returns-then-is_text-clause-exact c = λ told tells.
-    let turn : IsTurn c.args.line.now told = is_turn c.args.line.now told tells (sym c.is_of_turn.ensures ∙ c.if-not-is_of_turn.false) in
-    let cut : IsCut c.args.line.now told c.in-Some.turn c.in-Some.rest.now = is_cut c.args.line.now told c.in-Some.turn c.in-Some.rest.now turn c.in-Some.ensures in
+    let cut : IsCut c.args.line.now told c.in-Some.turn c.in-Some.rest.now = is_cut c.args.line.now told c.in-Some.turn c.in-Some.rest.now tells (sym c.is_of_turn.ensures ∙ c.if-not-is_of_turn.false) c.in-Some.ensures in
     ap Ok (tells_off c.args.line.now told c.in-Some.turn c.in-Some.rest.now cut (c.is_text.ensures.0 c.if-is_text.true ∙ c.off_line.ensures))
 
 pub returns-in_default-packet_of-clause-exact : goal.returns-in_default-packet_of-clause-exact
 returns-in_default-packet_of-clause-exact c = λ told tells.
-    let turn : IsTurn c.args.line.now told = is_turn c.args.line.now told tells (sym c.is_of_turn.ensures ∙ c.if-not-is_of_turn.false) in
-    let cut : IsCut c.args.line.now told c.in-Some.turn c.in-Some.rest.now = is_cut c.args.line.now told c.in-Some.turn c.in-Some.rest.now turn c.in-Some.ensures in
+    let cut : IsCut c.args.line.now told c.in-Some.turn c.in-Some.rest.now = is_cut c.args.line.now told c.in-Some.turn c.in-Some.rest.now tells (sym c.is_of_turn.ensures ∙ c.if-not-is_of_turn.false) c.in-Some.ensures in
     absurd (tells_nothing c.args.line.now told c.in-Some.turn c.in-Some.rest.now cut
     (λ off. is_other c.is_text.ensures c.if-is_text.false (off ∙ sym c.off_line.ensures))
     (λ p is right words line. let read : None ≡ Some p = c.in_default-packet_of.ensures p is words in cc))
 
 pub returns-then-not-is_checked-clause-exact : goal.returns-then-not-is_checked-clause-exact
 returns-then-not-is_checked-clause-exact c = λ told tells.
-    let turn : IsTurn c.args.line.now told = is_turn c.args.line.now told tells (sym c.is_of_turn.ensures ∙ c.if-not-is_of_turn.false) in
-    let cut : IsCut c.args.line.now told c.in-Some.turn c.in-Some.rest.now = is_cut c.args.line.now told c.in-Some.turn c.in-Some.rest.now turn c.in-Some.ensures in
+    let cut : IsCut c.args.line.now told c.in-Some.turn c.in-Some.rest.now = is_cut c.args.line.now told c.in-Some.turn c.in-Some.rest.now tells (sym c.is_of_turn.ensures ∙ c.if-not-is_of_turn.false) c.in-Some.ensures in
     absurd (tells_nothing c.args.line.now told c.in-Some.turn c.in-Some.rest.now cut
     (λ off. is_other c.is_text.ensures c.if-is_text.false (off ∙ sym c.off_line.ensures))
     (λ p is right words line.
@@ -40,8 +37,7 @@ returns-then-not-is_checked-clause-exact c = λ told tells.
 
 pub returns-clause-exact : goal.returns-clause-exact
 returns-clause-exact c = λ told tells.
-    let turn : IsTurn c.args.line.now told = is_turn c.args.line.now told tells (sym c.is_of_turn.ensures ∙ c.if-not-is_of_turn.false) in
-    let cut : IsCut c.args.line.now told c.in-Some.turn c.in-Some.rest.now = is_cut c.args.line.now told c.in-Some.turn c.in-Some.rest.now turn c.in-Some.ensures in
+    let cut : IsCut c.args.line.now told c.in-Some.turn c.in-Some.rest.now = is_cut c.args.line.now told c.in-Some.turn c.in-Some.rest.now tells (sym c.is_of_turn.ensures ∙ c.if-not-is_of_turn.false) c.in-Some.ensures in
     ap Ok (tells_packet c.args.line.now told c.in-Some.turn c.in-Some.rest.now c.in-Some-packet_of.packet cut (λ off. is_other c.is_text.ensures c.if-is_text.false (off ∙ sym c.off_line.ensures)) c.in-Some-packet_of.ensures)
 
 pub returns-then-not-is_of_turn-clause-told : goal.returns-then-not-is_of_turn-clause-told
