@@ -10,34 +10,20 @@ use std::ops::RangeInclusive;
 use std::process::Abort;
 use std::test::Fail;
 
-const EXAMPLE: &str = "\
-version = 1
+/// A shunter, behind which its variables are to stand, and a turnout.
+const SHUNTER: &str = "[[node]]\nname = \"shunter\"\nkind = \"loco\"\n";
 
-[[node]]
-name = \"shunter\"
-kind = \"loco\"
-cv1 = 3
-cv29 = 2
+const YARD: &str = "[[node]]\nname = \"yard\"\nkind = \"accessory\"\nmodule = 1\n";
 
-[[node]]
-name = \"yard\"
-kind = \"accessory\"
-module = 1
-";
+/// The example in one version, and the variables as that writes them.
+fn example(alloc: Global, version: u8, variables: &str) -> Result<String, AllocError> {
+    format!(in alloc; "version = {version}\n\n{SHUNTER}{variables}\n\n{YARD}")
+}
 
-const EXAMPLE_2: &str = "\
-version = 2
-
-[[node]]
-name = \"shunter\"
-kind = \"loco\"
-cvs = [[1, 3], [29, 2]]
-
-[[node]]
-name = \"yard\"
-kind = \"accessory\"
-module = 1
-";
+/// The example in version 1.
+fn example_1(alloc: Global) -> Result<String, AllocError> {
+    example(alloc, 1, "cv1 = 3\ncv29 = 2")
+}
 
 fn is_named(roster: &Roster, i: usize, name: &str) -> bool {
     i < roster.len() && roster.name(i) == name
@@ -60,8 +46,10 @@ fn the_examples_of_both_versions_have_the_same_decoders(rt: HostRuntime) -> Resu
     let loco = NodeSpec::Loco(CvSet::new(3, 192, 0, 2)?);
     let yard = NodeSpec::Accessory(Module::new(1).ok_or("a module")?);
     let nodes = [loco, yard];
-    assert!(rt; is_example(rt.alloc(), EXAMPLE, &nodes));
-    assert!(rt; is_example(rt.alloc(), EXAMPLE_2, &nodes));
+    let first = example_1(rt.alloc())?;
+    assert!(rt; is_example(rt.alloc(), first.as_str(), &nodes));
+    let second = example(rt.alloc(), 2, "cvs = [[1, 3], [29, 2]]")?;
+    assert!(rt; is_example(rt.alloc(), second.as_str(), &nodes));
     Ok(())
 }
 
@@ -83,10 +71,10 @@ fn is_told(alloc: Global, text: &[u8], wanted: &str) -> bool {
     }
 }
 
-/// Whether this is told of the example cut at each of these lengths.
-fn are_told(alloc: Global, lengths: RangeInclusive<usize>, wanted: &str) -> bool {
+/// Whether this is told of the text cut at each of these lengths.
+fn are_told(alloc: Global, text: &str, lengths: RangeInclusive<usize>, wanted: &str) -> bool {
     for length in lengths {
-        match EXAMPLE.as_bytes().get(..length) {
+        match text.as_bytes().get(..length) {
             Some(cut) if is_told(alloc, cut, wanted) => {}
             _ => return false,
         }
@@ -126,14 +114,18 @@ fn cut_row(row: &str) -> Option<(u8, &str)> {
 
 #[test]
 fn the_example_cut_anywhere(rt: HostRuntime) -> Result<(), Fail> {
+    let text = example_1(rt.alloc())?;
     let mut length = 0;
     for row in CUTS.lines() {
         let (last, wanted) = cut_row(row).ok_or("a row")?;
         let last = usize::from(last);
-        assert!(rt; are_told(rt.alloc(), length..=last, wanted), "{row}");
+        assert!(rt;
+            are_told(rt.alloc(), text.as_str(), length..=last, wanted),
+            "{row}"
+        );
         length = last + 1;
     }
-    assert!(rt; length == EXAMPLE.len() + 1);
+    assert!(rt; length == text.len() + 1);
     Ok(())
 }
 
