@@ -9,7 +9,8 @@ use Rattle.dcc_packet.specs.Reading.{instruction_of}
 use Rattle.dcc_packet.specs.Wave.{IsWave}
 use Rattle.decoder_rx.specs.Position.{Position, is_hunting}
 use Rattle.decoder_rx.specs.Table.{after_all, answers}
-use Rattle.decoder_node.specs.Decoder.{Decoder, Hears, heard, heard_all}
+use Rattle.decoder_node.specs.Decoder.{Decoder}
+use Rattle.decoder_node.specs.Hearing.{Hears, heard, heard_all}
 use Rattle.decoder_node.specs.Heard.{obeying, told, ObeysWaves}
 use Rattle.decoder_node.proofs.Drained.{drained}
 use Rattle.decoder_node.proofs.Waves.{Laws, Ignores, spells_none, obeyed, ran}

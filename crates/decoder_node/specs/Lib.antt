@@ -4,6 +4,7 @@ pub mod Bits
 pub mod Concerned
 pub mod Decoder
 pub mod Heard
+pub mod Hearing
 pub mod Obey
 pub mod Running
 pub mod Switched

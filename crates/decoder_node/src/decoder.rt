@@ -55,7 +55,8 @@ impl<Settings: Obeys<State>, State> Decoder<Settings, State> {
     ghost use Rattle.dcc_packet.specs.Reading.{instruction_of};
     ghost use Rattle.half_bits.specs.Halves.{halves_of};
     ghost use Rattle.decoder_rx.specs.Table.{given};
-    ghost use Rattle.decoder_node.specs.Decoder.{fresh, heard, heard_all, Hears, IsBetween};
+    ghost use Rattle.decoder_node.specs.Decoder.{fresh, IsBetween};
+    ghost use Rattle.decoder_node.specs.Hearing.{heard, heard_all, Hears};
 
     /// A decoder with these settings, in its first state, which has heard nothing.
     pub fn new(settings: Settings) -> Self

@@ -1,6 +1,7 @@
 //! What decoders make of whole lists of half-bits, each heard by a call of `hear`.
 ghost use Rattle.std.specs.Prelude.{ℕ, List};
-ghost use Rattle.decoder_node.specs.Decoder.{AccessoryDecoder, Hears, LocoDecoder, heard_all};
+ghost use Rattle.decoder_node.specs.Decoder.{AccessoryDecoder, LocoDecoder};
+ghost use Rattle.decoder_node.specs.Hearing.{Hears, heard_all};
 ghost use Rattle.decoder_node.specs.Obey.{obeyed};
 ghost use Rattle.decoder_node.specs.Switched.{switched};
 

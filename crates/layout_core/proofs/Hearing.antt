@@ -3,7 +3,8 @@ use Rattle.std.proofs.Common.{◌≡◌, ℕ, List, [], ◌∷◌, map, ap, ap�
 use Rattle.half_bits.specs.Halves.{halves_of}
 use Rattle.decoder_node.specs.declared.node.NodeSpec.{NodeSpec}
 use Rattle.decoder_node.specs.declared.node.NodeSpec.TheVariants.{Loco as LocoSpec, Accessory as AccessorySpec}
-use Rattle.decoder_node.specs.Decoder.{AccessoryDecoder, Hears, LocoDecoder, IsBetween as IsBetweenPackets}
+use Rattle.decoder_node.specs.Decoder.{AccessoryDecoder, LocoDecoder, IsBetween as IsBetweenPackets}
+use Rattle.decoder_node.specs.Hearing.{Hears}
 use Rattle.decoder_node.specs.Heard.{obeying}
 use Rattle.decoder_node.specs.Obey.{obey, obeyed}
 use Rattle.decoder_node.specs.Switched.{switch, switched}

@@ -26,7 +26,8 @@ use Rattle.station_core.specs.Moments.{AtEveryMoment, IsLive, ever_refreshed, sl
 use Rattle.station_core.specs.Powered.{PoweredDesk}
 use Rattle.station_core.specs.Refreshed.{is_driven, is_refreshed}
 use Rattle.decoder_cv.specs.Settings.{settings}
-use Rattle.decoder_node.specs.Decoder.{LocoDecoder, fresh, heard_all}
+use Rattle.decoder_node.specs.Decoder.{LocoDecoder, fresh}
+use Rattle.decoder_node.specs.Hearing.{heard_all}
 use Rattle.decoder_node.specs.Obey.{obeyed}
 use Rattle.decoder_node.specs.Running.{first_running}
 use Rattle.layout_core.specs.declared.event.Event.{Event}

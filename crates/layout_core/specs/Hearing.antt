@@ -1,7 +1,7 @@
 -- What the decoders of a layout make of the packets that they hear.
 use Rattle.std.specs.Prelude.{ℕ, ◌≡◌, Bool, true, false, List, [], ◌∷◌}
 use Rattle.half_bits.specs.Halves.{halves_of}
-use Rattle.decoder_node.specs.Decoder.{heard_all}
+use Rattle.decoder_node.specs.Hearing.{heard_all}
 use Rattle.decoder_node.specs.Obey.{obeyed, runs}
 use Rattle.decoder_node.specs.Switched.{switched, switches}
 use Rattle.layout_core.specs.declared.node.Node.{Node}

@@ -1,5 +1,5 @@
 use Rattle.std.proofs.Common.{refl}
-use Rattle.decoder_node.specs.Decoder.{heard_all}
+use Rattle.decoder_node.specs.Hearing.{heard_all}
 use Rattle.decoder_node.specs.Obey.{obeyed}
 use Rattle.decoder_node.specs.Switched.{switched}
 use Rattle.decoder_node.proofs.Decoders.{hears}

@@ -1,6 +1,6 @@
 use Rattle.std.proofs.Common.{refl, ◌≡◌, ◌∙◌}
 use Rattle.std.proofs.iter.Next as it
-use Rattle.decoder_node.specs.Decoder.{heard, heard_all}
+use Rattle.decoder_node.specs.Hearing.{heard, heard_all}
 use Rattle.decoder_node.proofs.Decoders.{heard_next, hears}
 use Rattle.decoder_node.proofs.Waves.{Laws}
 use Rattle.decoder_node.proofs.decoder.Decoder.hear_all.Goals as goal

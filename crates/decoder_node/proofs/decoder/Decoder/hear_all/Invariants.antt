@@ -1,7 +1,7 @@
 use Rattle.std.proofs.Common.{◌≡◌}
 use Rattle.std.proofs.iter.Next.{Ran}
 use Rattle.std.specs.Iterator.{EndsFrom, items_left}
-use Rattle.decoder_node.specs.Decoder.{heard_all}
+use Rattle.decoder_node.specs.Hearing.{heard_all}
 use Rattle.decoder_node.proofs.decoder.Decoder.hear_all.Given as goal
 
 abbrev pub invariant-loop-first : goal.invariant-loop-first

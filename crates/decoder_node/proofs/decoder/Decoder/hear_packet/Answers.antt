@@ -1,5 +1,5 @@
 use Rattle.half_bits.specs.Halves.{halves_of}
-use Rattle.decoder_node.specs.Decoder.{Hears}
+use Rattle.decoder_node.specs.Hearing.{Hears}
 use Rattle.decoder_node.proofs.Decoders.{hears}
 use Rattle.decoder_node.proofs.decoder.Decoder.hear_packet.Goals as goal
 

@@ -1,7 +1,7 @@
 use Rattle.std.proofs.Common.{refl, ap, sym, ◌∙◌}
 use Rattle.half_bits.specs.Halves.{halves_of}
 use Rattle.decoder_rx.specs.Position.{Position}
-use Rattle.decoder_node.specs.Decoder.{heard_all}
+use Rattle.decoder_node.specs.Hearing.{heard_all}
 use Rattle.decoder_node.specs.Heard.{told}
 use Rattle.decoder_node.proofs.Decoders.{heard_at_once}
 use Rattle.decoder_node.proofs.decoder.Decoder.hear_wave.Goals as goal
