@@ -22,6 +22,6 @@ AccessoryDecoder = Decoder ℕ ℕ
 abbrev pub IsBetween : {Settings State : Type 0} → Decoder Settings State → Type 0
 IsBetween decoder = IsTrue (is_hunting decoder.receiver)
 
--- as it is made: in its first state, its receiver hunts, with no one half counted
+-- as it is made, in its first state: its receiver hunts, with no one half counted
 abbrev pub fresh : {Settings State : Type 0} → Settings → State → Decoder Settings State
 fresh settings first = record { settings = settings; state = first; receiver = Hunting 0 }

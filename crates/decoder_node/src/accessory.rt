@@ -6,10 +6,19 @@ use dcc_packet::Module;
 
 /// An accessory decoder on the track, with eight outputs in four pairs, which hears it half by half.
 ///
-/// As it is made, of its module, all outputs are off. Contracts see it as an `AccessoryDecoder`.
+/// Contracts see it as an `AccessoryDecoder`: its module, its outputs, and the position of its receiver.
 pub type Accessory = Decoder<Module, u8>;
 
 impl Accessory {
+    ghost use Rattle.decoder_node.specs.Decoder.{fresh};
+
+    /// The decoder of this module, with all outputs off, which has heard nothing.
+    pub fn new(module: Module) -> Accessory
+        ensures { result ≡ fresh «module» 0 }
+    {
+        Decoder::starting(module, 0)
+    }
+
     /// Its outputs: bit j is output j, the pair j / 2, closed where j is odd.
     #[inline]
     pub fn outputs(&self) -> u8

@@ -12,19 +12,11 @@ use std::marker::Model;
 
 /// Settings by which a state obeys instructions.
 pub trait Obeys<State> {
-    /// The state of a decoder that has heard nothing.
-    ghost start: { State };
-
     /// The state after an instruction.
     ghost does: { Self → State → InstrValue → State };
 
     /// What is true of the state at any time.
     ghost holds: { State → Type 0 };
-
-    /// The state of a decoder that has heard nothing.
-    fn first() -> State
-        ensures is { result ≡ start }
-        ensures holds { holds result };
 
     /// The state obeys what a packet spells, and stays as it is where that is nothing.
     fn obey(&self, state: &mut State, instr: &Option<Instr>)
@@ -58,13 +50,14 @@ impl<Settings: Obeys<State>, State> Decoder<Settings, State> {
     ghost use Rattle.decoder_node.specs.Decoder.{fresh, IsBetween};
     ghost use Rattle.decoder_node.specs.Hearing.{heard, heard_all, Hears};
 
-    /// A decoder with these settings, in its first state, which has heard nothing.
-    pub fn new(settings: Settings) -> Self
-        ensures { result ≡ fresh settings Settings.start }
+    /// A decoder with these settings and this state, which has heard nothing.
+    pub(crate) fn starting(settings: Settings, state: State) -> Self
+        requires { Settings.holds state }
+        ensures { result ≡ fresh settings state }
     {
         Decoder {
             settings,
-            state: Settings::first(),
+            state,
             rx: Rx::new(),
         }
     }

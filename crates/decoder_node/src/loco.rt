@@ -2,17 +2,31 @@
 ghost use Rattle.std.specs.Prelude.{◌≡◌};
 
 use crate::decoder::Decoder;
-use crate::running::Running;
+use crate::running::{FIRST, Running};
 use decoder_cv::CvSet;
 
 /// A locomotive decoder on the track, which hears it half by half.
 ///
-/// As it is made, with its settings, it stands, forward, with all functions off. Contracts see it as a `LocoDecoder`.
+/// Contracts see it as a `LocoDecoder`: its settings, how it runs, and the position of its receiver.
 pub type Loco = Decoder<CvSet, Running>;
 
 impl Loco {
     ghost use Rattle.decoder_node.specs.Decoder.{fresh};
     ghost use Rattle.decoder_node.specs.Running.{IsAble, first_running};
+
+    /// A decoder with these settings, which stands, forward, with all functions off, and has heard nothing.
+    pub fn new(cv: CvSet) -> Loco
+        ensures { result ≡ fresh cv first_running }
+    {
+        Decoder::starting(cv, FIRST)
+    }
+
+    /// The track lost its power: the decoder stands, forward, with all functions off, and has heard nothing.
+    pub fn power_lost(&mut self)
+        ensures { self.new ≡ fresh self.old.settings first_running }
+    {
+        *self = Loco::new(self.settings);
+    }
 
     /// How it runs. Of the functions, F0 to F12 alone may be on.
     #[inline]
@@ -21,12 +35,5 @@ impl Loco {
         ensures able { IsAble result }
     {
         self.state
-    }
-
-    /// The track lost its power: the decoder stands, forward, with all functions off, and has heard nothing.
-    pub fn power_lost(&mut self)
-        ensures { self.new ≡ fresh self.old.settings first_running }
-    {
-        *self = Decoder::new(self.settings);
     }
 }

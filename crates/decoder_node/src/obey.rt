@@ -4,7 +4,7 @@ ghost use Rattle.dcc_packet.specs.Told.{motion_told};
 ghost use Rattle.decoder_node.specs.Bits.{with_bits};
 ghost use Rattle.decoder_node.specs.Concerned.{concerns};
 ghost use Rattle.decoder_node.specs.Obey.{obeyed, driven, lit, is_own, own_forward};
-ghost use Rattle.decoder_node.specs.Running.{IsAble, first_running};
+ghost use Rattle.decoder_node.specs.Running.{IsAble};
 
 use crate::decoder::Obeys;
 use crate::running::{FIRST, Running};
@@ -12,15 +12,9 @@ use dcc_packet::{Address, Instr, Motion, Steps};
 use decoder_cv::CvSet;
 
 impl Obeys<Running> for CvSet {
-    ghost start = { first_running };
-
     ghost does = { obeyed };
 
     ghost holds = { IsAble };
-
-    fn first() -> Running {
-        FIRST
-    }
 
     #[inline]
     #[tactic(auto, using(crate::proofs::Concerned::stays))]

@@ -6,19 +6,10 @@ ghost use Rattle.decoder_node.specs.Switched.{AreOutputs, switched, output_of};
 use crate::decoder::Obeys;
 use dcc_packet::{Instr, Module};
 
-/// The outputs as a decoder starts.
-const ALL_OFF: u8 = 0;
-
 impl Obeys<u8> for Module {
-    ghost start = { 0 };
-
     ghost does = { switched };
 
     ghost holds = { AreOutputs };
-
-    fn first() -> u8 {
-        ALL_OFF
-    }
 
     #[inline]
     fn obey(&self, outputs: &mut u8, instr: &Option<Instr>) {

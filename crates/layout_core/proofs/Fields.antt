@@ -45,24 +45,25 @@ record AfterSpeed (cv : Settings) (want r t : Running) : Type 0 where
   low : cv.fourteen ≡ false → t.functions % 2 ≡ r.functions % 2
   rest : t.functions / 2 ≡ r.functions / 2
 
-record AfterOne (cv : Settings) (want r t : Running) : Type 0 where
-  sets : OneSet cv want t
+record DrivesAs (r t : Running) : Type 0 where
   motion : t.motion ≡ r.motion
   forward : t.forward ≡ r.forward
+
+record AfterOne (cv : Settings) (want r t : Running) : Type 0 where
+  sets : OneSet cv want t
+  drives : DrivesAs r t
   low : cv.fourteen ≡ true → t.functions % 2 ≡ r.functions % 2
   rest : t.functions / 32 ≡ r.functions / 32
 
 record AfterTwo (want r t : Running) : Type 0 where
   sets : TwoSet want t
-  motion : t.motion ≡ r.motion
-  forward : t.forward ≡ r.forward
+  drives : DrivesAs r t
   low : t.functions % 32 ≡ r.functions % 32
   rest : t.functions / 512 ≡ r.functions / 512
 
 record AfterThree (want r t : Running) : Type 0 where
   sets : ThreeSet want t
-  motion : t.motion ≡ r.motion
-  forward : t.forward ≡ r.forward
+  drives : DrivesAs r t
   low : t.functions % 512 ≡ r.functions % 512
 
 -- the decoder reads 14 steps where these steps are 14
@@ -107,8 +108,7 @@ module _ (laws : Spelling) (cv : Settings) (address : Address) (legal : IsTrue (
       let new : lit cv r.functions (16 * (want.functions % 2) + want.functions / 2 % 16) ≡ with_bits r.functions 1 4 ((16 * (want.functions % 2) + want.functions / 2 % 16) % 16) = cond-true cv.fourteen _ _ e in
       record {
         sets = record { middle = omega arith; f0 = λ h. absurd (both_ways cv.fourteen h e) };
-        motion = refl;
-        forward = refl;
+        drives = record { motion = refl; forward = refl };
         low = λ h. omega arith;
         rest = omega arith;
       }
@@ -116,8 +116,7 @@ module _ (laws : Spelling) (cv : Settings) (address : Address) (legal : IsTrue (
       let new : lit cv r.functions (16 * (want.functions % 2) + want.functions / 2 % 16) ≡ with_bits (with_bits r.functions 1 4 ((16 * (want.functions % 2) + want.functions / 2 % 16) % 16)) 0 1 ((16 * (want.functions % 2) + want.functions / 2 % 16) / 16 % 2) = cond-false cv.fourteen _ _ e in
       record {
         sets = record { middle = omega arith; f0 = λ h. omega arith };
-        motion = refl;
-        forward = refl;
+        drives = record { motion = refl; forward = refl };
         low = λ h. absurd (both_ways cv.fourteen e h);
         rest = omega arith;
       }
@@ -128,8 +127,7 @@ module _ (laws : Spelling) (cv : Settings) (address : Address) (legal : IsTrue (
   two_after : AfterTwo want r (obey cv r (group_two_bytes address want.functions))
   two_after = subst (λ (t : Running). AfterTwo want r t) (sym (own-group_two laws cv address legal r mine want.functions)) (record {
     sets = record { high = omega arith };
-    motion = refl;
-    forward = refl;
+    drives = record { motion = refl; forward = refl };
     low = omega arith;
     rest = omega arith;
   })
@@ -137,8 +135,7 @@ module _ (laws : Spelling) (cv : Settings) (address : Address) (legal : IsTrue (
   three_after : AfterThree want r (obey cv r (group_three_bytes address want.functions))
   three_after = subst (λ (t : Running). AfterThree want r t) (sym (own-group_three laws cv address legal r mine want.functions)) (record {
     sets = record { top = omega arith };
-    motion = refl;
-    forward = refl;
+    drives = record { motion = refl; forward = refl };
     low = omega arith;
   })
 
@@ -216,9 +213,9 @@ module _ (laws : Spelling) (speeds : Speeds) (cv : Settings) (a : ℕ) (e : Entr
   speed_kept : IsKept cv a e (SpeedSet cv want)
   speed_kept = kept_by cv a e (SpeedSet cv want)
       (λ r h. (after_speed r).sets)
-      (λ r h. let s = after_one r in record { motion = s.motion ∙ h.motion; forward = s.forward ∙ h.forward; f0 = λ b. s.low b ∙ h.f0 b })
-      (λ r h. let s = after_two r in record { motion = s.motion ∙ h.motion; forward = s.forward ∙ h.forward; f0 = λ b. omega (arith, s.low, h.f0 b) })
-      (λ r h. let s = after_three r in record { motion = s.motion ∙ h.motion; forward = s.forward ∙ h.forward; f0 = λ b. omega (arith, s.low, h.f0 b) })
+      (λ r h. let s = after_one r in record { motion = s.drives.motion ∙ h.motion; forward = s.drives.forward ∙ h.forward; f0 = λ b. s.low b ∙ h.f0 b })
+      (λ r h. let s = after_two r in record { motion = s.drives.motion ∙ h.motion; forward = s.drives.forward ∙ h.forward; f0 = λ b. omega (arith, s.low, h.f0 b) })
+      (λ r h. let s = after_three r in record { motion = s.drives.motion ∙ h.motion; forward = s.drives.forward ∙ h.forward; f0 = λ b. omega (arith, s.low, h.f0 b) })
 
   one_kept : IsKept cv a e (OneSet cv want)
   one_kept = kept_by cv a e (OneSet cv want)

@@ -123,6 +123,19 @@ struct Devices {
     fails: bool,
 }
 
+impl Devices {
+    /// A writer with this much room, of which this call fails.
+    fn writer(&self, alloc: Global, room: usize, bad: u32) -> Room {
+        Room {
+            taken: Vec::new(alloc),
+            each: self.each,
+            room,
+            bad,
+            fails: self.fails,
+        }
+    }
+}
+
 /// The ten bytes in one read, and room for all.
 const SOUND: Devices = Devices {
     ends: 0,
@@ -171,20 +184,8 @@ fn serve_ten_on(alloc: Global, mut world: World, devices: &Devices) -> Served
         ends: devices.ends,
         bad: devices.bad,
     };
-    let mut written = Room {
-        taken: Vec::new(alloc),
-        each: devices.each,
-        room: devices.sink,
-        bad: devices.bad_reply,
-        fails: devices.fails,
-    };
-    let mut traced = Room {
-        taken: Vec::new(alloc),
-        each: devices.each,
-        room: devices.trace,
-        bad: devices.bad_line,
-        fails: devices.fails,
-    };
+    let mut written = devices.writer(alloc, devices.sink, devices.bad_reply);
+    let mut traced = devices.writer(alloc, devices.trace, devices.bad_line);
     let mut source = Port::new(&mut pieces);
     let mut sink = Port::new(&mut written);
     let mut trace = Port::new(&mut traced);
