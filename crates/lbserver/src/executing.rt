@@ -38,7 +38,7 @@ pub(crate) fn execute<O: Write, E: Write>(
 ) -> u8
     ensures most { result ≤ 6 }
 {
-    match run(rt, words, output) {
+    match obey(rt, words, output) {
         Ok(()) => 0,
         Err(fault) => tell_as(NAME, &fault, faults),
     }
@@ -48,23 +48,23 @@ pub(crate) fn execute<O: Write, E: Write>(
 ///
 /// It goes on from function to function, each of which makes one thing and lends it, since one that may return early with
 /// something to let go is dear to prove.
-fn run<O: Write>(rt: &HostRuntime, words: &[&str], output: &mut O) -> Result<(), RunFault> {
+fn obey<O: Write>(rt: &HostRuntime, words: &[&str], output: &mut O) -> Result<(), RunFault> {
     let mut order = server_order(rt.alloc(), words)?;
-    run_order(rt, &mut order, output)
+    with_roster(rt, &mut order, output)
 }
 
-/// Does what was asked for.
-fn run_order<O: Write>(
+/// Does it with the roster that is named.
+fn with_roster<O: Write>(
     rt: &HostRuntime,
     order: &mut ServerOrder,
     output: &mut O,
 ) -> Result<(), RunFault> {
     let roster = read_roster(rt, order.roster.take())?;
-    run_layout(rt, order, roster.as_ref(), output)
+    with_server(rt, order, roster.as_ref(), output)
 }
 
-/// Does it for the decoders of this roster.
-fn run_layout<O: Write>(
+/// Does it with a server for the decoders of this roster.
+fn with_server<O: Write>(
     rt: &HostRuntime,
     order: &mut ServerOrder,
     roster: Option<&Roster>,
@@ -72,11 +72,11 @@ fn run_layout<O: Write>(
 ) -> Result<(), RunFault> {
     let losses = Losses::new(order.lose, u64::from(order.seed));
     let mut server = Server::new(rt.alloc(), decoders(roster), order.turns, losses)?;
-    run_server(rt, order, roster, &mut server, output)
+    with_sockets(rt, order, roster, &mut server, output)
 }
 
-/// Does it for this server.
-fn run_server<O: Write>(
+/// Does it with the sockets on which clients come.
+fn with_sockets<O: Write>(
     rt: &HostRuntime,
     order: &mut ServerOrder,
     roster: Option<&Roster>,
@@ -86,7 +86,7 @@ fn run_server<O: Write>(
     requires { Watches (specs_of (entries_of roster)) server.old.hub }
 {
     let mut sockets = listen(rt, order)?;
-    run_sockets(rt, order, roster, server, &mut sockets, output)
+    with_printer(rt, order, roster, server, &mut sockets, output)
 }
 
 /// Listens where the words ask for it.
@@ -101,8 +101,8 @@ fn listen(rt: &HostRuntime, order: &mut ServerOrder) -> Result<Sockets, RunFault
     Ok(sockets)
 }
 
-/// Serves, and prints what happens.
-fn run_sockets<O: Write>(
+/// Serves, with a printer for what happens.
+fn with_printer<O: Write>(
     rt: &HostRuntime,
     order: &ServerOrder,
     roster: Option<&Roster>,
@@ -214,7 +214,8 @@ fn go_round<O: Write>(
     sockets.answer(clock.now(rt)?);
     server.round(sockets, printer)?;
     if server.turns().is_none() {
-        pass(rt, server, printer, clock)?;
+        let micros = clock.passed(rt)?;
+        pass(server, printer, micros)?;
     }
     sockets.tell_pages(printer, server.world());
     Ok(printer.flush()?)
@@ -232,17 +233,15 @@ fn longest_wait(server: &Server) -> Option<Duration> {
     }
 }
 
-/// Lets the time pass that went by since it was last asked for.
+/// Lets the microseconds pass that went by.
 fn pass<O: Write>(
-    rt: &HostRuntime,
     server: &mut Server,
     printer: &mut Printer<'_, O>,
-    clock: &mut Clock,
+    micros: u64,
 ) -> Result<(), RunFault>
     requires { Watches (specs_of (entries_of printer.old.roster)) server.old.hub }
     ensures { Watches (specs_of (entries_of printer.new.roster)) server.new.hub }
 {
-    let micros = clock.passed(rt)?;
     let slept = micros.saturating_sub(MOST_MICROS);
     if slept > 0 {
         printer.print_slept(slept / 1000)?;
