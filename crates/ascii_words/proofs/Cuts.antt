@@ -1,6 +1,7 @@
 -- A text is cut at the first of its bytes that passes a test.
 use Rattle.std.proofs.Common.{◌≡◌, ℕ, ◌+◌, ◌<◌, ◌≤◌, ◌==◌, Bool, true, false, List, [], ◌∷◌, length, take, drop, Option, Some, None, position, cond, not, nat_lt, slice_index, refl, ap, sym, ◌∙◌, arith}
 use Rattle.std.specs.List.{slice_split, onto_first, before_first, after_first, position_or_len}
+use Rattle.std.proofs.lemmas.Bool.Decides.{nat_tests}
 use Rattle.std.proofs.lemmas.Bool.{ltb-true, ltb-false, lt-ltb, le-ltb, false_from_ne_true}
 use Rattle.std.proofs.lemmas.List.{take_all, drop_all, take_rest}
 use Rattle.std.proofs.lemmas.List.Splits.{slice_split_first}
@@ -8,21 +9,11 @@ use Rattle.std.proofs.lemmas.List.Sums.{position_or_len_is}
 use Rattle.memchr.specs.Find.{IsFirstByte, is_byte}
 use Rattle.ascii_words.specs.Words.{is_blank, is_word, words_of, with_piece}
 
-not_found : (within : Bool) (place : ℕ) → cond within (Some place) None ≡ None → within ≡ false
-not_found true place h = cc
-not_found false place h = refl
-
-found_at : (within : Bool) (place at : ℕ) → cond within (Some place) None ≡ Some at → (within ≡ true) × (place ≡ at)
-found_at true place at h = (refl, cc)
-found_at false place at h = cc
-
 pub no_place : {X : Type 0} (p : X → Bool) (xs : List X) → position p xs ≡ None → length xs ≤ position_or_len p xs
-no_place p xs h = ltb-false (position_or_len p xs) (length xs) (not_found (nat_lt (position_or_len p xs) (length xs)) (position_or_len p xs) h)
+no_place p xs h = grind (arith, nat_tests)
 
 pub first_place : {X : Type 0} (p : X → Bool) (xs : List X) (at : ℕ) → position p xs ≡ Some at → (position_or_len p xs ≡ at) × (at < length xs)
-first_place p xs at h =
-    let found = found_at (nat_lt (position_or_len p xs) (length xs)) (position_or_len p xs) at h in
-    (found.1, rw (← found.1) (ltb-true (position_or_len p xs) (length xs) found.0))
+first_place p xs at h = (grind (arith, nat_tests), grind (arith, nat_tests))
 
 split_whole : {X : Type 0} (p : X → Bool) (xs : List X) → length xs ≤ position_or_len p xs → slice_split p xs ≡ xs ∷ []
 split_whole p [] h = refl
@@ -73,14 +64,11 @@ pub ruleset cuts = (whole-before, whole-after, whole-words, cut-before, cut-afte
 
 -- what a search of memory finds
 
-at-place : (text : List ℕ) (at : ℕ) → position_or_len (λ b. b == 10) text ≡ at → at < length text → Some at ≡ position (λ b. b == 10) text
-at-place text at is within = sym (ap (λ k. cond (nat_lt k (length text)) (Some k) None) is ∙ rw (lt-ltb at (length text) within) refl)
-
-at-no_place : (text : List ℕ) → position_or_len (λ b. b == 10) text ≡ length text → None ≡ position (λ b. b == 10) text
-at-no_place text is = sym (ap (λ k. cond (nat_lt k (length text)) (Some k) None) is ∙ rw (le-ltb (length text) (length text) (omega arith)) refl)
-
 pub first_is_position : (text : List ℕ) (found : Option ℕ) → IsFirstByte (is_byte 10) text found → found ≡ position (λ b. b == 10) text
 first_is_position text None nowhere =
-    at-no_place text (position_or_len_is (λ b. b == 10) text (length text) 0 (omega arith) (λ k l. false_from_ne_true (slice_index text k == 10) (nowhere k (omega arith) l)) (λ l. absurd (omega (arith, l))))
+    let is : position_or_len (λ b. b == 10) text ≡ length text = position_or_len_is (λ b. b == 10) text (length text) 0 (omega arith) (λ k l. false_from_ne_true (slice_index text k == 10) (nowhere k (omega arith) l)) (λ l. absurd (omega (arith, l))) in
+    grind (arith, nat_tests)
 first_is_position text (Some at) first =
-    at-place text at (position_or_len_is (λ b. b == 10) text at 0 (omega (arith, first.0.high)) (λ k l. false_from_ne_true (slice_index text k == 10) (first.0.before k (omega arith) l)) (λ l. first.1)) first.0.high
+    let within : at < length text = first.0.high in
+    let is : position_or_len (λ b. b == 10) text ≡ at = position_or_len_is (λ b. b == 10) text at 0 (omega (arith, within)) (λ k l. false_from_ne_true (slice_index text k == 10) (first.0.before k (omega arith) l)) (λ l. first.1) in
+    grind (arith, nat_tests)

@@ -72,34 +72,31 @@ begins-written a b o p l m h i text empty heard taken none all front =
           ∙ all [] ∙ ap (λ (bs : List ℕ). bs ++ to_write m i []) front.3 ∙ append_assoc written left (to_write m i []),
     )
 
+-- what follows further text is written behind what was
+behind : (a b o p : Option (List ℕ)) (l m : Bool) (h i after others left : List ℕ) → (first : Follows a b o p l h m i) → to_write m i after ≡ others ++ left
+    → to_write l h (first.0 ++ after) ≡ (first.1 ++ others) ++ left
+behind a b o p l m h i after others left first is =
+    first.4 after ∙ ap (λ (bs : List ℕ). first.1 ++ bs) is ∙ sym (append_assoc first.1 others left)
+
 pub follows-trans : (a b c o p q : Option (List ℕ)) (l m n : Bool) (h i j : List ℕ) → Follows a b o p l h m i → Follows b c p q m i n j → Follows a c o q l h n j
-follows-trans a b c o p q l m n h i j first second =
-    let text = first.0 in
-    let after = second.0 in
-    let written = first.1 in
-    let others = second.1 in (
-      text ++ after,
-      written ++ others,
-      Consumes-trans a b c text after first.2 second.2,
-      Appends-trans o p q written others first.3 second.3,
-      λ more. ap (λ (bs : List ℕ). to_write l h bs) (append_assoc text after more) ∙ first.4 (after ++ more) ∙ ap (λ (bs : List ℕ). written ++ bs) (second.4 more)
-          ∙ sym (append_assoc written others (to_write n j more)),
-    )
+follows-trans a b c o p q l m n h i j first second = (
+  first.0 ++ second.0,
+  first.1 ++ second.1,
+  Consumes-trans a b c first.0 second.0 first.2 second.2,
+  Appends-trans o p q first.1 second.1 first.3 second.3,
+  λ more. ap (λ (bs : List ℕ). to_write l h bs) (append_assoc first.0 second.0 more)
+      ∙ behind a b o p l m h i (second.0 ++ more) second.1 (to_write n j more) first (second.4 more),
+)
 
 pub begins-behind : (a b c o p q : Option (List ℕ)) (l m : Bool) (h i : List ℕ) → Follows a b o p l h m i → Begins b c p q m i → Begins a c o q l h
-begins-behind a b c o p q l m h i first second =
-    let text = first.0 in
-    let after = second.0 in
-    let written = first.1 in
-    let others = second.1 in
-    let left = second.2 in (
-      text ++ after,
-      written ++ others,
-      left,
-      Consumes-trans a b c text after first.2 second.3,
-      Appends-trans o p q written others first.3 second.4,
-      first.4 after ∙ ap (λ (bs : List ℕ). written ++ bs) second.5 ∙ sym (append_assoc written others left),
-    )
+begins-behind a b c o p q l m h i first second = (
+  first.0 ++ second.0,
+  first.1 ++ second.1,
+  second.2,
+  Consumes-trans a b c first.0 second.0 first.2 second.3,
+  Appends-trans o p q first.1 second.1 first.3 second.4,
+  behind a b o p l m h i second.0 second.1 second.2 first second.5,
+)
 
 -- The whole run, which begins with nothing held.
 

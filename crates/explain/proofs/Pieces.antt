@@ -1,20 +1,13 @@
 -- A text is cut at its line feeds.
 use Rattle.std.proofs.Common.{◌≡◌, ℕ, ◌+◌, ◌<◌, ◌≤◌, ◌==◌, Bool, true, false, List, [], ◌∷◌, ◌++◌, suc, length, take, drop, Some, None, position, cond, nat_lt, refl, ap, sym, inl, inr, ◌∙◌, eqb-true, arith}
 use Rattle.std.specs.List.{position_or_len}
-use Rattle.std.proofs.lemmas.Bool.{ltb-true, ltb-false, cases_Bool}
+use Rattle.std.proofs.lemmas.Bool.Decides.{nat_tests}
+use Rattle.std.proofs.lemmas.Bool.{cases_Bool}
 use Rattle.std.proofs.lemmas.List.{take_all, take_rest}
 use Rattle.explain.specs.Lines.{is_open}
 
 abbrev place : List ℕ → ℕ
 place text = position_or_len (λ b. b == 10) text
-
-not_found : (within : Bool) (at : ℕ) → cond within (Some at) None ≡ None → within ≡ false
-not_found true at h = cc
-not_found false at h = refl
-
-found_at : (within : Bool) (is at : ℕ) → cond within (Some is) None ≡ Some at → (within ≡ true) × (is ≡ at)
-found_at true is at h = (refl, cc)
-found_at false is at h = cc
 
 take-cons : (k b : ℕ) (line : List ℕ) → take (1 + k) (b ∷ line) ≡ b ∷ take k line
 take-cons k b line = let e : 1 + k ≡ suc k = omega arith in ap (λ n. take n (b ∷ line)) e
@@ -50,13 +43,11 @@ parts-at (b ∷ text) h = elim (cases_Bool (b == 10)) [
 ]
 
 first_place : (text : List ℕ) (at : ℕ) → position (λ b. b == 10) text ≡ Some at → (place text ≡ at) × (place text < length text)
-first_place text at h =
-    let found = found_at (nat_lt (place text) (length text)) (place text) at h in
-    (found.1, ltb-true (place text) (length text) found.0)
+first_place text at h = (grind (arith, nat_tests), grind (arith, nat_tests))
 
 pub no_line : (text : List ℕ) → position (λ b. b == 10) text ≡ None → is_open text ≡ true
 no_line text h =
-    let long : length text ≤ place text = ltb-false (place text) (length text) (not_found (nat_lt (place text) (length text)) (place text) h) in
+    let long : length text ≤ place text = grind (arith, nat_tests) in
     sym (ap is_open (take_all (place text) text long)) ∙ open-before text
 
 pub line_open : (text : List ℕ) (at : ℕ) → position (λ b. b == 10) text ≡ Some at → is_open (take at text) ≡ true

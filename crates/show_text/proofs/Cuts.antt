@@ -16,21 +16,11 @@ split_whole p [] h = refl
 split_whole p (x ∷ xs) h = elim (p x) as (λ passes. length (x ∷ xs) ≤ cond (not passes) (1 + position_or_len p xs) 0 → cond passes ([] ∷ slice_split p xs) (onto_first x (slice_split p xs)) ≡ (x ∷ xs) ∷ [])
     [ true ↦ λ long. absurd (omega (arith, long)) | false ↦ λ long. ap (onto_first x) (split_whole p xs (omega (arith, long))) ] h
 
-not_found : (within : Bool) (place : ℕ) → cond within (Some place) None ≡ None → within ≡ false
-not_found true place h = cc
-not_found false place h = refl
-
-found_at : (within : Bool) (place at : ℕ) → cond within (Some place) None ≡ Some at → (within ≡ true) × (place ≡ at)
-found_at true place at h = (refl, cc)
-found_at false place at h = cc
-
 pub whole : {X : Type 0} (p : X → Bool) (xs : List X) → position p xs ≡ None → slice_split p xs ≡ xs ∷ []
-whole p xs h = split_whole p xs (ltb-false (position_or_len p xs) (length xs) (not_found (nat_lt (position_or_len p xs) (length xs)) (position_or_len p xs) h))
+whole p xs h = split_whole p xs (grind (arith, nat_tests))
 
 pub first_place : {X : Type 0} (p : X → Bool) (xs : List X) (at : ℕ) → position p xs ≡ Some at → (position_or_len p xs ≡ at) × (at < length xs)
-first_place p xs at h =
-    let found = found_at (nat_lt (position_or_len p xs) (length xs)) (position_or_len p xs) at h in
-    (found.1, rw (← found.1) (ltb-true (position_or_len p xs) (length xs) found.0))
+first_place p xs at h = (grind (arith, nat_tests), grind (arith, nat_tests))
 
 -- the list is cut at the first element that passes
 pub split_first : {X : Type 0} (p : X → Bool) (xs : List X) (at : ℕ) → X → position p xs ≡ Some at → slice_split p xs ≡ take at xs ∷ slice_split p (drop (at + 1) xs)
