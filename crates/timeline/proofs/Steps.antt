@@ -7,24 +7,8 @@ use Rattle.timeline.specs.declared.mark.Mark.{Mark}
 use Rattle.timeline.specs.declared.row.Kind.{Kind}
 use Rattle.timeline.specs.declared.row.Row.{Row}
 use Rattle.timeline.specs.declared.row.Row.TheVariants.{Lane}
-use Rattle.timeline.specs.Picture.{bottom_of, marks_of, marks_text, next_text, room_of, row_text, rows_text, turn_after, turns_from, with_mark, x_of}
+use Rattle.timeline.specs.Picture.{marks_of, marks_text, next_text, room_of, row_text, rows_text, turn_after, with_mark, x_of}
 use Rattle.timeline.specs.Rows.{height_of, is_shown, kinds, lane_rows, row_if, rows_in}
-
-pub turns_next : (turn : ℕ) (events : List Event) (event : Event) (rest : List Event) → events ≡ event ∷ rest → turns_from turn events ≡ turns_from (turn_after turn event) rest
-unfolding turns_from
-turns_next turn events event rest is = ap (turns_from turn) is
-
-pub turns_end : (turn : ℕ) (events : List Event) → events ≡ [] → turns_from turn events ≡ turn
-unfolding turns_from
-turns_end turn events is = ap (turns_from turn) is
-
-pub bottom_next : (top : ℕ) (rows : List Row) (row : Row) (rest : List Row) → rows ≡ row ∷ rest → bottom_of top rows ≡ bottom_of (top + room_of row) rest
-unfolding bottom_of
-bottom_next top rows row rest is = ap (bottom_of top) is
-
-pub bottom_end : (top : ℕ) (rows : List Row) → rows ≡ [] → bottom_of top rows ≡ top
-unfolding bottom_of
-bottom_end top rows is = ap (bottom_of top) is
 
 pub rows_next : (turns : ℕ) (events : List Event) (top : ℕ) (rows : List Row) (row : Row) (rest : List Row) → rows ≡ row ∷ rest
     → rows_text turns events top rows ≡ row_text row turns events (top + room_of row) ++ rows_text turns events (top + room_of row) rest

@@ -1,6 +1,7 @@
 -- What is drawn, one thing after another.
 use Rattle.std.proofs.Common.{◌≡◌, ℕ, List, [], ◌∷◌, ◌++◌, Option, Some, None, refl, ap, sym, subst, ◌∙◌, append_assoc}
 use Rattle.std.proofs.lemmas.List.{append-nil}
+use Rattle.std.proofs.KnownBytes.{Appends-nil, Appends-trans}
 use Rattle.std.specs.Io.KnownBytes.{Appends}
 use Rattle.std.specs.Prelude.{Result, Ok, Err, OnOk}
 use Rattle.timeline.specs.declared.event.Event.{Event}
@@ -10,19 +11,9 @@ use Rattle.timeline.specs.Picture.{marks_of, marks_text, next_text, turn_after, 
 use Rattle.timeline.specs.Rows.{height_of}
 use Rattle.timeline.proofs.Steps.{marks_none, marks_some}
 
-pub appends_none : (a : Option (List ℕ)) → Appends a a []
-appends_none None = tt
-appends_none (Some xs) = sym (append-nil xs)
-
-pub appends_more : (a b c : Option (List ℕ)) (xs ys : List ℕ) → Appends a b xs → Appends b c ys → Appends a c (xs ++ ys)
-appends_more None b c xs ys h k = tt
-appends_more (Some s) None c xs ys h k = absurd h
-appends_more (Some s) (Some t) None xs ys h k = absurd k
-appends_more (Some s) (Some t) (Some u) xs ys h k = k ∙ ap (λ z. z ++ ys) h ∙ append_assoc s xs ys
-
 -- One text after another.
 pub then_ok : {A E : Type 0} (r : Result A E) (a b c : Option (List ℕ)) (xs ys : List ℕ) → Appends a b xs → OnOk r (Appends b c ys) → OnOk r (Appends a c (xs ++ ys))
-then_ok (Ok x) a b c xs ys first second = appends_more a b c xs ys first second
+then_ok (Ok x) a b c xs ys first second = Appends-trans a b c xs ys first second
 then_ok (Err e) a b c xs ys first second = tt
 
 -- What was written and what is left to write is all.
@@ -32,12 +23,12 @@ pub record HasWritten (all left : List ℕ) (old now : Option (List ℕ)) : Type
   pub whole : written ++ left ≡ all
 
 pub written_none : (all : List ℕ) (old : Option (List ℕ)) → HasWritten all all old old
-written_none all old = record { written = []; appended = appends_none old; whole = refl }
+written_none all old = record { written = []; appended = Appends-nil old; whole = refl }
 
 pub written_more : (all left next rest : List ℕ) (old now new : Option (List ℕ)) → HasWritten all left old now → left ≡ next ++ rest → Appends now new next → HasWritten all rest old new
 written_more all left next rest old now new has parts here = record {
   written = has.written ++ next;
-  appended = appends_more old now new has.written next has.appended here;
+  appended = Appends-trans old now new has.written next has.appended here;
   whole = append_assoc has.written next rest ∙ ap (λ (bs : List ℕ). has.written ++ bs) (sym parts) ∙ has.whole;
 }
 

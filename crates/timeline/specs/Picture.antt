@@ -1,6 +1,7 @@
 -- The picture of a run as a text: a Scalable Vector Graphics image (W3C, SVG 1.1), 1,200 pixels wide.
 use Rattle.std.specs.Prelude.{ℕ, ◌+◌, ◌-◌, ◌*◌, ◌/◌, ◌==◌, ◌&&◌, Bool, true, false, if◌then◌else◌, List, [], ◌∷◌, ◌++◌, Option, Some, None, codes, max}
 use Rattle.std.specs.Fmt.{decimal}
+use Rattle.std.specs.List.{fold}
 use Rattle.dcc_packet.specs.declared.address.Address.TheVariants.{Short, Long}
 use Rattle.station_text.specs.declared.standing.Standing.{Standing}
 use Rattle.station_text.specs.declared.standing.Standing.TheVariants as stands
@@ -21,9 +22,8 @@ turn_after turn (Sent packet) = turn + 1
 turn_after turn Off = turn + 1
 turn_after turn (Shown seen) = turn
 
-unfoldable pub turns_from : ℕ → List Event → ℕ
-turns_from turn [] = turn
-turns_from turn (event ∷ events) = turns_from (turn_after turn event) events
+abbrev pub turns_from : ℕ → List Event → ℕ
+turns_from turn events = fold turn_after turn events
 
 -- a thousand pixels for all turns, behind 170 for names
 abbrev pub x_of : (turns turn : ℕ) → ℕ
@@ -44,12 +44,9 @@ marks_of row turns turn (event ∷ events) =
 abbrev pub is_line : Row → Bool
 is_line (Strip part) = false
 is_line (Lane lane Packets) = false
-is_line (Lane lane Speed) = true
 is_line (Lane lane Stops) = false
 is_line (Lane lane Emergencies) = false
-is_line (Lane lane Direction) = true
-is_line (Lane lane (Function number)) = true
-is_line (Lane lane (Output number)) = true
+is_line row = true
 
 -- The strokes of a mark that stands alone, from its point on (SVG 1.1, 8.3): a tick up or down, one through, a dot, a cross.
 
@@ -63,12 +60,9 @@ part_strokes Unpowered = codes "m-3-3l6 6m0-6l-6 6"
 abbrev pub strokes_of : Row → List ℕ
 strokes_of (Strip part) = part_strokes part
 strokes_of (Lane lane Packets) = codes "m0 6v-12"
-strokes_of (Lane lane Speed) = []
 strokes_of (Lane lane Stops) = codes "v6"
 strokes_of (Lane lane Emergencies) = codes "m-3-3l6 6m0-6l-6 6"
-strokes_of (Lane lane Direction) = []
-strokes_of (Lane lane (Function number)) = []
-strokes_of (Lane lane (Output number)) = []
+strokes_of row = []
 
 abbrev pub point_text : ℕ → ℕ → List ℕ
 point_text x y = codes "M" ++ decimal x ++ codes " " ++ decimal y
@@ -132,25 +126,17 @@ name_of (Lane lane kind) = lane.name ++ codes " " ++ kind_name kind lane.standin
 
 -- The look of a row: thick, dashed, thin or dotted, and never by colour.
 abbrev pub style_of : Row → List ℕ
-style_of (Strip part) = codes "1"
-style_of (Lane lane Packets) = codes "1"
 style_of (Lane lane Speed) = codes "2"
-style_of (Lane lane Stops) = codes "1"
-style_of (Lane lane Emergencies) = codes "1"
 style_of (Lane lane Direction) = codes "1\" stroke-dasharray=\"6 3"
-style_of (Lane lane (Function number)) = codes "1"
 style_of (Lane lane (Output number)) = codes "1\" stroke-dasharray=\"2 2"
+style_of row = codes "1"
 
 -- How high a row is, with the room above it.
 abbrev pub room_of : Row → ℕ
 room_of (Strip part) = 18
 room_of (Lane lane Packets) = 30
 room_of (Lane lane Speed) = 60
-room_of (Lane lane Stops) = 16
-room_of (Lane lane Emergencies) = 16
-room_of (Lane lane Direction) = 16
-room_of (Lane lane (Function number)) = 16
-room_of (Lane lane (Output number)) = 16
+room_of row = 16
 
 abbrev pub label_open : ℕ → List ℕ
 label_open base = codes "<text x=\"8\" y=\"" ++ decimal base ++ codes "\">"
@@ -172,9 +158,8 @@ rows_text turns events top [] = []
 rows_text turns events top (row ∷ rows) = row_text row turns events (top + room_of row) ++ rows_text turns events (top + room_of row) rows
 
 -- where they end
-unfoldable pub bottom_of : (top : ℕ) → List Row → ℕ
-bottom_of top [] = top
-bottom_of top (row ∷ rows) = bottom_of (top + room_of row) rows
+abbrev pub bottom_of : (top : ℕ) → List Row → ℕ
+bottom_of top rows = fold (λ bottom row. bottom + room_of row) top rows
 
 abbrev pub opening : (bottom : ℕ) → List ℕ
 opening bottom =

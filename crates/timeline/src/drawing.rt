@@ -1,15 +1,11 @@
 //! The picture of a run (W3C, Scalable Vector Graphics 1.1).
-ghost use Rattle.std.specs.Prelude.{◌≡◌, ◌⊎◌, ◌≤◌, ◌<◌, ◌^◌, ◌*◌, ◌+◌, Some, IfErr, IfOk, OnOk, length};
+ghost use Rattle.std.specs.Prelude.{◌≡◌, ◌≤◌, ◌<◌, ◌^◌, ◌*◌, ◌+◌, OnOk, length};
 ghost use Rattle.std.specs.Io.KnownBytes.{Appends};
-ghost use Rattle.run_drawing.specs.declared.fault.DrawFault.TheVariants.{NoMemory, Output};
-ghost use Rattle.timeline.specs.Picture.{axis, bottom_of, framed, legend, opening, picture_of, picture_with, rows_text, title, turn_at, turn_text, turns_from};
+ghost use Rattle.timeline.specs.Picture.{axis, bottom_of, framed, legend, opening, picture_with, rows_text, title, turn_at, turn_text, turns_from};
 
 use crate::event::Event;
 use crate::pieces::{room_of, turn_after, write_row, x_of};
 use crate::row::Row;
-use crate::rows::rows_of;
-use run_drawing::DrawFault;
-use std::alloc::Global;
 use std::io;
 use std::io::Write;
 
@@ -17,7 +13,7 @@ use std::io::Write;
 const TOP: u64 = 52;
 
 /// How many turns events have.
-fn turns_in(events: &[Event]) -> u64
+pub(crate) fn turns_in(events: &[Event]) -> u64
     requires { length events.now < 2 ^ 32 }
     ensures value { result ≡ turns_from 0 events.now }
     ensures most { result ≤ length events.now }
@@ -30,7 +26,7 @@ fn turns_in(events: &[Event]) -> u64
 }
 
 /// Where the rows end.
-fn bottom_of(rows: &[Row]) -> u64
+pub(crate) fn bottom_of(rows: &[Row]) -> u64
     requires { length rows.now < 2 ^ 48 }
     ensures value { result ≡ bottom_of 52 rows.now }
     ensures most { result ≤ 52 + 60 * length rows.now }
@@ -142,7 +138,8 @@ fn write_legend<O: Write>(bottom: u64, output: &mut O) -> io::Result<()>
     output.write_all(b"</g>\n</svg>\n")
 }
 
-fn write_picture<O: Write>(
+/// Writes the picture of rows, of so many turns and to this bottom.
+pub(crate) fn write_picture<O: Write>(
     rows: &[Row],
     turns: u64,
     bottom: u64,
@@ -160,27 +157,4 @@ fn write_picture<O: Write>(
     write_axis(turns, bottom, output)?;
     write_rows(rows, turns, events, output)?;
     write_legend(bottom, output)
-}
-
-/// Draws what events tell, whole, and then writes it.
-pub(crate) fn draw<O: Write>(
-    alloc: Global,
-    events: &[Event],
-    output: &mut O,
-) -> Result<(), DrawFault>
-    requires { length events.now ≤ 16777216 }
-    ensures text { OnOk result (Appends (O.contents output.old) (O.contents output.new) (picture_of events.now)) }
-    ensures fault { IfErr result (λ e. (e ≡ Output) ⊎ (e ≡ NoMemory)) }
-    ensures kept { IfErr result (λ e. e ≡ NoMemory → output.new ≡ output.old) }
-{
-    let rows = rows_of(alloc, events)?;
-    let turns = turns_in(events);
-    let bottom = bottom_of(rows.as_slice());
-    let mut text = Vec::new(alloc);
-    write_picture(rows.as_slice(), turns, bottom, events, &mut text).map_err(
-        |_| DrawFault::NoMemory,
-    )?;
-    output
-        .write_all(text.as_slice())
-        .map_err(|_| DrawFault::Output)
 }

@@ -3,7 +3,7 @@ ghost use Rattle.std.specs.Prelude.{◌≡◌, ◌≤◌, ◌<◌, Some, IfSome}
 ghost use Rattle.std.specs.Str.{bytes_eq};
 ghost use Rattle.dcc_packet.specs.Reading.{instruction_of};
 ghost use Rattle.station_text.specs.Node.{is_on};
-ghost use Rattle.timeline.specs.Rows.{counts, height_of, is_address, is_emergency, is_for, is_for_loco, is_for_module, is_in, is_packets, is_part, is_stop, is_switch, lane_height, mark_if, part_of, place_of, speed_height, standing_height, switch_height};
+ghost use Rattle.timeline.specs.Rows.{counts, height_of, is_address, is_emergency, is_for, is_for_loco, is_for_module, is_in, is_packets, is_part, is_stop, is_switch, lane_height, mark_if, part_of, speed_height, standing_height, switch_height};
 
 use crate::event::Event;
 use crate::row::{Kind, Part, Row};
@@ -28,22 +28,10 @@ fn part_of(instr: &Option<Instr>) -> Part
     }
 }
 
-fn place_of(part: Part) -> u8
-    ensures { result ≡ place_of part }
-{
-    match part {
-        Part::Locomotives => 0,
-        Part::Accessories => 1,
-        Part::Everyone => 2,
-        Part::Idle => 3,
-        Part::Unpowered => 4,
-    }
-}
-
 fn is_part(one: Part, other: Part) -> bool
     ensures { result ≡ is_part one other }
 {
-    place_of(one) == place_of(other)
+    one == other
 }
 
 fn is_in(part: Part, event: &Event) -> bool

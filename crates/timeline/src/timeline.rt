@@ -3,9 +3,10 @@ ghost use Rattle.std.specs.Prelude.{true};
 ghost use Rattle.timeline.specs.Picture.{picture_of};
 ghost use Rattle.timeline.specs.Run.{Shows};
 
-use crate::drawing::draw;
+use crate::drawing::{bottom_of, turns_in, write_picture};
 use crate::event::Event;
 use crate::reading::event_told;
+use crate::rows::rows_of;
 use run_drawing::{BadLine, DrawFault, Drawing};
 use std::alloc::Global;
 use std::io::Write;
@@ -40,6 +41,15 @@ impl Drawing for Timeline {
         events: &[Event],
         output: &mut O,
     ) -> Result<(), DrawFault> {
-        draw(alloc, events, output)
+        let rows = rows_of(alloc, events)?;
+        let turns = turns_in(events);
+        let bottom = bottom_of(rows.as_slice());
+        let mut text = Vec::new(alloc);
+        write_picture(rows.as_slice(), turns, bottom, events, &mut text).map_err(
+            |_| DrawFault::NoMemory,
+        )?;
+        output
+            .write_all(text.as_slice())
+            .map_err(|_| DrawFault::Output)
     }
 }
