@@ -1,24 +1,15 @@
 -- What is drawn, half-bit after half-bit and packet after packet.
-use Rattle.std.proofs.Common.{◌≡◌, ℕ, ◌+◌, ◌*◌, ◌≤◌, Bool, true, false, not, sum, List, [], ◌∷◌, ◌++◌, map, replicate, length, Option, Some, None, refl, ap, ap₂, sym, subst, ◌∙◌, append_assoc, arith}
+use Rattle.std.proofs.Common.{◌≡◌, ℕ, ◌+◌, ◌*◌, ◌≤◌, Bool, true, false, not, sum, List, [], ◌∷◌, ◌++◌, map, replicate, length, Option, refl, ap, ap₂, sym, subst, ◌∙◌, append_assoc, arith}
 use Rattle.std.proofs.lemmas.List.{append-nil}
 use Rattle.std.proofs.lemmas.List.Sums.{sum_by-append, sum_by-cons}
 use Rattle.std.proofs.lemmas.Bool.Decides.{nat_tests}
+use Rattle.std.proofs.KnownBytes.{Appends-nil, Appends-trans}
 use Rattle.std.specs.Io.KnownBytes.{Appends}
 use Rattle.std.specs.Prelude.{Result, Ok, Err, OnOk}
 use Rattle.dcc_packet.specs.Packet.{IsPacket}
 use Rattle.dcc_packet.specs.Wave.{bits_of, doubled}
 use Rattle.half_bits.specs.Halves.{halves_of, micros}
 use Rattle.track_signal.specs.Dump.{Change, change_text, changes_from, changes_text, dump_of, halves_in, header, stamp}
-
-pub appends_none : (a : Option (List ℕ)) → Appends a a []
-appends_none None = tt
-appends_none (Some xs) = sym (append-nil xs)
-
-pub appends_more : (a b c : Option (List ℕ)) (xs ys : List ℕ) → Appends a b xs → Appends b c ys → Appends a c (xs ++ ys)
-appends_more None b c xs ys h k = tt
-appends_more (Some s) None c xs ys h k = absurd h
-appends_more (Some s) (Some t) None xs ys h k = absurd k
-appends_more (Some s) (Some t) (Some u) xs ys h k = k ∙ ap (λ z. z ++ ys) h ∙ append_assoc s xs ys
 
 text-append : (changes more : List Change) → changes_text (changes ++ more) ≡ changes_text changes ++ changes_text more
 text-append [] more = refl
@@ -40,7 +31,7 @@ pub record HasDrawn (start : ℕ) (all : List ℕ) (time : ℕ) (is_high : Bool)
 pub drawn_none : (start : ℕ) (all left : List ℕ) (old : Option (List ℕ)) → left ≡ all → HasDrawn start all start true left old old
 drawn_none start all left old same = record {
   written = [];
-  appended = appends_none old;
+  appended = Appends-nil old;
   texts = ap (λ (hs : List ℕ). changes_text (changes_from start true hs)) same;
   ends = ap (λ (hs : List ℕ). start + sum hs) same;
 }
@@ -51,7 +42,7 @@ drawn_more start all time is_high left half added rest old now new has more same
     let now_left : HasDrawn start all time is_high (half ∷ rest) old now = subst (λ (hs : List ℕ). HasDrawn start all time is_high hs old now) more has in
     subst (λ (n : ℕ). HasDrawn start all (time + n) (not is_high) rest old new) (sym same) (record {
       written = has.written ++ change_text time is_high;
-      appended = appends_more old now new has.written (change_text time is_high) has.appended here;
+      appended = Appends-trans old now new has.written (change_text time is_high) has.appended here;
       texts = append_assoc has.written (change_text time is_high) (changes_text (changes_from (time + half) (not is_high) rest)) ∙ ap (λ (hs : List ℕ). has.written ++ changes_text (changes_from time is_high hs)) (sym more) ∙ has.texts;
       ends = omega (arith, now_left.ends, sum-cons half rest);
     })
@@ -127,7 +118,7 @@ dumped_more all time left packet rest end old now new has more here at =
     let sums : sum (halves_in left) ≡ sum (halves_of packet) + sum halves = ap (λ (ps : List (List ℕ)). sum (halves_in ps)) more ∙ sum-append (halves_of packet) halves in
     subst (λ (t : ℕ). HasDumped all t rest old new) (sym at) (record {
       written = has.written ++ first;
-      appended = appends_more old now new has.written first has.appended here;
+      appended = Appends-trans old now new has.written first has.appended here;
       texts = append_assoc has.written first (changes_text (changes_from after true halves))
           ∙ ap (λ (bs : List ℕ). has.written ++ bs) (sym parts)
           ∙ ap (λ (ps : List (List ℕ)). has.written ++ changes_text (changes_from time true (halves_in ps))) (sym more)
@@ -144,7 +135,7 @@ ended all time left old now new has none last =
     sym (append-nil has.written) ∙ ap (λ (ps : List (List ℕ)). has.written ++ changes_text (changes_from time true (halves_in ps))) (sym none) ∙ has.texts in
     let text : has.written ++ stamp time ≡ dump_of all =
     ap₂ (λ (bs : List ℕ) (t : ℕ). bs ++ stamp t) before at ∙ append_assoc header changes (stamp (sum (halves_in all))) in
-    subst (λ (bs : List ℕ). Appends old new bs) text (appends_more old now new has.written (stamp time) has.appended last)
+    subst (λ (bs : List ℕ). Appends old new bs) text (Appends-trans old now new has.written (stamp time) has.appended last)
 
 pub dumped_all : {A E : Type 0} (r : Result A E) (all : List (List ℕ)) (time : ℕ) (left : List (List ℕ)) (old now new : Option (List ℕ)) → HasDumped all time left old now → left ≡ [] → OnOk r (Appends now new (stamp time)) → OnOk r (Appends old new (dump_of all))
 dumped_all (Ok a) all time left old now new has none last = ended all time left old now new has none last
