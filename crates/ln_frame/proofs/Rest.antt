@@ -18,11 +18,15 @@ longer-longer (Some len) n k h l = lt-ltb k len (omega (arith, ltb-true n len h)
 data-front : (xs : List ℕ) (b : ℕ) → are_data (xs ++ b ∷ []) ≡ true → are_data xs ≡ true
 data-front xs b h = (and_parts (are_data xs) (are_data (b ∷ [])) (sym (list_all-append (λ x. nat_lt x 128) xs (b ∷ [])) ∙ h)).0
 
-pub opcode : (x : ℕ) (ys : List ℕ) → is_whole (x ∷ ys) ≡ true → 128 ≤ x
-opcode x ys h = elim (cases_lt x 128) [
-  | inl low ↦ absurd (both_ways (is_whole (x ∷ ys)) (whole-data x ys low) h)
+-- what no byte of data begins begins with an opcode
+opcode-by : (begins : List ℕ → Bool) (x : ℕ) (ys : List ℕ) → (x < 128 → begins (x ∷ ys) ≡ false) → begins (x ∷ ys) ≡ true → 128 ≤ x
+opcode-by begins x ys none h = elim (cases_lt x 128) [
+  | inl low ↦ absurd (both_ways (begins (x ∷ ys)) (none low) h)
   | inr high ↦ high
 ]
+
+pub opcode : (x : ℕ) (ys : List ℕ) → is_whole (x ∷ ys) ≡ true → 128 ≤ x
+opcode x ys = opcode-by is_whole x ys (whole-data x ys)
 
 -- a message without its last byte is unfinished
 pub unfinished-before_whole : (x : ℕ) (xs : List ℕ) (b : ℕ) → is_whole (x ∷ xs ++ b ∷ []) ≡ true → is_unfinished (x ∷ xs) ≡ true
@@ -33,10 +37,7 @@ unfinished-before_whole x (s ∷ m) b h =
     and_from _ _ (len-longer (message_len x s) _ (length (x ∷ s ∷ m)) p.0 (omega (arith, length-append m (b ∷ [])))) (data-front (s ∷ m) b p.1)
 
 opcode-unfinished : (x : ℕ) (ys : List ℕ) → is_unfinished (x ∷ ys) ≡ true → 128 ≤ x
-opcode-unfinished x ys h = elim (cases_lt x 128) [
-  | inl low ↦ absurd (both_ways (is_unfinished (x ∷ ys)) (unfinished-data x ys low) h)
-  | inr high ↦ high
-]
+opcode-unfinished x ys = opcode-by is_unfinished x ys (unfinished-data x ys)
 
 pub unfinished-before : (x : ℕ) (xs : List ℕ) (b : ℕ) → is_unfinished (x ∷ xs ++ b ∷ []) ≡ true → is_unfinished (x ∷ xs) ≡ true
 unfinished-before x [] b h = le-leb 128 x (opcode-unfinished x (b ∷ []) h)

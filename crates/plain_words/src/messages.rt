@@ -243,6 +243,7 @@ fn push_address(words: &mut Words, high: u8, low: u8)
 }
 
 /// What a whole message says by the table.
+#[tactic(auto, unfolding(crate::specs::Rows::fits, crate::specs::Rows::most_of, crate::specs::Rows::longest))]
 fn push_by_table(words: &mut Words, bytes: &[u8])
     requires size { length bytes.now ≤ 127 }
     requires room { array_vec_len words.old ≤ 0 }

@@ -171,6 +171,7 @@ fn push_instr(words: &mut Words, instr: Instr)
 }
 
 /// What a locomotive is told by bytes that no decoder of this project obeys, the check last.
+#[tactic(auto, unfolding(crate::specs::Rows::fits, crate::specs::Rows::most_of, crate::specs::Rows::longest))]
 fn push_instruction(words: &mut Words, bytes: &[u8])
     requires size { length bytes.now ≤ 6 }
     requires room { array_vec_len words.old + 250 ≤ 400 }
@@ -181,6 +182,7 @@ fn push_instruction(words: &mut Words, bytes: &[u8])
 }
 
 /// What accessory decoders are told by a packet that none of this project obeys.
+#[tactic(auto, unfolding(crate::specs::Rows::fits, crate::specs::Rows::most_of, crate::specs::Rows::longest))]
 fn push_accessory(words: &mut Words, bytes: &[u8])
     requires size { length bytes.now ≤ 6 }
     requires room { array_vec_len words.old + 250 ≤ 400 }

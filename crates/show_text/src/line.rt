@@ -56,15 +56,6 @@ pub(crate) fn push_count(line: &mut Line, n: u64)
     push_digits(line, n);
 }
 
-/// Appends a small number in decimal digits, at most 5.
-fn push_number(line: &mut Line, n: u16)
-    requires { array_string_len line.old + 5 ≤ 640 }
-    ensures text { line.new.bytes ≡ line.old.bytes ++ decimal n }
-    ensures len { array_string_len line.new ≤ array_string_len line.old + 5 }
-{
-    push_digits(line, u64::from(n));
-}
-
 /// Appends a label and a small number.
 pub(crate) fn push_field(line: &mut Line, label: &str, n: u16)
     requires { array_string_len line.old + length label.now + 5 ≤ 640 }
@@ -72,7 +63,7 @@ pub(crate) fn push_field(line: &mut Line, label: &str, n: u16)
     ensures len { array_string_len line.new ≤ array_string_len line.old + length label.now + 5 }
 {
     line.push_str(label);
-    push_number(line, n);
+    push_digits(line, u64::from(n));
 }
 
 fn hex_digit(n: u8) -> u8
