@@ -15,18 +15,13 @@ use std::process::ExitCode;
 mod tests;
 
 fn main(rt: HostRuntime) -> ExitCode {
-    ExitCode::from(run(&rt))
-}
-
-/// Runs the program on the standard streams, and answers its exit status.
-fn run(rt: &HostRuntime) -> u8 {
-    match run_words(rt) {
+    ExitCode::from(match run_words(&rt) {
         Ok(status) => status,
         Err(fault) => tell(&fault, &mut rt.stderr()),
-    }
+    })
 }
 
-/// The same, where the words can be had.
+/// Runs the program on its words and the standard streams, and answers its exit status, where the words can be had.
 fn run_words(rt: &HostRuntime) -> Result<u8, RunFault> {
     let words = read_words(rt.alloc(), rt, |alloc| no_text(alloc))?;
     let texts = texts(rt.alloc(), words.as_slice())?;
