@@ -6,8 +6,12 @@ use run_drawing::{Drawing, execute};
 use std::alloc::Global;
 use std::io::Write;
 
-/// The program that draws this.
-pub struct Drawn<D>(pub D);
+/// The program of this name, which draws this.
+pub struct Drawn<D> {
+    pub drawing: D,
+    /// As its fault lines begin.
+    pub name: &'static str,
+}
 
 impl<D: Drawing> Program for Drawn<D> {
     fn execute<I: Input, O: Write, E: Write>(
@@ -17,6 +21,6 @@ impl<D: Drawing> Program for Drawn<D> {
         output: &mut O,
         faults: &mut E,
     ) -> u8 {
-        execute(&self.0, alloc, input, output, faults)
+        execute(&self.drawing, alloc, input, output, faults)
     }
 }

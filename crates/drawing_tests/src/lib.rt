@@ -6,4 +6,4 @@ mod drawn;
 mod trials;
 
 pub use drawn::Drawn;
-pub use trials::{FaultLines, first_not_stood, run_with_little_memory};
+pub use trials::{first_not_stood, run_with_little_memory};

@@ -19,16 +19,9 @@ track 5 FF 00 FF
 track 6 FF 00 FF
 ";
 
-/// What a program tells of its streams and of memory, a line each.
-pub struct FaultLines {
-    /// The input cannot be read.
-    pub unread: &'static [u8],
-    /// The input is longer than the limit.
-    pub too_long: &'static [u8],
-    /// The output cannot be written.
-    pub unwritten: &'static [u8],
-    /// Want of memory.
-    pub no_memory: &'static [u8],
+/// What a program of this name tells of a fault.
+fn fault_line(alloc: Global, name: &str, fault: &str) -> Result<String, AllocError> {
+    format!(in alloc; "{name}: {fault}\n")
 }
 
 /// Whether an input that cannot be read is told.
@@ -66,28 +59,34 @@ fn stands_untold<D: Drawing>(drawing: &Drawn<D>, alloc: Global) -> bool {
 
 /// Which device a program does not stand as it should, of standard streams that fail and an input without end: none, if all
 /// is well. What is drawn of one packet ends so.
+///
+/// # Errors
+///
+/// There was no memory for the test.
 pub fn first_not_stood<D: Drawing>(
     drawing: &Drawn<D>,
     alloc: Global,
-    faults: &FaultLines,
     end: &[u8],
-) -> Option<&'static str> {
-    if !is_told_unread(drawing, alloc, faults.unread) {
-        return Some("standard input cannot be read");
+) -> Result<Option<&'static str>, AllocError> {
+    let unread = fault_line(alloc, drawing.name, "cannot read -")?;
+    if !is_told_unread(drawing, alloc, unread.as_bytes()) {
+        return Ok(Some("standard input cannot be read"));
     }
     if !stands_interrupts(drawing, alloc, end) {
-        return Some("standard input is interrupted");
+        return Ok(Some("standard input is interrupted"));
     }
-    if !is_read_to_the_limit(drawing, alloc, faults.too_long) {
-        return Some("standard input is without end");
+    let too_long = fault_line(alloc, drawing.name, "too long")?;
+    if !is_read_to_the_limit(drawing, alloc, too_long.as_bytes()) {
+        return Ok(Some("standard input is without end"));
     }
-    if !is_told_unwritten(drawing, alloc, faults.unwritten) {
-        return Some("standard output cannot be written");
+    let unwritten = fault_line(alloc, drawing.name, "output")?;
+    if !is_told_unwritten(drawing, alloc, unwritten.as_bytes()) {
+        return Ok(Some("standard output cannot be written"));
     }
     if !stands_untold(drawing, alloc) {
-        return Some("standard error cannot be written");
+        return Ok(Some("standard error cannot be written"));
     }
-    None
+    Ok(None)
 }
 
 /// Runs on packets and what stands behind them, with so few bytes of memory left, from none until one succeeds: how many
@@ -101,14 +100,14 @@ pub fn first_not_stood<D: Drawing>(
 pub fn run_with_little_memory<D: Drawing>(
     drawing: &Drawn<D>,
     alloc: Global,
-    faults: &FaultLines,
     more: &[u8],
     end: &[u8],
 ) -> Result<(u32, bool), AllocError> {
     let mut text = Vec::new(alloc);
     text.extend_from_slice(IDLES)?;
     text.extend_from_slice(more)?;
-    let (refused, ran) = run_as_room_grows(drawing, alloc, text.as_slice(), faults.no_memory)?;
+    let no_memory = fault_line(alloc, drawing.name, "no memory")?;
+    let (refused, ran) = run_as_room_grows(drawing, alloc, text.as_slice(), no_memory.as_bytes())?;
     let drew_all = ran.status == 0 && ran.faults.is_empty() && ran.output.as_slice().ends_with(end);
     Ok((refused, drew_all))
 }

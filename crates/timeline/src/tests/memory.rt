@@ -3,7 +3,7 @@
 //!
 //! This test takes the memory of the process, and so needs the allocator of the C library: `rt test`, and not `rt try`.
 
-use super::{FAULTS, PROGRAM};
+use super::PROGRAM;
 use drawing_tests::run_with_little_memory;
 use std::test::Fail;
 
@@ -13,7 +13,7 @@ const DECODER: &[u8] = b"node shunter short 3 step 63 of 128 reverse F 101000000
 #[test]
 fn a_run_grows_or_says_so(rt: HostRuntime) -> Result<(), Fail> {
     let end = b"</g>\n</svg>\n";
-    let (refused, drew_all) = run_with_little_memory(&PROGRAM, rt.alloc(), &FAULTS, DECODER, end)?;
+    let (refused, drew_all) = run_with_little_memory(&PROGRAM, rt.alloc(), DECODER, end)?;
     println!(rt; "refused {refused} times")?;
     assert!(rt; refused > 0 && drew_all);
     Ok(())
