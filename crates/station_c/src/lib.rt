@@ -3,7 +3,7 @@
 //! Each function is exported under its name. `bindings/station.h` says what its caller owes.
 #![tactic(auto)]
 
-ghost use Rattle.std.specs.Prelude.{◌≡◌, ◌≢◌, ◌⊎◌, ◌==◌, ◌&&◌, nat_lt, Some, IfSome, true, false, length, map, is_some, option_map};
+ghost use Rattle.std.specs.Prelude.{◌≡◌, ◌≢◌, ◌⊎◌, ◌==◌, ◌&&◌, nat_lt, if◌then◌else◌, Some, None, IfSome, true, false, length, map, is_some, option_map};
 ghost use Rattle.std.specs.List.{list_all, slice_index_or};
 ghost use Rattle.station_core.specs.Seen.{known_of};
 ghost use Rattle.layout_core.specs.declared.node.Node.{Node as NodeValue};
@@ -37,7 +37,7 @@ use decoder_node::NodeList;
 pub use event::EventFields;
 use event::are_events;
 pub use layout::Layout;
-use layout_core::{Event, World};
+use layout_core::{Event, Standing, World};
 pub use motion::Motion;
 use motion::told;
 use roster::Why;
@@ -237,6 +237,25 @@ pub extern "C" fn station_run(
     true
 }
 
+/// How decoder i stands. Where there is no such decoder or no layout, it neither runs nor has outputs.
+fn standing(alloc: Global, layout: &mut Layout, i: usize) -> Standing
+    ensures running { (none : NodeValue) → result.running ≡ (if layout.old.made && nat_lt i (length (nodes_of layout.old)) then running_of (slice_index_or (nodes_of layout.old) i none) else None) }
+    ensures outputs { (none : NodeValue) → result.outputs ≡ (if layout.old.made && nat_lt i (length (nodes_of layout.old)) then outputs_of (slice_index_or (nodes_of layout.old) i none) else None) }
+    ensures untouched { IsUnchanged layout.old layout.new }
+{
+    let mut standing = Standing {
+        running: None,
+        outputs: None,
+    };
+    if let Some(world) = layout.take(alloc) {
+        if i < world.nodes() {
+            standing = world.standing(i);
+        }
+        layout.put(world);
+    }
+    standing
+}
+
 /// How decoder i runs, which is written into `motion`.
 ///
 /// False, and nothing is written, for an accessory decoder, and where there is no such decoder or no layout.
@@ -252,22 +271,11 @@ pub extern "C" fn station_running(
     ensures untold { result ≡ false → motion.new ≡ motion.old }
     ensures untouched { IsUnchanged layout.old layout.new }
 {
-    let Some(world) = layout.take(alloc) else {
+    let Some(running) = standing(alloc, layout, i).running else {
         return false;
     };
-    let running = if i < world.nodes() {
-        world.running(i)
-    } else {
-        None
-    };
-    layout.put(world);
-    match running {
-        Some(running) => {
-            *motion = told(running);
-            true
-        }
-        None => false,
-    }
+    *motion = told(running);
+    true
 }
 
 /// The outputs of decoder i, bit j for output j, which are written into `outputs`.
@@ -285,20 +293,9 @@ pub extern "C" fn station_outputs(
     ensures untold { result ≡ false → outputs.new ≡ outputs.old }
     ensures untouched { IsUnchanged layout.old layout.new }
 {
-    let Some(world) = layout.take(alloc) else {
+    let Some(found) = standing(alloc, layout, i).outputs else {
         return false;
     };
-    let found = if i < world.nodes() {
-        world.outputs(i)
-    } else {
-        None
-    };
-    layout.put(world);
-    match found {
-        Some(found) => {
-            *outputs = found;
-            true
-        }
-        None => false,
-    }
+    *outputs = found;
+    true
 }

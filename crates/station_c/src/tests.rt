@@ -15,11 +15,7 @@ const QUIET: Answer = Answer {
     bytes: [0; 14],
 };
 
-const OFF: Answer = Answer {
-    kind: 3,
-    size: 0,
-    bytes: [0; 14],
-};
+const OFF: Answer = Answer { kind: 3, ..QUIET };
 
 /// The idle packet, before anything is in use.
 const IDLE: Answer = Answer {
