@@ -2,10 +2,10 @@
 ghost use Rattle.std.specs.Prelude.{◌≡◌, ◌<◌, ◌≤◌, ◌+◌, [], IfErr, IfOk, IsTrue, is_some, length, map, replicate};
 
 use crate::event::{Event, Told};
-use crate::laws::{events_are_the_layout, headline};
+use crate::laws;
 use crate::sending::send;
 use crate::turning::{lasts, turn};
-use layout_core::{NodeList, World, events_add_up};
+use layout_core::{NodeList, World};
 use over_tcp::{Ask, Reader};
 use station_core::StationFault;
 use std::alloc::Global;
@@ -129,9 +129,9 @@ impl Bus {
         // So does one that hears everything for 171,840 microseconds for each slot that is refreshed.
         ensures in_time { RunsInTime (seen_of self.old) events.now self.old.world.nodes self.new.world.nodes }
     {
-        events_are_the_layout();
-        headline();
-        events_add_up();
+        laws::events_are_the_layout();
+        laws::headline();
+        layout_core::laws::events_add_up();
         self.world.station().always_legal();
         for (i, event) in events.iter().enumerate() {
             told[i] = self.step(*event);

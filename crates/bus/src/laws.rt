@@ -23,23 +23,21 @@ ghost use Rattle.bus.specs.Own.{keeps_place, messages_on, own_asks, sends_in, te
 ghost use Rattle.bus.specs.Texts.{heard_since, is_quiet, is_there, moves, stays, text_for, traffic};
 ghost use Rattle.bus.specs.Time.{HasPassed};
 
-use half_bits::durations_are_bounded;
 use ln_frame::whole_message;
-use station_core::{calls_are_moves, packets_are_short};
 
 /// What a turn of the station may last.
 fn turns_are_bounded()
     ensures { TurnsAreBounded }
 {
-    packets_are_short();
-    durations_are_bounded();
+    station_core::laws::packets_are_short();
+    half_bits::laws::durations_are_bounded();
 }
 
 /// What bytes, whole messages and turns make of a station.
 pub(crate) fn station_moves()
     ensures { StationMoves }
 {
-    calls_are_moves();
+    station_core::laws::calls_are_moves();
     whole_message();
 }
 
@@ -80,8 +78,8 @@ pub fn headline()
 {
     events_are_the_layout();
     turns_are_bounded();
-    layout_core::events_add_up();
-    layout_core::headline();
+    layout_core::laws::events_add_up();
+    layout_core::laws::headline();
 }
 
 /// What each client was told since it joined, event by event, and what one is told that only listens.
@@ -112,5 +110,5 @@ pub fn own_lines()
     ensures visit { (i : ℕ) (kept : Option (List ℕ)) (events rest : List Event) → IsTrue (keeps_place i events) →
         own_asks i kept (Joins i ∷ (events ++ Leaves i ∷ rest)) ≡ asks_of (text_from i events) ++ own_asks i None rest }
 {
-    over_tcp::any_cut();
+    over_tcp::laws::any_cut();
 }

@@ -6,7 +6,7 @@ ghost use Rattle.station_core.specs.Moved.{after_message};
 ghost use Rattle.bus.specs.Bus.{message_in, reply_to};
 ghost use Rattle.bus.specs.Layout.{bytes_on};
 
-use crate::laws::station_moves;
+use crate::laws;
 use layout_core::{Event, World};
 use ln_frame::Msg;
 use ln_ops::to_msg;
@@ -24,7 +24,7 @@ pub(crate) fn send(world: &mut World, line: u8, message: &Msg) -> Option<Msg>
     ensures same { IsSameLayout world.old world.new }
     ensures idle { world.new.station.lines ≡ replicate 8 [] }
 {
-    station_moves();
+    laws::station_moves();
     let mut reply = None;
     for byte in message.bytes() {
         reply = hear(world, line, *byte);

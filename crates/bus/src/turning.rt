@@ -6,9 +6,9 @@ ghost use Rattle.bus.specs.Bus.{lasts};
 ghost use Rattle.bus.specs.Layout.{turn_of};
 
 use dcc_packet::Packet;
-use half_bits::{duration_in_micros, durations_are_bounded};
-use layout_core::{Event, World, events_add_up};
-use station_core::{Step, calls_are_moves, packets_are_short};
+use half_bits::duration_in_micros;
+use layout_core::{Event, World};
+use station_core::Step;
 
 /// The microseconds of a turn without power: those of an idle packet.
 const IDLE: u32 = 5_796;
@@ -22,10 +22,10 @@ pub(crate) fn turn(world: &mut World, missed: u64) -> Option<Packet>
     ensures shortest { 5796 ≤ lasts result }
     ensures longest { lasts result ≤ 10740 }
 {
-    calls_are_moves();
-    events_add_up();
-    packets_are_short();
-    durations_are_bounded();
+    station_core::laws::calls_are_moves();
+    layout_core::laws::events_add_up();
+    station_core::laws::packets_are_short();
+    half_bits::laws::durations_are_bounded();
     match world.step(Event::Turn { missed }) {
         Step::Packet(packet) => Some(packet),
         _ => None,
@@ -36,7 +36,7 @@ pub(crate) fn turn(world: &mut World, missed: u64) -> Option<Packet>
 pub(crate) fn lasts(packet: Option<&Packet>) -> u32
     ensures { result ≡ lasts (option_map (λ p. p.now) packet.entry) }
 {
-    durations_are_bounded();
+    half_bits::laws::durations_are_bounded();
     match packet {
         Some(packet) => duration_in_micros(packet),
         None => IDLE,

@@ -5,8 +5,6 @@ ghost use Rattle.over_tcp.specs.Told.{hex_words};
 ghost use Rattle.plain_words.specs.Messages.{message_words};
 ghost use Rattle.explain.specs.Subjects.{words_about};
 
-use over_tcp::told_is_asked;
-
 /// A line that tells a message of LocoNet over TCP, or sends one, says what the message says.
 pub fn told_is_explained()
     ensures received { (message : List ℕ) → IsWhole message → ((i : ℕ) → slice_index message i < 256)
@@ -14,5 +12,5 @@ pub fn told_is_explained()
     ensures sent { (message : List ℕ) → IsWhole message → ((i : ℕ) → slice_index message i < 256)
         → words_about (codes "SEND" ++ hex_words message) ≡ message_words message }
 {
-    told_is_asked();
+    over_tcp::laws::told_is_asked();
 }

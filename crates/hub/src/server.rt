@@ -14,8 +14,8 @@ ghost use Rattle.hub.specs.Rounds.{AllWrittenTo, IsRound, IsWrittenTo, LetsIn, T
 
 use crate::hub::Hub;
 use crate::wire::{Heard, Wire, Wrote};
-use bus::{Event, Told, Witness, headline};
-use layout_core::{NodeList, World, events_add_up};
+use bus::{Event, Told, Witness};
+use layout_core::{NodeList, World};
 use losses::Losses;
 use std::alloc::{AllocError, Global};
 
@@ -268,8 +268,8 @@ impl Server {
         ensures turns { self.new.turns ≡ self.old.turns }
         ensures passed { OnOk result (HasPassed micros (serving self.old.hub) (serving self.new.hub)) }
     {
-        headline();
-        events_add_up();
+        bus::laws::headline();
+        layout_core::laws::events_add_up();
         self.hub.bus.always_kept();
         let mut rest = micros;
         while rest > 0 {
@@ -315,7 +315,7 @@ impl Server {
         ensures turns { self.new.turns ≡ self.old.turns }
         ensures happened { OnOk result (Does self.old.turns (Brought event) (serving self.old.hub) (serving self.new.hub)) }
     {
-        headline();
+        bus::laws::headline();
         self.hub.bus.always_kept();
         let told = self.hub.step(event);
         witness.told(&told, self.hub.bus.world())?;
@@ -330,8 +330,8 @@ impl Server {
         ensures turns { self.new.turns ≡ self.old.turns }
         ensures happened { OnOk result ((behind : List BusEvent) × AreTurns turns behind × HaveHappened behind (serving self.old.hub) (serving self.new.hub)) }
     {
-        headline();
-        events_add_up();
+        bus::laws::headline();
+        layout_core::laws::events_add_up();
         self.hub.bus.always_kept();
         for _turn in 0..turns {
             let missed = self.draw();

@@ -9,7 +9,7 @@ ghost use Rattle.layout_core.specs.World.{IsSameLayout};
 
 use crate::device::{Sink, Source};
 use crate::event::Event;
-use crate::laws::headline;
+use crate::laws;
 use crate::world::World;
 use crate::writing::{put_all, put_line};
 use ln_ops::to_msg;
@@ -221,7 +221,7 @@ pub fn serve<S: Source, K: Sink, T: Sink>(
     ensures trace_failed { T.failed trace.new ≡ ended_by is_trace result }
     ensures same { IsSameLayout world.old world.new }
 {
-    headline();
+    laws::headline();
     station_core::laws::calls_are_moves();
     world.station.always_legal();
     let mut counts = Counts {

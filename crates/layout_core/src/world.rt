@@ -16,7 +16,7 @@ ghost use Rattle.layout_core.specs.Played.{AreEvents, after_event, after_events,
 ghost use Rattle.layout_core.specs.World.{AfterEvent, HaveHeard, HaveObeyed, IsSameLayout, OneHears};
 
 use crate::event::Event;
-use crate::laws::headline;
+use crate::laws;
 use crate::nodes::Nodes;
 use crate::standing::Standing;
 use decoder_node::{NodeList, Running};
@@ -125,7 +125,7 @@ impl World {
         // So does one whose receiver noise left anywhere, where it hears one turn more.
         ensures after_noise { RunsAfterNoise (known_of self.old.station) events.now self.old.nodes self.new.nodes }
     {
-        headline();
+        laws::headline();
         station_core::laws::stays_a_desk();
         self.station.always_legal();
         for (i, event) in events.iter().enumerate() {

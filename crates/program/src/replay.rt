@@ -18,11 +18,11 @@ use crate::layout::print_nodes;
 use console::{Lent, RunFault, Unwritten, flush_after, print, print_ended};
 use dcc_packet::Packet;
 use input_text::{Input, read_most};
-use layout_core::{Event, World, events_add_up, headline};
+use layout_core::{Event, World};
 use ln_ops::Reply;
 use roster::Roster;
 use show_text::{Command, LONGEST_TEXT, Line, push_off, push_track, read_script, reply_line};
-use station_core::{Step, calls_are_moves};
+use station_core::Step;
 use std::alloc::Global;
 use std::io::{BufWriter, Write};
 
@@ -96,8 +96,8 @@ fn play<O: Write>(
     requires numbers { turns_among (events_in commands.now) + 1 < 2 ^ 64 }
     ensures replayed { OnOk result (Replays world.old (entries_in (roster_value roster.entry)) commands.now world.new (O.contents output.old) (O.contents output.new)) }
 {
-    events_add_up();
-    headline();
+    layout_core::laws::events_add_up();
+    layout_core::laws::headline();
     world.station().always_legal();
     let mut turn = 1;
     let mut text = Line::new();
@@ -125,7 +125,7 @@ fn play_command<O: Write>(
     ensures next { IfOk result (λ next. next ≡ turn + turns_among (events_of command)) }
     ensures same { IsSameLayout world.old world.new }
 {
-    events_add_up();
+    layout_core::laws::events_add_up();
     match command {
         Command::Byte { line, byte } => {
             play_event(world, Event::Byte { line, byte }, line, turn, text, output)?;
@@ -154,8 +154,8 @@ fn play_turns<O: Write>(
     ensures next { IfOk result (λ next. next ≡ first + count) }
     ensures same { IsSameLayout world.old world.new }
 {
-    calls_are_moves();
-    events_add_up();
+    station_core::laws::calls_are_moves();
+    layout_core::laws::events_add_up();
     let next = first + u64::from(count);
     for turn in first..next {
         play_event(world, Event::Turn { missed }, 0, turn, text, output)?;
@@ -179,7 +179,7 @@ fn play_event<O: Write>(
     ensures printed { OnOk result (Appends (O.contents output.old) (O.contents output.new) (line_of_answer line turn (answer_to world.old.station event))) }
     ensures same { IsSameLayout world.old world.new }
 {
-    events_add_up();
+    layout_core::laws::events_add_up();
     let answer = world.step(event);
     print_answer(answer, line, turn, text, output)
 }

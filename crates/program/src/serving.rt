@@ -9,7 +9,7 @@ ghost use Rattle.program.specs.Layout.{IsWorldOf, entries_in, roster_value};
 
 use crate::layout::print_nodes;
 use console::{Lent, RunFault};
-use layout_core::{Limits, Port, ServeFault, Sink, Source, World, events_add_up, headline, serve};
+use layout_core::{Limits, Port, ServeFault, Sink, Source, World, serve};
 use roster::Roster;
 use std::io::Write;
 use std::net::{Net, TcpListener, TcpStream};
@@ -51,8 +51,8 @@ pub fn serve_on<O: Write>(
     ensures served { OnOk result (HasServed limits connections (entries_in (roster_value roster.entry)) world.old world.new [] (O.contents output.old) (O.contents output.new)) }
     ensures given_up { IfErr result (λ e. HasGivenUp e limits connections (entries_in (roster_value roster.entry)) world.old world.new (O.contents output.old) (O.contents output.new)) }
 {
-    events_add_up();
-    headline();
+    layout_core::laws::events_add_up();
+    layout_core::laws::headline();
     world.station().always_legal();
     for _served in 0..connections {
         let Ok((stream, _)) = listener.accept() else {

@@ -10,7 +10,7 @@ ghost use Rattle.station_c.specs.Event.{event_of, is_one};
 
 use crate::answer::{Answer, answered};
 use crate::event::{EventFields, read};
-use layout_core::{World, events_add_up, headline};
+use layout_core::{World, headline};
 
 /// Each event in order, its answer written at its place.
 pub(crate) fn run(world: &mut World, events: &[EventFields], answers: &mut [Answer])
@@ -23,7 +23,7 @@ pub(crate) fn run(world: &mut World, events: &[EventFields], answers: &mut [Answ
     ensures headline { RunsAsWanted (known_of world.old.station) (map event_of events.now) world.old.nodes world.new.nodes }
     ensures after_noise { RunsAfterNoise (known_of world.old.station) (map event_of events.now) world.old.nodes world.new.nodes }
 {
-    events_add_up();
+    layout_core::laws::events_add_up();
     headline();
     world.station().always_legal();
     for (i, fields) in events.iter().enumerate() {

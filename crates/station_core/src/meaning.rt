@@ -20,7 +20,7 @@ ghost use Rattle.station_core.specs.Powered.{HasDesk, PoweredDesk};
 ghost use Rattle.station_core.specs.Reads.{WritesItsBytes};
 ghost use Rattle.station_core.specs.Seen.{Seen};
 
-use crate::laws::changes_wait;
+use crate::laws;
 
 /// A slot asks for F0 to F12 bit by bit, and for no function above. Bit 5 of DIRF is the direction, 0 forward.
 pub fn functions_are_bits()
@@ -34,7 +34,7 @@ pub fn functions_are_bits()
 pub fn what_is_new_waits()
     ensures { (seen : Seen) (op : OpOf) (slot : ℕ) (kind : KindOf) → HasDesk seen.powered → IsSlot slot → IsNew seen op slot kind → WaitsAfter seen op slot kind }
 {
-    changes_wait();
+    laws::changes_wait();
     slot_table::laws::others_stay();
     slot_table::laws::own_slots();
 }
@@ -43,7 +43,7 @@ pub fn what_is_new_waits()
 pub fn whole_slots_wait()
     ensures { (seen : Seen) (op : OpOf) (slot : ℕ) (kind : KindOf) → IsSlot slot → LeavesSlot seen.powered.desk op slot → WaitsAfter seen op slot kind }
 {
-    changes_wait();
+    laws::changes_wait();
 }
 
 /// OPC_IMM_PACKET asks for F9 to F12 of a slot exactly where its bytes are a packet of function group three to the

@@ -23,10 +23,7 @@ ghost use Rattle.station_core.specs.Sent.{IsPacketOfDesk};
 ghost use Rattle.station_core.specs.Moved.{after_byte, after_turn, answer_to_byte, message_ended, packet_of, packet_of_turn};
 
 use crate::call::{Call, Step};
-use crate::laws::{
-    changes_first, changes_wait, coverage, desk_of_messages, messages_of_a_line, neighbours,
-    packets_of_the_desk, stays_a_desk, switches_are_sent, switches_in_order,
-};
+use crate::laws;
 use crate::packets::entry_packet;
 use crate::schedule::Addresses;
 use arrayvec::ArrayVec;
@@ -179,7 +176,7 @@ impl Station {
         // No address has two slots, and each slot that is not free has its entry.
         ensures desk { IsDesk self.old.powered.desk }
     {
-        changes_wait();
+        laws::changes_wait();
         left_is_enough();
         let framer = &mut self.framers[line as usize];
         let message = framer.push(byte)?;
@@ -196,7 +193,7 @@ impl Station {
         ensures desk { IsDesk self.old.powered.desk }
     {
         refresh_ring::laws::picks_are_due();
-        packets_of_the_desk();
+        laws::packets_of_the_desk();
         let view = Addresses { table: &self.table };
         let pick = self.schedule.pick(&view, self.power);
         self.packet_of(pick)
@@ -227,14 +224,14 @@ impl Station {
         ensures switches_are_sent { SwitchesAreSent self.old calls.now }
     {
         self.always_legal();
-        desk_of_messages();
-        messages_of_a_line();
-        stays_a_desk();
-        coverage();
-        neighbours();
-        changes_first();
-        switches_in_order();
-        switches_are_sent();
+        laws::desk_of_messages();
+        laws::messages_of_a_line();
+        laws::stays_a_desk();
+        laws::coverage();
+        laws::neighbours();
+        laws::changes_first();
+        laws::switches_in_order();
+        laws::switches_are_sent();
         for (i, call) in calls.iter().enumerate() {
             steps[i] = self.call(*call);
         }
