@@ -264,17 +264,21 @@ fn ends_in_use(
     Ok(in_use && ended(&served, Err(fault), done))
 }
 
+/// The sum of a connection on which nothing was replied.
+fn no_replies(reads: u32, bytes: u64, turns: u64) -> Summary {
+    Summary {
+        reads,
+        bytes,
+        replies: 0,
+        turns,
+    }
+}
+
 #[test]
 fn power_comes_on(rt: HostRuntime) -> Result<(), Fail> {
     let limits = Limits { reads: 2, turns: 1 };
     let served = serve_last(rt.alloc(), 1, &[0x83, 0x7C], limits)?;
-    let summary = Summary {
-        reads: 2,
-        bytes: 2,
-        replies: 0,
-        turns: 2,
-    };
-    assert!(rt; served.outcome == Ok(summary));
+    assert!(rt; served.outcome == Ok(no_replies(2, 2, 2)));
     assert!(rt; served.written.is_empty());
     assert!(rt; served.traced.as_slice() == b"track 1 off\ntrack 2 FF 00 FF\n".as_slice());
     Ok(())
@@ -285,13 +289,7 @@ fn a_read_asks_for_64_bytes(rt: HostRuntime) -> Result<(), Fail> {
     // Two such reads, one of the byte behind them, and the one that finds the end.
     let limits = Limits { reads: 4, turns: 0 };
     let served = serve_last(rt.alloc(), 1, &[0u8; 129], limits)?;
-    let summary = Summary {
-        reads: 4,
-        bytes: 129,
-        replies: 0,
-        turns: 0,
-    };
-    assert!(rt; served.outcome == Ok(summary));
+    assert!(rt; served.outcome == Ok(no_replies(4, 129, 0)));
     Ok(())
 }
 
