@@ -4,12 +4,12 @@
 mod device;
 mod engine;
 mod event;
+mod ghost_count;
 pub mod laws;
 mod node;
 mod nodes;
 mod port;
 mod standing;
-mod tally;
 mod world;
 mod writing;
 

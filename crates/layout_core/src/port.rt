@@ -3,7 +3,7 @@ ghost use Rattle.std.specs.Prelude.{◌≡◌, false};
 ghost use Rattle.layout_core.specs.Port.{count_of, some_count_of};
 
 use crate::device::{Broken, Sink, Source};
-use crate::tally::Tally;
+use crate::ghost_count::GhostCount;
 use std::io;
 use std::io::{Read, Write};
 
@@ -14,7 +14,7 @@ pub struct Port<T> {
     inner: T,
     failed: bool,
     ended: bool,
-    reads: Tally,
+    reads: GhostCount,
 }
 
 impl<T> Port<T> {
@@ -31,7 +31,7 @@ impl<T> Port<T> {
             inner,
             failed: false,
             ended: false,
-            reads: Tally::new(),
+            reads: GhostCount::new(),
         }
     }
 }

@@ -21,17 +21,17 @@ use denote.Triple.Entry.{on_entry}
 use denote.Triple.Spec.{Meets, triple_of}
 use denote.Triple.Table.{entered}
 use denote.Triple.Walked.{says, ends_at, walked, walk_Meets}
-use Rattle.layout_core.specs.declared.tally.Tally.{Tally}
-use Rattle.layout_core.specs.contracts.tally.Tally as T
-use Rattle.layout_core.specs.contracts.tally.Tally.new.Key.{name as #it}
-use Rattle.layout_core.specs.contracts.tally.Tally.new as it
-use Rattle.layout_core.proofs.tally.Tally.new.Statement as stated
-use Rattle.layout_core.proofs.tally.Tally.new.Code as code
+use Rattle.layout_core.specs.declared.ghost_count.GhostCount.{GhostCount}
+use Rattle.layout_core.specs.contracts.ghost_count.GhostCount as T
+use Rattle.layout_core.specs.contracts.ghost_count.GhostCount.new.Key.{name as #it}
+use Rattle.layout_core.specs.contracts.ghost_count.GhostCount.new as it
+use Rattle.layout_core.proofs.ghost_count.GhostCount.new.Statement as stated
+use Rattle.layout_core.proofs.ghost_count.GhostCount.new.Code as code
 
 abbrev v : Val
 v = vstruct (vcons (vstruct vnil) vnil)
 
-abbrev r : Tally
+abbrev r : GhostCount
 r = record { marker = record {}; count = 0 }
 
 meets : {M : Type 1} {𝓤 : Ura M} (𝓛 : Logic 𝓤) → (at_mem : Memory → SProp 𝓤) (run : Routine → Fun 𝓤) (𝓣 : Tables 𝓤 𝓛.H)

@@ -5,23 +5,23 @@ use std::marker::{Model, PhantomData};
 
 /// A number that proofs alone see. It takes no memory.
 #[derive(Drop)]
-pub(crate) struct Tally {
+pub(crate) struct GhostCount {
     marker: PhantomData<u8>,
     pub(crate) ghost count: { ℕ },
 }
 
-impl Model for Tally {
+impl Model for GhostCount {
     ghost use Rattle.std.specs.Borrow.{ftrue};
 
     ghost also_owns = { λ _. ftrue };
 }
 
-impl Tally {
+impl GhostCount {
     /// Nothing counted.
-    pub(crate) fn new() -> Tally
+    pub(crate) fn new() -> GhostCount
         ensures { result.count ≡ 0 }
     {
-        Tally {
+        GhostCount {
             marker: PhantomData,
         }
     }

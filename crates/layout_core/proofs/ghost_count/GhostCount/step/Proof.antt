@@ -25,27 +25,27 @@ use denote.Triple.Entry.{on_entry}
 use denote.Triple.Spec.{Meets, triple_of}
 use denote.Triple.Table.{entered}
 use denote.Triple.Walked.{says, Stays, stay_ref, walk_of, AllGo, Goes-ref, Walks, ends_at, walked, walk_Meets}
-use Rattle.layout_core.specs.declared.tally.Tally.{Tally}
-use Rattle.layout_core.specs.contracts.tally.Tally as T
-use Rattle.layout_core.specs.contracts.tally.Tally.step.Key.{name as #it}
-use Rattle.layout_core.specs.contracts.tally.Tally.step as it
-use Rattle.layout_core.proofs.tally.Tally.step.Statement as stated
-use Rattle.layout_core.proofs.tally.Tally.step.Code as code
+use Rattle.layout_core.specs.declared.ghost_count.GhostCount.{GhostCount}
+use Rattle.layout_core.specs.contracts.ghost_count.GhostCount as T
+use Rattle.layout_core.specs.contracts.ghost_count.GhostCount.step.Key.{name as #it}
+use Rattle.layout_core.specs.contracts.ghost_count.GhostCount.step as it
+use Rattle.layout_core.proofs.ghost_count.GhostCount.step.Statement as stated
+use Rattle.layout_core.proofs.ghost_count.GhostCount.step.Code as code
 use Rattle.std.proofs.Common.{◌+◌}
 
 abbrev Arg : Type 0
-Arg = MutBor Tally × Unit {0}
+Arg = MutBor GhostCount × Unit {0}
 
 abbrev stayed : Stays (it.ended).signature.params (it.ended).kept
 stayed = (stay_ref (0 ∷ []) tt (plain (λ _. T.the_row)), tt)
 
-module _ {M : Type 1} {𝓤 : Ura M} (𝓛 : Logic 𝓤) (at_mem : Memory → SProp 𝓤) (run : Routine → Fun 𝓤) (κ : Lft) (q : Share) (b o : ℕ) (γ : GName) (h : Tally) where
+module _ {M : Type 1} {𝓤 : Ura M} (𝓛 : Logic 𝓤) (at_mem : Memory → SProp 𝓤) (run : Routine → Fun 𝓤) (κ : Lft) (q : Share) (b o : ℕ) (γ : GName) (h : GhostCount) where
   open 𝓛 use {H, A}
 
   abbrev x : Arg
   x = (record { ref_ptr = (b, o); ghost_name = γ; now = h }, tt)
 
-  abbrev h' : Tally
+  abbrev h' : GhostCount
   h' = record { marker = h.marker; count = h.count + 1 }
 
   abbrev at : List Val × Unit {0}
