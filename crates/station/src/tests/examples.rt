@@ -3,7 +3,7 @@
 use super::{look, run_on};
 use std::test::Fail;
 
-const LAYOUT: &[u8] = b"# The decoders of a small layout: a shunter and a turnout.
+pub(super) const LAYOUT: &[u8] = b"# The decoders of a small layout: a shunter and a turnout.
 version = 2
 
 [[node]]

@@ -3,6 +3,7 @@
 //!
 //! These tests take the memory of the process, and so need the allocator of the C library: `rt test`, and not `rt try`.
 
+use super::examples::LAYOUT;
 use crate::{OrderFault, execute, order};
 use decoder_node::NodeList;
 use failing_streams::Scarcity;
@@ -15,17 +16,6 @@ use std::alloc::Global;
 use std::fs;
 use std::net::TcpListener;
 use std::test::Fail;
-
-const ROSTER: &[u8] = b"version = 2
-[[node]]
-name = \"shunter\"
-kind = \"loco\"
-cvs = [[1, 3], [29, 2]]
-[[node]]
-name = \"yard\"
-kind = \"accessory\"
-module = 1
-";
 
 const SHOWN: &[u8] = b"node shunter short 3 stop forward F 0000000000000
 node yard module 1 outputs 00000000
@@ -112,7 +102,7 @@ fn answer(rt: &HostRuntime, work: Work<'_>, pages: &mut Pages) -> Option<bool> {
             Ok(world) => Some(world.station().lines() == 8),
             Err(fault) => other_than(fault == StationFault::NoMemory),
         },
-        Work::Roster => match roster::read(alloc, ROSTER) {
+        Work::Roster => match roster::read(alloc, LAYOUT) {
             Ok(roster) => Some(roster.len() == 2),
             Err(fault) => other_than(fault.why == roster::Why::NoMemory),
         },
@@ -228,7 +218,7 @@ fn far_behind(rt: &HostRuntime, text: &[u8]) -> Result<Vec<u8>, Fail> {
 #[test]
 fn replays(rt: HostRuntime) -> Result<(), Fail> {
     let file = "station-test-memory.toml";
-    fs::write(&rt, file, ROSTER)?;
+    fs::write(&rt, file, LAYOUT)?;
     let text = far_behind(&rt, b"show")?;
     let words = ["replay", "--roster", file];
     let rows: [(&[&str], &[u8]); 3] = [(&[], b""), (&["replay"], b""), (&words, SHOWN)];
@@ -286,7 +276,7 @@ fn servers(rt: HostRuntime) -> Result<(), Fail> {
     let listener: TcpListener = TcpListener::bind(&rt, "127.0.0.1:0")?;
     let port = format!(in rt.alloc(); "{}", listener.local_addr()?.port())?;
     let file = "station-test-memory-serve.toml";
-    fs::write(&rt, file, ROSTER)?;
+    fs::write(&rt, file, LAYOUT)?;
     let right = both_serve(&rt, port.as_str(), file)?;
     assert!(rt; right);
     fs::remove_file(&rt, file)?;

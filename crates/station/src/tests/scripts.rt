@@ -1,6 +1,7 @@
 //! Scripts: replies, turns and script faults.
 
 use super::{look, run, run_on};
+use std::fmt::Write;
 use std::test::Fail;
 
 // Words, standard input, and then the status, standard output and standard error.
@@ -119,33 +120,29 @@ turn 16
 show
 ";
 
-const F9_SENT: &[u8] = b"reply 0 E7 0E 01 23 03 00 00 06 00 00 00 00 00 31
+/// What is printed: replies, packets that are each sent twice, with an idle packet behind, and how the decoder stands.
+const F9_REPLIES: &str = "reply 0 E7 0E 01 23 03 00 00 06 00 00 00 00 00 31
 reply 0 E7 0E 01 33 03 00 00 07 00 00 00 00 00 20
 reply 0 B4 7D 7F 49
-track 1 03 3F 80 BC
-track 2 FF 00 FF
-track 3 03 3F 80 BC
-track 4 FF 00 FF
-track 5 03 80 83
-track 6 FF 00 FF
-track 7 03 80 83
-track 8 FF 00 FF
-track 9 03 B0 B3
-track 10 FF 00 FF
-track 11 03 B0 B3
-track 12 FF 00 FF
-track 13 03 A1 A2
-track 14 FF 00 FF
-track 15 03 A1 A2
-track 16 FF 00 FF
-node a short 3 stop forward F 0000000001000
 ";
+
+const F9_SENT: [&str; 4] = ["03 3F 80 BC", "03 80 83", "03 B0 B3", "03 A1 A2"];
+
+const F9_SHOWN: &str = "node a short 3 stop forward F 0000000001000\n";
 
 #[test]
 fn f9_in_sixteen_turns(rt: HostRuntime) -> Result<(), Fail> {
     let file = "station-test-one.toml";
     let words = ["replay", "--roster", file];
     let ran = run_on(&rt, &words, file, ONE_LOCOMOTIVE, F9_ON)?;
-    look(&rt, &ran, 0, F9_SENT, b"");
+    let mut printed = format!(in rt.alloc(); "{F9_REPLIES}")?;
+    for (at, packet) in F9_SENT.iter().enumerate() {
+        let [first, second] = [4 * at + 1, 4 * at + 3];
+        let [behind, last] = [first + 1, second + 1];
+        writeln!(printed, "track {first} {packet}\ntrack {behind} FF 00 FF")?;
+        writeln!(printed, "track {second} {packet}\ntrack {last} FF 00 FF")?;
+    }
+    write!(printed, "{F9_SHOWN}")?;
+    look(&rt, &ran, 0, printed.as_bytes(), b"");
     Ok(())
 }

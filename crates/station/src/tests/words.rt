@@ -4,37 +4,10 @@ use super::run;
 use crate::{Order, OrderFault, order};
 use command_line::no_text;
 use console::{read_words, texts};
+use failing_streams::{Given, has_all};
 use program::tell;
 use std::alloc::Global;
-use std::env::{Env, FillError};
 use std::test::Fail;
-
-/// The words that a system gives, the program's name first.
-#[derive(Drop)]
-struct Given<'a> {
-    words: &'a [&'a [u8]],
-}
-
-impl Env for Given<'_> {
-    fn arg(&self, i: usize, buf: &mut [u8]) -> Result<usize, FillError> {
-        let Some(word) = self.words.get(i) else {
-            return Err(FillError::NotPresent);
-        };
-        if word.len() > buf.len() {
-            return Err(FillError::TooLong);
-        }
-        buf[..word.len()].copy_from_slice(word);
-        Ok(word.len())
-    }
-
-    fn var(&self, _name: &str, _buf: &mut [u8]) -> Result<usize, FillError> {
-        Err(FillError::NotPresent)
-    }
-
-    fn var_at(&self, _i: usize, _buf: &mut [u8]) -> Result<usize, FillError> {
-        Err(FillError::NotPresent)
-    }
-}
 
 #[test]
 fn words_behind_the_name(rt: HostRuntime) -> Result<(), Fail> {
@@ -45,19 +18,6 @@ fn words_behind_the_name(rt: HostRuntime) -> Result<(), Fail> {
     let texts = texts(rt.alloc(), words.as_slice())?;
     assert_eq!(rt; texts.as_slice(), ["monitor", "caf\u{e9}.hex"].as_slice());
     Ok(())
-}
-
-/// Whether the text has each of these parts.
-fn has_all(text: &[u8], parts: &[&str]) -> bool {
-    let Ok(text) = std::str::from_utf8(text) else {
-        return false;
-    };
-    for part in parts {
-        if !text.contains(*part) {
-            return false;
-        }
-    }
-    true
 }
 
 /// What is answered and told where the words cannot be read.
@@ -160,45 +120,41 @@ fn options_of_replay_and_monitor(rt: HostRuntime) {
     assert!(rt; is_monitor(rt.alloc(), &["monitor", "capture.hex"], "capture.hex"));
 }
 
-/// What an order to serve holds: port, turns, reads, connections and whether there is a roster.
-type Served = (u16, u8, u32, u32, bool);
-
-/// The words of an order to serve, and what it holds.
-const SERVED: [(&'static [&'static str], Served); 2] = [
-    (&["serve", "--port", "5550"], (5550, 1, 100_000, 1, false)),
-    (
-        &[
-            "serve",
-            "--port=65535",
-            "--turns=0",
-            "--reads=4294967295",
-            "--connections=1000",
-            "--roster=layout.toml",
-        ],
-        (65_535, 0, 4_294_967_295, 1000, true),
-    ),
-];
-
-fn served(alloc: Global, words: &[&str]) -> Option<Served> {
-    match order(alloc, words) {
-        Ok(
-            Order::Serve {
-                port,
-                roster,
-                turns,
-                reads,
-                connections,
-            },
-        ) => Some((port, turns, reads, connections, roster.is_some())),
-        _ => None,
-    }
-}
-
 #[test]
 fn options_of_serve(rt: HostRuntime) {
-    for (words, held) in SERVED {
-        assert!(rt; served(rt.alloc(), words) == Some(held), "of {words:?}");
-    }
+    let least = ["serve", "--port", "5550"];
+    assert!(rt;
+        matches!(
+            order(rt.alloc(), &least),
+            Ok(Order::Serve {
+                port: 5550,
+                roster: None,
+                turns: 1,
+                reads: 100_000,
+                connections: 1
+            })
+        )
+    );
+    let all = [
+        "serve",
+        "--port=65535",
+        "--turns=0",
+        "--reads=4294967295",
+        "--connections=1000",
+        "--roster=layout.toml",
+    ];
+    assert!(rt;
+        matches!(
+            order(rt.alloc(), &all),
+            Ok(Order::Serve {
+                port: 65_535,
+                roster: Some(_),
+                turns: 0,
+                reads: 4_294_967_295,
+                connections: 1000
+            })
+        )
+    );
 }
 
 /// Words, and parts of what standard error is told.
