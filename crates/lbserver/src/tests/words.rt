@@ -3,7 +3,7 @@
 use crate::executing::execute;
 use command_line::{OrderFault, ServerOrder, no_server_text, server_order};
 use console::{read_words, tell_as};
-use std::env::{Env, FillError};
+use failing_streams::{Given, has_all};
 use std::net::Ipv4Addr;
 use std::test::Fail;
 
@@ -180,19 +180,6 @@ const TOLD: [(&'static [&'static str], &'static [&'static str]); 5] = [
     ),
 ];
 
-/// Whether the text has each of these parts.
-fn has_all(text: &[u8], parts: &[&str]) -> bool {
-    let Ok(text) = std::str::from_utf8(text) else {
-        return false;
-    };
-    for part in parts {
-        if !text.contains(*part) {
-            return false;
-        }
-    }
-    true
-}
-
 #[test]
 fn faults_are_told(rt: HostRuntime) {
     for (words, parts) in TOLD {
@@ -202,33 +189,6 @@ fn faults_are_told(rt: HostRuntime) {
         assert!(rt; output.is_empty(), "of {words:?}");
         assert!(rt; status == 1 || status == 2, "of {words:?}");
         assert!(rt; has_all(faults.as_slice(), parts), "of {words:?}");
-    }
-}
-
-/// The words that a system gives, the program's name first.
-#[derive(Drop)]
-struct Given<'a> {
-    words: &'a [&'a [u8]],
-}
-
-impl Env for Given<'_> {
-    fn arg(&self, i: usize, buf: &mut [u8]) -> Result<usize, FillError> {
-        let Some(word) = self.words.get(i) else {
-            return Err(FillError::NotPresent);
-        };
-        if word.len() > buf.len() {
-            return Err(FillError::TooLong);
-        }
-        buf[..word.len()].copy_from_slice(word);
-        Ok(word.len())
-    }
-
-    fn var(&self, _name: &str, _buf: &mut [u8]) -> Result<usize, FillError> {
-        Err(FillError::NotPresent)
-    }
-
-    fn var_at(&self, _i: usize, _buf: &mut [u8]) -> Result<usize, FillError> {
-        Err(FillError::NotPresent)
     }
 }
 
