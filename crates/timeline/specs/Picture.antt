@@ -148,9 +148,12 @@ abbrev pub path_open : List ℕ → List ℕ
 path_open style = codes "<path stroke-width=\"" ++ style ++ codes "\" d=\""
 
 -- Its name, its base from the first turn to the last, and its marks.
+
+unfoldable pub head_text : Row → (base : ℕ) → List ℕ
+head_text row base = label_open base ++ name_of row ++ base_line base ++ path_open (style_of row)
+
 unfoldable pub row_text : Row → (turns : ℕ) → List Event → (base : ℕ) → List ℕ
-row_text row turns events base =
-    label_open base ++ name_of row ++ base_line base ++ path_open (style_of row) ++ marks_text row base None (marks_of row turns 0 events) ++ codes "\"/>\n"
+row_text row turns events base = head_text row base ++ marks_text row base None (marks_of row turns 0 events) ++ codes "\"/>\n"
 
 -- rows one below another, the first below this place
 unfoldable pub rows_text : (turns : ℕ) → List Event → (top : ℕ) → List Row → List ℕ

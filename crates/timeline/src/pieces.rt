@@ -1,7 +1,7 @@
 //! The texts of marks and rows.
 ghost use Rattle.std.specs.Prelude.{◌≡◌, ◌≤◌, ◌<◌, ◌^◌, ◌+◌, None, OnOk, codes, length};
 ghost use Rattle.std.specs.Io.KnownBytes.{Appends};
-ghost use Rattle.timeline.specs.Picture.{address_name, base_line, is_line, is_same, joined_text, kind_name, label_open, mark_text, module_name, marks_of, marks_text, name_of, next_text, part_name, part_strokes, path_open, point_text, room_of, row_text, step_text, strokes_of, style_of, turn_after, x_of};
+ghost use Rattle.timeline.specs.Picture.{address_name, base_line, head_text, is_line, is_same, joined_text, kind_name, label_open, mark_text, module_name, marks_of, marks_text, name_of, next_text, part_name, part_strokes, path_open, point_text, room_of, row_text, step_text, strokes_of, style_of, turn_after, x_of};
 
 use crate::event::Event;
 use crate::levels::height_of;
@@ -125,34 +125,6 @@ fn write_next<O: Write>(
     write_mark(row, base, last, mark, output)
 }
 
-/// Writes what a row shows of all events.
-fn write_marks<O: Write>(
-    row: &Row,
-    turns: u64,
-    events: &[Event],
-    base: u64,
-    output: &mut O,
-) -> io::Result<()>
-    requires few { length events.now < 2 ^ 32 }
-    requires base { 48 ≤ base }
-    ensures { OnOk result (Appends (O.contents output.old) (O.contents output.new) (marks_text row.now base None (marks_of row.now turns 0 events.now))) }
-{
-    let mut turn = 0;
-    let mut last = None;
-    for event in events {
-        turn = turn_after(turn, event);
-        if let Some(height) = height_of(row, event) {
-            let mark = Mark {
-                x: x_of(turns, turn),
-                height,
-            };
-            write_next(row, base, &last, mark, output)?;
-            last = Some(mark);
-        }
-    }
-    Ok(())
-}
-
 fn part_name(part: Part) -> &'static str
     ensures { result.now ≡ part_name part }
 {
@@ -267,7 +239,17 @@ fn write_end<O: Write>(output: &mut O) -> io::Result<()>
     output.write_all(b"\"/>\n")
 }
 
-/// Writes a row: its name, its base and its marks.
+/// Writes a row up to its marks: its name, its base and the beginning of a path.
+fn write_head<O: Write>(row: &Row, base: u64, output: &mut O) -> io::Result<()>
+    ensures { OnOk result (Appends (O.contents output.old) (O.contents output.new) (head_text row.now base)) }
+{
+    write_label_open(base, output)?;
+    write_name(row, output)?;
+    write_base(base, output)?;
+    write_style(style_of(row), output)
+}
+
+/// Writes a row: its name, its base, and what it shows of all events.
 pub(crate) fn write_row<O: Write>(
     row: &Row,
     turns: u64,
@@ -279,10 +261,19 @@ pub(crate) fn write_row<O: Write>(
     requires base { 48 ≤ base }
     ensures { OnOk result (Appends (O.contents output.old) (O.contents output.new) (row_text row.now turns events.now base)) }
 {
-    write_label_open(base, output)?;
-    write_name(row, output)?;
-    write_base(base, output)?;
-    write_style(style_of(row), output)?;
-    write_marks(row, turns, events, base, output)?;
+    write_head(row, base, output)?;
+    let mut turn = 0;
+    let mut last = None;
+    for event in events {
+        turn = turn_after(turn, event);
+        if let Some(height) = height_of(row, event) {
+            let mark = Mark {
+                x: x_of(turns, turn),
+                height,
+            };
+            write_next(row, base, &last, mark, output)?;
+            last = Some(mark);
+        }
+    }
     write_end(output)
 }

@@ -1,16 +1,45 @@
-use Rattle.std.proofs.Common.{ℕ, List, ◌++◌, None, codes, subst}
-use Rattle.std.proofs.KnownBytes.{Appends-trans}
-use Rattle.std.specs.Io.KnownBytes.{Appends}
-use Rattle.timeline.specs.Picture.{base_line, label_open, marks_of, marks_text, name_of, path_open, row_text, style_of}
-use Rattle.timeline.proofs.Written.{then_ok}
+use Rattle.std.proofs.Common.{rules, ◌≡◌, ◌+◌, ◌∷◌, ◌++◌, None, codes, refl, ap, sym, ◌∙◌, drop, drop_of_length-le as drop_all, arith}
+use Rattle.std.proofs.lemmas.List.{drop_more}
+use Rattle.timeline.specs.declared.event.Event.{Event}
+use Rattle.timeline.specs.Picture.{head_text, marks_of, marks_text, row_text}
+use Rattle.timeline.proofs.Steps.{marks_end}
+use Rattle.timeline.proofs.Written.{marked, then_ok, unmarked, written_all}
 use Rattle.timeline.proofs.pieces.write_row.Goals as goal
+use Rattle.timeline.proofs.pieces.write_row.Goals.{in-Some+in_ok-write_next, in_default}
+
+pub loop-event-init : goal.loop-event-init
+loop-event-init g c = record {
+  drawn = record { written = head_text c.args.row.now c.args.base; appended = c.in_ok-write_head.ensures; whole = refl };
+  soon = omega arith;
+}
+
+pub loop-event-preserved : goal.loop-event-preserved
+loop-event-preserved g c =
+    let event = c.event-item.result in
+    let left = drop c.loop-event.event-index c.args.events.now in
+    let rest = drop (c.loop-event.event-index + 1) c.args.events.now in
+    let all = head_text c.args.row.now c.args.base ++ marks_text c.args.row.now c.args.base None (marks_of c.args.row.now c.args.turns 0 c.args.events.now) in
+    let is = drop_more c.args.events.now c.loop-event.event-index event c.loop-event-test.true ∙ ap (λ (i : Event). i ∷ drop (c.loop-event.event-index + 1) c.args.events.now) (sym c.event-item.is) in
+    record {
+      drawn = elim c.match-height_of.branch [
+        | in-Some+in_ok-write_next w ↦
+            marked c.args.row.now c.args.turns c.args.base c.loop-event.turn c.turn_after-turn.result c.loop-event.last c.match-height_of.last left event rest w.in-Some.height w.x_of.result c.height_of.result all
+            (g.O.Write.contents c.args.output.now) (g.O.Write.contents c.loop-event.output) (g.O.Write.contents w.write_next.new.output) (g.O.Write.contents c.match-height_of.output) c.loop-event.invariant.drawn is
+            c.turn_after-turn.ensures.value c.height_of.ensures.value w.in-Some.is w.x_of.ensures w.last-is w.in_ok-write_next.ensures (ap g.O.Write.contents w.output-is)
+        | in_default w ↦
+            unmarked c.args.row.now c.args.turns c.args.base c.loop-event.turn c.turn_after-turn.result c.loop-event.last c.match-height_of.last left event rest c.height_of.result all
+            (g.O.Write.contents c.args.output.now) (g.O.Write.contents c.loop-event.output) (g.O.Write.contents c.match-height_of.output) c.loop-event.invariant.drawn is
+            c.turn_after-turn.ensures.value c.height_of.ensures.value (let none : c.height_of.result ≡ None = search rules in none) w.last-is (ap g.O.Write.contents w.output-is)
+      ];
+      soon = omega (arith, c.loop-event.invariant.soon, c.turn_after-turn.ensures.most);
+    }
 
 pub returns : goal.returns
 unfolding row_text
 returns g c =
-    then_ok c.write_end.result (g.O.Write.contents c.args.output.now) (g.O.Write.contents c.write_marks.new.output) (g.O.Write.contents c.write_end.new.output) (((((label_open c.args.base) ++ (name_of c.args.row.now)) ++ (base_line c.args.base)) ++ (path_open (style_of c.args.row.now))) ++ (marks_text c.args.row.now c.args.base None (marks_of c.args.row.now c.args.turns 0 c.args.events.now))) (codes "\"/>\n")
-    (Appends-trans (g.O.Write.contents c.args.output.now) (g.O.Write.contents c.write_style.new.output) (g.O.Write.contents c.write_marks.new.output) ((((label_open c.args.base) ++ (name_of c.args.row.now)) ++ (base_line c.args.base)) ++ (path_open (style_of c.args.row.now))) (marks_text c.args.row.now c.args.base None (marks_of c.args.row.now c.args.turns 0 c.args.events.now))
-    (Appends-trans (g.O.Write.contents c.args.output.now) (g.O.Write.contents c.write_base.new.output) (g.O.Write.contents c.write_style.new.output) (((label_open c.args.base) ++ (name_of c.args.row.now)) ++ (base_line c.args.base)) (path_open (style_of c.args.row.now))
-    (Appends-trans (g.O.Write.contents c.args.output.now) (g.O.Write.contents c.write_name.new.output) (g.O.Write.contents c.write_base.new.output) ((label_open c.args.base) ++ (name_of c.args.row.now)) (base_line c.args.base)
-    (Appends-trans (g.O.Write.contents c.args.output.now) (g.O.Write.contents c.write_label_open.new.output) (g.O.Write.contents c.write_name.new.output) (label_open c.args.base) (name_of c.args.row.now)
-    c.in_ok-write_label_open.ensures c.in_ok-write_name.ensures) c.in_ok-write_base.ensures) (subst (λ (s : List ℕ). Appends (g.O.Write.contents c.write_base.new.output) (g.O.Write.contents c.write_style.new.output) (path_open s)) c.style_of.ensures c.in_ok-write_style.ensures)) c.in_ok-write_marks.ensures) c.write_end.ensures
+    let all = head_text c.args.row.now c.args.base ++ marks_text c.args.row.now c.args.base None (marks_of c.args.row.now c.args.turns 0 c.args.events.now) in
+    then_ok c.write_end.result (g.O.Write.contents c.args.output.now) (g.O.Write.contents c.loop-event.output) (g.O.Write.contents c.write_end.new.output) all (codes "\"/>\n")
+    (written_all all (marks_text c.args.row.now c.args.base c.loop-event.last (marks_of c.args.row.now c.args.turns c.loop-event.turn (drop c.loop-event.event-index c.args.events.now)))
+    (g.O.Write.contents c.args.output.now) (g.O.Write.contents c.loop-event.output) c.loop-event.invariant.drawn
+    (marks_end c.args.row.now c.args.turns c.args.base c.loop-event.turn c.loop-event.last (drop c.loop-event.event-index c.args.events.now) (drop_all c.args.events.now c.loop-event-test.false)))
+    c.write_end.ensures
