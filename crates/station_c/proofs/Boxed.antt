@@ -10,7 +10,7 @@ use Rattle.std.proofs.alloc.Global.TheLaws as global_laws
 use Rattle.layout_core.specs.contracts.world.World as world
 use Rattle.layout_core.proofs.world.World.TheLaws as world_laws
 use Rattle.station_c.specs.contracts.raw.Raw as raws
-use Rattle.station_c.specs.contracts.held.Held as held
+use Rattle.station_c.specs.contracts.kept_world.KeptWorld as held
 
 abbrev pub E : Bx
 E = record { row = world.the_row; laws = world_laws.the_row_laws; al = record { row = global.the_row; laws = global_laws.the_row_laws; g = ghosts; d = dict; drops = impl [] tnil dnil } }
@@ -18,8 +18,8 @@ E = record { row = world.the_row; laws = world_laws.the_row_laws; al = record { 
 abbrev pub AsRaw : Slot 0
 AsRaw = plain (λ _. raws.the_row world.the_row global.the_row ghosts)
 
-abbrev pub AsHeld : Slot 0
-AsHeld = plain (λ _. held.the_row)
+abbrev pub AsKept : Slot 0
+AsKept = plain (λ _. held.the_row)
 
 -- a value for where there is no layout
 abbrev pub no_world : world.the_row.Denot

@@ -1,6 +1,6 @@
 pub mod Answer
 pub mod Decoder
 pub mod Event
-pub mod Held
+pub mod Kept
 pub mod Layout
 pub mod Motion

@@ -1,7 +1,7 @@
 //! What a program in C holds of a layout.
 ghost use Rattle.std.specs.Prelude.{◌≡◌, true, false, None, IfSome};
 
-use crate::held::Held;
+use crate::kept_world::KeptWorld;
 use layout_core::World;
 use std::alloc::Global;
 use std::mem;
@@ -10,7 +10,7 @@ use std::mem;
 #[repr(C)]
 #[derive(Drop)]
 pub struct Layout {
-    inside: Held,
+    inside: KeptWorld,
     /// Whether there is a layout.
     pub made: bool,
     ghost agrees: { inside.made ≡ made },
@@ -22,7 +22,7 @@ impl Layout {
         ensures { result.made ≡ false }
     {
         Layout {
-            inside: Held::none(alloc),
+            inside: KeptWorld::none(alloc),
             made: false,
         }
     }
@@ -47,7 +47,7 @@ impl Layout {
         ensures world { self.new.inside.world ≡ world.value }
     {
         *self = Layout {
-            inside: Held::of(world),
+            inside: KeptWorld::of(world),
             made: true,
         };
     }

@@ -21,7 +21,7 @@ ghost use Rattle.station_c.specs.Motion.{told};
 mod answer;
 mod decoder;
 mod event;
-mod held;
+mod kept_world;
 mod layout;
 mod motion;
 mod raw;

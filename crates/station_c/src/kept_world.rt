@@ -1,7 +1,7 @@
 //! A layout behind a pointer that a program in C keeps.
 ghost use Rattle.std.specs.Prelude.{◌≡◌, Bool, true, false};
 ghost use Rattle.layout_core.specs.declared.world.World.{World as WorldValue};
-ghost use Rattle.station_c.specs.Held.{held_owns, world_coded};
+ghost use Rattle.station_c.specs.Kept.{kept_owns, world_coded};
 
 use crate::raw::Raw;
 use layout_core::World;
@@ -14,7 +14,7 @@ use std::ptr;
 /// To let it go is to leak the layout.
 #[repr(C)]
 #[derive(Drop)]
-pub struct Held {
+pub struct KeptWorld {
     at: *mut u8,
     alloc: Global,
     /// Whether there is a layout behind the pointer.
@@ -23,27 +23,27 @@ pub struct Held {
     pub ghost world: { WorldValue } by { world_coded },
 }
 
-impl Model for Held {
-    ghost also_owns = { λ held. held_owns held.made held.alloc held.at held.world };
+impl Model for KeptWorld {
+    ghost also_owns = { λ kept. kept_owns kept.made kept.alloc kept.at kept.world };
 }
 
-impl Held {
+impl KeptWorld {
     /// Nothing.
-    pub(crate) fn none(alloc: Global) -> Held
+    pub(crate) fn none(alloc: Global) -> KeptWorld
         ensures { result.made ≡ false }
     {
-        Held {
+        KeptWorld {
             at: ptr::null_mut(),
             alloc,
         }
     }
 
     /// The layout in this box.
-    pub(crate) fn of(world: Box<World, Global>) -> Held
+    pub(crate) fn of(world: Box<World, Global>) -> KeptWorld
         ensures made { result.made ≡ true }
         ensures world { result.world ≡ world.value }
     {
-        Held::of_raw(Raw::of(world))
+        KeptWorld::of_raw(Raw::of(world))
     }
 
     /// Its box.
@@ -54,11 +54,11 @@ impl Held {
         self.into_raw().into_box()
     }
 
-    fn of_raw(raw: Raw<World, Global>) -> Held
+    fn of_raw(raw: Raw<World, Global>) -> KeptWorld
         ensures { (result.made ≡ true) × (result.world ≡ raw.value) }
     {
         let Raw { at, alloc } = raw;
-        Held {
+        KeptWorld {
             at: at as *mut u8,
             alloc,
         }
@@ -68,7 +68,7 @@ impl Held {
         requires { self.made ≡ true }
         ensures { result.value ≡ self.world }
     {
-        let Held { at, alloc } = self;
+        let KeptWorld { at, alloc } = self;
         Raw {
             at: at as *mut World,
             alloc,

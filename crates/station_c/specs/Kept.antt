@@ -9,9 +9,9 @@ use Rattle.std.specs.contracts.prelude.GlobalAllocator.TheImpl.{ghosts}
 use Rattle.layout_core.specs.contracts.world.World.{the_row}
 
 -- nothing where there is no layout
-abbrev pub held_owns : (made : Bool) → Global → Ptr → the_row.Denot → Fml
-held_owns true alloc at world = box_owns (ghosts.dealloc_token alloc) the_row at world
-held_owns false alloc at world = ftrue
+abbrev pub kept_owns : (made : Bool) → Global → Ptr → the_row.Denot → Fml
+kept_owns true alloc at world = box_owns (ghosts.dealloc_token alloc) the_row at world
+kept_owns false alloc at world = ftrue
 
 abbrev pub world_coded : Coded the_row.Denot
 world_coded = the_row.coded
