@@ -1,5 +1,5 @@
 -- What a message is told as asks to send it.
-use Rattle.std.proofs.Common.{◌≡◌, ℕ, ◌+◌, ◌*◌, ◌/◌, ◌%◌, ◌<◌, ◌≤◌, Bool, true, false, List, [], ◌∷◌, ◌++◌, suc, length, get_or, map, filter, ◌&&◌, Option, Some, refl, ap, ap₂, ◌∙◌, arith, if◌then◌else◌}
+use Rattle.std.proofs.Common.{◌≡◌, ℕ, ◌*◌, ◌/◌, ◌%◌, ◌<◌, ◌≤◌, Bool, true, false, List, [], ◌∷◌, ◌++◌, suc, length, get_or, map, filter, ◌&&◌, Option, Some, refl, ap, ap₂, ◌∙◌, arith, if◌then◌else◌}
 use Rattle.std.specs.Prelude.{codes}
 use Rattle.std.specs.List.{slice_split, onto_first}
 use Rattle.std.specs.Option.{is_some}
@@ -10,7 +10,8 @@ use Rattle.ln_frame.specs.Message.{message_len, are_data, is_len, has_form, IsWh
 use Rattle.over_tcp.specs.declared.ask.Ask.{Ask}
 use Rattle.over_tcp.specs.declared.ask.Ask.TheVariants.{Send, Refused}
 use Rattle.over_tcp.specs.declared.ask.Reason.TheVariants.{TooLong}
-use Rattle.ascii_words.specs.Words.{is_blank, is_word, words_of, digit_of, both, pair_of}
+use Rattle.ascii_words.specs.Words.{is_blank, is_word, words_of, digit_of}
+use Rattle.ascii_words.proofs.Pairs.{pair-back}
 use Rattle.over_tcp.specs.Asked.{led_by, leading, are_pairs, bytes_of, ask_to_send, asked_of}
 use Rattle.over_tcp.specs.Told.{hex_char, hex_words}
 
@@ -25,22 +26,15 @@ digit-not_blank d h = grind (arith, nat_tests)
 abbrev two : ℕ → List ℕ
 two b = hex_char (b / 16) ∷ hex_char (b % 16) ∷ []
 
-pair-back : (b : ℕ) → b < 256 → pair_of (two b) ≡ Some b
-pair-back b h =
-    let high : b / 16 < 16 = omega arith in
-    let low : b % 16 < 16 = omega arith in
-    let whole : 16 * (b / 16) + b % 16 ≡ b = omega arith in
-    ap₂ both (digit-back (b / 16) high) (digit-back (b % 16) low) ∙ ap Some whole
-
 leading-back : (bytes : List ℕ) → ((i : ℕ) → get_or bytes i 0 < 256) → leading (map two bytes) ≡ bytes
 unfolding leading
 leading-back [] h = refl
-leading-back (b ∷ bytes) h = ap₂ led_by (pair-back b (h 0)) (leading-back bytes (λ i. h (suc i)))
+leading-back (b ∷ bytes) h = ap₂ led_by (pair-back hex_char digit-back b (h 0)) (leading-back bytes (λ i. h (suc i)))
 
 pairs-back : (bytes : List ℕ) → ((i : ℕ) → get_or bytes i 0 < 256) → are_pairs (map two bytes) ≡ true
 unfolding are_pairs
 pairs-back [] h = refl
-pairs-back (b ∷ bytes) h = ap (λ (pair : Option ℕ). is_some pair && are_pairs (map two bytes)) (pair-back b (h 0)) ∙ pairs-back bytes (λ i. h (suc i))
+pairs-back (b ∷ bytes) h = ap (λ (pair : Option ℕ). is_some pair && are_pairs (map two bytes)) (pair-back hex_char digit-back b (h 0)) ∙ pairs-back bytes (λ i. h (suc i))
 
 bytes-back : (bytes : List ℕ) → ((i : ℕ) → get_or bytes i 0 < 256) → bytes_of (map two bytes) ≡ Some bytes
 unfolding bytes_of
