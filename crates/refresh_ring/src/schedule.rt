@@ -2,14 +2,13 @@
 ghost use Rattle.std.specs.Prelude.{◌≡◌, ◌≤◌, ◌<◌, ◌-◌, Some, IfOk, IfSome, if◌then◌else◌};
 ghost use Rattle.dcc_packet.specs.Sent.{last_switch};
 ghost use Rattle.refresh_ring.specs.Places.{IsSlot, IsPlace, next_place};
-ghost use Rattle.refresh_ring.specs.Jobs.{IsJob, requests_in, sends_ahead, first_of};
+ghost use Rattle.refresh_ring.specs.Jobs.{requests_in, sends_ahead, first_of};
 ghost use Rattle.refresh_ring.specs.Scheduled.{IsScheduled, first_schedule, after_refresh, after_changed, after_switch, switch_answer};
-ghost use Rattle.refresh_ring.specs.Picked.{picked, turned, sent, idle};
+ghost use Rattle.refresh_ring.specs.Picked.{IsCandidate, picked, turned, sent, idle};
 ghost use Rattle.refresh_ring.specs.Sent.{IsDue, IsLegalPick};
-ghost use Rattle.refresh_ring.specs.declared.turn.Candidate.TheVariants.{FromJobs, FromRing};
 
 use crate::fault::{Full, NoMemory};
-use crate::job::{Destination, Job};
+use crate::job::Destination;
 use crate::kind::Kind;
 use crate::pick::{Pick, Power};
 use crate::place::{kind_of, slot_of};
@@ -146,8 +145,7 @@ impl<R: Ring> Schedule<R> {
             self.next_place()
         };
         match choose(self.prefers_jobs, job, place) {
-            Some(Candidate::FromJobs { job }) => self.offer_job(view, job),
-            Some(Candidate::FromRing { place }) => self.offer_place(view, place),
+            Some(candidate) => self.offer(view, candidate),
             None => self.stay_idle(),
         }
     }
@@ -160,45 +158,38 @@ impl<R: Ring> Schedule<R> {
         self.ring.next(self.cursor)
     }
 
-    // Sends the first job, or idle where the last packet went to the same decoder.
-    fn offer_job<V: View>(&mut self, view: &V, job: Job) -> Pick
-        requires { IsJob job }
-        ensures state { self.new ≡ (sent (V.addresses view.now) self.old (Some (FromJobs job))).state }
-        ensures answer { result ≡ (sent (V.addresses view.now) self.old (Some (FromJobs job))).answer }
+    // Sends the first job or a place of the ring, or idle where the last packet went to the same decoder.
+    fn offer<V: View>(&mut self, view: &V, candidate: Candidate) -> Pick
+        requires { IsCandidate candidate }
+        ensures state { self.new ≡ (sent (V.addresses view.now) self.old (Some candidate)).state }
+        ensures answer { result ≡ (sent (V.addresses view.now) self.old (Some candidate)).answer }
         ensures range { IsLegalPick result }
         ensures legal { IsScheduled self.new }
     {
-        let there = destination_of(view, job);
-        if is_last(self.last, there) {
-            return self.stay_idle();
-        }
-        self.queue.note_sent();
-        self.last = Some(there);
-        self.prefers_jobs = false;
-        pick_of(job)
-    }
-
-    // Sends a place of the ring, or idle where the last packet went to the same decoder.
-    fn offer_place<V: View>(&mut self, view: &V, place: u16) -> Pick
-        requires { IsPlace place }
-        ensures state { self.new ≡ (sent (V.addresses view.now) self.old (Some (FromRing place))).state }
-        ensures answer { result ≡ (sent (V.addresses view.now) self.old (Some (FromRing place))).answer }
-        ensures range { IsLegalPick result }
-        ensures legal { IsScheduled self.new }
-    {
-        let slot = slot_of(place);
-        let there = Destination::Loco {
-            address: view.address(slot),
+        let there = match candidate {
+            Candidate::FromJobs { job } => destination_of(view, job),
+            Candidate::FromRing { place } => Destination::Loco {
+                address: view.address(slot_of(place)),
+            },
         };
         if is_last(self.last, there) {
             return self.stay_idle();
         }
-        self.cursor = place;
         self.last = Some(there);
-        self.prefers_jobs = true;
-        Pick::Place {
-            slot,
-            kind: kind_of(place),
+        match candidate {
+            Candidate::FromJobs { job } => {
+                self.queue.note_sent();
+                self.prefers_jobs = false;
+                pick_of(job)
+            }
+            Candidate::FromRing { place } => {
+                self.cursor = place;
+                self.prefers_jobs = true;
+                Pick::Place {
+                    slot: slot_of(place),
+                    kind: kind_of(place),
+                }
+            }
         }
     }
 
