@@ -35,3 +35,19 @@ pub struct Row {
     pub id1: u8,
     pub id2: u8,
 }
+
+impl Row {
+    /// The row of a slot in which no locomotive stands.
+    pub const FREE: Row = Row {
+        state: State::Free,
+        kind: 0,
+        address: 0,
+        spd: 0,
+        dirf: 0,
+        snd: 0,
+        more: 0,
+        ss2: 0,
+        id1: 0,
+        id2: 0,
+    };
+}

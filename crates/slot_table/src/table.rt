@@ -11,7 +11,7 @@ ghost use Rattle.slot_table.specs.Rows.{written, IsAt};
 use crate::bytes::{is_held, is_slot};
 use crate::fault::SlotFault;
 use crate::index::Index;
-use crate::rows::{FREE, Rows, address_in, free_rows};
+use crate::rows::{Rows, address_in, free_rows};
 use ln_ops::Row;
 use std::marker::Model;
 
@@ -179,6 +179,6 @@ impl SlotTable {
         if self.is_marked(n) {
             self.set_mark(None);
         }
-        self.put(n, FREE);
+        self.put(n, Row::FREE);
     }
 }

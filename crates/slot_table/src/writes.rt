@@ -11,7 +11,6 @@ ghost use Rattle.slot_table.specs.Writes.{take_answer, after_take, is_legal_fiel
 use crate::bytes::{is_address, is_held, is_slot, is_stat, state_of};
 use crate::fault::SlotFault;
 use crate::field::Field;
-use crate::rows::FREE;
 use crate::table::SlotTable;
 use ln_ops::{Row, SlotFields, State};
 
@@ -41,7 +40,7 @@ impl SlotTable {
             state: State::Idle,
             kind: 3,
             address,
-            ..FREE
+            ..Row::FREE
         };
         self.put(n, row);
         Ok(n)
