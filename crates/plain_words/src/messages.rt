@@ -1,12 +1,12 @@
 //! What messages of a LocoNet line say.
-ghost use Rattle.std.specs.Prelude.{◌≡◌, ◌≤◌, ◌<◌, ◌+◌, ◌++◌, false, length};
+ghost use Rattle.std.specs.Prelude.{◌≡◌, ◌≤◌, ◌<◌, ◌+◌, ◌++◌, codes, false, length};
 ghost use Rattle.arrayvec.specs.ArrayVec.{array_vec_len};
 ghost use Rattle.dcc_packet.specs.Form.{with_check};
 ghost use Rattle.dcc_packet.specs.Packet.{xor_of};
 ghost use Rattle.ln_frame.specs.Message.{are_data, is_whole};
 ghost use Rattle.ln_ops.specs.Message.{IsOfData, op_of};
 ghost use Rattle.ln_ops.specs.Slot.{is_slot};
-ghost use Rattle.plain_words.specs.Messages.{acknowledged_words, dirf_words, dispatch_words, fault_words, imm_words, is_told, message_words, move_words, moved_words, op_words, read_words, sent_words, snd_words, speed_words, status_words, table_words, taken_words, use_words, whole_words, written_words};
+ghost use Rattle.plain_words.specs.Messages.{acknowledged_words, dirf_words, dispatch_words, fault_words, imm_words, is_told, message_words, move_words, moved_words, op_words, read_words, sent_words, slot_label, snd_words, speed_words, status_words, table_words, taken_words, use_words, whole_words, written_words};
 
 use crate::fields::light_and_four;
 use crate::message_rows::MESSAGES;
@@ -146,14 +146,23 @@ fn push_snd(words: &mut Words, slot: u8, snd: u8)
     push_functions(words, ": F5 to F8:", 5, u16::from(snd % 16));
 }
 
+/// `slot N: `, before what is said of the slot.
+fn push_slot_before(words: &mut Words, slot: u8)
+    requires { array_vec_len words.old + 12 ≤ 400 }
+    ensures text { words.new.items ≡ words.old.items ++ slot_label slot ++ codes ": " }
+    ensures len { array_vec_len words.new ≤ array_vec_len words.old + 12 }
+{
+    push_slot(words, slot);
+    push_text(words, ": ");
+}
+
 /// A slot and its speed.
 #[tactic(auto, unfolding(crate::specs::Messages::speed_words))]
 fn push_speed(words: &mut Words, slot: u8, spd: u8)
     requires { array_vec_len words.old + 40 ≤ 400 }
     ensures { words.new.items ≡ words.old.items ++ speed_words slot spd }
 {
-    push_slot(words, slot);
-    push_text(words, ": ");
+    push_slot_before(words, slot);
     push_spd(words, spd);
 }
 
@@ -163,8 +172,7 @@ fn push_status(words: &mut Words, slot: u8, stat: u8)
     requires { array_vec_len words.old + 70 ≤ 400 }
     ensures { words.new.items ≡ words.old.items ++ status_words slot stat }
 {
-    push_slot(words, slot);
-    push_text(words, ": ");
+    push_slot_before(words, slot);
     push_stat(words, stat);
 }
 

@@ -1,7 +1,7 @@
 //! What packets of the track say.
-ghost use Rattle.std.specs.Prelude.{◌≡◌, ◌≤◌, ◌+◌, ◌++◌, length};
+ghost use Rattle.std.specs.Prelude.{◌≡◌, ◌≤◌, ◌+◌, ◌++◌, codes, length};
 ghost use Rattle.arrayvec.specs.ArrayVec.{array_vec_len};
-ghost use Rattle.plain_words.specs.Packets.{accessory_words, address_words, both_words, direction_words, group_words, instr_words, instruction_words, low_speed_words, packet_words, all_words, told_words, long_words, speed_words, step_28_words, step_words, switch_words, unread_words};
+ghost use Rattle.plain_words.specs.Packets.{accessory_words, address_words, both_words, direction_words, group_words, instr_words, instruction_words, packet_words, all_words, told_words, long_words, step_28_words, step_words, switch_words, unread_words};
 
 use crate::fields::light_and_four;
 use crate::packet_rows::{ACCESSORIES, INSTRUCTIONS};
@@ -85,6 +85,16 @@ fn push_both(words: &mut Words, low: u8)
     }
 }
 
+/// `locomotive A: `, before what it is told.
+fn push_address_before(words: &mut Words, address: Address)
+    requires { array_vec_len words.old + 42 ≤ 400 }
+    ensures text { words.new.items ≡ words.old.items ++ address_words address ++ codes ": " }
+    ensures len { array_vec_len words.new ≤ array_vec_len words.old + 42 }
+{
+    push_address(words, address);
+    push_text(words, ": ");
+}
+
 /// An address and which functions of a group are on, the first in bit 0.
 fn push_group(words: &mut Words, address: Address, label: &str, first: u16, bits: u16)
     requires label { length label.now ≤ 10 }
@@ -93,33 +103,8 @@ fn push_group(words: &mut Words, address: Address, label: &str, first: u16, bits
     ensures text { words.new.items ≡ words.old.items ++ group_words address label.now first bits }
     ensures len { array_vec_len words.new ≤ array_vec_len words.old + 140 }
 {
-    push_address(words, address);
-    push_text(words, ": ");
+    push_address_before(words, address);
     push_functions(words, label, first, bits);
-}
-
-/// An address and a speed of 128 steps.
-fn push_speed(words: &mut Words, address: Address, forward: bool, code: u8)
-    requires { array_vec_len words.old + 140 ≤ 400 }
-    ensures text { words.new.items ≡ words.old.items ++ speed_words address forward code }
-    ensures len { array_vec_len words.new ≤ array_vec_len words.old + 140 }
-{
-    push_address(words, address);
-    push_text(words, ": ");
-    push_step(words, code, 128);
-    push_direction(words, forward);
-}
-
-/// An address and a speed of 14 or of 28 steps.
-fn push_low_speed(words: &mut Words, address: Address, forward: bool, low: u8)
-    requires { array_vec_len words.old + 140 ≤ 400 }
-    ensures text { words.new.items ≡ words.old.items ++ low_speed_words address forward low }
-    ensures len { array_vec_len words.new ≤ array_vec_len words.old + 140 }
-{
-    push_address(words, address);
-    push_text(words, ": ");
-    push_both(words, low);
-    push_direction(words, forward);
 }
 
 /// `switch N thrown, on`.
@@ -145,8 +130,16 @@ fn push_instr(words: &mut Words, instr: Instr)
         Instr::Reset => push_text(words, "all decoders: reset"),
         Instr::StopAll { emergency: true } => push_text(words, "all locomotives: emergency stop"),
         Instr::StopAll { emergency: false } => push_text(words, "all locomotives: stop"),
-        Instr::Speed { address, d, low } => push_low_speed(words, address, d, low),
-        Instr::Speed128 { address, d, s } => push_speed(words, address, d, s),
+        Instr::Speed { address, d, low } => {
+            push_address_before(words, address);
+            push_both(words, low);
+            push_direction(words, d);
+        }
+        Instr::Speed128 { address, d, s } => {
+            push_address_before(words, address);
+            push_step(words, s, 128);
+            push_direction(words, d);
+        }
         Instr::GroupOne { address, bits } => {
             push_group(words, address, "F0 to F4:", 0, light_and_four(bits));
         }
@@ -199,8 +192,7 @@ fn push_told(words: &mut Words, address: Address, told: &[u8])
     ensures text { words.new.items ≡ words.old.items ++ told_words address told.now }
     ensures len { array_vec_len words.new ≤ array_vec_len words.old + 300 }
 {
-    push_address(words, address);
-    push_text(words, ": ");
+    push_address_before(words, address);
     push_instruction(words, told);
 }
 
