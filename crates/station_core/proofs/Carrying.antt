@@ -1,11 +1,13 @@
 -- What is read of a packet in OPC_IMM_PACKET.
-use Rattle.std.proofs.Common.{◌≡◌, ℕ, zero, suc, ◌%◌, ◌<◌, ◌≤◌, ◌&&◌, nat_lt, nat_le, true, List, [], ◌∷◌, ◌++◌, length, take, get_or, refl, ap, ap₂, ◌∙◌, arith}
-use Rattle.std.specs.List.{list_all}
+use Rattle.std.proofs.Common.{◌≡◌, ℕ, zero, suc, ◌*◌, ◌%◌, ◌^◌, ◌<◌, ◌≤◌, ◌&&◌, nat_lt, nat_le, true, List, [], ◌∷◌, ◌++◌, length, take, get_or, add-one, refl, sym, ap, ap₂, ◌∙◌, arith}
+use Rattle.std.specs.List.{AllByRecursion, list_all}
 use Rattle.std.proofs.lemmas.Bool.{and_parts, lt-ltb, ltb-true, leb-true}
+use Rattle.std.proofs.lemmas.Nat.{pow-add}
+use Rattle.std.proofs.Math.Pow.{pow_mono}
 use Rattle.ln_frame.specs.Message.{are_data, check_of, has_form, IsWhole}
 use Rattle.ln_frame.proofs.Checks.{sealed-whole}
 use Rattle.ln_ops.specs.Message.{op_of}
-use Rattle.station_core.specs.Carried.{can_carry, carried_by, carrying, carrying_body, dhi_of, reps_of}
+use Rattle.station_core.specs.Carried.{can_carry, carried_by, carrying, carrying_body, dhi_of, high_bits, reps_of}
 
 abbrev are_bytes : List ℕ → Type 0
 are_bytes bytes = list_all (λ byte. nat_lt byte 256) bytes ≡ true
@@ -28,6 +30,10 @@ each byte bytes h =
     let p = and_parts (nat_lt byte 256) (list_all (λ byte. nat_lt byte 256) bytes) h in
     (ltb-true byte 256 p.0, p.1)
 
+lows : (bytes : List ℕ) → are_bytes bytes → AllByRecursion (λ byte. byte < 256) bytes
+lows [] h = tt
+lows (byte ∷ bytes) h = let p = each byte bytes h in (p.0, lows bytes p.1)
+
 -- ---- as many of the five as count
 
 took : (n k x1 x2 x3 x4 x5 : ℕ) (bytes : List ℕ) → n ≡ k → take k (x1 ∷ x2 ∷ x3 ∷ x4 ∷ x5 ∷ []) ≡ bytes → take n (x1 ∷ x2 ∷ x3 ∷ x4 ∷ x5 ∷ []) ≡ bytes
@@ -40,44 +46,38 @@ read : (repeats check : ℕ) (bytes : List ℕ) → CanCarry repeats bytes → c
 read repeats check [] h = absurd (let some = h.some in omega arith)
 read repeats check (a ∷ []) h =
     let few : repeats < 8 = h.few_repeats in
-    let ha = each a [] h.low in
-    let la : a < 256 = ha.0 in
+    let low = lows (a ∷ []) h.low in
+    let la : a < 256 = low.0 in
     took _ 1 _ _ _ _ _ (a ∷ []) (omega arith) (onto _ _ _ _ (omega arith) refl)
 read repeats check (a ∷ b ∷ []) h =
     let few : repeats < 8 = h.few_repeats in
-    let ha = each a (b ∷ []) h.low in
-    let la : a < 256 = ha.0 in
-    let lb : b < 256 = (each b [] ha.1).0 in
+    let low = lows (a ∷ b ∷ []) h.low in
+    let la : a < 256 = low.0 in
+    let lb : b < 256 = low.1.0 in
     took _ 2 _ _ _ _ _ (a ∷ b ∷ []) (omega arith) (onto _ _ _ _ (omega arith) (onto _ _ _ _ (omega arith) refl))
 read repeats check (a ∷ b ∷ c ∷ []) h =
     let few : repeats < 8 = h.few_repeats in
-    let ha = each a (b ∷ c ∷ []) h.low in
-    let hb = each b (c ∷ []) ha.1 in
-    let la : a < 256 = ha.0 in
-    let lb : b < 256 = hb.0 in
-    let lc : c < 256 = (each c [] hb.1).0 in
+    let low = lows (a ∷ b ∷ c ∷ []) h.low in
+    let la : a < 256 = low.0 in
+    let lb : b < 256 = low.1.0 in
+    let lc : c < 256 = low.1.1.0 in
     took _ 3 _ _ _ _ _ (a ∷ b ∷ c ∷ []) (omega arith) (onto _ _ _ _ (omega arith) (onto _ _ _ _ (omega arith) (onto _ _ _ _ (omega arith) refl)))
 read repeats check (a ∷ b ∷ c ∷ d ∷ []) h =
     let few : repeats < 8 = h.few_repeats in
-    let ha = each a (b ∷ c ∷ d ∷ []) h.low in
-    let hb = each b (c ∷ d ∷ []) ha.1 in
-    let hc = each c (d ∷ []) hb.1 in
-    let la : a < 256 = ha.0 in
-    let lb : b < 256 = hb.0 in
-    let lc : c < 256 = hc.0 in
-    let ld : d < 256 = (each d [] hc.1).0 in
+    let low = lows (a ∷ b ∷ c ∷ d ∷ []) h.low in
+    let la : a < 256 = low.0 in
+    let lb : b < 256 = low.1.0 in
+    let lc : c < 256 = low.1.1.0 in
+    let ld : d < 256 = low.1.1.1.0 in
     took _ 4 _ _ _ _ _ (a ∷ b ∷ c ∷ d ∷ []) (omega arith) (onto _ _ _ _ (omega arith) (onto _ _ _ _ (omega arith) (onto _ _ _ _ (omega arith) (onto _ _ _ _ (omega arith) refl))))
 read repeats check (a ∷ b ∷ c ∷ d ∷ e ∷ []) h =
     let few : repeats < 8 = h.few_repeats in
-    let ha = each a (b ∷ c ∷ d ∷ e ∷ []) h.low in
-    let hb = each b (c ∷ d ∷ e ∷ []) ha.1 in
-    let hc = each c (d ∷ e ∷ []) hb.1 in
-    let hd = each d (e ∷ []) hc.1 in
-    let la : a < 256 = ha.0 in
-    let lb : b < 256 = hb.0 in
-    let lc : c < 256 = hc.0 in
-    let ld : d < 256 = hd.0 in
-    let le : e < 256 = (each e [] hd.1).0 in
+    let low = lows (a ∷ b ∷ c ∷ d ∷ e ∷ []) h.low in
+    let la : a < 256 = low.0 in
+    let lb : b < 256 = low.1.0 in
+    let lc : c < 256 = low.1.1.0 in
+    let ld : d < 256 = low.1.1.1.0 in
+    let le : e < 256 = low.1.1.1.1.0 in
     took _ 5 _ _ _ _ _ (a ∷ b ∷ c ∷ d ∷ e ∷ []) (omega arith)
     (onto _ _ _ _ (omega arith) (onto _ _ _ _ (omega arith) (onto _ _ _ _ (omega arith) (onto _ _ _ _ (omega arith) (onto _ _ _ _ (omega arith) refl)))))
 read repeats check (a ∷ b ∷ c ∷ d ∷ e ∷ f ∷ rest) h = absurd (let many = h.few in omega arith)
@@ -128,58 +128,31 @@ seven x = omega arith
 zeros : 0 < 128
 zeros = omega arith
 
+high-below : (bytes : List ℕ) → are_bytes bytes → high_bits bytes < 2 ^ length bytes
+high-below [] h = omega arith
+high-below (byte ∷ bytes) h =
+    let p = each byte bytes h in
+    let low : byte < 256 = p.0 in
+    let more : high_bits bytes < 2 ^ length bytes = high-below bytes p.1 in
+    let power : 2 ^ suc (length bytes) ≡ 2 * 2 ^ length bytes = ap (λ (n : ℕ). 2 ^ n) (sym (add-one (length bytes))) ∙ pow-add 2 (length bytes) 1 ∙ omega arith in
+    omega arith
+
+dhi-below : (repeats : ℕ) (bytes : List ℕ) → CanCarry repeats bytes → dhi_of bytes < 128
+dhi-below repeats bytes h =
+    let room : 2 ^ length bytes ≤ 2 ^ 5 = pow_mono h.few in
+    let below : high_bits bytes < 2 ^ length bytes = high-below bytes h.low in
+    omega arith
+
+reps-below : (repeats : ℕ) (bytes : List ℕ) → CanCarry repeats bytes → reps_of (length bytes) repeats < 128
+reps-below repeats bytes h = omega (arith, h.few, h.few_repeats)
+
 whole : (repeats : ℕ) (bytes : List ℕ) → CanCarry repeats bytes → IsWhole (carrying repeats bytes)
 whole repeats [] h = absurd (let some = h.some in omega arith)
-whole repeats (a ∷ []) h =
-    let few : repeats < 8 = h.few_repeats in
-    let la : a < 256 = (each a [] h.low).0 in
-    let reps : reps_of 1 repeats < 128 = omega arith in
-    let dhi : dhi_of (a ∷ []) < 128 = omega arith in
-    closed (reps_of 1 repeats) (dhi_of (a ∷ [])) (a % 128) 0 0 0 0 (record { reps = reps; dhi = dhi; im1 = seven a; im2 = zeros; im3 = zeros; im4 = zeros; im5 = zeros })
-whole repeats (a ∷ b ∷ []) h =
-    let few : repeats < 8 = h.few_repeats in
-    let ha = each a (b ∷ []) h.low in
-    let la : a < 256 = ha.0 in
-    let lb : b < 256 = (each b [] ha.1).0 in
-    let reps : reps_of 2 repeats < 128 = omega arith in
-    let dhi : dhi_of (a ∷ b ∷ []) < 128 = omega arith in
-    closed (reps_of 2 repeats) (dhi_of (a ∷ b ∷ [])) (a % 128) (b % 128) 0 0 0 (record { reps = reps; dhi = dhi; im1 = seven a; im2 = seven b; im3 = zeros; im4 = zeros; im5 = zeros })
-whole repeats (a ∷ b ∷ c ∷ []) h =
-    let few : repeats < 8 = h.few_repeats in
-    let ha = each a (b ∷ c ∷ []) h.low in
-    let la : a < 256 = ha.0 in
-    let hb = each b (c ∷ []) ha.1 in
-    let lb : b < 256 = hb.0 in
-    let lc : c < 256 = (each c [] hb.1).0 in
-    let reps : reps_of 3 repeats < 128 = omega arith in
-    let dhi : dhi_of (a ∷ b ∷ c ∷ []) < 128 = omega arith in
-    closed (reps_of 3 repeats) (dhi_of (a ∷ b ∷ c ∷ [])) (a % 128) (b % 128) (c % 128) 0 0 (record { reps = reps; dhi = dhi; im1 = seven a; im2 = seven b; im3 = seven c; im4 = zeros; im5 = zeros })
-whole repeats (a ∷ b ∷ c ∷ d ∷ []) h =
-    let few : repeats < 8 = h.few_repeats in
-    let ha = each a (b ∷ c ∷ d ∷ []) h.low in
-    let la : a < 256 = ha.0 in
-    let hb = each b (c ∷ d ∷ []) ha.1 in
-    let lb : b < 256 = hb.0 in
-    let hc = each c (d ∷ []) hb.1 in
-    let lc : c < 256 = hc.0 in
-    let ld : d < 256 = (each d [] hc.1).0 in
-    let reps : reps_of 4 repeats < 128 = omega arith in
-    let dhi : dhi_of (a ∷ b ∷ c ∷ d ∷ []) < 128 = omega arith in
-    closed (reps_of 4 repeats) (dhi_of (a ∷ b ∷ c ∷ d ∷ [])) (a % 128) (b % 128) (c % 128) (d % 128) 0 (record { reps = reps; dhi = dhi; im1 = seven a; im2 = seven b; im3 = seven c; im4 = seven d; im5 = zeros })
-whole repeats (a ∷ b ∷ c ∷ d ∷ e ∷ []) h =
-    let few : repeats < 8 = h.few_repeats in
-    let ha = each a (b ∷ c ∷ d ∷ e ∷ []) h.low in
-    let la : a < 256 = ha.0 in
-    let hb = each b (c ∷ d ∷ e ∷ []) ha.1 in
-    let lb : b < 256 = hb.0 in
-    let hc = each c (d ∷ e ∷ []) hb.1 in
-    let lc : c < 256 = hc.0 in
-    let hd = each d (e ∷ []) hc.1 in
-    let ld : d < 256 = hd.0 in
-    let le : e < 256 = (each e [] hd.1).0 in
-    let reps : reps_of 5 repeats < 128 = omega arith in
-    let dhi : dhi_of (a ∷ b ∷ c ∷ d ∷ e ∷ []) < 128 = omega arith in
-    closed (reps_of 5 repeats) (dhi_of (a ∷ b ∷ c ∷ d ∷ e ∷ [])) (a % 128) (b % 128) (c % 128) (d % 128) (e % 128) (record { reps = reps; dhi = dhi; im1 = seven a; im2 = seven b; im3 = seven c; im4 = seven d; im5 = seven e })
+whole repeats (a ∷ []) h = closed (reps_of 1 repeats) (dhi_of (a ∷ [])) (a % 128) 0 0 0 0 (record { reps = reps-below repeats _ h; dhi = dhi-below repeats _ h; im1 = seven a; im2 = zeros; im3 = zeros; im4 = zeros; im5 = zeros })
+whole repeats (a ∷ b ∷ []) h = closed (reps_of 2 repeats) (dhi_of (a ∷ b ∷ [])) (a % 128) (b % 128) 0 0 0 (record { reps = reps-below repeats _ h; dhi = dhi-below repeats _ h; im1 = seven a; im2 = seven b; im3 = zeros; im4 = zeros; im5 = zeros })
+whole repeats (a ∷ b ∷ c ∷ []) h = closed (reps_of 3 repeats) (dhi_of (a ∷ b ∷ c ∷ [])) (a % 128) (b % 128) (c % 128) 0 0 (record { reps = reps-below repeats _ h; dhi = dhi-below repeats _ h; im1 = seven a; im2 = seven b; im3 = seven c; im4 = zeros; im5 = zeros })
+whole repeats (a ∷ b ∷ c ∷ d ∷ []) h = closed (reps_of 4 repeats) (dhi_of (a ∷ b ∷ c ∷ d ∷ [])) (a % 128) (b % 128) (c % 128) (d % 128) 0 (record { reps = reps-below repeats _ h; dhi = dhi-below repeats _ h; im1 = seven a; im2 = seven b; im3 = seven c; im4 = seven d; im5 = zeros })
+whole repeats (a ∷ b ∷ c ∷ d ∷ e ∷ []) h = closed (reps_of 5 repeats) (dhi_of (a ∷ b ∷ c ∷ d ∷ e ∷ [])) (a % 128) (b % 128) (c % 128) (d % 128) (e % 128) (record { reps = reps-below repeats _ h; dhi = dhi-below repeats _ h; im1 = seven a; im2 = seven b; im3 = seven c; im4 = seven d; im5 = seven e })
 whole repeats (a ∷ b ∷ c ∷ d ∷ e ∷ f ∷ rest) h = absurd (let many = h.few in omega arith)
 
 pub whole-carrying : (repeats : ℕ) (bytes : List ℕ) → can_carry repeats bytes ≡ true → IsWhole (carrying repeats bytes)
