@@ -32,12 +32,7 @@ pub(crate) fn slot_fields(slot: u8, row: &Row, power: Power) -> SlotFields
 fn state_number(state: State) -> u8
     ensures { result ≡ state_number state }
 {
-    match state {
-        State::Free => 0,
-        State::Common => 1,
-        State::Idle => 2,
-        State::InUse => 3,
-    }
+    state as u8
 }
 
 // TRK: LocoNet 1.1, power on, and not paused.
