@@ -1,5 +1,5 @@
 -- The lines of a station after a byte on one of them.
-use Rattle.std.proofs.Common.{◌≡◌, ℕ, ◌≤◌, ◌<◌, List, [], ◌++◌, length, take, get_or, set, ap, sym, ◌∙◌, arith, inl, inr, append-nil, drop_of_length-le}
+use Rattle.std.proofs.Common.{◌≡◌, ℕ, ◌≤◌, ◌<◌, List, [], ◌++◌, length, take, get_or, set, subst, ap, sym, ◌∙◌, arith, inl, inr, append-nil, drop_of_length-le}
 use Rattle.std.proofs.lemmas.Bool.{cases_eq}
 use Rattle.std.proofs.lemmas.List.{take_all, length-set, get_or-set_same, get_or-set_other}
 use Rattle.std.specs.List.{refill}
@@ -37,3 +37,10 @@ station_with all line left desk s is below kept = record {
 
 pub kept_by : (bytes left : List ℕ) → ((ys : List ℕ) → unfinished_of (unfinished_of ys) ≡ unfinished_of ys) → left ≡ unfinished_of bytes → unfinished_of left ≡ left
 kept_by bytes left once is = ap unfinished_of is ∙ once bytes ∙ sym is
+
+-- so a station stays one, where a framer of the lent array took a byte
+pub stays_station : (all now : List (List ℕ)) (line : ℕ) (bytes left : List ℕ) (desk : Desk) (s : Scheduled) → IsStation all desk s → line < length all → now ≡ all
+    → ((ys : List ℕ) → unfinished_of (unfinished_of ys) ≡ unfinished_of ys) → left ≡ unfinished_of bytes → IsStation (refill (length all) all (set now line left)) desk s
+stays_station all now line bytes left desk s is below same once kept =
+    subst (λ (lines : List (List ℕ)). IsStation lines desk s) (sym (lent_and_set all now line left same))
+    (station_with all line left desk s is below (kept_by bytes left once kept))
