@@ -1,16 +1,19 @@
 -- The schedule follows the desk.
-use Rattle.std.proofs.Common.{◌≡◌, ◌≢◌, ℕ, ◌-◌, Bool, true, false, List, [], ◌∷◌, if◌then◌else◌, Result, Ok, Err, is_ok, OnOk, set, refl, ap, ap₂, sym, ◌∙◌}
+use Rattle.std.proofs.Common.{◌≡◌, ◌≢◌, ℕ, ◌-◌, ◌==◌, ◌||◌, Bool, true, false, List, [], ◌∷◌, if◌then◌else◌, Result, Ok, Err, is_ok, OnOk, set, refl, ap, ap₂, sym, ◌∙◌}
 use Rattle.std.proofs.Common.{Option, Some, None}
 use Rattle.std.specs.Result.{is_err}
-use Rattle.slot_table.specs.Moves.{dispatch_get_answer}
+use Rattle.slot_table.specs.Laws.{OthersStay}
+use Rattle.slot_table.specs.Moves.{after_dispatch_get, after_dispatch_put, after_null_move, after_shift, can_shift, dispatch_get_answer}
 use Rattle.slot_table.specs.declared.fault.SlotFault.{SlotFault}
 use Rattle.slot_table.specs.Changes.{done_if, slot_if}
 use Rattle.slot_table.specs.Desk.{Desk, IsDesk}
 use Rattle.slot_table.specs.Entry.{IsSlot}
-use Rattle.slot_table.specs.Reading.{row_of}
+use Rattle.slot_table.specs.Reading.{is_placed, row_of}
 use Rattle.refresh_ring.specs.Scheduled.{Scheduled, IsScheduled, after_refresh, after_changed}
 use Rattle.refresh_ring.specs.declared.kind.Kind.{Kind}
 use Rattle.refresh_ring.specs.declared.pick.Power.{Power}
+use Rattle.station_core.specs.After.{after_move}
+use Rattle.station_core.specs.Answer.{move_answer}
 use Rattle.station_core.specs.Asked.{after_places, of_write, places_with}
 use Rattle.station_core.specs.declared.schedule.Change.TheVariants.{All}
 use Rattle.station_core.specs.Kept.{InStep}
@@ -92,6 +95,18 @@ given_slot false n m e = cc
 pub marked_slot : (mark : Option ℕ) (m : ℕ) → Ok m ≡ dispatch_get_answer mark → mark ≡ Some m
 marked_slot None m e = cc
 marked_slot (Some n) m e = cc
+
+-- dispatch get, null move and dispatch put: the slot that is given reads anew, and no other
+handed_over_by : (get same put : Bool) (desk : Desk) (src dest n m : ℕ) → (get || (same || put)) ≡ true → OthersStay desk m
+    → Ok n ≡ (if get then dispatch_get_answer desk.mark else (if same then slot_if (is_placed desk src) src else (if put then slot_if (is_placed desk src) src else slot_if (can_shift desk src dest) dest))) → m ≢ n
+    → row_of (if get then after_dispatch_get desk else (if same then after_null_move desk src else (if put then after_dispatch_put desk src else after_shift desk src dest))) m ≡ row_of desk m
+handed_over_by true same put desk src dest n m stays law given ne = law.dispatch_get (λ e. let found = marked_slot desk.mark n given in ne (cc))
+handed_over_by false true put desk src dest n m stays law given ne = law.null_move src (λ e. ne (e ∙ sym (given_slot (is_placed desk src) src n given)))
+handed_over_by false false true desk src dest n m stays law given ne = law.dispatch_put src (λ e. ne (e ∙ sym (given_slot (is_placed desk src) src n given)))
+handed_over_by false false false desk src dest n m stays law given ne = cc
+
+pub handed_over : (desk : Desk) (src dest n m : ℕ) → (src == 0 || (src == dest || dest == 0)) ≡ true → OthersStay desk m → Ok n ≡ move_answer desk src dest → m ≢ n → row_of (after_move desk src dest) m ≡ row_of desk m
+handed_over desk src dest = handed_over_by (src == 0) (src == dest) (dest == 0) desk src dest
 
 -- a move of a slot to another
 pub follows_both : (old new : Desk) (src dest : ℕ) (s u : Scheduled) → IsSlot src → IsSlot dest → src ≢ dest → s.slots ≡ refreshed_slots old → ((m : ℕ) → m ≢ src → m ≢ dest → row_of new m ≡ row_of old m) → u ≡ after_refresh src (is_refreshed new src) s

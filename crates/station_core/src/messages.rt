@@ -1,17 +1,17 @@
 //! What the messages of a line make of the station, and what it answers.
-ghost use Rattle.std.specs.Prelude.{◌≡◌, ◌<◌, [], Some, IfSome, IfOk};
+ghost use Rattle.std.specs.Prelude.{◌≡◌, ◌==◌, ◌||◌, ◌<◌, [], Some, IfSome, IfOk, OnErr, true};
 ghost use Rattle.std.specs.Result.{ForOk};
 ghost use Rattle.ln_ops.specs.Message.{IsOfData};
 ghost use Rattle.ln_ops.specs.Reply.{IsSendable};
 ghost use Rattle.refresh_ring.specs.Jobs.{requests_in};
 ghost use Rattle.slot_table.specs.Changes.{slot_if};
+ghost use Rattle.slot_table.specs.Desk.{IsDesk};
 ghost use Rattle.slot_table.specs.Entry.{IsSlot};
-ghost use Rattle.slot_table.specs.Moves.{after_null_move, after_dispatch_put, after_dispatch_get, after_shift, can_shift, dispatch_get_answer};
-ghost use Rattle.slot_table.specs.Reading.{is_placed};
+ghost use Rattle.slot_table.specs.Moves.{after_shift, can_shift};
 ghost use Rattle.slot_table.specs.Values.{IsValue};
 ghost use Rattle.slot_table.specs.Writes.{after_field, after_take, take_answer};
-ghost use Rattle.station_core.specs.After.{paused};
-ghost use Rattle.station_core.specs.Answer.{answer, is_taken, more_reply, slot_data, slot_or_refusal};
+ghost use Rattle.station_core.specs.After.{after_move, paused};
+ghost use Rattle.station_core.specs.Answer.{answer, is_taken, more_reply, move_answer, slot_data, slot_or_refusal};
 ghost use Rattle.station_core.specs.Asked.{of_field, of_more, of_slot};
 ghost use Rattle.station_core.specs.Immediate.{more_asked, with_more};
 ghost use Rattle.station_core.specs.Moved.{after_change, after_op};
@@ -22,7 +22,7 @@ use crate::slot_data::slot_fields;
 use crate::station::Station;
 use ln_ops::{Op, Reply, SlotFields};
 use refresh_ring::Power;
-use slot_table::{Field, SlotFault};
+use slot_table::{Field, SlotFault, SlotTable};
 
 // What OPC_LONG_ACK answers to: opcodes with bit 7 clear.
 const SW_REQ: u8 = 0x30;
@@ -139,47 +139,23 @@ impl Station {
         ensures state { self.new ≡ after_op self.old (Op.Move src dest) }
         ensures sendable { IfSome result IsSendable }
     {
-        let slot = if src == 0 {
-            self.dispatch_get()
-        } else if src == dest {
-            self.null_move(src)
-        } else if dest == 0 {
-            self.dispatch_put(src)
+        let slot = if stays(src, dest) {
+            self.hand_over(src, dest)
         } else {
             self.shift(src, dest)
         };
         Some(self.slot_or_refusal(MOVE_SLOTS, slot))
     }
 
-    fn dispatch_get(&mut self) -> Result<u8, SlotFault>
-        ensures answer { result ≡ dispatch_get_answer self.old.powered.desk.mark }
+    // Dispatch get, null move or dispatch put.
+    fn hand_over(&mut self, src: u8, dest: u8) -> Result<u8, SlotFault>
+        requires { (src == 0 || (src == dest || dest == 0)) ≡ true }
+        ensures answer { result ≡ move_answer self.old.powered.desk src dest }
         ensures slot { IfOk result IsSlot }
-        ensures state { self.new ≡ after_change self.old (after_dispatch_get self.old.powered.desk) (of_slot result) }
+        ensures state { self.new ≡ after_change self.old (after_move self.old.powered.desk src dest) (of_slot result) }
     {
         slot_table::laws::others_stay();
-        let slot = self.table.dispatch_get()?;
-        schedule_changes(&self.table, &mut self.schedule, slot, Change::All);
-        Ok(slot)
-    }
-
-    fn null_move(&mut self, slot: u8) -> Result<u8, SlotFault>
-        ensures answer { result ≡ slot_if (is_placed self.old.powered.desk slot) slot }
-        ensures slot { IfOk result IsSlot }
-        ensures state { self.new ≡ after_change self.old (after_null_move self.old.powered.desk slot) (of_slot result) }
-    {
-        slot_table::laws::others_stay();
-        let slot = self.table.null_move(slot)?;
-        schedule_changes(&self.table, &mut self.schedule, slot, Change::All);
-        Ok(slot)
-    }
-
-    fn dispatch_put(&mut self, src: u8) -> Result<u8, SlotFault>
-        ensures answer { result ≡ slot_if (is_placed self.old.powered.desk src) src }
-        ensures slot { IfOk result IsSlot }
-        ensures state { self.new ≡ after_change self.old (after_dispatch_put self.old.powered.desk src) (of_slot result) }
-    {
-        slot_table::laws::others_stay();
-        let slot = self.table.dispatch_put(src)?;
+        let slot = handed_over(&mut self.table, src, dest)?;
         schedule_changes(&self.table, &mut self.schedule, slot, Change::All);
         Ok(slot)
     }
@@ -301,6 +277,31 @@ impl Station {
     {
         let row = self.table.row(slot);
         Reply::SlotData(slot_fields(slot, &row, self.power))
+    }
+}
+
+// Whether OPC_MOVE_SLOTS leaves the locomotive in its slot.
+fn stays(src: u8, dest: u8) -> bool
+    ensures { result ≡ (src == 0 || (src == dest || dest == 0)) }
+{
+    src == 0 || src == dest || dest == 0
+}
+
+// What such a message does to the table: dispatch get, null move or dispatch put, tried in this order.
+fn handed_over(table: &mut SlotTable, src: u8, dest: u8) -> Result<u8, SlotFault>
+    requires { (src == 0 || (src == dest || dest == 0)) ≡ true }
+    ensures answer { result ≡ move_answer table.old src dest }
+    ensures slot { IfOk result IsSlot }
+    ensures after { table.new ≡ after_move table.old src dest }
+    ensures refused { OnErr result (table.new ≡ table.old) }
+    ensures desk { IsDesk table.new }
+{
+    if src == 0 {
+        table.dispatch_get()
+    } else if src == dest {
+        table.null_move(src)
+    } else {
+        table.dispatch_put(src)
     }
 }
 
