@@ -203,57 +203,54 @@ fn prints_turns(rt: HostRuntime) -> Result<(), Fail> {
     Ok(())
 }
 
+fn step(of: Steps, n: u8) -> Motion {
+    Motion::Step { of, n }
+}
+
 // How a decoder runs, its bytes of CV17, CV18 and CV29, and its line.
-const RUNNING: [(Motion, bool, u16, [u8; 3], &str); 5] = [
-    (
-        Motion::Step {
-            of: Steps::S128,
-            n: 63,
-        },
-        true,
-        0,
-        [192, 0, 2],
-        "node a short 3 step 63 of 128 forward F 0000000000000",
-    ),
-    (
-        Motion::Step {
-            of: Steps::S28,
-            n: 28,
-        },
-        false,
-        1,
-        [192, 0, 2],
-        "node a short 3 step 28 of 28 reverse F 1000000000000",
-    ),
-    (
-        Motion::Step {
-            of: Steps::S14,
-            n: 1,
-        },
-        true,
-        0x106,
-        [192, 0, 0],
-        "node a short 3 step 1 of 14 forward F 0110000010000",
-    ),
-    (
-        Motion::Stop,
-        false,
-        0x1FFF,
-        [196, 210, 34],
-        "node a long 1234 stop reverse F 1111111111111",
-    ),
-    (
-        Motion::Emergency,
-        true,
-        0x220,
-        [196, 210, 34],
-        "node a long 1234 emergency forward F 0000010001000",
-    ),
-];
+fn running() -> [(Motion, bool, u16, [u8; 3], &'static str); 5] {
+    [
+        (
+            step(Steps::S128, 63),
+            true,
+            0,
+            [192, 0, 2],
+            "node a short 3 step 63 of 128 forward F 0000000000000",
+        ),
+        (
+            step(Steps::S28, 28),
+            false,
+            1,
+            [192, 0, 2],
+            "node a short 3 step 28 of 28 reverse F 1000000000000",
+        ),
+        (
+            step(Steps::S14, 1),
+            true,
+            0x106,
+            [192, 0, 0],
+            "node a short 3 step 1 of 14 forward F 0110000010000",
+        ),
+        (
+            Motion::Stop,
+            false,
+            0x1FFF,
+            [196, 210, 34],
+            "node a long 1234 stop reverse F 1111111111111",
+        ),
+        (
+            Motion::Emergency,
+            true,
+            0x220,
+            [196, 210, 34],
+            "node a long 1234 emergency forward F 0000010001000",
+        ),
+    ]
+}
 
 #[test]
 fn prints_locomotives(rt: HostRuntime) -> Result<(), Fail> {
-    for (motion, forward, functions, [cv17, cv18, cv29], text) in RUNNING {
+    for (motion, forward, functions, [cv17, cv18, cv29], text) in running() {
         let cv = CvSet::new(3, cv17, cv18, cv29).ok().ok_or("settings")?;
         let running = Running {
             motion,
