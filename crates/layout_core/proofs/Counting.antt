@@ -45,10 +45,6 @@ room_behind more all line events from to old new written written' traced traced'
 byte_length : (line turns byte : ℕ) → length (byte_events line turns byte) ≡ turns + 1
 byte_length line turns byte = omega (arith, length-replicate turns (Turn 0))
 
--- a turn more behind a byte
-pub turn_fits : (line turn turns byte : ℕ) → turns < 256 → turn < turns → length (byte_events line turn byte) + 1 ≤ 256
-turn_fits line turn turns byte fits below = omega (arith, byte_length line turn byte)
-
 pub served_length : (line turns : ℕ) (bytes : List ℕ) → turns < 256 → length (served_events line turns bytes) ≤ 256 * length bytes
 served_length line turns [] fits = omega arith
 served_length line turns (byte ∷ bytes) fits =
@@ -59,6 +55,12 @@ pub byte_fits : (line turns i : ℕ) (bytes : List ℕ) → turns < 256 → i < 
 byte_fits line turns i bytes fits below =
     let some : length (take i bytes) ≡ i = length-take-le i bytes (omega (arith, below)) in
     omega (arith, served_length line turns (take i bytes) fits, some)
+
+-- and a turn more behind it
+pub turn_fits : (line turn turns i byte : ℕ) (bytes : List ℕ) → turns < 256 → turn < turns → i < length bytes
+    → length (served_events line turns (take i bytes) ++ byte_events line turn byte) + 1 ≤ 256 * length bytes
+turn_fits line turn turns i byte bytes fits more below =
+    omega (arith, length-append (served_events line turns (take i bytes)) (byte_events line turn byte), byte_length line turn byte, byte_fits line turns i bytes fits below)
 
 -- the bytes of so many reads, and those of one more
 pub chunk_fits : (made bytes chunk : ℕ) → made < 4294967296 → bytes ≤ 64 * made → chunk ≤ 64 → 0 + (256 * bytes + 256 * chunk) < 2 ^ 64

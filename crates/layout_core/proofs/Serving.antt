@@ -134,7 +134,7 @@ served-append line turns (byte ∷ bytes) more =
     ∙ sym (append_assoc (byte_events line turns byte) (served_events line turns bytes) (served_events line turns more))
 
 -- the bytes before the next one, and that one
-pub served_more : (line turns i : ℕ) (bytes : List ℕ) → i < length bytes → served_events line turns (take (i + 1) bytes) ≡ served_events line turns (take i bytes) ++ byte_events line turns (get_or bytes i 0)
+served_more : (line turns i : ℕ) (bytes : List ℕ) → i < length bytes → served_events line turns (take (i + 1) bytes) ≡ served_events line turns (take i bytes) ++ byte_events line turns (get_or bytes i 0)
 served_more line turns i bytes below =
     ap (served_events line turns) (take_more bytes i 0 below)
     ∙ served-append line turns (take i bytes) (get_or bytes i 0 ∷ [])
@@ -145,15 +145,20 @@ pub all_served : (line turns i : ℕ) (bytes : List ℕ) → length bytes ≤ i 
 all_served line turns i bytes past old new serves =
     subst (λ (bs : List ℕ). Serves line (served_events line turns bs) old new) (take_all i bytes past) serves
 
--- a turn more behind a byte
-pub byte_more : (line turns byte : ℕ) → byte_events line (turns + 1) byte ≡ byte_events line turns byte ++ Turn 0 ∷ []
-byte_more line turns byte = ap (λ (events : List Event). Byte line byte ∷ events) (sym (replicate_more turns (Turn 0)))
+-- a turn more behind the last byte
+pub turn_more : (front : List Event) (line turns byte : ℕ) → front ++ byte_events line (turns + 1) byte ≡ (front ++ byte_events line turns byte) ++ Turn 0 ∷ []
+turn_more front line turns byte =
+    ap (λ (events : List Event). front ++ Byte line byte ∷ events) (sym (replicate_more turns (Turn 0)))
+    ∙ sym (append_assoc front (byte_events line turns byte) (Turn 0 ∷ []))
 
 -- the byte and all of its turns
-pub all_turned : (line byte turn turns : ℕ) → turn ≤ turns → turns ≤ turn → (old new : Moment) → Serves line (byte_events line turn byte) old new → Serves line (byte_events line turns byte) old new
-all_turned line byte turn turns most least old new serves =
+pub all_turned : (line turn turns i : ℕ) (bytes : List ℕ) → turn ≤ turns → turns ≤ turn → i < length bytes → (old new : Moment)
+    → Serves line (served_events line turns (take i bytes) ++ byte_events line turn (get_or bytes i 0)) old new → Serves line (served_events line turns (take (i + 1) bytes)) old new
+all_turned line turn turns i bytes most least below old new serves =
     let all : turn ≡ turns = omega arith in
-    subst (λ (n : ℕ). Serves line (byte_events line n byte) old new) all serves
+    let front : List Event = served_events line turns (take i bytes) in
+    subst (λ (events : List Event). Serves line events old new)
+    (ap (λ (n : ℕ). front ++ byte_events line n (get_or bytes i 0)) all ∙ sym (served_more line turns i bytes below)) serves
 
 -- these bytes were read so far, and they were served
 abbrev pub IsServedSoFar : (line turns reads count : ℕ) → (input input' : Input) → (old new : Moment) → Type 0

@@ -4,7 +4,7 @@ ghost use Rattle.std.specs.Io.KnownBytes.{Appends, IsAtEnd};
 ghost use Rattle.layout_core.specs.Played.{is_event};
 ghost use Rattle.layout_core.specs.Counts.{HasRoom};
 ghost use Rattle.layout_core.specs.Faults.{HasFaulted, PutsOut, ServesOrStops, ended_by, is_read, is_trace, is_write};
-ghost use Rattle.layout_core.specs.Served.{HasServed, IsSendableAnswer, byte_events, bytes_of_answer, input_of, line_of_answer, moment_of, replies_of_answer, served_events, turns_of_answer};
+ghost use Rattle.layout_core.specs.Served.{HasServed, IsSendableAnswer, bytes_of_answer, input_of, line_of_answer, moment_of, replies_of_answer, served_events, turns_of_answer};
 ghost use Rattle.layout_core.specs.World.{IsSameLayout};
 
 use crate::device::{Sink, Source};
@@ -128,33 +128,7 @@ fn serve_event<K: Sink, T: Sink>(
     Ok(())
 }
 
-/// Serves a byte, and the turns behind it.
-fn serve_byte<K: Sink, T: Sink>(
-    world: &mut World,
-    line: u8,
-    byte: u8,
-    turns: u8,
-    sink: &mut K,
-    trace: &mut T,
-    counts: &mut Counts,
-) -> Result<(), ServeFault>
-    requires line { line < length world.old.station.lines }
-    requires sink_works { K.failed sink.old ≡ false }
-    requires trace_works { T.failed trace.old ≡ false }
-    requires room { HasRoom 256 counts.old }
-    ensures { ServesOrStops result line (byte_events line turns byte)
-        (moment_of world.old (K.held sink.old) (T.held trace.old) counts.old.replies counts.old.turns)
-        (moment_of world.new (K.held sink.new) (T.held trace.new) counts.new.replies counts.new.turns)
-        (K.failed sink.new) (T.failed trace.new) }
-{
-    serve_event(world, Event::Byte { line, byte }, line, sink, trace, counts)?;
-    for _turn in 0..turns {
-        serve_event(world, Event::Turn { missed: 0 }, line, sink, trace, counts)?;
-    }
-    Ok(())
-}
-
-/// Serves bytes, one after another.
+/// Serves bytes, one after another, each with the turns behind it.
 fn serve_bytes<K: Sink, T: Sink>(
     world: &mut World,
     line: u8,
@@ -174,7 +148,17 @@ fn serve_bytes<K: Sink, T: Sink>(
         (K.failed sink.new) (T.failed trace.new) }
 {
     for byte in bytes {
-        serve_byte(world, line, *byte, turns, sink, trace, counts)?;
+        serve_event(
+            world,
+            Event::Byte { line, byte: *byte },
+            line,
+            sink,
+            trace,
+            counts,
+        )?;
+        for _turn in 0..turns {
+            serve_event(world, Event::Turn { missed: 0 }, line, sink, trace, counts)?;
+        }
     }
     Ok(())
 }
