@@ -12,22 +12,16 @@ returns-in_default-clause-fault c known =
     hex_within c.args.text.now c.if-text-gt-LONGEST_TEXT.false ∙ no_byte (length c.args.text.now) c.loop-rest.bytes.items c.loop-rest.rest.now c.cut_piece.result.0.now c.cut_piece.result.1.now _ cut.pieces cut.shorter sofar.within (sym c.if-not-is_empty.ensures) (sym c.hex_pair.ensures ∙ c.in_default.is) sofar.read
 
 pub loop-rest-preserved-in_ok-push : goal.loop-rest-preserved-in_ok-push
-loop-rest-preserved-in_ok-push c =
-    let cut = c.cut_piece.ensures in
-    let sofar = c.loop-rest.invariant in
-    record {
-      within = omega (arith, cut.shorter, sofar.within);
-      read = rw c.in_ok-push.ensures.items (one_more_byte (length c.args.text.now) c.in-Some.byte c.loop-rest.bytes.items c.loop-rest.rest.now c.cut_piece.result.0.now c.cut_piece.result.1.now _ cut.pieces cut.shorter sofar.within (sym c.hex_pair.ensures ∙ c.in-Some.is) sofar.read);
-    }
+loop-rest-preserved-in_ok-push c = record {
+  within = omega (arith, c.cut_piece.ensures.shorter, c.loop-rest.invariant.within);
+  read = rw c.in_ok-push.ensures.items (one_more_byte (length c.args.text.now) c.in-Some.byte c.loop-rest.bytes.items c.loop-rest.rest.now c.cut_piece.result.0.now c.cut_piece.result.1.now _ c.cut_piece.ensures.pieces c.cut_piece.ensures.shorter c.loop-rest.invariant.within (sym c.hex_pair.ensures ∙ c.in-Some.is) c.loop-rest.invariant.read);
+}
 
 pub loop-rest-preserved : goal.loop-rest-preserved
-loop-rest-preserved c =
-    let cut = c.cut_piece.ensures in
-    let sofar = c.loop-rest.invariant in
-    record {
-      within = omega (arith, cut.shorter, sofar.within);
-      read = empty_piece (length c.args.text.now) c.loop-rest.bytes.items c.loop-rest.rest.now c.cut_piece.result.0.now c.cut_piece.result.1.now _ cut.pieces cut.shorter sofar.within (eqb-true (length c.cut_piece.result.0.now) 0 (sym c.if-not-is_empty.ensures)) sofar.read;
-    }
+loop-rest-preserved c = record {
+  within = omega (arith, c.cut_piece.ensures.shorter, c.loop-rest.invariant.within);
+  read = empty_piece (length c.args.text.now) c.loop-rest.bytes.items c.loop-rest.rest.now c.cut_piece.result.0.now c.cut_piece.result.1.now _ c.cut_piece.ensures.pieces c.cut_piece.ensures.shorter c.loop-rest.invariant.within (eqb-true (length c.cut_piece.result.0.now) 0 (sym c.if-not-is_empty.ensures)) c.loop-rest.invariant.read;
+}
 
 pub returns-clause-bytes : goal.returns-clause-bytes
 returns-clause-bytes c =
