@@ -1,6 +1,6 @@
 -- What an event makes of a bus, and what is told of it.
 use Rattle.std.specs.Prelude.{ℕ, Bool, true, ◌+◌, ◌-◌, nat_lt, nat_le, if◌then◌else◌, IsTrue, List, [], ◌∷◌, replicate, Option, Some, None, option_map, slice_set}
-use Rattle.std.specs.List.{list_all, slice_index_or}
+use Rattle.std.specs.List.{fold, list_all, slice_index_or}
 use Rattle.dcc_packet.specs.Sent.{idle_bytes}
 use Rattle.half_bits.specs.Halves.{duration_of}
 use Rattle.ln_ops.specs.Reply.{reply_bytes}
@@ -109,8 +109,7 @@ told_by bus (Passes micros missed) = if nat_le bus.left micros then Turned (pack
 told_by bus (Turn missed) = Turned (packet_of_turn bus.station)
 
 abbrev pub after_events : SeenBus → List Event → SeenBus
-after_events bus [] = bus
-after_events bus (event ∷ events) = after_events (after_event bus event) events
+after_events = fold after_event
 
 abbrev pub told_of : SeenBus → List Event → List Told
 told_of bus [] = []
