@@ -6,7 +6,7 @@ use Rattle.std.proofs.lemmas.List.Elements.{All-append, All-cons, All-nil}
 use Rattle.over_tcp.specs.declared.ask.Ask.{Ask}
 use Rattle.over_tcp.specs.declared.ask.Ask.TheVariants.{Send, Refused}
 use Rattle.slot_table.specs.Entry.{Entry}
-use Rattle.station_core.specs.Known.{Known, told_all}
+use Rattle.station_core.specs.Known.{Known, known_after_all}
 use Rattle.station_core.specs.Moments.{slots_refreshed, turns_in}
 use Rattle.station_core.specs.Moved.{packet_of_turn}
 use Rattle.station_core.specs.Seen.{Seen, known_of}
@@ -181,4 +181,4 @@ runs_in_time laws keeps passes start events old new h legal runs before cycle i 
     let kept : IsKept mid = keeps start before h (front_legal before cycle both) in
     runs (layout_events start before) (layout_events mid cycle) i loco none
     (ap (layout_events start) split ∙ layout-append before cycle start) below stands slot a e between (quiet i before start) hears
-    (full laws slot a e (told_all (known_of start.station) (calls_in (layout_events start before))) mid cycle kept (passes mid cycle kept (end_legal before cycle both)) timed)
+    (full laws slot a e (known_after_all (known_of start.station) (calls_in (layout_events start before))) mid cycle kept (passes mid cycle kept (end_legal before cycle both)) timed)

@@ -1,7 +1,7 @@
 -- The headline in time: a locomotive whose decoder hears everything for so much track time runs as its slot says.
 use Rattle.std.specs.Prelude.{ℕ, ◌≡◌, ◌*◌, ◌≤◌, List, Some}
 use Rattle.slot_table.specs.Entry.{Entry, IsSlot}
-use Rattle.station_core.specs.Known.{Known, told_all}
+use Rattle.station_core.specs.Known.{Known, known_after_all}
 use Rattle.station_core.specs.Moments.{AtEveryMoment, IsLive, slots_refreshed}
 use Rattle.station_core.specs.Seen.{known_of}
 use Rattle.decoder_node.specs.Decoder.{IsBetween as IsBetweenPackets}
@@ -31,5 +31,5 @@ RunsInTime start = ForEachLoco (λ before cycle i loco node.
     (slot a : ℕ) (e : Entry)
     → IsBetweenPackets loco
     → HearsCycle i a e loco (layout_events (after_events start before) cycle)
-    → IsTimedCycleOf slot a e (told_all (known_of start.station) (calls_in (layout_events start before))) (after_events start before) cycle
+    → IsTimedCycleOf slot a e (known_after_all (known_of start.station) (calls_in (layout_events start before))) (after_events start before) cycle
     → running_of node ≡ Some (wanted e loco.settings.reversed))

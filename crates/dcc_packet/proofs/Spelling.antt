@@ -13,7 +13,7 @@ use Rattle.dcc_packet.specs.Form.{bit, with_check}
 use Rattle.dcc_packet.specs.Module.{is_module}
 use Rattle.dcc_packet.specs.Packet.{has_packet_length, xor_of, is_checked, is_packet}
 use Rattle.dcc_packet.specs.Spells.{Tells, Spells}
-use Rattle.dcc_packet.specs.Reading.{is_set, broadcast_of, accessory_of, short_form_of, long_form_of, told_of, long_told_of, other_of, form_of, instruction_of}
+use Rattle.dcc_packet.specs.Reading.{is_set, broadcast_of, accessory_of, short_form_of, long_form_of, addressed_of, long_addressed_of, other_of, form_of, instruction_of}
 
 same_instr : (i j : Instr) → Some i ≡ Some j → i ≡ j
 same_instr i j e = cc
@@ -160,11 +160,11 @@ four_open a b c d below_a below_b below_c below_d =
     (eq-eqb (xor_of (with_check (a ∷ b ∷ c ∷ d ∷ []))) 0 (xor_self (xor_of (a ∷ b ∷ c ∷ d ∷ []))))
 
 -- the form by the first byte
-short_address : (n : ℕ) (rest : List ℕ) → is_legal (Short n) ≡ true → form_of (n ∷ rest) ≡ told_of (Short n) rest
+short_address : (n : ℕ) (rest : List ℕ) → is_legal (Short n) ≡ true → form_of (n ∷ rest) ≡ addressed_of (Short n) rest
 short_address n rest legal = rw legal refl
 
-long_address : (n : ℕ) (rest : List ℕ) → is_legal (Long n) ≡ true → form_of ((192 + n / 256) ∷ (n % 256) ∷ rest) ≡ told_of (Long n) rest
-unfolding long_told_of
+long_address : (n : ℕ) (rest : List ℕ) → is_legal (Long n) ≡ true → form_of ((192 + n / 256) ∷ (n % 256) ∷ rest) ≡ addressed_of (Long n) rest
+unfolding long_addressed_of
 long_address n rest legal =
     let below : n ≤ 10239 = leb-true n 10239 legal in
     let back : (192 + n / 256 - 192) * 256 + n % 256 ≡ n = omega arith in
@@ -174,7 +174,7 @@ legal_short : (n : ℕ) → is_legal (Short n) ≡ true → n < 256
 legal_short n legal = let parts = and_parts (nat_le 1 n) (nat_le n 127) legal in let below : n ≤ 127 = leb-true n 127 parts.1 in omega arith
 
 one_told : (bytes : List ℕ) (address : Address) (b : ℕ) → b < 256 → Tells bytes address (b ∷ []) → instruction_of bytes ≡ short_form_of address b
-unfolding told_of
+unfolding addressed_of
 one_told bytes (Short n) b below tells =
     rw tells.1 (two_open n b (legal_short n tells.0) below ∙ short_address n (b ∷ xor_of (n ∷ b ∷ []) ∷ []) tells.0)
 one_told bytes (Long n) b below tells =
@@ -182,7 +182,7 @@ one_told bytes (Long n) b below tells =
     rw tells.1 (three_open (192 + n / 256) (n % 256) b (omega arith) (omega arith) below ∙ long_address n (b ∷ xor_of ((192 + n / 256) ∷ (n % 256) ∷ b ∷ []) ∷ []) tells.0)
 
 two_told : (bytes : List ℕ) (address : Address) (a b : ℕ) → a < 256 → b < 256 → Tells bytes address (a ∷ b ∷ []) → instruction_of bytes ≡ long_form_of address a b
-unfolding told_of
+unfolding addressed_of
 two_told bytes (Short n) a b below_a below tells =
     rw tells.1 (three_open n a b (legal_short n tells.0) below_a below ∙ short_address n (a ∷ b ∷ xor_of (n ∷ a ∷ b ∷ []) ∷ []) tells.0)
 two_told bytes (Long n) a b below_a below tells =
@@ -250,32 +250,32 @@ head_below first rest all =
     let parts = and_parts (nat_lt first 256) (list_all (λ byte. nat_lt byte 256) rest) all in
     (ltb-true first 256 parts.0, parts.1)
 
-short_told : (n : ℕ) (rest : List ℕ) (i : Instr) → is_legal (Short n) ≡ true → list_all (λ byte. nat_lt byte 256) rest ≡ true → is_checked (n ∷ rest) ≡ true → told_of (Short n) rest ≡ Some i → Spells (n ∷ rest) i
-unfolding told_of
-short_told n [] i legal all checked e = absurd (not_none i e)
-short_told n (a ∷ []) i legal all checked e = absurd (not_none i e)
-short_told n (a ∷ b ∷ []) i legal all checked e = short_sound (Short n) a (n ∷ a ∷ b ∷ []) i (legal, checked_two n a b checked) e
-short_told n (a ∷ b ∷ c ∷ []) i legal all checked e =
+short_addressed_read : (n : ℕ) (rest : List ℕ) (i : Instr) → is_legal (Short n) ≡ true → list_all (λ byte. nat_lt byte 256) rest ≡ true → is_checked (n ∷ rest) ≡ true → addressed_of (Short n) rest ≡ Some i → Spells (n ∷ rest) i
+unfolding addressed_of
+short_addressed_read n [] i legal all checked e = absurd (not_none i e)
+short_addressed_read n (a ∷ []) i legal all checked e = absurd (not_none i e)
+short_addressed_read n (a ∷ b ∷ []) i legal all checked e = short_sound (Short n) a (n ∷ a ∷ b ∷ []) i (legal, checked_two n a b checked) e
+short_addressed_read n (a ∷ b ∷ c ∷ []) i legal all checked e =
     long_sound (Short n) a b (n ∷ a ∷ b ∷ c ∷ []) i (head_below b (c ∷ []) (head_below a (b ∷ c ∷ []) all).1).0 (legal, checked_three n a b c checked) e
-short_told n (a ∷ b ∷ c ∷ d ∷ rest) i legal all checked e = absurd (not_none i e)
+short_addressed_read n (a ∷ b ∷ c ∷ d ∷ rest) i legal all checked e = absurd (not_none i e)
 
-long_told : (h l n : ℕ) (rest : List ℕ) (i : Instr) → h ≡ 192 + n / 256 → l ≡ n % 256 → is_legal (Long n) ≡ true → list_all (λ byte. nat_lt byte 256) rest ≡ true → is_checked (h ∷ l ∷ rest) ≡ true → told_of (Long n) rest ≡ Some i → Spells (h ∷ l ∷ rest) i
-unfolding told_of
-long_told h l n [] i high low legal all checked e = absurd (not_none i e)
-long_told h l n (a ∷ []) i high low legal all checked e = absurd (not_none i e)
-long_told h l n (a ∷ b ∷ []) i high low legal all checked e =
+long_addressed_read : (h l n : ℕ) (rest : List ℕ) (i : Instr) → h ≡ 192 + n / 256 → l ≡ n % 256 → is_legal (Long n) ≡ true → list_all (λ byte. nat_lt byte 256) rest ≡ true → is_checked (h ∷ l ∷ rest) ≡ true → addressed_of (Long n) rest ≡ Some i → Spells (h ∷ l ∷ rest) i
+unfolding addressed_of
+long_addressed_read h l n [] i high low legal all checked e = absurd (not_none i e)
+long_addressed_read h l n (a ∷ []) i high low legal all checked e = absurd (not_none i e)
+long_addressed_read h l n (a ∷ b ∷ []) i high low legal all checked e =
     short_sound (Long n) a (h ∷ l ∷ a ∷ b ∷ []) i (legal, checked_three h l a b checked ∙ ap₂ (λ (x y : ℕ). with_check (x ∷ y ∷ a ∷ [])) high low) e
-long_told h l n (a ∷ b ∷ c ∷ []) i high low legal all checked e =
+long_addressed_read h l n (a ∷ b ∷ c ∷ []) i high low legal all checked e =
     long_sound (Long n) a b (h ∷ l ∷ a ∷ b ∷ c ∷ []) i (head_below b (c ∷ []) (head_below a (b ∷ c ∷ []) all).1).0 (legal, checked_four h l a b c checked ∙ ap₂ (λ (x y : ℕ). with_check (x ∷ y ∷ a ∷ b ∷ [])) high low) e
-long_told h l n (a ∷ b ∷ c ∷ d ∷ rest) i high low legal all checked e = absurd (not_none i e)
+long_addressed_read h l n (a ∷ b ∷ c ∷ d ∷ rest) i high low legal all checked e = absurd (not_none i e)
 
-long_told_sound : (h : ℕ) (rest : List ℕ) (i : Instr) → 192 ≤ h → h ≤ 231 → list_all (λ byte. nat_lt byte 256) rest ≡ true → is_checked (h ∷ rest) ≡ true → long_told_of h rest ≡ Some i → Spells (h ∷ rest) i
-unfolding long_told_of
-long_told_sound h [] i low high all checked e = absurd (not_none i e)
-long_told_sound h (l ∷ rest) i low high all checked e =
+long_addressed_sound : (h : ℕ) (rest : List ℕ) (i : Instr) → 192 ≤ h → h ≤ 231 → list_all (λ byte. nat_lt byte 256) rest ≡ true → is_checked (h ∷ rest) ≡ true → long_addressed_of h rest ≡ Some i → Spells (h ∷ rest) i
+unfolding long_addressed_of
+long_addressed_sound h [] i low high all checked e = absurd (not_none i e)
+long_addressed_sound h (l ∷ rest) i low high all checked e =
     let parts = head_below l rest all in
     let below : l < 256 = parts.0 in
-    long_told h l ((h - 192) * 256 + l) rest i (omega arith) (omega arith) (le-leb ((h - 192) * 256 + l) 10239 (omega arith)) parts.1 checked e
+    long_addressed_read h l ((h - 192) * 256 + l) rest i (omega arith) (omega arith) (le-leb ((h - 192) * 256 + l) 10239 (omega arith)) parts.1 checked e
 
 broadcast_sound : (b : ℕ) (bytes : List ℕ) (i : Instr) → bytes ≡ with_check (0 ∷ b ∷ []) → broadcast_of b ≡ Some i → Spells bytes i
 unfolding broadcast_of
@@ -330,14 +330,14 @@ form_sound (first ∷ rest) i p checked = by_short (nat_le 1 first && nat_le fir
   all : list_all (λ byte. nat_lt byte 256) rest ≡ true
   all = (first_below first rest p).1
 
-  by_long : (t : Bool) → (nat_le 192 first && nat_le first 231) ≡ t → (if t then long_told_of first rest else other_of first rest) ≡ Some i → Spells (first ∷ rest) i
+  by_long : (t : Bool) → (nat_le 192 first && nat_le first 231) ≡ t → (if t then long_addressed_of first rest else other_of first rest) ≡ Some i → Spells (first ∷ rest) i
   by_long true t e =
       let parts = and_parts (nat_le 192 first) (nat_le first 231) t in
-      long_told_sound first rest i (leb-true 192 first parts.0) (leb-true first 231 parts.1) all checked e
+      long_addressed_sound first rest i (leb-true 192 first parts.0) (leb-true first 231 parts.1) all checked e
   by_long false t e = other_sound first rest i all checked e
 
-  by_short : (t : Bool) → (nat_le 1 first && nat_le first 127) ≡ t → (if t then told_of (Short first) rest else (if nat_le 192 first && nat_le first 231 then long_told_of first rest else other_of first rest)) ≡ Some i → Spells (first ∷ rest) i
-  by_short true t e = short_told first rest i t all checked e
+  by_short : (t : Bool) → (nat_le 1 first && nat_le first 127) ≡ t → (if t then addressed_of (Short first) rest else (if nat_le 192 first && nat_le first 231 then long_addressed_of first rest else other_of first rest)) ≡ Some i → Spells (first ∷ rest) i
+  by_short true t e = short_addressed_read first rest i t all checked e
   by_short false t e = by_long (nat_le 192 first && nat_le first 231) refl e
 
 -- an instruction of bytes is what they spell

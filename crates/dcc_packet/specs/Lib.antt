@@ -9,5 +9,5 @@ pub mod Reading
 pub mod Sent
 pub mod Spells
 pub mod Steps
-pub mod Told
+pub mod SpeedNumbers
 pub mod Wave

@@ -36,14 +36,14 @@ long_form_of address first second =
     if first == 63 then Some (Speed128 address (is_set (second / 128)) (second % 128)) else None
 
 -- the bytes behind an address, the check last
-unfoldable pub told_of : Address → List ℕ → Option Instr
-told_of address (byte ∷ check ∷ []) = short_form_of address byte
-told_of address (first ∷ second ∷ check ∷ []) = long_form_of address first second
-told_of address _ = None
+unfoldable pub addressed_of : Address → List ℕ → Option Instr
+addressed_of address (byte ∷ check ∷ []) = short_form_of address byte
+addressed_of address (first ∷ second ∷ check ∷ []) = long_form_of address first second
+addressed_of address _ = None
 
-unfoldable pub long_told_of : ℕ → List ℕ → Option Instr
-long_told_of high (low ∷ rest) = told_of (Long ((high - 192) * 256 + low)) rest
-long_told_of high [] = None
+unfoldable pub long_addressed_of : ℕ → List ℕ → Option Instr
+long_addressed_of high (low ∷ rest) = addressed_of (Long ((high - 192) * 256 + low)) rest
+long_addressed_of high [] = None
 
 -- the bytes behind a first byte that is no locomotive's, the check last
 unfoldable pub other_of : ℕ → List ℕ → Option Instr
@@ -56,8 +56,8 @@ other_of first _ = None
 -- S-9.2.1, 2.1 address partitions, by the first byte
 abbrev pub form_of : List ℕ → Option Instr
 form_of (first ∷ rest) =
-    if nat_le 1 first && nat_le first 127 then told_of (Short first) rest else
-    (if nat_le 192 first && nat_le first 231 then long_told_of first rest else other_of first rest)
+    if nat_le 1 first && nat_le first 127 then addressed_of (Short first) rest else
+    (if nat_le 192 first && nat_le first 231 then long_addressed_of first rest else other_of first rest)
 form_of [] = None
 
 -- none for what is no packet, has a wrong check byte or has no listed form

@@ -16,7 +16,7 @@ ghost use Rattle.dcc_packet.specs.Reading.{instruction_of};
 ghost use Rattle.dcc_packet.specs.Sent.{code_of, low_14, low_28, speed_bytes, group_one_bytes, group_two_bytes, group_three_bytes, accessory_bytes, idle_bytes, last_switch, stop_all_bytes};
 ghost use Rattle.dcc_packet.specs.Spells.{Spells};
 ghost use Rattle.dcc_packet.specs.Steps.{motion_of};
-ghost use Rattle.dcc_packet.specs.Told.{motion_told, number_28};
+ghost use Rattle.dcc_packet.specs.SpeedNumbers.{motion_of_number, number_28};
 
 /// No bytes spell two instructions.
 pub fn one_spelling()
@@ -42,9 +42,9 @@ pub fn sent_packets_spell()
 
 /// A decoder with the same steps makes of a speed packet the motion that it was built for, and with 14 steps its F0.
 pub fn speeds_are_told()
-    ensures fourteen { (motion : Motion) (f0 : Bool) → IsTrue (is_motion S14 motion) → (motion_told S14 (low_14 motion f0 % 16) ≡ motion) × (low_14 motion f0 / 16 ≡ bit f0) }
-    ensures twenty_eight { (motion : Motion) → IsTrue (is_motion S28 motion) → motion_told S28 (number_28 (low_28 motion)) ≡ motion }
-    ensures in_two_bytes { (motion : Motion) → IsTrue (is_motion S128 motion) → motion_told S128 (code_of motion) ≡ motion }
+    ensures fourteen { (motion : Motion) (f0 : Bool) → IsTrue (is_motion S14 motion) → (motion_of_number S14 (low_14 motion f0 % 16) ≡ motion) × (low_14 motion f0 / 16 ≡ bit f0) }
+    ensures twenty_eight { (motion : Motion) → IsTrue (is_motion S28 motion) → motion_of_number S28 (number_28 (low_28 motion)) ≡ motion }
+    ensures in_two_bytes { (motion : Motion) → IsTrue (is_motion S128 motion) → motion_of_number S128 (code_of motion) ≡ motion }
 {}
 
 /// SPD says stop at 0 and emergency stop at 1. From 2, the first step, to 127, the last, it never falls, and each step is

@@ -1,7 +1,7 @@
 //! Packets that are read: the instruction that bytes spell.
 ghost use Rattle.std.specs.Prelude.{◌≡◌, ◌↔◌, ◌<◌, ◌≤◌, Some, IsTrue};
 ghost use Rattle.dcc_packet.specs.declared.instr.Instr.{Instr};
-ghost use Rattle.dcc_packet.specs.Reading.{broadcast_of, accessory_of, short_form_of, told_of, long_told_of, other_of, form_of, instruction_of};
+ghost use Rattle.dcc_packet.specs.Reading.{broadcast_of, accessory_of, short_form_of, addressed_of, long_addressed_of, other_of, form_of, instruction_of};
 ghost use Rattle.dcc_packet.specs.Spells.{Spells};
 
 use crate::address::Address;
@@ -28,24 +28,24 @@ fn form(bytes: &[u8]) -> Option<Instr>
     ensures { result ≡ form_of bytes.now }
 {
     match bytes {
-        [first @ 1..=127, told @ ..] => told_to(Address::Short(*first), told),
-        [first @ 192..=231, told @ ..] => told_to_long(*first, told),
-        [first, told @ ..] => other(*first, told),
+        [first @ 1..=127, behind @ ..] => addressed(Address::Short(*first), behind),
+        [first @ 192..=231, behind @ ..] => long_addressed(*first, behind),
+        [first, behind @ ..] => other(*first, behind),
         [] => None,
     }
 }
 
 /// What the bytes behind the first of a two-byte address, the check last, say.
-#[tactic(auto, unfolding(crate::specs::Reading::long_told_of))]
-fn told_to_long(high: u8, told: &[u8]) -> Option<Instr>
+#[tactic(auto, unfolding(crate::specs::Reading::long_addressed_of))]
+fn long_addressed(high: u8, behind: &[u8]) -> Option<Instr>
     requires low { 192 ≤ high }
     requires high { high ≤ 231 }
-    ensures { result ≡ long_told_of high told.now }
+    ensures { result ≡ long_addressed_of high behind.now }
 {
-    match told {
-        [low, told @ ..] => told_to(
+    match behind {
+        [low, behind @ ..] => addressed(
             Address::Long(u16::from(high - 192) * 256 + u16::from(*low)),
-            told,
+            behind,
         ),
         [] => None,
     }
@@ -53,10 +53,10 @@ fn told_to_long(high: u8, told: &[u8]) -> Option<Instr>
 
 /// What the bytes behind a first byte that is no locomotive's, the check last, say.
 #[tactic(auto, unfolding(crate::specs::Reading::other_of))]
-fn other(first: u8, told: &[u8]) -> Option<Instr>
-    ensures { result ≡ other_of first told.now }
+fn other(first: u8, behind: &[u8]) -> Option<Instr>
+    ensures { result ≡ other_of first behind.now }
 {
-    match told {
+    match behind {
         [second, _] => match first {
             0x00 => broadcast(*second),
             128..=191 => accessory(first, *second),
@@ -99,11 +99,11 @@ fn accessory(first: u8, second: u8) -> Option<Instr>
 }
 
 /// What the bytes behind its address, the check last, say to a locomotive decoder.
-#[tactic(auto, unfolding(crate::specs::Reading::told_of, crate::specs::Reading::long_form_of))]
-fn told_to(address: Address, told: &[u8]) -> Option<Instr>
-    ensures { result ≡ told_of address told.now }
+#[tactic(auto, unfolding(crate::specs::Reading::addressed_of, crate::specs::Reading::long_form_of))]
+fn addressed(address: Address, behind: &[u8]) -> Option<Instr>
+    ensures { result ≡ addressed_of address behind.now }
 {
-    match told {
+    match behind {
         [byte, _] => short_form(address, *byte),
         [0x3F, speed, _] => Some(Instr::Speed128 {
             address,

@@ -11,7 +11,7 @@ use Rattle.decoder_rx.specs.Position.{Position, is_hunting}
 use Rattle.decoder_rx.specs.Table.{after_all, answers}
 use Rattle.decoder_node.specs.Decoder.{Decoder}
 use Rattle.decoder_node.specs.Hearing.{Hears, heard, heard_all}
-use Rattle.decoder_node.specs.Heard.{obeying, told, ObeysWaves}
+use Rattle.decoder_node.specs.Heard.{obeying, after_receipt, ObeysWaves}
 use Rattle.decoder_node.proofs.Drained.{drained}
 use Rattle.decoder_node.proofs.Waves.{Laws, Ignores, spells_none, obeyed, ran}
 
@@ -20,7 +20,7 @@ module _ {Settings State : Type 0} (does : Settings → State → Instr → Stat
   settings_after [] d = refl
   settings_after (x ∷ xs) d = settings_after xs (heard does d x)
 
-  state_after : (halves : List ℕ) (d : Decoder Settings State) → (heard_all does d halves).state ≡ fold (told (obeying (does d.settings))) d.state (answers d.receiver halves)
+  state_after : (halves : List ℕ) (d : Decoder Settings State) → (heard_all does d halves).state ≡ fold (after_receipt (obeying (does d.settings))) d.state (answers d.receiver halves)
   state_after [] d = refl
   state_after (x ∷ xs) d = state_after xs (heard does d x)
 
@@ -29,7 +29,7 @@ module _ {Settings State : Type 0} (does : Settings → State → Instr → Stat
   receiver_after (x ∷ xs) d = receiver_after xs (heard does d x)
 
   ignores : (settings : Settings) → Ignores (obeying (does settings))
-  ignores settings state packet h = ap (told (does settings) state) (spells_none packet h)
+  ignores settings state packet h = ap (after_receipt (does settings) state) (spells_none packet h)
 
   -- and one half more
   pub heard_next : (old d : Decoder Settings State) (halves : List ℕ) (half : ℕ) → d ≡ heard_all does old halves → heard does d half ≡ heard_all does old (halves ++ half ∷ [])
@@ -60,7 +60,7 @@ module _ {Settings State : Type 0} (does : Settings → State → Instr → Stat
 
   -- the halves of a wave all at once
   pub heard_at_once : Laws → (old new : Decoder Settings State) (packet halves : List ℕ) → IsPacket packet → IsWave packet halves → IsTrue (is_hunting old.receiver)
-      → new.settings ≡ old.settings → new.state ≡ told (does old.settings) old.state (instruction_of packet) → new.receiver ≡ after_all old.receiver halves
+      → new.settings ≡ old.settings → new.state ≡ after_receipt (does old.settings) old.state (instruction_of packet) → new.receiver ≡ after_all old.receiver halves
       → new ≡ heard_all does old halves
   heard_at_once laws old new packet halves form wave between settings state receiver =
       same new (heard_all does old halves) (settings ∙ sym (settings_after halves old)) (state ∙ sym ((waves laws old halves).obeys packet form wave between)) (receiver ∙ sym (receiver_after halves old))

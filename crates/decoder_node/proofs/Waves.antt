@@ -8,7 +8,7 @@ use Rattle.dcc_packet.specs.Wave.{IsWave}
 use Rattle.decoder_rx.specs.Position.{Position, is_hunting}
 use Rattle.decoder_rx.specs.Table.{given, after, after_all, answers}
 use Rattle.decoder_rx.specs.Reading.{IsRight, Reads, Passes}
-use Rattle.decoder_node.specs.Heard.{told, AreWaves}
+use Rattle.decoder_node.specs.Heard.{after_receipt, AreWaves}
 
 -- what the crate of the receiver promises
 pub record Laws : Type 0 where
@@ -30,35 +30,35 @@ spells_none packet h =
 abbrev pub Ignores : {State : Type 0} → (State → List ℕ → State) → Type 0
 Ignores {State} obey = (state : State) (packet : List ℕ) → is_checked packet ≡ false → obey state packet ≡ state
 
-told_last : {State : Type 0} (obey : State → List ℕ → State) (n : ℕ) (s : State) (packet : List ℕ) → fold (told obey) s (replicate n None ++ Some packet ∷ []) ≡ obey s packet
-told_last obey zero s packet = refl
-told_last obey (suc n) s packet = told_last obey n s packet
+received_last : {State : Type 0} (obey : State → List ℕ → State) (n : ℕ) (s : State) (packet : List ℕ) → fold (after_receipt obey) s (replicate n None ++ Some packet ∷ []) ≡ obey s packet
+received_last obey zero s packet = refl
+received_last obey (suc n) s packet = received_last obey n s packet
 
-told_none : {State : Type 0} (obey : State → List ℕ → State) (n : ℕ) (s : State) → fold (told obey) s (replicate n None) ≡ s
-told_none obey zero s = refl
-told_none obey (suc n) s = told_none obey n s
+received_none : {State : Type 0} (obey : State → List ℕ → State) (n : ℕ) (s : State) → fold (after_receipt obey) s (replicate n None) ≡ s
+received_none obey zero s = refl
+received_none obey (suc n) s = received_none obey n s
 
 -- a wave does what its packet does
-pub obeyed : {State : Type 0} (obey : State → List ℕ → State) → Ignores obey → Laws → (s : State) (position : Position) (packet halves : List ℕ) → IsPacket packet → IsWave packet halves → IsTrue (is_hunting position) → fold (told obey) s (answers position halves) ≡ obey s packet
+pub obeyed : {State : Type 0} (obey : State → List ℕ → State) → Ignores obey → Laws → (s : State) (position : Position) (packet halves : List ℕ) → IsPacket packet → IsWave packet halves → IsTrue (is_hunting position) → fold (after_receipt obey) s (answers position halves) ≡ obey s packet
 obeyed obey ignores laws s position packet halves p w b = elim (cases_Bool (is_checked packet)) [
   | inl right ↦
       let reads = laws.reads position packet halves b (record { form = p; checked = right }) w in
-      ap (fold (told obey) s) reads.given ∙ told_last obey (length halves - 1) s packet
+      ap (fold (after_receipt obey) s) reads.given ∙ received_last obey (length halves - 1) s packet
   | inr wrong ↦
       let passes = laws.passes position packet halves b p wrong w in
-      ap (fold (told obey) s) passes.given ∙ told_none obey (length halves) s ∙ sym (ignores s packet wrong)
+      ap (fold (after_receipt obey) s) passes.given ∙ received_none obey (length halves) s ∙ sym (ignores s packet wrong)
 ]
 
-told-append : {State : Type 0} (obey : State → List ℕ → State) (xs ys : List ℕ) (s : State) (position : Position) → fold (told obey) s (answers position (xs ++ ys)) ≡ fold (told obey) (fold (told obey) s (answers position xs)) (answers (after_all position xs) ys)
-told-append obey [] ys s position = refl
-told-append obey (x ∷ xs) ys s position = told-append obey xs ys (told obey s (given position x)) (after position x)
+received-append : {State : Type 0} (obey : State → List ℕ → State) (xs ys : List ℕ) (s : State) (position : Position) → fold (after_receipt obey) s (answers position (xs ++ ys)) ≡ fold (after_receipt obey) (fold (after_receipt obey) s (answers position xs)) (answers (after_all position xs) ys)
+received-append obey [] ys s position = refl
+received-append obey (x ∷ xs) ys s position = received-append obey xs ys (after_receipt obey s (given position x)) (after position x)
 
 after_all-append : (xs ys : List ℕ) (position : Position) → after_all position (xs ++ ys) ≡ after_all (after_all position xs) ys
 after_all-append [] ys position = refl
 after_all-append (x ∷ xs) ys position = after_all-append xs ys (after position x)
 
 abbrev pub Ran : {State : Type 0} → (State → List ℕ → State) → State → Position → List (List ℕ) → List ℕ → Type 0
-Ran obey s position packets halves = (fold (told obey) s (answers position halves) ≡ fold obey s packets) × IsTrue (is_hunting (after_all position halves))
+Ran obey s position packets halves = (fold (after_receipt obey) s (answers position halves) ≡ fold obey s packets) × IsTrue (is_hunting (after_all position halves))
 
 -- waves one behind the other do what their packets do
 pub ran : {State : Type 0} (obey : State → List ℕ → State) → Ignores obey → Laws → (packets : List (List ℕ)) (halves : List ℕ) (s : State) (position : Position) → AreWaves packets halves → IsTrue (is_hunting position) → Ran obey s position packets halves
@@ -69,6 +69,6 @@ ran obey ignores laws (packet ∷ packets) halves s position w b =
     let front = obeyed obey ignores laws s position packet wave w.3 w.4 b in
     let more = ran obey ignores laws packets rest (obey s packet) (after_all position wave) w.5 (laws.settles position packet wave w.3 w.4) in
     subst (λ (hs : List ℕ). Ran obey s position (packet ∷ packets) hs) (sym w.2) (
-      told-append obey wave rest s position ∙ ap (λ t. fold (told obey) t (answers (after_all position wave) rest)) front ∙ more.0,
+      received-append obey wave rest s position ∙ ap (λ t. fold (after_receipt obey) t (answers (after_all position wave) rest)) front ∙ more.0,
       ap is_hunting (after_all-append wave rest position) ∙ more.1,
     )

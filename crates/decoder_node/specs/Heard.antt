@@ -6,14 +6,14 @@ use Rattle.dcc_packet.specs.Reading.{instruction_of}
 use Rattle.dcc_packet.specs.Wave.{IsWave}
 use Rattle.decoder_rx.specs.Position.{Position, is_hunting}
 
--- the state after what is told, if anything is, where it does this
-abbrev pub told : {State Said : Type 0} (does : State → Said → State) → State → Option Said → State
-told does state None = state
-told does state (Some said) = does state said
+-- the state after what is received, if anything is, where it does this
+abbrev pub after_receipt : {State Received : Type 0} (does : State → Received → State) → State → Option Received → State
+after_receipt does state None = state
+after_receipt does state (Some received) = does state received
 
 -- What a packet does: what the instruction does that its bytes spell, and nothing where they spell none.
 abbrev pub obeying : {State : Type 0} (does : State → Instr → State) → State → List ℕ → State
-obeying does state packet = told does state (instruction_of packet)
+obeying does state packet = after_receipt does state (instruction_of packet)
 
 -- the halves are waves of these packets, one behind the other
 abbrev pub AreWaves : List (List ℕ) → List ℕ → Type 0

@@ -3,13 +3,13 @@ use Rattle.std.specs.Prelude.{ℕ, ◌≡◌, List, fold}
 use Rattle.dcc_packet.specs.declared.instr.Instr.{Instr}
 use Rattle.decoder_rx.specs.Table.{after, given}
 use Rattle.decoder_node.specs.Decoder.{Decoder}
-use Rattle.decoder_node.specs.Heard.{obeying, told, ObeysWaves}
+use Rattle.decoder_node.specs.Heard.{obeying, after_receipt, ObeysWaves}
 
 -- after one half, and after many
 abbrev pub heard : {Settings State : Type 0} (does : Settings → State → Instr → State) → Decoder Settings State → ℕ → Decoder Settings State
 heard does decoder half = record {
   settings = decoder.settings;
-  state = told (obeying (does decoder.settings)) decoder.state (given decoder.receiver half);
+  state = after_receipt (obeying (does decoder.settings)) decoder.state (given decoder.receiver half);
   receiver = after decoder.receiver half;
 }
 

@@ -7,7 +7,7 @@ use Rattle.dcc_packet.specs.declared.instr.Instr.{Instr}
 use Rattle.dcc_packet.specs.declared.instr.Instr.TheVariants.{Idle, Reset, StopAll, Speed, Speed128, GroupOne, GroupTwo, GroupThree, Accessory}
 use Rattle.dcc_packet.specs.declared.steps.Steps.TheVariants.{S14, S28, S128}
 use Rattle.dcc_packet.specs.declared.steps.Motion.TheVariants.{Stop, Emergency}
-use Rattle.dcc_packet.specs.Told.{motion_told, number_28}
+use Rattle.dcc_packet.specs.SpeedNumbers.{motion_of_number, number_28}
 use Rattle.decoder_cv.specs.Settings.{Settings}
 use Rattle.decoder_node.specs.declared.running.Running.{Running}
 use Rattle.decoder_node.specs.Bits.{with_bits}
@@ -30,8 +30,8 @@ is_own (Long own) (Short number) = false
 abbrev pub driven : Settings → Running → Bool → ℕ → Running
 driven cv running d low =
     if cv.fourteen
-    then record { motion = motion_told S14 (low % 16); forward = own_forward cv d; functions = with_bits running.functions 0 1 (low / 16 % 2) }
-    else record { motion = motion_told S28 (number_28 low); forward = own_forward cv d; functions = running.functions }
+    then record { motion = motion_of_number S14 (low % 16); forward = own_forward cv d; functions = with_bits running.functions 0 1 (low / 16 % 2) }
+    else record { motion = motion_of_number S28 (number_28 low); forward = own_forward cv d; functions = running.functions }
 
 -- A packet of function group one: bit 4 is F0 where the decoder has 28 or 128 steps, and else means nothing.
 abbrev pub lit : Settings → ℕ → ℕ → ℕ
@@ -48,7 +48,7 @@ obeyed cv running Reset = first_running
 obeyed cv running (StopAll emergency) = record running { motion = if emergency then Emergency else Stop }
 obeyed cv running (Speed address d low) = if is_own cv.address address then driven cv running d low else running
 obeyed cv running (Speed128 address d s) =
-    if is_own cv.address address then record running { motion = motion_told S128 s; forward = own_forward cv d } else running
+    if is_own cv.address address then record running { motion = motion_of_number S128 s; forward = own_forward cv d } else running
 obeyed cv running (GroupOne address bits) =
     if is_own cv.address address then record running { functions = lit cv running.functions bits } else running
 obeyed cv running (GroupTwo address bits) =

@@ -2,7 +2,7 @@
 ghost use Rattle.std.specs.Prelude.{◌≡◌, ℕ, List, None};
 ghost use Rattle.std.specs.Iterator.{IsFinite, Drains};
 ghost use Rattle.dcc_packet.specs.declared.instr.Instr.{Instr as InstrValue};
-ghost use Rattle.decoder_node.specs.Heard.{obeying, told};
+ghost use Rattle.decoder_node.specs.Heard.{obeying, after_receipt};
 
 use crate::ONE;
 use dcc_packet::{Instr, Packet, read};
@@ -21,7 +21,7 @@ pub trait Obeys<State> {
     /// The state obeys what a packet spells, and stays as it is where that is nothing.
     fn obey(&self, state: &mut State, instr: &Option<Instr>)
         requires { holds state.old }
-        ensures obeys { state.new ≡ told (does self.now) state.old instr.now }
+        ensures obeys { state.new ≡ after_receipt (does self.now) state.old instr.now }
         ensures holds { holds state.new };
 }
 

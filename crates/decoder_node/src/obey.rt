@@ -1,6 +1,6 @@
 //! What a packet does to a locomotive decoder.
 ghost use Rattle.std.specs.Prelude.{◌≡◌, ◌<◌, ◌/◌, ◌%◌};
-ghost use Rattle.dcc_packet.specs.Told.{motion_told};
+ghost use Rattle.dcc_packet.specs.SpeedNumbers.{motion_of_number};
 ghost use Rattle.decoder_node.specs.Bits.{with_bits};
 ghost use Rattle.decoder_node.specs.Concerned.{concerns};
 ghost use Rattle.decoder_node.specs.Obey.{obeyed, driven, lit, is_own, own_forward};
@@ -60,7 +60,7 @@ fn after_instr(cv: &CvSet, running: Running, instr: Instr) -> Running
         },
         Instr::Speed { address, d, low } if is_own(cv, address) => drive(cv, running, d, low),
         Instr::Speed128 { address, d, s } if is_own(cv, address) => Running {
-            motion: motion_told(Steps::S128, s),
+            motion: motion_of_number(Steps::S128, s),
             forward: own_forward(cv, d),
             ..running
         },
@@ -103,13 +103,13 @@ fn drive(cv: &CvSet, running: Running, d: bool, low: u8) -> Running
     let forward = own_forward(cv, d);
     if cv.fourteen() {
         Running {
-            motion: motion_told(Steps::S14, low % 16),
+            motion: motion_of_number(Steps::S14, low % 16),
             forward,
             functions: with_light(running.functions, low),
         }
     } else {
         Running {
-            motion: motion_told(Steps::S28, 2 * (low % 16) + low / 16 % 2),
+            motion: motion_of_number(Steps::S28, 2 * (low % 16) + low / 16 % 2),
             forward,
             ..running
         }
@@ -117,8 +117,8 @@ fn drive(cv: &CvSet, running: Running, d: bool, low: u8) -> Running
 }
 
 /// The motion of a number on the track (S-9.2.1, 2.3.2 and 2.3.3).
-fn motion_told(steps: Steps, number: u8) -> Motion
-    ensures { result ≡ motion_told steps number }
+fn motion_of_number(steps: Steps, number: u8) -> Motion
+    ensures { result ≡ motion_of_number steps number }
 {
     let (last_stop, last_emergency) = match steps {
         Steps::S28 => (1, 3),

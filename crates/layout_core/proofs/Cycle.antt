@@ -23,7 +23,7 @@ use Rattle.station_core.specs.declared.call.Step.TheVariants.{Packet}
 use Rattle.station_core.specs.Moved.{packet_of_turn, sent}
 use Rattle.station_core.specs.Packets.{entry_packet, place_packet}
 use Rattle.station_core.specs.Refreshed.{is_driven, is_refreshed}
-use Rattle.station_core.specs.Known.{Known, told, told_all}
+use Rattle.station_core.specs.Known.{Known, known_after, known_after_all}
 use Rattle.station_core.specs.Moments.{AtEveryMoment, IsLive, ever_refreshed, slots_refreshed, turns_in}
 use Rattle.station_core.specs.Powered.{HasDesk, PoweredDesk}
 use Rattle.station_core.specs.Runs.{Covers, Sends, answer_of, state_after, state_of}
@@ -111,9 +111,9 @@ calls-append [] later = refl
 calls-append (event ∷ events) later =
     ap (λ (calls : List Call). calls_of event ++ calls) (calls-append events later) ∙ sym (append_assoc (calls_of event) (calls_in events) (calls_in later))
 
-last_moment : (known : Known) (calls : List Call) → AtEveryMoment HasDesk known calls → HasDesk (told_all known calls).powered
+last_moment : (known : Known) (calls : List Call) → AtEveryMoment HasDesk known calls → HasDesk (known_after_all known calls).powered
 last_moment known [] now = now
-last_moment known (call ∷ calls) moments = last_moment (told known call) calls moments.1
+last_moment known (call ∷ calls) moments = last_moment (known_after known call) calls moments.1
 
 -- a desk after some of the calls
 desk_behind : (laws : Laws) (start : Seen) (before : List Call) → HasDesk start.powered → HasDesk (state_after start before).powered
@@ -266,21 +266,21 @@ settled laws cv i slot a e mine steps seen known follows desk cycle full misses 
 
 -- ---- what is known, part by part
 
-pub told-append : (known : Known) (calls later : List Call) → told_all known (calls ++ later) ≡ told_all (told_all known calls) later
-told-append known [] later = refl
-told-append known (call ∷ calls) later = told-append (told known call) calls later
+pub known_after-append : (known : Known) (calls later : List Call) → known_after_all known (calls ++ later) ≡ known_after_all (known_after_all known calls) later
+known_after-append known [] later = refl
+known_after-append known (call ∷ calls) later = known_after-append (known_after known call) calls later
 
-moments_behind : (P : PoweredDesk → Type 0) (known : Known) (calls later : List Call) → AtEveryMoment P known (calls ++ later) → AtEveryMoment P (told_all known calls) later
+moments_behind : (P : PoweredDesk → Type 0) (known : Known) (calls later : List Call) → AtEveryMoment P known (calls ++ later) → AtEveryMoment P (known_after_all known calls) later
 moments_behind P known [] later moments = moments
-moments_behind P known (call ∷ calls) later moments = moments_behind P (told known call) calls later moments.1
+moments_behind P known (call ∷ calls) later moments = moments_behind P (known_after known call) calls later moments.1
 
 first_known : (P : PoweredDesk → Type 0) (known : Known) (calls : List Call) → AtEveryMoment P known calls → P known.powered
 first_known P known [] now = now
 first_known P known (call ∷ calls) moments = moments.0
 
-ever_behind : (known : Known) (calls later : List Call) (slot : ℕ) → ever_refreshed (told_all known calls) later slot ≡ true → ever_refreshed known (calls ++ later) slot ≡ true
+ever_behind : (known : Known) (calls later : List Call) (slot : ℕ) → ever_refreshed (known_after_all known calls) later slot ≡ true → ever_refreshed known (calls ++ later) slot ≡ true
 ever_behind known [] later slot h = h
-ever_behind known (call ∷ calls) later slot h = or_right (is_refreshed known.powered.desk slot) _ (ever_behind (told known call) calls later slot h)
+ever_behind known (call ∷ calls) later slot h = or_right (is_refreshed known.powered.desk slot) _ (ever_behind (known_after known call) calls later slot h)
 
 fewer : (b c : Bool) (x : ℕ) (xs ys : List ℕ) → (b ≡ true → c ≡ true) → length xs ≤ length ys → length (if b then x ∷ xs else xs) ≤ length (if c then x ∷ ys else ys)
 fewer true true x xs ys h less = omega (arith, less)
@@ -297,10 +297,10 @@ turns-append [] later = omega arith
 turns-append (call ∷ calls) later = let rest : turns_in (calls ++ later) ≡ turns_in calls + turns_in later = turns-append calls later in omega (arith, rest)
 
 -- what is behind one turn of a cycle is a cycle, where the cycle has a turn more than it needs
-cycle_behind : (slot a : ℕ) (e : Entry) (known : Known) (calls later : List Call) → turns_in calls ≡ 1 → IsCycleOf slot a e known (calls ++ later) → 4 * kinds * slots_refreshed known (calls ++ later) + 1 ≤ turns_in (calls ++ later) → IsCycleOf slot a e (told_all known calls) later
+cycle_behind : (slot a : ℕ) (e : Entry) (known : Known) (calls later : List Call) → turns_in calls ≡ 1 → IsCycleOf slot a e known (calls ++ later) → 4 * kinds * slots_refreshed known (calls ++ later) + 1 ≤ turns_in (calls ++ later) → IsCycleOf slot a e (known_after_all known calls) later
 cycle_behind slot a e known calls later one full more =
-    let count : slots_refreshed (told_all known calls) later ≤ slots_refreshed known (calls ++ later) =
-    fewer_pass (ever_refreshed (told_all known calls) later) (ever_refreshed known (calls ++ later)) all_slots (ever_behind known calls later) in
+    let count : slots_refreshed (known_after_all known calls) later ≤ slots_refreshed known (calls ++ later) =
+    fewer_pass (ever_refreshed (known_after_all known calls) later) (ever_refreshed known (calls ++ later)) all_slots (ever_behind known calls later) in
     let turns : turns_in (calls ++ later) ≡ turns_in calls + turns_in later = turns-append calls later in
     record {
       is_slot = full.is_slot;
@@ -368,9 +368,9 @@ over_cycle laws i slot a e cv mine steps seen known follows desk cycle full miss
     )
 
 -- what a station is after some of the events, and what is known then
-follows_events : (laws : Laws) (start : Seen) (events : List Event) → Follows (after_events start events) (told_all (known_of start) (calls_in events))
+follows_events : (laws : Laws) (start : Seen) (events : List Event) → Follows (after_events start events) (known_after_all (known_of start) (calls_in events))
 follows_events laws start events =
-    subst (λ (seen : Seen). Follows seen (told_all (known_of start) (calls_in events))) (sym (after_is start events))
+    subst (λ (seen : Seen). Follows seen (known_after_all (known_of start) (calls_in events))) (sym (after_is start events))
     (follows_behind start (known_of start) (calls_in events) (laws.told start))
 
 desk_after_events : (laws : Laws) (start : Seen) (events : List Event) → HasDesk start.powered → HasDesk (after_events start events).powered
@@ -394,7 +394,7 @@ pub runs_as_wanted : Laws → (start : Seen) (events : List Event) (old new : Li
 runs_as_wanted laws start events old new desk has before cycle i loco none parts below is slot a e between quiet hears full =
     let cut = heard_apart start events before cycle old new has parts i (Loco loco) none below is in
     let so_far = whole_obeyed (sounds_in i start before) (Loco loco) cut.0 (sounds_are_whole i start before quiet) cut.1 between in
-    (over_cycle laws i slot a e loco.settings hears.answers hears.steps (after_events start before) (told_all (known_of start) (calls_in before)) (follows_events laws start before) (desk_after_events laws start before desk) cycle full hears.misses hears.quiet
+    (over_cycle laws i slot a e loco.settings hears.answers hears.steps (after_events start before) (known_after_all (known_of start) (calls_in before)) (follows_events laws start before) (desk_after_events laws start before desk) cycle full hears.misses hears.quiet
     cut.0 (slice_index_or new i none) (all_keep (sounds_in i start before) (Loco loco) cut.0 cut.1) so_far.1 cut.2).0
 
 -- The headline after noise: the packet of the first turn leaves no packet under way, and the rest is a cycle.
@@ -417,20 +417,20 @@ module _ (laws : Laws) (i slot a : ℕ) (e : Entry) (cv : Settings) (mine : IsTr
       let behind : List Event = Turn cut.missed ∷ cut.rest in
       -- before the turn, and behind it
       let at_turn : Seen = after_events seen cut.front in
-      let known_at : Known = told_all known (calls_in cut.front) in
+      let known_at : Known = known_after_all known (calls_in cut.front) in
       let after : Seen = after_event at_turn (Turn cut.missed) in
-      let known_after : Known = told_all known_at (TurnCall ∷ []) in
+      let known_behind : Known = known_after_all known_at (TurnCall ∷ []) in
       let calls : calls_in cycle ≡ calls_in cut.front ++ (TurnCall ∷ calls_in cut.rest) = ap calls_in cut.parts ∙ calls-append cut.front behind in
       let full_parts : IsCycleOf slot a e known (calls_in cut.front ++ (TurnCall ∷ calls_in cut.rest)) = subst (IsCycleOf slot a e known) calls full in
       let more_parts : 4 * kinds * slots_refreshed known (calls_in cut.front ++ (TurnCall ∷ calls_in cut.rest)) + 1 ≤ turns_in (calls_in cut.front ++ (TurnCall ∷ calls_in cut.rest)) =
       subst (λ (cs : List Call). 4 * kinds * slots_refreshed known cs + 1 ≤ turns_in cs) calls more in
       let regroup : calls_in cut.front ++ (TurnCall ∷ calls_in cut.rest) ≡ (calls_in cut.front ++ TurnCall ∷ []) ++ calls_in cut.rest = sym (append_assoc (calls_in cut.front) (TurnCall ∷ []) (calls_in cut.rest)) in
       let one : turns_in (calls_in cut.front ++ TurnCall ∷ []) ≡ 1 = let count : turns_in (calls_in cut.front ++ TurnCall ∷ []) ≡ turns_in (calls_in cut.front) + 1 = turns-append (calls_in cut.front) (TurnCall ∷ []) in omega (arith, count, cut.before) in
-      let rest_cycle : IsCycleOf slot a e (told_all known (calls_in cut.front ++ TurnCall ∷ [])) (calls_in cut.rest) =
+      let rest_cycle : IsCycleOf slot a e (known_after_all known (calls_in cut.front ++ TurnCall ∷ [])) (calls_in cut.rest) =
       cycle_behind slot a e known (calls_in cut.front ++ TurnCall ∷ []) (calls_in cut.rest) one (subst (IsCycleOf slot a e known) regroup full_parts)
       (subst (λ (cs : List Call). 4 * kinds * slots_refreshed known cs + 1 ≤ turns_in cs) regroup more_parts) in
       let follows_at : Follows at_turn known_at = subst (λ (s : Seen). Follows s known_at) (sym (after_is seen cut.front)) (follows_behind seen known (calls_in cut.front) follows) in
-      let follows_after : Follows after known_after = λ later. follows_at (TurnCall ∷ later) in
+      let follows_after : Follows after known_behind = λ later. follows_at (TurnCall ∷ later) in
       let desk_at : HasDesk at_turn.powered = desk_after_events laws seen cut.front desk in
       let desk_then : HasDesk after.powered = desk_after_events laws at_turn turn desk_at in
       let live_at : AtEveryMoment (IsLive slot) known_at (TurnCall ∷ calls_in cut.rest) = moments_behind (IsLive slot) known (calls_in cut.front) (TurnCall ∷ calls_in cut.rest) full_parts.full.live in
@@ -443,12 +443,12 @@ module _ (laws : Laws) (i slot a : ℕ) (e : Entry) (cv : Settings) (mine : IsTr
       let second = all_split (sounds_at i at_turn (Turn cut.missed)) (sounds_in i after cut.rest) first.0 new first.2 in
       let between : IsBetween second.0 = settles_at_turn at_turn known_at follows_at desk_at cut.missed stands_at.0 live_at.0 misses_turn.0 first.0 second.0 second.1 in
       let kept : spec_of second.0 ≡ LocoSpec cv = all_keep (sounds_at i at_turn (Turn cut.missed)) first.0 second.0 second.1 ∙ all_keep (sounds_in i seen cut.front) old first.0 first.1 ∙ made in
-      over_cycle laws i slot a e cv mine steps after known_after follows_after desk_then cut.rest
-      (subst (λ (k : Known). IsCycleOf slot a e k (calls_in cut.rest)) (told-append known (calls_in cut.front) (TurnCall ∷ [])) rest_cycle)
+      over_cycle laws i slot a e cv mine steps after known_behind follows_after desk_then cut.rest
+      (subst (λ (k : Known). IsCycleOf slot a e k (calls_in cut.rest)) (known_after-append known (calls_in cut.front) (TurnCall ∷ [])) rest_cycle)
       misses_turn.1 quiet_turn second.0 new kept between second.2
 
 pub runs_after_noise : Laws → (start : Seen) (events : List Event) (old new : List Node) → HasDesk start.powered → HaveHeard start events old new → RunsAfterNoise (known_of start) events old new
 runs_after_noise laws start events old new desk has before cycle i loco none parts below is slot a e hears full more =
     let cut = heard_apart start events before cycle old new has parts i (Loco loco) none below is in
-    over_longer_cycle laws i slot a e loco.settings hears.answers hears.steps (after_events start before) (told_all (known_of start) (calls_in before)) (follows_events laws start before) (desk_after_events laws start before desk) cycle full more hears.misses hears.quiet
+    over_longer_cycle laws i slot a e loco.settings hears.answers hears.steps (after_events start before) (known_after_all (known_of start) (calls_in before)) (follows_events laws start before) (desk_after_events laws start before desk) cycle full more hears.misses hears.quiet
     cut.0 (slice_index_or new i none) (all_keep (sounds_in i start before) (Loco loco) cut.0 cut.1) cut.2

@@ -16,14 +16,14 @@ use Rattle.dcc_packet.specs.Reading.{instruction_of}
 use Rattle.dcc_packet.specs.Sent.{code_of, low_14, low_28, speed_bytes, group_one_bytes, group_two_bytes, group_three_bytes}
 use Rattle.dcc_packet.specs.Spells.{Spells}
 use Rattle.dcc_packet.specs.Steps.{motion_of, step_of}
-use Rattle.dcc_packet.specs.Told.{motion_told, number_28}
+use Rattle.dcc_packet.specs.SpeedNumbers.{motion_of_number, number_28}
 use Rattle.slot_table.specs.Entry.{IsAddress}
 use Rattle.station_core.specs.Packets.{address_sent}
 use Rattle.decoder_cv.specs.Answering.{is_at}
 use Rattle.decoder_cv.specs.Settings.{Settings}
 use Rattle.decoder_node.specs.declared.running.Running.{Running}
 use Rattle.decoder_node.specs.Bits.{with_bits}
-use Rattle.decoder_node.specs.Heard.{told}
+use Rattle.decoder_node.specs.Heard.{after_receipt}
 use Rattle.decoder_node.specs.Obey.{is_own, own_forward, driven, lit, obeyed, obey}
 
 -- what the crate of packets promises: how packets are read, and what those of an address spell
@@ -36,9 +36,9 @@ pub record Spelling : Type 0 where
 
 -- and which motion a decoder makes of its number
 pub record Speeds : Type 0 where
-  pub fourteen : (motion : Motion) (f0 : Bool) → IsTrue (is_motion S14 motion) → (motion_told S14 (low_14 motion f0 % 16) ≡ motion) × (low_14 motion f0 / 16 ≡ bit f0)
-  pub twenty_eight : (motion : Motion) → IsTrue (is_motion S28 motion) → motion_told S28 (number_28 (low_28 motion)) ≡ motion
-  pub in_two_bytes : (motion : Motion) → IsTrue (is_motion S128 motion) → motion_told S128 (code_of motion) ≡ motion
+  pub fourteen : (motion : Motion) (f0 : Bool) → IsTrue (is_motion S14 motion) → (motion_of_number S14 (low_14 motion f0 % 16) ≡ motion) × (low_14 motion f0 / 16 ≡ bit f0)
+  pub twenty_eight : (motion : Motion) → IsTrue (is_motion S28 motion) → motion_of_number S28 (number_28 (low_28 motion)) ≡ motion
+  pub in_two_bytes : (motion : Motion) → IsTrue (is_motion S128 motion) → motion_of_number S128 (code_of motion) ≡ motion
 
 -- how a decoder runs by a motion, the D of a packet and its functions
 abbrev pub run_by : Settings → Motion → Bool → ℕ → Running
@@ -47,7 +47,7 @@ run_by cv motion forward functions = record { motion = motion; forward = own_for
 -- a packet does what the instruction does that it spells
 pub obey-told : Spelling → (cv : Settings) (r : Running) (packet : List ℕ) (i : Instr) → Spells packet i → obey cv r packet ≡ obeyed cv r i
 unfolding obey
-obey-told laws cv r packet i s = ap (told (obeyed cv) r) ((laws.read packet i).1 s)
+obey-told laws cv r packet i s = ap (after_receipt (obeyed cv) r) ((laws.read packet i).1 s)
 
 -- SPD below 128 is a motion of each kind of steps
 motion-by : (steps : Steps) (spd : ℕ) → (2 ≤ spd → IsTrue (is_motion steps (Step steps (step_of steps spd)))) → IsTrue (is_motion steps (motion_of steps spd))
@@ -132,7 +132,7 @@ module _ (laws : Spelling) (cv : Settings) (address : Address) (legal : IsTrue (
           let light : low_14 motion f0 / 16 % 2 ≡ bit f0 = ap (λ n. n % 2) told.1 ∙ bit-low f0 in
           to-own (speed_bytes address S14 motion forward f0) (speed_instr address S14 motion forward f0)
           (driven cv r forward (low_14 motion f0)) (laws.speed address S14 motion forward f0 legal fits) refl
-          ∙ cond-true cv.fourteen (run_by cv (motion_told S14 (low_14 motion f0 % 16)) forward (with_bits r.functions 0 1 (low_14 motion f0 / 16 % 2))) (run_by cv (motion_told S28 (number_28 (low_14 motion f0))) forward r.functions) fourteen
+          ∙ cond-true cv.fourteen (run_by cv (motion_of_number S14 (low_14 motion f0 % 16)) forward (with_bits r.functions 0 1 (low_14 motion f0 / 16 % 2))) (run_by cv (motion_of_number S28 (number_28 (low_14 motion f0))) forward r.functions) fourteen
           ∙ ap (λ (m : Motion). run_by cv m forward (with_bits r.functions 0 1 (low_14 motion f0 / 16 % 2))) told.0
           ∙ ap (λ (n : ℕ). run_by cv motion forward (with_bits r.functions 0 1 n)) light
 
@@ -140,13 +140,13 @@ module _ (laws : Spelling) (cv : Settings) (address : Address) (legal : IsTrue (
       own-speed_28 motion fits more =
           let spelled = laws.speed address S28 motion forward f0 legal fits in
           to-own (speed_bytes address S28 motion forward f0) (speed_instr address S28 motion forward f0) (driven cv r forward (low_28 motion)) spelled refl
-          ∙ cond-false cv.fourteen (run_by cv (motion_told S14 (low_28 motion % 16)) forward (with_bits r.functions 0 1 (low_28 motion / 16 % 2))) (run_by cv (motion_told S28 (number_28 (low_28 motion))) forward r.functions) more
+          ∙ cond-false cv.fourteen (run_by cv (motion_of_number S14 (low_28 motion % 16)) forward (with_bits r.functions 0 1 (low_28 motion / 16 % 2))) (run_by cv (motion_of_number S28 (number_28 (low_28 motion))) forward r.functions) more
           ∙ ap (λ (m : Motion). run_by cv m forward r.functions) (speeds.twenty_eight motion fits)
 
       pub own-speed_128 : (motion : Motion) → IsTrue (is_motion S128 motion) → obey cv r (speed_bytes address S128 motion forward f0) ≡ run_by cv motion forward r.functions
       own-speed_128 motion fits =
           to-own (speed_bytes address S128 motion forward f0) (speed_instr address S128 motion forward f0)
-          (run_by cv (motion_told S128 (code_of motion)) forward r.functions) (laws.speed address S128 motion forward f0 legal fits) refl
+          (run_by cv (motion_of_number S128 (code_of motion)) forward r.functions) (laws.speed address S128 motion forward f0 legal fits) refl
           ∙ ap (λ (m : Motion). run_by cv m forward r.functions) (speeds.in_two_bytes motion fits)
 
   module _ (other : is_own cv.address address ≡ false) where
@@ -162,7 +162,7 @@ module _ (laws : Spelling) (cv : Settings) (address : Address) (legal : IsTrue (
         (driven cv r forward (low_28 motion)) (laws.speed address S28 motion forward f0 legal fits) refl
     other-speed S128 motion forward f0 fits =
         to-other (speed_bytes address S128 motion forward f0) (speed_instr address S128 motion forward f0)
-        (run_by cv (motion_told S128 (code_of motion)) forward r.functions) (laws.speed address S128 motion forward f0 legal fits) refl
+        (run_by cv (motion_of_number S128 (code_of motion)) forward r.functions) (laws.speed address S128 motion forward f0 legal fits) refl
 
     pub other-group_one : (functions : ℕ) → obey cv r (group_one_bytes address functions) ≡ r
     other-group_one functions =

@@ -6,7 +6,7 @@ use Rattle.dcc_packet.specs.Kinds.{kinds}
 use Rattle.slot_table.specs.Entry.{Entry, IsSlot}
 use Rattle.slot_table.specs.Reading.{row_of}
 use Rattle.station_core.specs.declared.call.Call.{Call}
-use Rattle.station_core.specs.Known.{Known, told_all}
+use Rattle.station_core.specs.Known.{Known, known_after_all}
 use Rattle.station_core.specs.Moments.{AtEveryMoment, IsFullCycle, slots_refreshed, turns_in}
 use Rattle.station_core.specs.Powered.{PoweredDesk}
 use Rattle.decoder_cv.specs.Answering.{answers_to, AgreesInSteps}
@@ -68,7 +68,7 @@ RunsAsWanted start = ForEachLoco (λ before cycle i loco node.
     → IsBetweenPackets loco
     → NoNoise i before
     → HearsCycle i a e loco cycle
-    → IsCycleOf slot a e (told_all start (calls_in before)) (calls_in cycle)
+    → IsCycleOf slot a e (known_after_all start (calls_in before)) (calls_in cycle)
     → running_of node ≡ Some (wanted e loco.settings.reversed))
 
 -- The headline after noise. Whatever noise came before the cycle, and wherever it left the receiver: where the cycle has
@@ -77,6 +77,6 @@ abbrev pub RunsAfterNoise : Known → List Event → (old new : List Node) → T
 RunsAfterNoise start = ForEachLoco (λ before cycle i loco node.
     (slot a : ℕ) (e : Entry)
     → HearsCycle i a e loco cycle
-    → IsCycleOf slot a e (told_all start (calls_in before)) (calls_in cycle)
-    → 4 * kinds * slots_refreshed (told_all start (calls_in before)) (calls_in cycle) + 1 ≤ turns_in (calls_in cycle)
+    → IsCycleOf slot a e (known_after_all start (calls_in before)) (calls_in cycle)
+    → 4 * kinds * slots_refreshed (known_after_all start (calls_in before)) (calls_in cycle) + 1 ≤ turns_in (calls_in cycle)
     → (running_of node ≡ Some (wanted e loco.settings.reversed)) × IsBetween node)

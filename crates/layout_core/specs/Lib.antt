@@ -18,6 +18,6 @@ pub use Rattle.station_core.specs.Packets.{speed_packet, group_one_packet, group
 pub use Rattle.station_core.specs.Asking.{motion_asked, is_forward, functions_asked}
 pub use Rattle.decoder_cv.specs.Answering.{answers_to, AgreesInSteps}
 pub use Rattle.decoder_node.specs.Obey.{obey, runs}
-pub use Rattle.station_core.specs.Known.{Known, told, told_all}
+pub use Rattle.station_core.specs.Known.{Known, known_after, known_after_all}
 pub use Rattle.station_core.specs.Moments.{AtEveryMoment, IsFullCycle, IsLive}
 pub use Rattle.station_core.specs.Seen.{known_of}

@@ -14,7 +14,7 @@ use Rattle.roster.specs.Entry.{Entry}
 use Rattle.show_text.specs.declared.command.Command.{Command}
 use Rattle.show_text.specs.declared.command.Command.TheVariants.{Show}
 use Rattle.layout_core.specs.{Entry as SlotEntry}
-use Rattle.station_core.specs.Known.{told_all}
+use Rattle.station_core.specs.Known.{known_after_all}
 use Rattle.station_core.specs.Seen.{known_of}
 use Rattle.console.specs.Printed.{lines_text}
 use Rattle.layout_core.specs.Standings.{decoder_line}
@@ -35,6 +35,6 @@ ShowsAsWanted start entries commands =
     → i < length start.nodes
     → slice_index_or start.nodes i none ≡ Loco loco
     → HearsCycle i a e loco cycle
-    → IsCycleOf slot a e (told_all (known_of start.station) (calls_in before)) (calls_in cycle)
+    → IsCycleOf slot a e (known_after_all (known_of start.station) (calls_in before)) (calls_in cycle)
     → (shown : List (List ℕ)) × (commands_text start entries [] commands ≡ commands_text start entries [] earlier ++ (lines_text shown ++ commands_text start entries (events_in earlier) later))
     × (length shown ≡ length entries) × (slice_index_or shown i [] ≡ wanted_line (slice_index_or entries i entry) e loco.settings)

@@ -7,7 +7,7 @@ use Rattle.ln_frame.specs.Stream.{message_at_end, messages_of}
 use Rattle.ln_frame.specs.Unfinished.{unfinished_of, messages_along}
 use Rattle.station_core.specs.declared.call.Call.{Call}
 use Rattle.station_core.specs.declared.call.Call.TheVariants.{Byte, Turn}
-use Rattle.station_core.specs.Known.{Known, bytes_of, carried_out, told, told_all}
+use Rattle.station_core.specs.Known.{Known, bytes_of, carried_out, known_after, known_after_all}
 use Rattle.station_core.specs.Messages.{bytes_on, carried_out_on}
 use Rattle.station_core.specs.Moments.{AtEveryMoment}
 use Rattle.station_core.specs.Moved.{moved, after_message, message_ended}
@@ -62,8 +62,8 @@ module _ (enough : Enough) where
       ∙ ap (λ (xs : List (List ℕ)). set xs line (unfinished_of (unfinished_of (line_of seen line ++ byte ∷ [])))) agree.lines
       ∙ sym (map-set unfinished_of seen.lines line (unfinished_of (line_of seen line ++ byte ∷ [])))
 
-  pub agree_after : (seen : Seen) (known : Known) (call : Call) → Agree seen known → Agree (state_of seen call) (told known call)
-  unfolding moved told
+  pub agree_after : (seen : Seen) (known : Known) (call : Call) → Agree seen known → Agree (state_of seen call) (known_after known call)
+  unfolding moved known_after
   agree_after seen known (Byte line byte) agree = record {
     lines = same_lines seen known line byte agree;
     powered =
@@ -73,9 +73,9 @@ module _ (enough : Enough) where
   }
   agree_after seen known Turn agree = record { lines = agree.lines; powered = agree.powered }
 
-  pub agree_in_the_end : (seen : Seen) (known : Known) (calls : List Call) → Agree seen known → (state_after seen calls).powered ≡ (told_all known calls).powered
+  pub agree_in_the_end : (seen : Seen) (known : Known) (calls : List Call) → Agree seen known → (state_after seen calls).powered ≡ (known_after_all known calls).powered
   agree_in_the_end seen known [] agree = agree.powered
-  agree_in_the_end seen known (call ∷ calls) agree = agree_in_the_end (state_of seen call) (told known call) calls (agree_after seen known call agree)
+  agree_in_the_end seen known (call ∷ calls) agree = agree_in_the_end (state_of seen call) (known_after known call) calls (agree_after seen known call agree)
 
 -- ---- moments, by the states of a station
 
@@ -86,7 +86,7 @@ AtEach P seen (call ∷ calls) = P seen × AtEach P (state_of seen call) calls
 pub moments : (enough : Enough) (P : PoweredDesk → Type 0) (seen : Seen) (known : Known) (calls : List Call) → Agree seen known → AtEveryMoment P known calls → AtEach (λ s. P s.powered) seen calls
 moments enough P seen known [] agree now = subst P (sym agree.powered) now
 moments enough P seen known (call ∷ calls) agree now =
-    (subst P (sym agree.powered) now.0, moments enough P (state_of seen call) (told known call) calls (agree_after enough seen known call agree) now.1)
+    (subst P (sym agree.powered) now.0, moments enough P (state_of seen call) (known_after known call) calls (agree_after enough seen known call agree) now.1)
 
 -- ---- the messages of a line
 
@@ -106,7 +106,7 @@ passed false x y e = refl
 
 module _ (enough : Enough) (line : ℕ) where
   pub carried_out_along : (known : Known) (calls : List Call) → line < length known.lines → carried_out_on line known calls ≡ messages_along (unfinished_of (bytes_of known line)) (bytes_on line calls)
-  unfolding told
+  unfolding known_after
   carried_out_along known [] low = refl
   carried_out_along known (Turn ∷ calls) low = carried_out_along known calls low
   carried_out_along known (Byte other byte ∷ calls) low = elim (cases_Bool (nat_eq other line)) [
@@ -114,10 +114,10 @@ module _ (enough : Enough) (line : ℕ) where
         let same : other ≡ line = eqb-true other line here in
         let before : List ℕ = bytes_of known line in
         let rest : List ℕ = bytes_on line calls in
-        let after : Known = told known (Byte line byte) in
+        let after : Known = known_after known (Byte line byte) in
         let longer : line < length after.lines = subst (λ (n : ℕ). line < n) (sym (length-set known.lines line (before ++ byte ∷ []))) low in
-        ap (λ (ms : List (List ℕ)). ms ++ carried_out_on line (told known (Byte other byte)) calls) (chosen (nat_eq other line) (option_to_list (message_at_end (bytes_of known other ++ byte ∷ []))) [] here)
-        ∙ ap (λ (l : ℕ). option_to_list (message_at_end (bytes_of known l ++ byte ∷ [])) ++ carried_out_on line (told known (Byte l byte)) calls) same
+        ap (λ (ms : List (List ℕ)). ms ++ carried_out_on line (known_after known (Byte other byte)) calls) (chosen (nat_eq other line) (option_to_list (message_at_end (bytes_of known other ++ byte ∷ []))) [] here)
+        ∙ ap (λ (l : ℕ). option_to_list (message_at_end (bytes_of known l ++ byte ∷ [])) ++ carried_out_on line (known_after known (Byte l byte)) calls) same
         ∙ ap (λ (ms : List (List ℕ)). option_to_list (message_at_end (before ++ byte ∷ [])) ++ ms)
         (carried_out_along after calls longer
         ∙ ap (λ (w : List ℕ). messages_along (unfinished_of w) rest) (grown known.lines line (before ++ byte ∷ []) low)
@@ -128,8 +128,8 @@ module _ (enough : Enough) (line : ℕ) where
         let ne : line ≢ other = λ e. both_ways (nat_eq other line) past (eq-eqb other line (sym e)) in
         let rest : List ℕ = bytes_on line calls in
         let bytes : List ℕ = bytes_of known other ++ byte ∷ [] in
-        ap (λ (ms : List (List ℕ)). ms ++ carried_out_on line (told known (Byte other byte)) calls) (passed (nat_eq other line) (option_to_list (message_at_end bytes)) [] past)
-        ∙ carried_out_along (told known (Byte other byte)) calls (subst (λ (n : ℕ). line < n) (sym (length-set known.lines other bytes)) low)
+        ap (λ (ms : List (List ℕ)). ms ++ carried_out_on line (known_after known (Byte other byte)) calls) (passed (nat_eq other line) (option_to_list (message_at_end bytes)) [] past)
+        ∙ carried_out_along (known_after known (Byte other byte)) calls (subst (λ (n : ℕ). line < n) (sym (length-set known.lines other bytes)) low)
         ∙ ap (λ (w : List ℕ). messages_along (unfinished_of w) rest) (apart known.lines other line bytes ne)
         ∙ ap (messages_along (unfinished_of (bytes_of known line))) (sym (passed (nat_eq other line) (byte ∷ rest) rest past))
   ]

@@ -19,7 +19,7 @@ use Rattle.station_core.specs.Asked.{after_places, after_request, changed_places
 use Rattle.station_core.specs.Moved.{moved, message_ended, after_message, after_byte}
 use Rattle.station_core.specs.Refreshed.{is_refreshed}
 use Rattle.station_core.specs.Slots.{refreshed_slots, addresses}
-use Rattle.station_core.specs.Known.{Known, told}
+use Rattle.station_core.specs.Known.{Known, known_after}
 use Rattle.station_core.specs.Moments.{ever_refreshed, turns_in, IsLive}
 use Rattle.station_core.specs.Powered.{PoweredDesk}
 use Rattle.station_core.specs.Runs.{state_of, Sends, Covers}
@@ -105,9 +105,9 @@ Knows ever seen = (n : ℕ) → is_refreshed seen.powered.desk n ≡ true → ev
 all_known : (enough : Enough) (ever : ℕ → Bool) (seen : Seen) (known : Known) (calls : List Call) → Agree seen known → ((n : ℕ) → ever_refreshed known calls n ≡ true → ever n ≡ true) → AtEach (Knows ever) seen calls
 all_known enough ever seen known [] agree within = λ n h. within n (ap (λ (p : PoweredDesk). is_refreshed p.desk n) (sym agree.powered) ∙ h)
 all_known enough ever seen known (call ∷ calls) agree within = (
-  λ n h. within n (or_left (is_refreshed known.powered.desk n) (ever_refreshed (told known call) calls n) (ap (λ (p : PoweredDesk). is_refreshed p.desk n) (sym agree.powered) ∙ h)),
-  all_known enough ever (state_of seen call) (told known call) calls (agree_after enough seen known call agree)
-      (λ n h. within n (or_right (is_refreshed known.powered.desk n) (ever_refreshed (told known call) calls n) h)),
+  λ n h. within n (or_left (is_refreshed known.powered.desk n) (ever_refreshed (known_after known call) calls n) (ap (λ (p : PoweredDesk). is_refreshed p.desk n) (sym agree.powered) ∙ h)),
+  all_known enough ever (state_of seen call) (known_after known call) calls (agree_after enough seen known call agree)
+      (λ n h. within n (or_right (is_refreshed known.powered.desk n) (ever_refreshed (known_after known call) calls n) h)),
 )
 
 now : (P : Seen → Type 0) (seen : Seen) (calls : List Call) → AtEach P seen calls → P seen

@@ -27,10 +27,10 @@ abbrev pub with_byte : Known → ℕ → List ℕ → Known
 with_byte known line bytes = record { lines = slice_set known.lines line bytes; powered = carried_out known.powered (message_at_end bytes) }
 
 -- what a call makes of it; a turn changes nothing
-unfoldable pub told : Known → Call → Known
-told known (Byte line byte) = with_byte known line (bytes_of known line ++ byte ∷ [])
-told known Turn = known
+unfoldable pub known_after : Known → Call → Known
+known_after known (Byte line byte) = with_byte known line (bytes_of known line ++ byte ∷ [])
+known_after known Turn = known
 
-abbrev pub told_all : Known → List Call → Known
-told_all known [] = known
-told_all known (call ∷ calls) = told_all (told known call) calls
+abbrev pub known_after_all : Known → List Call → Known
+known_after_all known [] = known
+known_after_all known (call ∷ calls) = known_after_all (known_after known call) calls

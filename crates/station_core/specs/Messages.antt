@@ -2,7 +2,7 @@
 use Rattle.std.specs.Prelude.{ℕ, ◌==◌, List, [], ◌∷◌, ◌++◌, if◌then◌else◌}
 use Rattle.std.specs.Option.{option_to_list}
 use Rattle.ln_frame.specs.Stream.{message_at_end}
-use Rattle.station_core.specs.Known.{Known, bytes_of, told}
+use Rattle.station_core.specs.Known.{Known, bytes_of, known_after}
 use Rattle.station_core.specs.declared.call.Call.{Call}
 use Rattle.station_core.specs.declared.call.Call.TheVariants.{Byte, Turn}
 
@@ -21,4 +21,4 @@ carried_out_by line known (Byte other byte) =
 -- the messages that these calls carry out on a line, each at the call that brings its last byte
 abbrev pub carried_out_on : ℕ → Known → List Call → List (List ℕ)
 carried_out_on line known [] = []
-carried_out_on line known (call ∷ calls) = carried_out_by line known call ++ carried_out_on line (told known call) calls
+carried_out_on line known (call ∷ calls) = carried_out_by line known call ++ carried_out_on line (known_after known call) calls

@@ -5,7 +5,7 @@ use Rattle.std.specs.List.{filter}
 use Rattle.slot_table.specs.Reading.{all_slots}
 use Rattle.dcc_packet.specs.Kinds.{kinds}
 use Rattle.refresh_ring.specs.declared.pick.Power.TheVariants.{Running}
-use Rattle.station_core.specs.Known.{Known, told}
+use Rattle.station_core.specs.Known.{Known, known_after}
 use Rattle.station_core.specs.Powered.{PoweredDesk}
 use Rattle.station_core.specs.Refreshed.{is_refreshed}
 use Rattle.station_core.specs.declared.call.Call.{Call}
@@ -14,12 +14,12 @@ use Rattle.station_core.specs.declared.call.Call.TheVariants.{Byte, Turn}
 -- it holds before the first call and after each
 abbrev pub AtEveryMoment : (PoweredDesk → Type 0) → Known → List Call → Type 0
 AtEveryMoment P known [] = P known.powered
-AtEveryMoment P known (call ∷ calls) = P known.powered × AtEveryMoment P (told known call) calls
+AtEveryMoment P known (call ∷ calls) = P known.powered × AtEveryMoment P (known_after known call) calls
 
 -- whether the slot is refreshed at some moment
 abbrev pub ever_refreshed : Known → List Call → ℕ → Bool
 ever_refreshed known [] slot = is_refreshed known.powered.desk slot
-ever_refreshed known (call ∷ calls) slot = is_refreshed known.powered.desk slot || ever_refreshed (told known call) calls slot
+ever_refreshed known (call ∷ calls) slot = is_refreshed known.powered.desk slot || ever_refreshed (known_after known call) calls slot
 
 -- how many slots are refreshed at some moment
 abbrev pub slots_refreshed : Known → List Call → ℕ

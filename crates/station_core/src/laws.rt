@@ -3,7 +3,7 @@ ghost use Rattle.std.specs.Prelude.{◌≡◌, ◌<◌, ◌≤◌, ◌++◌, ℕ
 ghost use Rattle.dcc_packet.specs.Packet.{is_checked};
 ghost use Rattle.ln_frame.specs.Stream.{messages_of};
 ghost use Rattle.ln_frame.specs.Unfinished.{unfinished_of};
-ghost use Rattle.station_core.specs.Known.{Known, bytes_of, told_all};
+ghost use Rattle.station_core.specs.Known.{Known, bytes_of, known_after_all};
 ghost use Rattle.station_core.specs.Messages.{bytes_on, carried_out_on};
 ghost use Rattle.station_core.specs.Moments.{AtEveryMoment};
 ghost use Rattle.station_core.specs.Neighbours.{NeighboursApart};
@@ -97,7 +97,7 @@ pub fn neighbours()
 /// From any start, the power and the desk of a station are what throttles can know: those that the messages of its lines
 /// make, whatever is sent meanwhile.
 pub fn desk_of_messages()
-    ensures { (start : Seen) (calls : List CallOf) → (state_after start calls).powered ≡ (told_all (known_of start) calls).powered }
+    ensures { (start : Seen) (calls : List CallOf) → (state_after start calls).powered ≡ (known_after_all (known_of start) calls).powered }
 {
     left_is_enough();
 }

@@ -11,7 +11,7 @@ ghost use Rattle.slot_table.specs.Desk.{IsDesk};
 ghost use Rattle.slot_table.specs.Entry.{IsRow, IsSlot};
 ghost use Rattle.slot_table.specs.Reading.{row_of};
 ghost use Rattle.station_core.specs.Packets.{IsPickOf};
-ghost use Rattle.station_core.specs.Known.{told_all};
+ghost use Rattle.station_core.specs.Known.{known_after_all};
 ghost use Rattle.station_core.specs.Messages.{bytes_on, carried_out_on};
 ghost use Rattle.station_core.specs.Moments.{AtEveryMoment};
 ghost use Rattle.station_core.specs.Neighbours.{NeighboursApart};
@@ -207,7 +207,7 @@ impl Station {
         ensures answers { steps.new ≡ answers self.old calls.now }
         ensures lines { length self.new.lines ≡ length self.old.lines }
         // What was asked is what the bytes of the lines ask, whatever was sent meanwhile.
-        ensures told { self.new.powered ≡ (told_all (known_of self.old) calls.now).powered }
+        ensures told { self.new.powered ≡ (known_after_all (known_of self.old) calls.now).powered }
         // On each line the whole messages of its bytes are carried out, and no others.
         ensures messages { (line : ℕ) → line < length self.old.lines
             → carried_out_on line (known_of self.old) calls.now ≡ messages_of (line_of self.old line ++ bytes_on line calls.now) }

@@ -2,7 +2,7 @@ use Rattle.std.proofs.Common.{refl, ap, sym, ◌∙◌}
 use Rattle.half_bits.specs.Halves.{halves_of}
 use Rattle.decoder_rx.specs.Position.{Position}
 use Rattle.decoder_node.specs.Hearing.{heard_all}
-use Rattle.decoder_node.specs.Heard.{told}
+use Rattle.decoder_node.specs.Heard.{after_receipt}
 use Rattle.decoder_node.proofs.Decoders.{heard_at_once}
 use Rattle.decoder_node.proofs.decoder.Decoder.hear_wave.Goals as goal
 
@@ -27,6 +27,6 @@ returns g c =
     (record { settings = inside.settings; state = inside.state; receiver = inside.rx })
     (record { settings = inside.settings; state = c.obey.new.state; receiver = c.hear_wave.new.self }) packet halves form wave
     (sym c.hear_wave.ensures.heard ∙ c.if-not-hear_wave.false) refl
-    (c.obey.ensures.obeys ∙ ap (told (does inside.settings) inside.state) c.requires.read)
+    (c.obey.ensures.obeys ∙ ap (after_receipt (does inside.settings) inside.state) c.requires.read)
     (c.if-not-hear_wave.ensures.wave packet halves refl form wave)
     ∙ ap (λ d. heard_all does d halves) c.self.view_is
