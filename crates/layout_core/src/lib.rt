@@ -1,4 +1,6 @@
 //! A station and the decoders on its track.
+//!
+//! Its tests stand in `layout_tests/src`: `test_layout_core.rt` and `test_layout_core_serving.rt`.
 #![tactic(auto)]
 
 mod device;
@@ -30,8 +32,3 @@ pub use ln_frame::Msg;
 pub use ln_ops::Reply;
 pub use show_text::{node_line, reply_line, track_line};
 pub use station_core::Step;
-
-#[cfg(test)]
-mod serve_tests;
-#[cfg(test)]
-mod tests;

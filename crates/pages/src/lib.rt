@@ -4,6 +4,8 @@
 //! A program reads the head of a request, and asks [`answer`] each time that bytes came, until it is other than
 //! [`Answer::Later`]. It then writes a reply ([`push_page_head`] and the page, [`push_refusal`]) and closes the connection,
 //! or it writes [`push_joining`] and makes a [`Page`] of the stream and of what stands behind the head.
+//!
+//! Its tests stand in `layout_tests/src`: `test_pages.rt` and `test_pages/`.
 #![tactic(auto)]
 
 mod answering;
@@ -23,6 +25,3 @@ pub use lines::LONGEST_LINE;
 pub use page::Page;
 pub use reply::{Head, push_joining, push_page_head, push_refusal};
 pub use visit::{Stage, Visit};
-
-#[cfg(test)]
-mod tests;

@@ -1,4 +1,6 @@
 //! The decoders of a layout, read from a roster: a text in TOML.
+//!
+//! Its tests stand in `layout_tests/src/test_roster.rt`.
 #![tactic(auto)]
 
 mod decoder;
@@ -15,6 +17,3 @@ mod version;
 pub use fault::{RosterFault, Why};
 pub use reading::read;
 pub use roster::Roster;
-
-#[cfg(test)]
-mod tests;

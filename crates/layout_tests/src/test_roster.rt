@@ -1,9 +1,9 @@
 //! Rosters in TOML, worked out by hand.
 
-use crate::{Roster, RosterFault, read};
 use dcc_packet::{Address, Module};
 use decoder_cv::CvSet;
 use decoder_node::NodeSpec;
+use roster::{Roster, RosterFault, read};
 use std::alloc::{AllocError, Global};
 use std::fmt::Write;
 use std::ops::RangeInclusive;

@@ -2,8 +2,8 @@
 
 ghost use Rattle.std.specs.Prelude.{◌≡◌, ◌≤◌, IfOk, length};
 
-use crate::{Broken, Limits, Port, ServeFault, Sink, Source, Summary, World, serve};
 use decoder_node::NodeList;
+use layout_core::{Broken, Limits, Port, ServeFault, Sink, Source, Summary, World, serve};
 use ln_ops::State;
 use std::alloc::Global;
 use std::io;

@@ -1,5 +1,5 @@
 //! Requests written by hand, by the standards' grammar, and what each is answered.
-use crate::{Answer, LONGEST, answer};
+use pages::{Answer, LONGEST, answer};
 use std::process::Abort;
 use std::test::Fail;
 

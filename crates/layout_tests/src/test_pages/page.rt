@@ -1,7 +1,7 @@
 //! Pages that joined, by frames from RFC 6455, section 5.7, and others written by hand. A masking key of four zeros leaves
 //! the text as it is.
 use super::memory::Memory;
-use crate::Page;
+use pages::Page;
 use std::io;
 use std::io::{ErrorKind, Read, Write};
 use std::process::Abort;

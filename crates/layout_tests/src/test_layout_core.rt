@@ -1,11 +1,10 @@
 //! What the decoders of a layout make of packets that were worked out by hand from S-9.2.1.
 
-use crate::node::Node;
-use crate::{Event, Nodes, World};
-use dcc_packet::{Module, Motion, Packet, Steps, read};
+use dcc_packet::{Module, Motion, Packet, Steps};
 use decoder_cv::CvSet;
 use decoder_node::{NodeList, NodeSpec, Running};
 use half_bits::halves;
+use layout_core::{Event, Nodes, World};
 use station_core::{StationFault, Step};
 use std::test::Fail;
 
@@ -179,13 +178,12 @@ fn locomotives_and_accessory_decoders_share_a_track(rt: HostRuntime) -> Result<(
     Ok(())
 }
 
-/// A node by itself, as the list would make it.
+/// A node of its own, as it is where nothing is said of it.
 #[test]
 fn a_node_hears_by_itself(rt: HostRuntime) -> Result<(), Fail> {
-    let mut node = Node::default();
-    let packet = Packet::of(&[0x03, 0x78, 0x7B]).ok_or("no packet")?;
-    node.hear(&packet, &read(&packet));
-    assert!(rt; (node.running(), node.outputs()) == runs(step(Steps::S14, 7), true, 1));
+    let mut nodes = nodes_of(&[NodeSpec::default()]);
+    hear_turns(&mut nodes, &[(&[0x03, 0x78, 0x7B], 0)])?;
+    assert!(rt; state(&nodes, 0) == runs(step(Steps::S14, 7), true, 1));
     Ok(())
 }
 

@@ -1,5 +1,5 @@
 //! The replies, byte for byte.
-use crate::{Answer, Head, Refusal, answer, push_joining, push_page_head, push_refusal};
+use pages::{Answer, Head, Refusal, answer, push_joining, push_page_head, push_refusal};
 use std::process::Abort;
 use std::test::Fail;
 

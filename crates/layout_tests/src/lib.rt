@@ -1,0 +1,14 @@
+//! The tests of the libraries of a layout and of those who connect to it, a file `test_CRATE.rt` for each: rows worked out by
+//! hand after the standards, and streams that fail. There is no other code here.
+#![tactic(auto)]
+
+#[cfg(test)]
+mod test_layout_core;
+#[cfg(test)]
+mod test_layout_core_serving;
+#[cfg(test)]
+mod test_losses;
+#[cfg(test)]
+mod test_pages;
+#[cfg(test)]
+mod test_roster;
