@@ -31,7 +31,7 @@ impl FileName {
         Ok(FileName { text })
     }
 
-    /// Its text.
+    /// The name as it was given.
     pub fn as_str(&self) -> &str
         ensures { result.now ≡ self.now }
     {

@@ -68,7 +68,7 @@ impl Nodes {
         self.nodes.as_mut_slice()[i].hear_half(half);
     }
 
-    /// How many there are.
+    /// How many decoders there are, at most 64.
     pub fn len(&self) -> usize
         ensures count { result ≡ length self.now }
         ensures most { result ≤ 64 }
