@@ -112,20 +112,12 @@ impl From<RosterFault> for RunFault {
     ghost from_gives = { λ roster run. run ≡ of_roster roster };
 
     fn from(fault: RosterFault) -> RunFault {
-        let number = match fault.why {
-            roster::Why::NotToml => 1,
-            roster::Why::BadShape => 2,
-            roster::Why::TooMany => 3,
-            roster::Why::BadName => 4,
-            roster::Why::BadCv => 5,
-            roster::Why::BadModule => 6,
-            roster::Why::Empty => 7,
-            roster::Why::NoMemory => return RunFault::NoMemory,
-            roster::Why::BadCvList => 9,
-        };
-        RunFault::Roster {
-            number,
-            node: fault.node,
+        match fault.why {
+            roster::Why::NoMemory => RunFault::NoMemory,
+            why => RunFault::Roster {
+                number: why as u8,
+                node: fault.node,
+            },
         }
     }
 }

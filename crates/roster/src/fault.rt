@@ -1,27 +1,27 @@
 //! Why a roster is refused.
 
-/// Why a roster is refused.
+/// Why a roster is refused, by the number that `station` tells, but for want of memory.
 #[derive(Clone, Copy, Debug, PartialEq, Eq)]
 pub enum Why {
     /// The text is not TOML, or not UTF-8.
-    NotToml,
+    NotToml = 1,
     /// A key is missing or unknown, a value is of a wrong type, or it is another `kind` or `version`.
-    BadShape,
+    BadShape = 2,
     /// There are more than 64 nodes.
-    TooMany,
+    TooMany = 3,
     /// A name is not 1 to 16 ASCII letters, digits, `-` or `_`, or an earlier node has it.
-    BadName,
+    BadName = 4,
     /// The value of a configuration variable is outside 0 to 255, or they make no locomotive decoder.
-    BadCv,
+    BadCv = 5,
     /// A module is outside 1 to 510.
-    BadModule,
+    BadModule = 6,
     /// There is no node.
-    Empty,
+    Empty = 7,
     /// A growth was refused.
-    NoMemory,
+    NoMemory = 8,
     /// The variables of a locomotive in version 2 are no legal list: a number is outside 1 to 1024 or stands twice, or
     /// 1 or 29 is missing.
-    BadCvList,
+    BadCvList = 9,
 }
 
 /// The first fault of a roster, and its node: nodes count from 1, and 0 is the whole.
