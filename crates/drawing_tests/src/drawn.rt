@@ -1,6 +1,6 @@
 //! A drawing as a program.
 
-use failing_streams::Program;
+use failing_streams::{Program, Streams};
 use input_text::Input;
 use run_drawing::{Drawing, execute};
 use std::alloc::Global;
@@ -14,13 +14,8 @@ pub struct Drawn<D> {
 }
 
 impl<D: Drawing> Program for Drawn<D> {
-    fn execute<I: Input, O: Write, E: Write>(
-        &self,
-        alloc: Global,
-        input: &mut I,
-        output: &mut O,
-        faults: &mut E,
-    ) -> u8 {
+    fn execute<I: Input, O: Write, E: Write>(&self, alloc: Global, on: Streams<'_, I, O, E>) -> u8 {
+        let Streams(input, output, faults) = on;
         execute(&self.drawing, alloc, input, output, faults)
     }
 }

@@ -5,7 +5,7 @@ mod lines;
 mod memory;
 
 use crate::execute;
-use failing_streams::Program;
+use failing_streams::{Program, Streams};
 use input_text::Input;
 use std::alloc::Global;
 use std::io::Write;
@@ -14,13 +14,8 @@ use std::io::Write;
 struct Explain;
 
 impl Program for Explain {
-    fn execute<I: Input, O: Write, E: Write>(
-        &self,
-        alloc: Global,
-        input: &mut I,
-        output: &mut O,
-        faults: &mut E,
-    ) -> u8 {
+    fn execute<I: Input, O: Write, E: Write>(&self, alloc: Global, on: Streams<'_, I, O, E>) -> u8 {
+        let Streams(input, output, faults) = on;
         execute(alloc, input, output, faults)
     }
 }

@@ -51,16 +51,16 @@ impl Write for Stuck {
 
 /// A text in reads of so many bytes at most, of which every second is interrupted, the first one too.
 #[derive(Drop)]
-pub struct Uneven {
-    text: &'static [u8],
+pub struct Uneven<'a> {
+    text: &'a [u8],
     most: usize,
     end: Option<ErrorKind>,
     is_interrupted: bool,
 }
 
-impl Uneven {
+impl<'a> Uneven<'a> {
     /// A reader of the text, whose reads fail so behind it, or end there.
-    pub fn new(text: &'static [u8], most: usize, end: Option<ErrorKind>) -> Self {
+    pub fn new(text: &'a [u8], most: usize, end: Option<ErrorKind>) -> Self {
         Uneven {
             text,
             most,
@@ -70,7 +70,7 @@ impl Uneven {
     }
 }
 
-impl Read for Uneven {
+impl Read for Uneven<'_> {
     fn read(&mut self, buf: &mut [u8]) -> io::Result<usize> {
         self.is_interrupted = !self.is_interrupted;
         if self.is_interrupted {

@@ -14,17 +14,14 @@ const STEP: usize = 16;
 /// The most runs with too little memory.
 const MOST_REFUSED: u32 = 40_000;
 
+/// The three streams of a run: standard input, standard output and standard error.
+pub struct Streams<'a, I, O, E>(pub &'a mut I, pub &'a mut O, pub &'a mut E);
+
 /// A program that has no words.
 pub trait Program {
     /// Runs it on these streams, and answers the exit status.
-    fn execute<I: Input, O: Write, E: Write>(
-        &self,
-        alloc: Global,
-        input: &mut I,
-        output: &mut O,
-        faults: &mut E,
-    ) -> u8
-        requires { I.failed input.old ≡ false };
+    fn execute<I: Input, O: Write, E: Write>(&self, alloc: Global, on: Streams<'_, I, O, E>) -> u8
+        requires { I.failed on.0.now ≡ false };
 }
 
 /// What a run answers, writes and tells.
@@ -73,7 +70,7 @@ pub fn run_to<P: Program, R: Read, O: Write>(
 ) -> (u8, Vec<u8>) {
     let mut faults = Vec::new(alloc);
     let mut input = Noting::new(reader);
-    let status = program.execute(alloc, &mut input, output, &mut faults);
+    let status = program.execute(alloc, Streams(&mut input, output, &mut faults));
     (status, faults)
 }
 
@@ -81,7 +78,7 @@ pub fn run_to<P: Program, R: Read, O: Write>(
 pub fn run_untold<P: Program, R: Read>(program: &P, alloc: Global, reader: &mut R) -> u8 {
     let mut output = Vec::new(alloc);
     let mut input = Noting::new(reader);
-    program.execute(alloc, &mut input, &mut output, &mut Broken::new())
+    program.execute(alloc, Streams(&mut input, &mut output, &mut Broken::new()))
 }
 
 /// Runs a program on this text with ever more memory, from none, until the run is not one that tells this, writes nothing
@@ -107,7 +104,8 @@ pub fn run_as_room_grows<P: Program>(
         ran.faults.clear();
         let mut input = Noting::new(text);
         scarcity.leave(refused as usize * STEP)?;
-        ran.status = program.execute(alloc, &mut input, &mut ran.output, &mut ran.faults);
+        let streams = Streams(&mut input, &mut ran.output, &mut ran.faults);
+        ran.status = program.execute(alloc, streams);
         scarcity.relax();
         if ran.status != 6 || !ran.output.is_empty() || ran.faults.as_slice() != no_memory {
             return Ok((refused, ran));

@@ -30,7 +30,7 @@ impl Write for Outward {
     }
 }
 
-fn two_lines(end: ErrorKind) -> Uneven {
+fn two_lines(end: ErrorKind) -> Uneven<'static> {
     Uneven::new(b"track 1 FF 00 FF\ntrack 2 off", 17, Some(end))
 }
 

@@ -2,57 +2,25 @@
 //! S-9.2.1. Each text comes at once, in two pieces cut at every place, and byte by byte.
 
 use super::Explain;
-use failing_streams::run_from;
+use failing_streams::{Uneven, run_from};
 use std::alloc::Global;
-use std::io;
 use std::io::Read;
 use std::test::Fail;
 
-// A text that comes in pieces: so many bytes first, and then so many at a time.
-#[derive(Drop)]
-struct Pieces<'a> {
-    text: &'a [u8],
-    first: usize,
-    others: usize,
-}
-
-impl Read for Pieces<'_> {
-    fn read(&mut self, buf: &mut [u8]) -> io::Result<usize> {
-        let count = self.first.min(self.text.len()).min(buf.len());
-        self.first = self.others;
-        let mut piece = &self.text[..count];
-        self.text = &self.text[count..];
-        piece.read(buf)
-    }
+/// Whether a run on what this reader gives comes to this.
+fn comes_so<R: Read>(rt: &HostRuntime, reader: &mut R, wanted: &[u8]) -> bool {
+    run_from(&Explain, rt.alloc(), reader).is(0, wanted, b"")
 }
 
 /// Whether a text comes to this, however it is cut.
 fn comes_to(rt: &HostRuntime, text: &[u8], wanted: &[u8]) -> bool {
-    let whole = text.len();
-    for first in 1..=whole {
-        let ran = run_from(
-            &Explain,
-            rt.alloc(),
-            &mut Pieces {
-                text,
-                first,
-                others: whole,
-            },
-        );
-        if ran.status != 0 || ran.output.as_slice() != wanted || !ran.faults.is_empty() {
+    for first in 1..=text.len() {
+        let mut pieces = Read::chain(&text[..first], &text[first..]);
+        if !comes_so(rt, &mut pieces, wanted) {
             return false;
         }
     }
-    let ran = run_from(
-        &Explain,
-        rt.alloc(),
-        &mut Pieces {
-            text,
-            first: 1,
-            others: 1,
-        },
-    );
-    ran.status == 0 && ran.output.as_slice() == wanted && ran.faults.is_empty()
+    comes_so(rt, &mut Uneven::new(text, 1, None), wanted)
 }
 
 // What stands before the end of a line, its end, and what is written between the two.
