@@ -1,5 +1,5 @@
 -- Where lines end.
-use Rattle.std.proofs.Common.{◌≡◌, ℕ, ◌+◌, ◌<◌, ◌≤◌, ◌==◌, ◌&&◌, Bool, true, false, List, [], ◌∷◌, ◌++◌, suc, length, not, append_assoc, append-nil, refl, ap, ap₂, sym, subst, inl, inr, ◌∙◌, arith}
+use Rattle.std.proofs.Common.{◌≡◌, ℕ, ◌+◌, ◌≤◌, ◌==◌, true, false, List, [], ◌∷◌, ◌++◌, suc, length, not, append_assoc, append-nil, refl, ap, ap₂, sym, inl, inr, ◌∙◌, arith}
 use Rattle.std.proofs.lemmas.Bool.{and_parts, not-true, cases_Bool}
 use Rattle.explain.specs.Explained.{shown}
 use Rattle.explain.specs.Lines.{body_of, end_of, is_end, is_open}
@@ -122,8 +122,6 @@ pub ruleset ends = (nothing-body, nothing-end, return-body, return-end, other-bo
 pub shown-last : (line : List ℕ) → is_open line ≡ true → shown line ≡ line ++ note_of line
 shown-last line h =
     ap₂ (λ (body end : List ℕ). body ++ note_of body ++ end) (body-open line h) (end-open line h) ∙ append-nil (line ++ note_of line)
-
-pub ruleset lasts = (shown-last, append_assoc)
 
 -- a line is what stands before its end, and its end
 pub whole : (line : List ℕ) → body_of line ++ end_of line ≡ line

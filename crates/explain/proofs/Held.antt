@@ -8,7 +8,7 @@ use Rattle.explain.specs.Explained.{explained, shown}
 use Rattle.explain.specs.Lines.{body_of, end_of, is_open, lines_of, onto_line}
 use Rattle.explain.specs.Subjects.{message_in, note_of}
 use Rattle.explain.specs.Unfinished.{passed, to_write}
-use Rattle.explain.proofs.Ends.{body-front, first-open, open-both, rest-open, whole}
+use Rattle.explain.proofs.Ends.{body-front, first-open, open-both, rest-open, shown-last, whole}
 
 -- bytes before the first line
 abbrev all_onto : List ℕ → List (List ℕ) → List (List ℕ)
@@ -141,9 +141,10 @@ end-short is_long held more before after left e h a n =
 pub finish-long : (is_long : Bool) (held before : List ℕ) → is_long ≡ true → before ≡ before ++ to_write is_long held []
 finish-long is_long held before e = sym (ap (λ (bs : List ℕ). before ++ bs) (write-long is_long held [] e) ∙ append-nil before)
 
-pub finish-short : (is_long : Bool) (held before after : List ℕ) → is_long ≡ false → is_open held ≡ true → after ≡ before ++ shown held → after ≡ before ++ to_write is_long held []
+pub finish-short : (is_long : Bool) (held before after : List ℕ) → is_long ≡ false → is_open held ≡ true → after ≡ before ++ (held ++ note_of held ++ []) → after ≡ before ++ to_write is_long held []
 finish-short is_long held before after e h a =
-    a ∙ ap (λ (bs : List ℕ). before ++ bs) (sym (write-short is_long held [] e ∙ explained-last held h))
+    let is : shown held ≡ held ++ note_of held ++ [] = shown-last held h ∙ sym (append-nil (held ++ note_of held)) in
+    a ∙ ap (λ (bs : List ℕ). before ++ bs) (sym (write-short is_long held [] e ∙ explained-last held h ∙ is))
 
 -- a piece, a line feed behind it, and the rest
 pub one_line : (rest piece behind more : List ℕ) → rest ≡ piece ++ 10 ∷ behind → rest ++ more ≡ piece ++ 10 ∷ (behind ++ more)

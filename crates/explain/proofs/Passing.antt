@@ -116,31 +116,37 @@ heard-is a b o p l m h i new none heard =
 pub explains-heard : (a b o p : Option (List ℕ)) (l m : Bool) (h i : List ℕ) → l ≡ false → h ≡ [] → Follows a b o p l h m i → ExplainsFront a b o p
 explains-heard a b o p l m h i new none heard = (heard.0, heard.1, to_write m i [], heard.2, heard.3, heard-is a b o p l m h i new none heard)
 
--- a front of what is left
-pub explains-most : (a b o p q : Option (List ℕ)) (l m : Bool) (h i last : List ℕ) → l ≡ false → h ≡ [] → Follows a b o p l h m i → last ≡ to_write m i [] → AppendsFront p q last → ExplainsFront a b o q
-explains-most a b o p q l m h i last new none heard is front =
+-- What is left goes into a text that was cleared, which is then written.
+
+all-is : (a b o p : Option (List ℕ)) (l m : Bool) (h i empty left last : List ℕ) → l ≡ false → h ≡ [] → (heard : Follows a b o p l h m i) → empty ≡ [] → left ≡ empty ++ to_write m i [] → last ≡ left
+    → explained heard.0 ≡ heard.1 ++ last
+all-is a b o p l m h i empty left last new none heard cleared finished is =
+    heard-is a b o p l m h i new none heard
+    ∙ ap (λ (bs : List ℕ). heard.1 ++ bs) (sym (is ∙ finished ∙ ap (λ (bs : List ℕ). bs ++ to_write m i []) cleared))
+
+-- a front of it
+pub explains-most : (a b o p q : Option (List ℕ)) (l m : Bool) (h i empty left last : List ℕ) → l ≡ false → h ≡ [] → Follows a b o p l h m i → empty ≡ [] → left ≡ empty ++ to_write m i [] → last ≡ left
+    → AppendsFront p q last → ExplainsFront a b o q
+explains-most a b o p q l m h i empty left last new none heard cleared finished is front =
     let before = heard.1 in (
       heard.0,
       before ++ front.0,
       front.1,
       heard.2,
       Appends-trans o p q before front.0 heard.3 front.2,
-      heard-is a b o p l m h i new none heard ∙ ap (λ (bs : List ℕ). before ++ bs) (sym is ∙ front.3) ∙ sym (append_assoc before front.0 front.1),
+      all-is a b o p l m h i empty left last new none heard cleared finished is ∙ ap (λ (bs : List ℕ). before ++ bs) front.3 ∙ sym (append_assoc before front.0 front.1),
     )
 
 -- all of it
-pub explains-all : (a b o p q : Option (List ℕ)) (l m : Bool) (h i last : List ℕ) → l ≡ false → h ≡ [] → Follows a b o p l h m i → last ≡ to_write m i [] → Appends p q last → Explains a b o q
-explains-all a b o p q l m h i last new none heard is appended =
-    let before = heard.1 in
-    (heard.0, heard.2, subst (λ (bs : List ℕ). Appends o q bs) (sym (heard-is a b o p l m h i new none heard ∙ ap (λ (bs : List ℕ). before ++ bs) (sym is))) (Appends-trans o p q before last heard.3 appended))
+pub explains-all : (a b o p q : Option (List ℕ)) (l m : Bool) (h i empty left last : List ℕ) → l ≡ false → h ≡ [] → Follows a b o p l h m i → empty ≡ [] → left ≡ empty ++ to_write m i [] → last ≡ left
+    → Appends p q last → Explains a b o q
+explains-all a b o p q l m h i empty left last new none heard cleared finished is appended =
+    let all = all-is a b o p l m h i empty left last new none heard cleared finished is in
+    (heard.0, heard.2, subst (λ (bs : List ℕ). Appends o q bs) (sym all) (Appends-trans o p q heard.1 last heard.3 appended))
 
 -- a read that did not fail
 pub taken_of : (a b : Option (List ℕ)) (chunk : List ℕ) (read : Option ℕ) (n : ℕ) → read ≡ Some n → MatchOption read (Keeps a b) (λ k. Consumes a b (take k chunk)) → Consumes a b (take n chunk)
 taken_of a b chunk read n e known = subst (λ (m : Option ℕ). MatchOption m (Keeps a b) (λ k. Consumes a b (take k chunk))) e known
-
--- what is appended to a text that was cleared
-pub from_nothing : (empty new left : List ℕ) → empty ≡ [] → new ≡ empty ++ left → new ≡ left
-from_nothing empty new left e n = n ∙ ap (λ (bs : List ℕ). bs ++ left) e
 
 -- an error that is passed up says what was said of it
 pub passed_up : {A : Type 0} {E : Type 0} (up : Result A E) (e : E) (P : Type 0) → IsErrAnd up (λ f. f ≡ e) → P → OnErr up P

@@ -3,7 +3,7 @@ ghost use Rattle.std.specs.Prelude.{ℕ, ◌≡◌, ◌∷◌, ◌++◌, [], Lis
 ghost use Rattle.explain.specs.Lines.{is_open};
 ghost use Rattle.explain.specs.Unfinished.{to_write};
 
-use crate::lines::{LONGEST, cut_line, push_ended, push_last};
+use crate::lines::{LONGEST, cut_line, push_ended, push_line};
 use arrayvec::ArrayVec;
 use plain_words::Words;
 use std::alloc::AllocError;
@@ -68,7 +68,7 @@ impl Explainer {
         if self.is_long {
             return Ok(());
         }
-        push_last(self.line.as_slice(), &mut self.words, text)
+        push_line(self.line.as_slice(), b"", &mut self.words, text)
     }
 
     /// Takes bytes and the line feed behind them.

@@ -11,13 +11,13 @@ use thiserror::Error;
 pub enum ExplainFault {
     /// Status 2: standard input could not be read.
     #[error("cannot read -")]
-    Unreadable,
+    Unreadable = 2,
     /// Status 4: standard output could not be written.
     #[error("output")]
-    Output,
+    Output = 4,
     /// Status 6: want of memory.
     #[error("no memory")]
-    NoMemory,
+    NoMemory = 6,
 }
 
 impl ExplainFault {
@@ -25,11 +25,7 @@ impl ExplainFault {
     pub fn status(self) -> u8
         ensures { result ≡ status_of self }
     {
-        match self {
-            ExplainFault::Unreadable => 2,
-            ExplainFault::Output => 4,
-            ExplainFault::NoMemory => 6,
-        }
+        self as u8
     }
 }
 

@@ -52,6 +52,20 @@ fn push_note(line: &[u8], words: &mut Words, text: &mut Vec<u8>) -> Result<(), A
     text.extend_from_slice(words.as_slice())
 }
 
+/// Appends what stands before the end of a line, what it says, and the end.
+pub(crate) fn push_line(
+    body: &[u8],
+    end: &[u8],
+    words: &mut Words,
+    text: &mut Vec<u8>,
+) -> Result<(), AllocError>
+    ensures { OnOk result (text.new.items ≡ text.old.items ++ (body.now ++ note_of body.now ++ end.now)) }
+{
+    text.extend_from_slice(body)?;
+    push_note(body, words, text)?;
+    text.extend_from_slice(end)
+}
+
 /// Appends a line that a line feed ends, given without it, and what it says before its end.
 pub(crate) fn push_ended(
     line: &[u8],
@@ -62,21 +76,5 @@ pub(crate) fn push_ended(
     ensures { OnOk result (text.new.items ≡ text.old.items ++ shown (line.now ++ 10 ∷ [])) }
 {
     let (body, end) = body_and_end(line);
-    text.extend_from_slice(body)?;
-    push_note(body, words, text)?;
-    text.extend_from_slice(end)
-}
-
-/// Appends a line that the text ends with, and what it says.
-#[tactic(auto, using(crate::proofs::Ends::lasts))]
-pub(crate) fn push_last(
-    line: &[u8],
-    words: &mut Words,
-    text: &mut Vec<u8>,
-) -> Result<(), AllocError>
-    requires { IsTrue (is_open line.now) }
-    ensures { OnOk result (text.new.items ≡ text.old.items ++ shown line.now) }
-{
-    text.extend_from_slice(line)?;
-    push_note(line, words, text)
+    push_line(body, end, words, text)
 }

@@ -1,6 +1,4 @@
-use Rattle.std.proofs.Common.{[], ◌∙◌}
-use Rattle.explain.specs.Unfinished.{to_write}
-use Rattle.explain.proofs.Passing.{explains-all, explains-front, explains-heard, explains-most, from_nothing}
+use Rattle.explain.proofs.Passing.{explains-all, explains-front, explains-heard, explains-most}
 use Rattle.explain.proofs.streams.explain_input.Goals as goal
 
 pub returns-in_err-end-clause-begun : goal.returns-in_err-end-clause-begun
@@ -18,27 +16,18 @@ returns-in_err-finish-clause-begun g c =
 
 pub returns-in_err-write_text-clause-begun : goal.returns-in_err-write_text-clause-begun
 returns-in_err-write_text-clause-begun g c =
-    let new = c.new-explainer in
-    let heard = c.hear_all.new.explainer in
-    let left = to_write heard.is_long heard.line.items [] in
     explains-most (g.I.Input.left c.args.input.now) (g.I.Input.left c.hear_all.new.input) (g.O.Write.contents c.args.output.now) (g.O.Write.contents c.hear_all.new.output) (g.O.Write.contents c.write_text.new.output)
-    new.result.is_long heard.is_long new.result.line.items heard.line.items c.as_slice.result.now new.ensures.is_long new.ensures.held c.in_ok-end.ensures.followed
-    (c.as_slice.ensures.value ∙ from_nothing c.clear.new.self.items c.finish.new.text.items left c.clear.ensures.items c.in_ok-finish.ensures) c.in_err-write_text.ensures.front
+    c.new-explainer.result.is_long c.hear_all.new.explainer.is_long c.new-explainer.result.line.items c.hear_all.new.explainer.line.items c.clear.new.self.items c.finish.new.text.items c.as_slice.result.now
+    c.new-explainer.ensures.is_long c.new-explainer.ensures.held c.in_ok-end.ensures.followed c.clear.ensures.items c.in_ok-finish.ensures c.as_slice.ensures.value c.in_err-write_text.ensures.front
 
 pub returns-clause-explained : goal.returns-clause-explained
 returns-clause-explained g c =
-    let new = c.new-explainer in
-    let heard = c.hear_all.new.explainer in
-    let left = to_write heard.is_long heard.line.items [] in
     explains-all (g.I.Input.left c.args.input.now) (g.I.Input.left c.hear_all.new.input) (g.O.Write.contents c.args.output.now) (g.O.Write.contents c.hear_all.new.output) (g.O.Write.contents c.write_text.new.output)
-    new.result.is_long heard.is_long new.result.line.items heard.line.items c.as_slice.result.now new.ensures.is_long new.ensures.held c.in_ok-end.ensures.followed
-    (c.as_slice.ensures.value ∙ from_nothing c.clear.new.self.items c.finish.new.text.items left c.clear.ensures.items c.in_ok-finish.ensures) c.in_ok-write_text.ensures.written
+    c.new-explainer.result.is_long c.hear_all.new.explainer.is_long c.new-explainer.result.line.items c.hear_all.new.explainer.line.items c.clear.new.self.items c.finish.new.text.items c.as_slice.result.now
+    c.new-explainer.ensures.is_long c.new-explainer.ensures.held c.in_ok-end.ensures.followed c.clear.ensures.items c.in_ok-finish.ensures c.as_slice.ensures.value c.in_ok-write_text.ensures.written
 
 pub returns-clause-begun : goal.returns-clause-begun
 returns-clause-begun g c =
-    let new = c.new-explainer in
-    let heard = c.hear_all.new.explainer in
-    let left = to_write heard.is_long heard.line.items [] in
     explains-most (g.I.Input.left c.args.input.now) (g.I.Input.left c.hear_all.new.input) (g.O.Write.contents c.args.output.now) (g.O.Write.contents c.hear_all.new.output) (g.O.Write.contents c.write_text.new.output)
-    new.result.is_long heard.is_long new.result.line.items heard.line.items c.as_slice.result.now new.ensures.is_long new.ensures.held c.in_ok-end.ensures.followed
-    (c.as_slice.ensures.value ∙ from_nothing c.clear.new.self.items c.finish.new.text.items left c.clear.ensures.items c.in_ok-finish.ensures) c.in_ok-write_text.ensures.front
+    c.new-explainer.result.is_long c.hear_all.new.explainer.is_long c.new-explainer.result.line.items c.hear_all.new.explainer.line.items c.clear.new.self.items c.finish.new.text.items c.as_slice.result.now
+    c.new-explainer.ensures.is_long c.new-explainer.ensures.held c.in_ok-end.ensures.followed c.clear.ensures.items c.in_ok-finish.ensures c.as_slice.ensures.value c.in_ok-write_text.ensures.front
