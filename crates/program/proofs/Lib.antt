@@ -6,7 +6,6 @@ pub mod Running
 pub mod Standing
 pub mod Few
 pub mod Lending
-pub mod Unseen
 pub mod Wanted
 pub mod Refusing
 pub mod Ordering

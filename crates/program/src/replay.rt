@@ -39,7 +39,7 @@ pub(crate) fn replay<I: Input, O: Write>(
     requires nodes { IsWorldOf (roster_value roster) world.old.nodes }
     requires between { AreBetween world.old.nodes }
     ensures printed { OnOk result (ReplaysInput (I.left input.old) (I.left input.new) world.old (entries_in (roster_value roster.entry)) world.new (O.contents output.old) (O.contents output.new)) }
-    ensures refused { RefusesInput (I.left input.old) result world.old world.new None None }
+    ensures refused { RefusesInput (I.left input.old) result world.old world.new (O.contents output.old) (O.contents output.new) }
     ensures failed { FailsInput (I.left input.old) result world.old }
     // It could not be read exactly where a read failed.
     ensures unread { I.failed input.new ≡ ended_by is_unread_input result }
@@ -47,40 +47,18 @@ pub(crate) fn replay<I: Input, O: Write>(
     // Where neither memory ran out nor the output failed, a fault prints nothing.
     ensures untouched { IfErr result (λ e. e ≢ RunFault.NoMemory → e ≢ RunFault.Output → output.new ≡ output.old) }
 {
-    let Ok(mut buffered) = BufWriter::new(alloc, Lent::new(output)) else {
-        return Err(RunFault::NoMemory);
-    };
-    let done = replay_to(alloc, world, roster, input, &mut buffered);
-    let done = flush_after(done, &mut buffered);
-    let (lent, _rest) = buffered.into_parts();
-    let Lent { writer: _writer } = lent;
-    done
-}
-
-/// The same, on an output that is written as it comes. Every clause is of any output: where its bytes are known, they
-/// are those that are promised.
-fn replay_to<I: Input, O: Write>(
-    alloc: Global,
-    world: &mut World,
-    roster: Option<&Roster>,
-    input: &mut I,
-    output: &mut O,
-) -> Result<(), RunFault>
-    requires works { I.failed input.old ≡ false }
-    requires nodes { IsWorldOf (roster_value roster) world.old.nodes }
-    requires between { AreBetween world.old.nodes }
-    ensures printed { OnOk result (ReplaysInput (I.left input.old) (I.left input.new) world.old (entries_in (roster_value roster.entry)) world.new (O.contents output.old) (O.contents output.new)) }
-    ensures refused { RefusesInput (I.left input.old) result world.old world.new (O.contents output.old) (O.contents output.new) }
-    ensures failed { FailsInput (I.left input.old) result world.old }
-    ensures unread { I.failed input.new ≡ ended_by is_unread_input result }
-    ensures fault { IfErr result (FailsReplay world.old (I.left input.old) (I.left input.new) (I.failed input.new)) }
-    ensures untouched { IfErr result (λ e. e ≢ RunFault.Output → output.new ≡ output.old) }
-{
     let text = read_most(alloc, input, LONGEST_TEXT + 1)?;
     let lines = world.station().lines();
     let nodes = world.nodes() as u8;
     let commands = read_script(alloc, text.as_slice(), lines, nodes)?;
-    Ok(play(world, roster, commands.as_slice(), output)?)
+    let Ok(mut buffered) = BufWriter::new(alloc, Lent::new(output)) else {
+        return Err(RunFault::NoMemory);
+    };
+    let played = play(world, roster, commands.as_slice(), &mut buffered);
+    let done = flush_after(played.map_err(RunFault::from), &mut buffered);
+    let (lent, _rest) = buffered.into_parts();
+    let Lent { writer: _writer } = lent;
+    done
 }
 
 /// Does the commands one after another, and prints what each prints. Turns are numbered from 1.

@@ -91,33 +91,9 @@ pub fn serve_connection<S: Source, K: Sink, O: Write>(
     ensures sink_failed { K.failed sink.new ≡ ended_by (is_serve 2) result }
     ensures too_many { IfErr result (λ e. e ≡ RunFault.Serve 4 → S.reads source.new ≡ S.reads source.old + limits.reads) }
 {
-    let mut trace = Port::new(Lent::new(output));
-    serve_traced(source, sink, world, limits, &mut trace)
-}
-
-/// Serves one connection, with any sink for its trace.
-fn serve_traced<S: Source, K: Sink, T: Sink>(
-    source: &mut S,
-    sink: &mut K,
-    world: &mut World,
-    limits: Limits,
-    trace: &mut T,
-) -> Result<(), RunFault>
-    requires open { S.ended source.old ≡ false }
-    requires source_works { S.failed source.old ≡ false }
-    requires sink_works { K.failed sink.old ≡ false }
-    requires trace_works { T.failed trace.old ≡ false }
-    ensures same { IsSameLayout world.old world.new }
-    ensures whole { OnOk result (ServesSource limits world.old world.new (S.left source.old) (S.left source.new) (K.held sink.old) (K.held sink.new) (T.held trace.old) (T.held trace.new)) }
-    ensures served { OnOk result (Serves limits world.old world.new (T.held trace.old) (T.held trace.new)) }
-    ensures part { OnErr result (ServesPart limits.turns world.old world.new) }
-    ensures given_up { IfErr result (λ e. GivesUp e limits world.old world.new (T.held trace.old) (T.held trace.new)) }
-    ensures source_failed { S.failed source.new ≡ ended_by (is_serve 1) result }
-    ensures sink_failed { K.failed sink.new ≡ ended_by (is_serve 2) result }
-    ensures too_many { IfErr result (λ e. e ≡ RunFault.Serve 4 → S.reads source.new ≡ S.reads source.old + limits.reads) }
-{
     world.station().always_legal();
-    match serve(world, 0, source, sink, trace, limits) {
+    let mut trace = Port::new(Lent::new(output));
+    match serve(world, 0, source, sink, &mut trace, limits) {
         Ok(_summary) => Ok(()),
         Err(fault) => Err(given_up(fault)),
     }

@@ -1,8 +1,18 @@
-use Rattle.std.proofs.Common.{rules}
-use Rattle.program.proofs.Lending.{gives_up_through}
+use Rattle.std.proofs.Common.{refl, rules}
+use Rattle.program.proofs.Connecting.{faulted_part, gives_up, served_whole}
+use Rattle.program.proofs.Lending.{gives_up_through, serves_through}
 use Rattle.program.proofs.serving.serve_connection.Goals as goal
 
-pub returns-clause-given_up : goal.returns-clause-given_up
-returns-clause-given_up g c =
-    gives_up_through g.O.Write.contents c.new-trace.result.inner c.serve_traced.new.trace.inner c.args.output.now _ c.serve_traced.result c.args.limits c.args.world.now c.serve_traced.new.world
-    (search rules) (λ same. search rules) c.serve_traced.ensures.given_up
+pub returns-in-Err-clause-part : goal.returns-in-Err-clause-part
+returns-in-Err-clause-part g c =
+    faulted_part c.in-Err.fault c.args.limits.turns _ _ _ c.serve.new.world _ _ c.in-Err.ensures.faulted
+
+pub returns-in-Err-clause-given_up : goal.returns-in-Err-clause-given_up
+returns-in-Err-clause-given_up g c =
+    gives_up_through g.O.Write.contents c.new-trace.result.inner c.serve.new.trace.inner c.args.output.now _ c.args.limits c.args.world.now c.serve.new.world (search rules) (λ same. search rules) c.given_up.result
+    (gives_up c.given_up.result c.in-Err.fault c.args.limits _ _ c.args.world.now c.serve.new.world _ _ _ _ c.given_up.ensures c.in-Err.ensures.faulted)
+
+pub returns-in-Ok-clause-served : goal.returns-in-Ok-clause-served
+returns-in-Ok-clause-served g c =
+    serves_through g.O.Write.contents c.new-trace.result.inner c.serve.new.trace.inner c.args.output.now _ c.args.limits c.args.world.now c.serve.new.world (search rules) (λ same. search rules)
+    (served_whole c.args.limits c.in-Ok._summary _ _ _ _ c.in-Ok.ensures.served refl c.serve.ensures.most_reads)
