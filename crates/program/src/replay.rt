@@ -1,8 +1,8 @@
 //! `station replay`: a script, and what the layout makes of it.
-ghost use Rattle.std.specs.Prelude.{◌≡◌, ◌≢◌, ◌<◌, ◌+◌, ◌^◌, [], ◌∷◌, IfErr, IfOk, IsTrue, None, OnOk, Some, false, length, replicate};
+ghost use Rattle.std.specs.Prelude.{◌≡◌, ◌≢◌, ◌<◌, ◌+◌, ◌^◌, IfErr, IfOk, IsTrue, OnOk, false, length, replicate};
 ghost use Rattle.std.specs.Io.KnownBytes.{Appends};
 ghost use Rattle.ln_ops.specs.Reply.{IsSendable};
-ghost use Rattle.layout_core.specs.Played.{answer_to, answers_to, is_event};
+ghost use Rattle.layout_core.specs.Played.{answers_to};
 ghost use Rattle.layout_core.specs.Served.{IsSendableAnswer, line_of_answer, traced_from};
 ghost use Rattle.layout_core.specs.World.{IsSameLayout};
 ghost use Rattle.show_text.specs.Lines.{off_text, reply_text, track_text};
@@ -106,7 +106,8 @@ fn play_command<O: Write>(
     layout_core::laws::events_add_up();
     match command {
         Command::Byte { line, byte } => {
-            play_event(world, Event::Byte { line, byte }, line, turn, text, output)?;
+            let answer = world.step(Event::Byte { line, byte });
+            print_answer(answer, line, turn, text, output)?;
             Ok(turn)
         }
         Command::Turns { count, missed } => play_turns(world, count, missed, turn, text, output),
@@ -136,34 +137,14 @@ fn play_turns<O: Write>(
     layout_core::laws::events_add_up();
     let next = first + u64::from(count);
     for turn in first..next {
-        play_event(world, Event::Turn { missed }, 0, turn, text, output)?;
+        let answer = world.step(Event::Turn { missed });
+        print_answer(answer, 0, turn, text, output)?;
     }
     Ok(next)
 }
 
-/// Does an event, and prints the line of its answer, where a turn has this number. Always inlined: its two callers know
-/// what event it is, so that no answer is moved, and a byte without a reply costs no more than hearing it.
-#[inline(always)]
-fn play_event<O: Write>(
-    world: &mut World,
-    event: Event,
-    line: u8,
-    turn: u64,
-    text: &mut Line,
-    output: &mut O,
-) -> Result<(), Unwritten>
-    requires { IsTrue (is_event (length world.old.station.lines) (length world.old.nodes) event) }
-    ensures done { HasDone (event ∷ []) world.old world.new }
-    ensures printed { OnOk result (Appends (O.contents output.old) (O.contents output.new) (line_of_answer line turn (answer_to world.old.station event))) }
-    ensures same { IsSameLayout world.old world.new }
-{
-    layout_core::laws::events_add_up();
-    let answer = world.step(event);
-    print_answer(answer, line, turn, text, output)
-}
-
-/// Prints the line of an answer, where a turn has this number. A byte without a reply has none. Always inlined, for the
-/// same reason.
+/// Prints the line of an answer, where a turn has this number. A byte without a reply has none. Always inlined: its two
+/// callers know what event was done, so that no answer is moved, and a byte without a reply costs no more than hearing it.
 #[inline(always)]
 fn print_answer<O: Write>(
     answer: Step,

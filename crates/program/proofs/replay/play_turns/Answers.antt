@@ -1,5 +1,9 @@
-use Rattle.std.proofs.Common.{◌≡◌, ◌+◌, refl, arith, rules}
-use Rattle.program.proofs.Replaying.{turned_all, turned_more, turned_none}
+use Rattle.std.proofs.Common.{◌≡◌, ◌+◌, refl, subst, arith, rules}
+use Rattle.std.specs.Io.KnownBytes.{Appends}
+use Rattle.layout_core.specs.declared.event.Event.TheVariants.{Turn}
+use Rattle.layout_core.specs.Served.{line_of_answer}
+use Rattle.station_core.specs.declared.call.Step.{Step}
+use Rattle.program.proofs.Replaying.{done_one, turned_all, turned_more, turned_none}
 use Rattle.program.proofs.replay.play_turns.Goals as goal
 
 pub loop-turn-init : goal.loop-turn-init
@@ -11,9 +15,11 @@ loop-turn-init g c = record {
 pub loop-turn-preserved : goal.loop-turn-preserved
 loop-turn-preserved g c = record {
   turned =
-      turned_more c.events_add_up.ensures.more c.calls_are_moves.ensures.to_turn c.args.missed c.args.first c.loop-turn.turn c.args.world.now c.loop-turn.world c.play_event.new.world
-      (g.O.Write.contents c.args.output.now) (g.O.Write.contents c.loop-turn.output) (g.O.Write.contents c.play_event.new.output)
-      c.loop-turn.invariant.turned c.play_event.ensures.done c.in_ok-play_event.ensures.printed;
+      turned_more c.events_add_up.ensures.more c.calls_are_moves.ensures.to_turn c.args.missed c.args.first c.loop-turn.turn c.args.world.now c.loop-turn.world c.step-answer.new.self
+      (g.O.Write.contents c.args.output.now) (g.O.Write.contents c.loop-turn.output) (g.O.Write.contents c.print_answer.new.output)
+      c.loop-turn.invariant.turned
+      (done_one c.events_add_up.ensures.one (Turn c.args.missed) c.step-answer.result c.loop-turn.world c.step-answer.new.self c.step-answer.ensures.station c.step-answer.ensures.answer c.step-answer.ensures.nodes)
+      (subst (λ (answer : Step). Appends (g.O.Write.contents c.loop-turn.output) (g.O.Write.contents c.print_answer.new.output) (line_of_answer 0 c.loop-turn.turn answer)) c.step-answer.ensures.answer c.in_ok-print_answer.ensures.printed);
   same = search rules;
 }
 
