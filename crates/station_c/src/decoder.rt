@@ -6,9 +6,6 @@ use dcc_packet::Module;
 use decoder_cv::CvSet;
 use decoder_node::{NodeList, NodeSpec};
 
-/// The most decoders of a layout.
-const MOST_DECODERS: usize = 64;
-
 /// What a decoder is: the accessory decoder of a module, or else a locomotive decoder with these variables.
 #[repr(C)]
 #[derive(Clone, Copy)]
@@ -47,10 +44,10 @@ fn read(decoder: &Decoder) -> Option<NodeSpec>
 pub(crate) fn read_all(decoders: &[Decoder]) -> Option<NodeList>
     ensures { option_map (λ list. list.items) result ≡ nodes_of decoders.now }
 {
-    if decoders.len() > MOST_DECODERS {
+    let mut nodes = NodeList::new();
+    if decoders.len() > nodes.capacity() {
         return None;
     }
-    let mut nodes = NodeList::new();
     for decoder in decoders {
         let Some(node) = read(decoder) else {
             return None;

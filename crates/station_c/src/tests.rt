@@ -17,19 +17,24 @@ const QUIET: Answer = Answer {
 
 const OFF: Answer = Answer { kind: 3, ..QUIET };
 
+/// A packet of so many bytes, with zeros behind them.
+fn packet(size: u8, bytes: [u8; 14]) -> Answer {
+    Answer {
+        kind: 2,
+        size,
+        bytes,
+    }
+}
+
 /// The idle packet, before anything is in use.
-const IDLE: Answer = Answer {
-    kind: 2,
-    size: 3,
-    bytes: [0xFF, 0x00, 0xFF, 0, 0, 0, 0, 0, 0, 0, 0, 0, 0, 0],
-};
+fn idle() -> Answer {
+    packet(3, [0xFF, 0x00, 0xFF, 0, 0, 0, 0, 0, 0, 0, 0, 0, 0, 0])
+}
 
 /// Speed step 63 of 126, forward, for short address 3.
-const DRIVE: Answer = Answer {
-    kind: 2,
-    size: 4,
-    bytes: [0x03, 0x3F, 0xC0, 0xFC, 0, 0, 0, 0, 0, 0, 0, 0, 0, 0],
-};
+fn drive() -> Answer {
+    packet(4, [0x03, 0x3F, 0xC0, 0xFC, 0, 0, 0, 0, 0, 0, 0, 0, 0, 0])
+}
 
 /// The reply to OPC_LOCO_ADR for address 3: slot 1, idle, and nothing asked of it yet.
 const LOADED: Answer = Answer {
@@ -118,7 +123,7 @@ fn is_turn(alloc: Global, layout: &mut Layout, missed: u64, wanted: &Answer) -> 
 fn is_driven(alloc: Global, layout: &mut Layout, missed: u64) -> bool {
     let mut answer = LOADED;
     station_turn(alloc, layout, missed, &mut answer)
-        && (answer == DRIVE || is_turn(alloc, layout, missed, &DRIVE))
+        && (answer == drive() || is_turn(alloc, layout, missed, &drive()))
 }
 
 fn is_running(alloc: Global, layout: &mut Layout, wanted: &Motion) -> bool {
@@ -138,7 +143,7 @@ fn is_heard(alloc: Global, layout: &mut Layout, i: usize, byte: u8) -> bool {
         9 => true,
         _ => answer == QUIET,
     };
-    heard && right && (i != 5 || is_turn(alloc, layout, 0, &IDLE))
+    heard && right && (i != 5 || is_turn(alloc, layout, 0, &idle()))
 }
 
 #[test]
@@ -177,7 +182,7 @@ fn is_list_of_driving(alloc: Global, layout: &mut Layout) -> bool {
     station_run(alloc, layout, &events, &mut answers)
         && answers[2] == QUIET
         && answers[3] == LOADED
-        && answers.contains(&DRIVE)
+        && answers.contains(&drive())
         && !answers.contains(&OFF)
 }
 
