@@ -11,7 +11,7 @@ use Rattle.roster.specs.declared.fault.Why.{Why as RosterWhy}
 use Rattle.roster.specs.declared.fault.Why.TheVariants as roster
 use Rattle.roster.specs.declared.fault.RosterFault.{RosterFault}
 use Rattle.input_text.specs.declared.input.ReadFault.{ReadFault}
-use Rattle.input_text.specs.declared.input.ReadFault.TheVariants as read
+use Rattle.input_text.specs.Fault.{either}
 use Rattle.command_line.specs.declared.orders.OrderFault.{OrderFault}
 use Rattle.command_line.specs.declared.orders.OrderFault.TheVariants as order
 use Rattle.console.specs.declared.fault.RunFault.{RunFault}
@@ -34,13 +34,11 @@ status_of NoMemory = 6
 
 -- of standard input
 abbrev pub of_read : ReadFault → RunFault
-of_read read.Failed = UnreadableInput
-of_read read.NoMemory = NoMemory
+of_read = either UnreadableInput NoMemory
 
 -- of a file
 abbrev pub of_file : Text → ReadFault → RunFault
-of_file file read.Failed = Unreadable file
-of_file file read.NoMemory = NoMemory
+of_file file = either (Unreadable file) NoMemory
 
 -- a file could not be read
 abbrev pub is_unread_file : RunFault → Bool

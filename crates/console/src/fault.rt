@@ -101,10 +101,7 @@ impl From<ReadFault> for RunFault {
     ghost from_gives = { λ read run. run ≡ of_read read };
 
     fn from(fault: ReadFault) -> RunFault {
-        match fault {
-            ReadFault::Failed => RunFault::UnreadableInput,
-            ReadFault::NoMemory => RunFault::NoMemory,
-        }
+        fault.choose(RunFault::UnreadableInput, RunFault::NoMemory)
     }
 }
 

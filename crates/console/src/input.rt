@@ -14,10 +14,7 @@ use std::rt::Files;
 pub(crate) fn not_read(fault: ReadFault, file: FileName) -> RunFault
     ensures { result ≡ of_file file fault }
 {
-    match fault {
-        ReadFault::Failed => RunFault::Unreadable(file),
-        ReadFault::NoMemory => RunFault::NoMemory,
-    }
+    fault.choose(RunFault::Unreadable(file), RunFault::NoMemory)
 }
 
 /// A file as an input.

@@ -1,6 +1,7 @@
 //! What is read, and why it was not.
 ghost use Rattle.std.specs.Prelude.{◌≡◌, ◌<◌, ◌≤◌, ◌+◌, ◌^◌, ℕ, Bool, false, Option, List, length, IfOk};
 ghost use Rattle.std.specs.Io.KnownBytes.{ReadConsumes};
+ghost use Rattle.input_text.specs.Fault.{either};
 ghost use Rattle.input_text.specs.Read.{count_in, has_failed};
 
 /// Why bytes were not read.
@@ -10,6 +11,18 @@ pub enum ReadFault {
     Failed,
     /// Want of memory.
     NoMemory,
+}
+
+impl ReadFault {
+    /// What a program makes of it, where it has a fault of its own for each of the two.
+    pub fn choose<F: Drop>(self, failed: F, no_memory: F) -> F
+        ensures { result ≡ either failed no_memory self }
+    {
+        match self {
+            ReadFault::Failed => failed,
+            ReadFault::NoMemory => no_memory,
+        }
+    }
 }
 
 /// What bytes are read from. Proofs see whether a read of it failed.

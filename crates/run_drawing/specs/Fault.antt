@@ -1,7 +1,7 @@
 -- Which fault a text has, and the exit status of a fault.
 use Rattle.std.specs.Prelude.{ℕ, ◌<◌, ◌≤◌, Bool, true, false, List, Option, Result, Ok, Err, length}
 use Rattle.input_text.specs.declared.input.ReadFault.{ReadFault}
-use Rattle.input_text.specs.declared.input.ReadFault.TheVariants as read
+use Rattle.input_text.specs.Fault.{either}
 use Rattle.std.specs.Str.Lines.{lines}
 use Rattle.run_drawing.specs.declared.fault.DrawFault.{DrawFault}
 use Rattle.run_drawing.specs.declared.fault.DrawFault.TheVariants.{Unreadable, Output, BadLine, TooLong, NoMemory}
@@ -16,8 +16,7 @@ status_of NoMemory = 6
 
 -- of standard input
 abbrev pub of_read : ReadFault → DrawFault
-of_read read.Failed = Unreadable
-of_read read.NoMemory = NoMemory
+of_read = either Unreadable NoMemory
 
 -- whether a run ended since its input could not be read
 abbrev pub is_unread : {A : Type 0} → Result A DrawFault → Bool

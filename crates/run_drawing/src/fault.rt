@@ -31,10 +31,7 @@ impl From<ReadFault> for DrawFault {
     ghost from_gives = { λ read fault. fault ≡ of_read read };
 
     fn from(fault: ReadFault) -> DrawFault {
-        match fault {
-            ReadFault::Failed => DrawFault::Unreadable,
-            ReadFault::NoMemory => DrawFault::NoMemory,
-        }
+        fault.choose(DrawFault::Unreadable, DrawFault::NoMemory)
     }
 }
 
