@@ -15,7 +15,7 @@ use Rattle.station_core.specs.Asking.{steps_asked, motion_asked, is_forward, fun
 use Rattle.decoder_cv.specs.Answering.{is_at, answers_to}
 use Rattle.decoder_cv.specs.Settings.{Settings}
 use Rattle.decoder_node.specs.declared.running.Running.{Running}
-use Rattle.decoder_node.specs.Heard.{told}
+use Rattle.decoder_node.specs.Heard.{after_receipt}
 use Rattle.decoder_node.specs.Obey.{is_own, obey, obeyed}
 use Rattle.layout_core.specs.Settling.{IsPacketOf, speed, group_one, group_two, group_three, LeavesAsItIs}
 use Rattle.layout_core.proofs.Told.{Spelling, obey-told, motion-fits, own-sent, legal-sent, other-speed, other-group_one, other-group_two, other-group_three}
@@ -68,7 +68,7 @@ by_instr cv r packet low high (GroupTwo address bits) spells = absurd (loco_fron
 by_instr cv r packet low high (GroupThree address bits) spells = absurd (loco_front packet _ address spells.1 low high)
 by_instr cv r packet low high (Accessory number pair closed on) spells = refl
 
-by_reading : Spelling → (cv : Settings) (r : Running) (packet : List ℕ) → 128 ≤ front packet → front packet < 192 → (read : Option Instr) → instruction_of packet ≡ read → told (obeyed cv) r read ≡ r
+by_reading : Spelling → (cv : Settings) (r : Running) (packet : List ℕ) → 128 ≤ front packet → front packet < 192 → (read : Option Instr) → instruction_of packet ≡ read → after_receipt (obeyed cv) r read ≡ r
 by_reading laws cv r packet low high None e = refl
 by_reading laws cv r packet low high (Some i) e = by_instr cv r packet low high i ((laws.read packet i).0 e)
 

@@ -21,7 +21,7 @@ use Rattle.slot_table.specs.Moves.{after_shift, may_move, move_place}
 use Rattle.slot_table.specs.Reading.{all_slots, entry_at, is_same, row_at, row_of}
 use Rattle.slot_table.specs.Writes.{after_field, after_take, new_entry, take_at}
 use Rattle.station_core.specs.declared.call.Call.{Call}
-use Rattle.station_core.specs.Known.{Known, told}
+use Rattle.station_core.specs.Known.{Known, known_after}
 use Rattle.station_core.specs.Moments.{AtEveryMoment, IsLive, ever_refreshed, slots_refreshed, turns_in}
 use Rattle.station_core.specs.Powered.{PoweredDesk}
 use Rattle.station_core.specs.Refreshed.{is_driven, is_refreshed}
@@ -69,7 +69,7 @@ record IsAsked (powered : PoweredDesk) : Type 0 where
 
 at_all : (P : PoweredDesk → Type 0) → ((powered : PoweredDesk) → IsAsked powered → P powered) → (known : Known) (calls : List Call) → AtEveryMoment IsAsked known calls → AtEveryMoment P known calls
 at_all P gives known [] now = gives known.powered now
-at_all P gives known (call ∷ calls) now = (gives known.powered now.0, at_all P gives (told known call) calls now.1)
+at_all P gives known (call ∷ calls) now = (gives known.powered now.0, at_all P gives (known_after known call) calls now.1)
 
 or_same : (a b : Bool) → b ≡ a → (a || b) ≡ a
 or_same true b same = refl
@@ -78,7 +78,7 @@ or_same false b same = same
 ever_alone : (known : Known) (calls : List Call) → AtEveryMoment IsAsked known calls → (n : ℕ) → ever_refreshed known calls n ≡ (n == 1)
 ever_alone known [] now n = now.alone n
 ever_alone known (call ∷ calls) now n =
-    or_same _ _ (ever_alone (told known call) calls now.1 n ∙ sym (now.0.alone n)) ∙ now.0.alone n
+    or_same _ _ (ever_alone (known_after known call) calls now.1 n ∙ sym (now.0.alone n)) ∙ now.0.alone n
 
 one_slot : (known : Known) (calls : List Call) → AtEveryMoment IsAsked known calls → slots_refreshed known calls ≡ 1
 unfolding all_slots
@@ -172,7 +172,7 @@ turns : ℕ → List Event
 turns n = replicate n (Turn 0)
 
 at_turns : (n : ℕ) → AtEveryMoment IsAsked start (calls_in (turns n))
-unfolding turns told
+unfolding turns known_after
 at_turns zero = first_asked
 at_turns (suc n) = (first_asked, at_turns n)
 
@@ -289,7 +289,7 @@ abbrev busy : List Event
 busy = served_events 0 1 others
 
 at_busy : AtEveryMoment IsAsked start (calls_in busy)
-unfolding told
+unfolding known_after
 at_busy =
     let one = first_asked in
     let two = subst (λ (desk : Desk). IsAsked (running desk)) (sym takes) second_asked in
