@@ -1,7 +1,7 @@
 //! The texts of marks and rows.
 ghost use Rattle.std.specs.Prelude.{◌≡◌, ◌≤◌, ◌<◌, ◌^◌, ◌+◌, None, OnOk, codes, length};
 ghost use Rattle.std.specs.Io.KnownBytes.{Appends};
-ghost use Rattle.timeline.specs.Picture.{address_name, base_line, head_text, is_line, is_same, joined_text, kind_name, label_open, mark_text, module_name, marks_of, marks_text, name_of, next_text, part_name, part_strokes, path_open, point_text, room_of, row_text, step_text, strokes_of, style_of, turn_after, x_of};
+ghost use Rattle.timeline.specs.Picture.{address_name, base_line, head_text, is_line, is_same, joined_text, kind_name, label_open, module_name, marks_of, marks_text, name_of, next_text, part_name, part_strokes, path_open, point_text, room_of, row_text, step_text, strokes_of, style_of, turn_after, x_of};
 
 use crate::event::Event;
 use crate::levels::height_of;
@@ -80,25 +80,6 @@ fn write_joined<O: Write>(last: &Option<Mark>, x: u64, y: u64, output: &mut O) -
     }
 }
 
-fn write_mark<O: Write>(
-    row: &Row,
-    base: u64,
-    last: &Option<Mark>,
-    mark: Mark,
-    output: &mut O,
-) -> io::Result<()>
-    requires { mark.height ≤ base }
-    ensures { OnOk result (Appends (O.contents output.old) (O.contents output.new) (mark_text row.now base last.now mark)) }
-{
-    let x = mark.x;
-    let y = base - mark.height;
-    if is_line(row) {
-        return write_joined(last, x, y, output);
-    }
-    let strokes = strokes_of(row);
-    write!(output, "M{x} {y}{strokes}")
-}
-
 fn is_same(last: &Option<Mark>, mark: Mark) -> bool
     ensures { result ≡ is_same last.now mark }
 {
@@ -122,7 +103,13 @@ fn write_next<O: Write>(
     if is_same(last, mark) {
         return Ok(());
     }
-    write_mark(row, base, last, mark, output)
+    let x = mark.x;
+    let y = base - mark.height;
+    if is_line(row) {
+        return write_joined(last, x, y, output);
+    }
+    let strokes = strokes_of(row);
+    write!(output, "M{x} {y}{strokes}")
 }
 
 fn part_name(part: Part) -> &'static str
