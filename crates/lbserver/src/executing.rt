@@ -3,7 +3,7 @@ ghost use Rattle.std.specs.Prelude.{◌≡◌, ◌≤◌};
 ghost use Rattle.bus_lines.specs.Decoders.{entries_of, specs_of};
 ghost use Rattle.hub.specs.Hubs.{Watches};
 
-use crate::sockets::Sockets;
+use crate::clients::Clients;
 use bus_lines::Printer;
 use command_line::{FileName, ServerOrder, server_order};
 use console::{RunFault, Unwritten, read_roster, read_whole, tell_as};
@@ -11,6 +11,7 @@ use decoder_node::NodeList;
 use hub::Server;
 use losses::Losses;
 use roster::Roster;
+use sockets::Sockets;
 use std::io::{BufWriter, ErrorKind, Write};
 use std::net::SocketAddr;
 use std::time::{Duration, Instant};
@@ -85,20 +86,29 @@ fn with_sockets<O: Write>(
 ) -> Result<(), RunFault>
     requires { Watches (specs_of (entries_of roster)) server.old.hub }
 {
-    let mut sockets = listen(rt, order)?;
-    with_printer(rt, order, roster, server, &mut sockets, output)
-}
-
-/// Listens where the words ask for it.
-fn listen(rt: &HostRuntime, order: &mut ServerOrder) -> Result<Sockets, RunFault> {
-    let Ok(mut sockets) = Sockets::bind(rt, SocketAddr::from((order.address, order.port))) else {
+    let address = SocketAddr::from((order.address, order.port));
+    let Ok(mut clients) = Clients::bind(rt, address) else {
         return Err(RunFault::Network);
     };
+    with_page(rt, order, roster, server, &mut clients, output)
+}
+
+/// Does it with the page, if one is served.
+fn with_page<O: Write>(
+    rt: &HostRuntime,
+    order: &mut ServerOrder,
+    roster: Option<&Roster>,
+    server: &mut Server,
+    clients: &mut Clients,
+    output: &mut O,
+) -> Result<(), RunFault>
+    requires { Watches (specs_of (entries_of roster)) server.old.hub }
+{
     if let Some(page) = order.page {
         let address = SocketAddr::from((order.address, page));
-        bind_page(rt, &mut sockets, address, order.page_file.take())?;
+        bind_page(rt, clients, address, order.page_file.take())?;
     }
-    Ok(sockets)
+    with_printer(rt, order, roster, server, clients, output)
 }
 
 /// Serves, with a printer for what happens.
@@ -107,7 +117,7 @@ fn with_printer<O: Write>(
     order: &ServerOrder,
     roster: Option<&Roster>,
     server: &mut Server,
-    sockets: &mut Sockets,
+    clients: &mut Clients,
     output: &mut O,
 ) -> Result<(), RunFault>
     requires { Watches (specs_of (entries_of roster)) server.old.hub }
@@ -115,9 +125,9 @@ fn with_printer<O: Write>(
     let Ok(mut lines) = BufWriter::new(rt.alloc(), output) else {
         return Err(RunFault::NoMemory);
     };
-    print_listening(sockets, &mut lines)?;
+    print_listening(&clients.sockets, &mut lines)?;
     let mut printer = Printer::new(lines, roster, order.track, server.world());
-    serve(rt, server, sockets, &mut printer, order.clients)
+    serve(rt, server, clients, &mut printer, order.clients)
 }
 
 /// The decoders of a roster; none without one.
@@ -133,12 +143,12 @@ pub(crate) fn decoders(roster: Option<&Roster>) -> NodeList
 /// Reads a page, and serves it.
 fn bind_page(
     rt: &HostRuntime,
-    sockets: &mut Sockets,
+    clients: &mut Clients,
     address: SocketAddr,
     file: Option<FileName>,
 ) -> Result<(), RunFault> {
     let page = read_page(rt, file)?;
-    match sockets.bind_page(rt, address, page.as_slice()) {
+    match clients.bind_page(rt, address, page.as_slice()) {
         Ok(()) => Ok(()),
         Err(error) if error.kind() == ErrorKind::OutOfMemory => Err(RunFault::NoMemory),
         Err(_) => Err(RunFault::Network),
@@ -175,13 +185,13 @@ fn print_page<O: Write>(sockets: &Sockets, output: &mut O) -> Result<(), RunFaul
     }
 }
 
-/// Serves until so many clients have come and gone, or for ever: 2 ^ 64 rounds.
+/// Serves until so many clients have come and gone, at `most`, or for ever: 2 ^ 64 rounds.
 fn serve<O: Write>(
     rt: &HostRuntime,
     server: &mut Server,
-    sockets: &mut Sockets,
+    clients: &mut Clients,
     printer: &mut Printer<'_, O>,
-    clients: Option<u32>,
+    most: Option<u32>,
 ) -> Result<(), RunFault>
     requires { Watches (specs_of (entries_of printer.old.roster)) server.old.hub }
 {
@@ -189,10 +199,10 @@ fn serve<O: Write>(
         return Err(RunFault::Network);
     };
     for _round in 0..u64::MAX {
-        if clients.is_some_and(|clients| printer.gone() >= u64::from(clients)) {
+        if most.is_some_and(|most| printer.gone() >= u64::from(most)) {
             break;
         }
-        go_round(rt, server, sockets, printer, &mut clock)?;
+        go_round(rt, server, clients, printer, &mut clock)?;
     }
     Ok(())
 }
@@ -201,23 +211,24 @@ fn serve<O: Write>(
 fn go_round<O: Write>(
     rt: &HostRuntime,
     server: &mut Server,
-    sockets: &mut Sockets,
+    clients: &mut Clients,
     printer: &mut Printer<'_, O>,
     clock: &mut Clock,
 ) -> Result<(), RunFault>
     requires { Watches (specs_of (entries_of printer.old.roster)) server.old.hub }
     ensures { Watches (specs_of (entries_of printer.new.roster)) server.new.hub }
 {
-    if sockets.wait(longest_wait(server), clock.now(rt)?).is_err() {
+    let now = clock.now(rt)?;
+    if clients.sockets.wait(longest_wait(server), now).is_err() {
         return Err(RunFault::Network);
     }
-    sockets.answer(clock.now(rt)?);
-    server.round(sockets, printer)?;
+    clients.sockets.answer(clock.now(rt)?);
+    server.round(clients, printer)?;
     if server.turns().is_none() {
         let micros = clock.passed(rt)?;
         pass(server, printer, micros)?;
     }
-    sockets.tell_pages(printer, server.world());
+    clients.tell_pages(printer, server.world());
     Ok(printer.flush()?)
 }
 

@@ -1,11 +1,8 @@
 //! `lbserver`: a LocoNet command station that serves clients of LocoNet over TCP.
 #![tactic(auto)]
 
-mod doors;
+mod clients;
 mod executing;
-mod sockets;
-mod visitor;
-mod watcher;
 
 use command_line::no_server_text;
 use console::{RunFault, read_words, tell_as, texts};

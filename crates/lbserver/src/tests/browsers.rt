@@ -3,7 +3,9 @@
 use crate::tests::desk::Step::{
     At, Browses, Connects, Hears, HearsTheEnd, IsGone, IsTold, Leaves, Printed, Says,
 };
-use crate::tests::desk::{Desk, OK, POWER_OFF, POWER_ON, SLOT_1, Step, TAKE_3, VERSION};
+use crate::tests::desk::{
+    Desk, OK, POWER_OFF, POWER_ON, Place, SLOT_1, Step, TAKE_3, VERSION, play_all, play_cuts,
+};
 use std::test::Fail;
 
 /// What the page is replied.
@@ -54,33 +56,33 @@ const REPLIES: [(&'static str, &'static str); 9] = [
 
 #[test]
 fn requests_are_replied(rt: HostRuntime) -> Result<(), Fail> {
-    let mut desk = Desk::new(&rt, 1, None)?;
+    ask_all(&rt, &mut Desk::new(&rt, 1, None)?)
+}
+
+fn ask_all<R: Place>(rt: &R, desk: &mut Desk<'_>) -> Result<(), Fail> {
     for (request, reply) in REPLIES {
-        desk.play(&rt, &[Browses(0)])?;
-        desk.say(0, request.as_bytes())?;
-        desk.hear(&rt, 0, reply)?;
+        desk.play(
+            rt,
+            &[Browses(0), Says(0, request.as_bytes()), Hears(0, &[reply])],
+        )?;
     }
     // A page that is read is no client, and nobody who was refused is one.
-    desk.play(&rt, &[Printed("")])
+    desk.play(rt, &[Printed("")])
 }
 
 #[test]
 fn a_request_in_every_cut(rt: HostRuntime) -> Result<(), Fail> {
-    let mut desk = Desk::new(&rt, 1, None)?;
-    for cut in 0..=JOINS.len() {
-        desk.play(&rt, &[Browses(0)])?;
-        desk.say(0, &JOINS[..cut])?;
-        desk.say(0, &JOINS[cut..])?;
-        desk.play(
-            &rt,
-            &[Hears(0, &[JOINED]), IsTold(0, &[GREETING]), Leaves(0)],
-        )?;
-    }
-    Ok(())
+    play_cuts(
+        &rt,
+        &mut Desk::new(&rt, 1, None)?,
+        &[Browses(0)],
+        JOINS,
+        &[Hears(0, &[JOINED]), IsTold(0, &[GREETING]), Leaves(0)],
+    )
 }
 
 /// The page ends where its connection does.
-const WHOLE_PAGE: &'static [Step] = &[
+const WHOLE_PAGE: &'static [Step<'static>] = &[
     Browses(0),
     Says(0, b"GET / HTTP/1.1\r\n\r\n"),
     Hears(0, &[PAGE_REPLY]),
@@ -88,7 +90,7 @@ const WHOLE_PAGE: &'static [Step] = &[
 ];
 
 /// A head that is not whole after five seconds is refused, and one that is too long is at once.
-const SLOW_AND_LONG_HEADS: &'static [Step] = &[
+const SLOW_AND_LONG_HEADS: &'static [Step<'static>] = &[
     Browses(0),
     Says(0, b"GET / HTTP/1.1\r\n"),
     At(4_999_999, 1),
@@ -105,7 +107,7 @@ const SLOW_AND_LONG_HEADS: &'static [Step] = &[
 ];
 
 /// A page takes a locomotive and hears what others say, and nothing from before it joined.
-const A_CLIENT: &'static [Step] = &[
+const A_CLIENT: &'static [Step<'static>] = &[
     Connects(0),
     Says(0, b"SEND 82 7D\n"),
     Browses(1),
@@ -127,7 +129,7 @@ const A_CLIENT: &'static [Step] = &[
 ];
 
 /// A page that goes without a word leaves its place, and costs itself alone.
-const GOES_WITHOUT_A_WORD: &'static [Step] = &[
+const GOES_WITHOUT_A_WORD: &'static [Step<'static>] = &[
     Browses(0),
     Says(0, JOINS),
     Hears(0, &[JOINED]),
@@ -141,31 +143,31 @@ const GOES_WITHOUT_A_WORD: &'static [Step] = &[
 ];
 
 /// What happens where each message has a turn behind it.
-const SCENES: [&'static [Step]; 4] = [
-    WHOLE_PAGE,
-    SLOW_AND_LONG_HEADS,
-    A_CLIENT,
-    GOES_WITHOUT_A_WORD,
+const SCENES: [(&'static [Step<'static>], u8); 4] = [
+    (WHOLE_PAGE, 1),
+    (SLOW_AND_LONG_HEADS, 1),
+    (A_CLIENT, 1),
+    (GOES_WITHOUT_A_WORD, 1),
 ];
 
 #[test]
 fn browsers(rt: HostRuntime) -> Result<(), Fail> {
-    for steps in SCENES {
-        Desk::new(&rt, 1, None)?.play(&rt, steps)?;
-    }
-    Ok(())
+    play_all(&rt, &SCENES)
 }
 
 /// Sixteen connections are heard at once. A seventeenth waits until they have had their five seconds, and the second in which
 /// they could have read why.
 #[test]
 fn a_seventeenth_waits(rt: HostRuntime) -> Result<(), Fail> {
-    let mut desk = Desk::new(&rt, 1, None)?;
+    wait_for_a_door(&rt, &mut Desk::new(&rt, 1, None)?)
+}
+
+fn wait_for_a_door<R: Place>(rt: &R, desk: &mut Desk<'_>) -> Result<(), Fail> {
     for browser in 0..17usize {
-        desk.play(&rt, &[Browses(browser)])?;
+        desk.play(rt, &[Browses(browser)])?;
     }
     desk.play(
-        &rt,
+        rt,
         &[
             Says(16, b"GET / HTTP/1.1\r\n\r\n"),
             At(5_000_000, 4),
@@ -178,21 +180,24 @@ fn a_seventeenth_waits(rt: HostRuntime) -> Result<(), Fail> {
 /// A ninth page is told so, and closed.
 #[test]
 fn a_ninth_page_is_turned_away(rt: HostRuntime) -> Result<(), Fail> {
-    let mut desk = Desk::new(&rt, 1, None)?;
+    join_nine_times(&rt, &mut Desk::new(&rt, 1, None)?)
+}
+
+fn join_nine_times<R: Place>(rt: &R, desk: &mut Desk<'_>) -> Result<(), Fail> {
     for page in 0..9usize {
         desk.play(
-            &rt,
+            rt,
             &[Browses(page), Says(page, JOINS), Hears(page, &[JOINED])],
         )?;
     }
     desk.play(
-        &rt,
+        rt,
         &[IsTold(7, &[GREETING]), IsTold(8, &["ERROR no place"])],
     )
 }
 
 /// A page is told each decoder when it joins, and then the one that has changed.
-const DECODERS: &'static [Step] = &[
+const DECODERS: &'static [Step<'static>] = &[
     Browses(0),
     Says(0, JOINS),
     Hears(0, &[JOINED]),

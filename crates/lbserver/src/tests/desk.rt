@@ -2,8 +2,8 @@
 ghost use Rattle.bus_lines.specs.Decoders.{entries_of, specs_of};
 ghost use Rattle.hub.specs.Hubs.{Watches};
 
+use crate::clients::Clients;
 use crate::executing::decoders;
-use crate::sockets::Sockets;
 use bus_lines::Printer;
 use hub::Server;
 use losses::Losses;
@@ -29,22 +29,27 @@ pub(crate) const OK: &'static str = "SENT OK\r\n";
 /// What is served as the page.
 pub(crate) const PAGE: &'static str = "<!DOCTYPE html><title>Station</title>";
 
+/// Where a desk stands: there are sockets and memory, and a test that fails ends.
+pub(crate) trait Place: Net<Listener = TcpListener, Stream = TcpStream> + AllocGlobal + Abort {}
+
+impl<R: Net<Listener = TcpListener, Stream = TcpStream> + AllocGlobal + Abort> Place for R {}
+
 /// The most connections of a scene.
 const MOST: usize = 17;
 
 /// What happens at a desk. A connection is told by its number, below 17.
 #[derive(Clone, Copy, Debug)]
-pub(crate) enum Step {
+pub(crate) enum Step<'a> {
     /// A program connects.
     Connects(usize),
     /// A browser connects.
     Browses(usize),
     /// It writes these bytes, and is heard.
-    Says(usize, &'static [u8]),
+    Says(usize, &'a [u8]),
     /// It is told just these texts next.
-    Hears(usize, &'static [&'static str]),
+    Hears(usize, &'a [&'a str]),
     /// It is told just these messages next: frames of text, not masked (RFC 6455, section 5.2).
-    IsTold(usize, &'static [&'static str]),
+    IsTold(usize, &'a [&'a str]),
     /// It is told nothing more: what it reads next is the end.
     HearsTheEnd(usize),
     /// It ends the connection both ways.
@@ -54,7 +59,7 @@ pub(crate) enum Step {
     /// So many microseconds after the start, so many rounds.
     At(u64, u32),
     /// This was printed so far.
-    Printed(&'static str),
+    Printed(&'a str),
 }
 
 /// Those who are connected, by their numbers.
@@ -93,7 +98,7 @@ impl Streams {
 #[derive(Drop)]
 pub(crate) struct Desk<'a> {
     pub(crate) server: Server,
-    pub(crate) sockets: Sockets,
+    pub(crate) clients: Clients,
     pub(crate) printer: Printer<'a, Vec<u8>>,
     pub(crate) streams: Streams,
     /// The microseconds since the start.
@@ -103,18 +108,17 @@ pub(crate) struct Desk<'a> {
 
 impl<'a> Desk<'a> {
     /// A layout with the decoders of a roster, if there is one, and its page.
-    pub(crate) fn new(
-        rt: &HostRuntime,
+    pub(crate) fn new<R: Place>(
+        rt: &R,
         turns: u8,
         roster: Option<&'a Roster>,
     ) -> Result<Desk<'a>, Fail> {
         let server = Server::new(rt.alloc(), decoders(roster), Some(turns), Losses::new(0, 0))?;
+        let clients = bound(rt)?;
         let printer = Printer::new(Vec::new(rt.alloc()), roster, true, server.world());
-        let mut sockets = Sockets::bind(rt, loopback())?;
-        sockets.bind_page(rt, loopback(), PAGE.as_bytes())?;
         Ok(Desk {
             server,
-            sockets,
+            clients,
             printer,
             streams: Streams::new(),
             now: 0,
@@ -124,18 +128,18 @@ impl<'a> Desk<'a> {
     /// So many rounds.
     pub(crate) fn rounds(&mut self, count: u32) -> Result<(), Fail> {
         for _round in 0..count {
-            self.sockets.answer(self.now);
-            self.server.round(&mut self.sockets, &mut self.printer)?;
-            self.sockets.tell_pages(&self.printer, self.server.world());
+            self.clients.sockets.answer(self.now);
+            self.server.round(&mut self.clients, &mut self.printer)?;
+            self.clients.tell_pages(&self.printer, self.server.world());
         }
         Ok(())
     }
 
     /// What happens here, one after another.
-    pub(crate) fn play<R: Net<Listener = TcpListener, Stream = TcpStream> + AllocGlobal + Abort>(
+    pub(crate) fn play<R: Place>(
         &mut self,
         rt: &R,
-        steps: &[Step],
+        steps: &[Step<'_>],
     ) -> Result<(), Fail> {
         for step in steps {
             self.step(rt, step)?;
@@ -143,18 +147,18 @@ impl<'a> Desk<'a> {
         Ok(())
     }
 
-    fn step<R: Net<Listener = TcpListener, Stream = TcpStream> + AllocGlobal + Abort>(
+    fn step<R: Place>(
         &mut self,
         rt: &R,
-        step: &Step,
+        step: &Step<'_>,
     ) -> Result<(), Fail> {
         match step {
             Step::Connects(who) => {
-                let address = self.sockets.address()?;
+                let address = self.clients.sockets.address()?;
                 self.connect(rt, *who, address)
             }
             Step::Browses(who) => {
-                let address = self.sockets.page_address().ok_or("no page")??;
+                let address = self.clients.sockets.page_address().ok_or("no page")??;
                 self.connect(rt, *who, address)
             }
             Step::At(now, rounds) => {
@@ -181,7 +185,7 @@ impl<'a> Desk<'a> {
     }
 
     /// Somebody connects, and is let in.
-    fn connect<R: Net<Listener = TcpListener, Stream = TcpStream>>(
+    fn connect<R: Place>(
         &mut self,
         rt: &R,
         who: usize,
@@ -194,19 +198,18 @@ impl<'a> Desk<'a> {
     }
 
     /// Somebody writes this, and is heard.
-    pub(crate) fn say(&mut self, who: usize, text: &[u8]) -> Result<(), Fail> {
+    fn say(&mut self, who: usize, text: &[u8]) -> Result<(), Fail> {
         self.streams.of(who)?.write_all(text)?;
         self.rounds(4)
     }
 
-    /// Somebody is told just this text next.
-    pub(crate) fn hear<R: AllocGlobal + Abort>(
-        &mut self,
-        rt: &R,
-        who: usize,
-        text: &str,
-    ) -> Result<(), Fail> {
-        hears(rt, self.streams.of(who)?, text)
+    /// Somebody writes a line of the longest message, and is told what it brings, 399 bytes, after a single round.
+    pub(crate) fn send(&mut self, who: usize, line: &[u8]) -> Result<[u8; 399], Fail> {
+        self.streams.of(who)?.write_all(line)?;
+        self.rounds(1)?;
+        let mut told = [0; 399];
+        self.streams.of(who)?.read_exact(&mut told)?;
+        Ok(told)
     }
 
     /// Whether this was printed so far.
@@ -215,13 +218,51 @@ impl<'a> Desk<'a> {
     }
 }
 
+/// Plays each scene at a desk of its own, with so many turns behind each message.
+pub(crate) fn play_all<R: Place>(rt: &R, scenes: &[(&[Step<'_>], u8)]) -> Result<(), Fail> {
+    for (steps, turns) in scenes {
+        Desk::new(rt, *turns, None)?.play(rt, steps)?;
+    }
+    Ok(())
+}
+
+/// Connection 0 writes a text in two pieces, cut at each place in turn, and the same happens before it and behind it.
+pub(crate) fn play_cuts<R: Place>(
+    rt: &R,
+    desk: &mut Desk<'_>,
+    before: &[Step<'_>],
+    text: &[u8],
+    behind: &[Step<'_>],
+) -> Result<(), Fail> {
+    for cut in 0..=text.len() {
+        desk.play(rt, before)?;
+        desk.play(
+            rt,
+            &[Step::Says(0, &text[..cut]), Step::Says(0, &text[cut..])],
+        )?;
+        desk.play(rt, behind)?;
+    }
+    Ok(())
+}
+
+/// Ports for programs and for browsers.
+fn bound<R: Place>(rt: &R) -> Result<Clients, Fail> {
+    let mut clients = Clients::bind(rt, loopback())?;
+    clients.bind_page(rt, loopback(), PAGE.as_bytes())?;
+    Ok(clients)
+}
+
 /// A port of its own on this machine.
 fn loopback() -> SocketAddr {
     SocketAddr::from((Ipv4Addr::LOCALHOST, 0))
 }
 
 /// What one who is connected hears, or does to its stream alone.
-fn hear<R: AllocGlobal + Abort>(rt: &R, stream: &mut TcpStream, step: &Step) -> Result<(), Fail> {
+fn hear<R: Place>(
+    rt: &R,
+    stream: &mut TcpStream,
+    step: &Step<'_>,
+) -> Result<(), Fail> {
     match step {
         Step::Hears(_, texts) => {
             for text in *texts {
@@ -241,7 +282,7 @@ fn hear<R: AllocGlobal + Abort>(rt: &R, stream: &mut TcpStream, step: &Step) -> 
 }
 
 /// Somebody is told just this text next.
-fn hears<R: AllocGlobal + Abort>(rt: &R, stream: &mut TcpStream, text: &str) -> Result<(), Fail> {
+fn hears<R: Place>(rt: &R, stream: &mut TcpStream, text: &str) -> Result<(), Fail> {
     let mut told = Vec::from_elem(rt.alloc(), 0, text.len())?;
     stream.read_exact(told.as_mut_slice())?;
     assert!(rt; told.as_slice() == text.as_bytes(), "{text}");
@@ -249,7 +290,7 @@ fn hears<R: AllocGlobal + Abort>(rt: &R, stream: &mut TcpStream, text: &str) -> 
 }
 
 /// A page is told just this message next.
-fn is_told<R: AllocGlobal + Abort>(
+fn is_told<R: Place>(
     rt: &R,
     page: &mut TcpStream,
     message: &str,

@@ -1,14 +1,16 @@
 //! Programs that are clients.
 
 use crate::tests::desk::Step::{At, Connects, Hears, HearsTheEnd, IsGone, Leaves, Printed, Says};
-use crate::tests::desk::{Desk, OK, POWER_OFF, POWER_ON, SLOT_1, Step, TAKE_3, VERSION};
-use std::io::{Read, Write};
+use crate::tests::desk::{
+    Desk, OK, POWER_OFF, POWER_ON, Place, SLOT_1, Step, TAKE_3, VERSION, play_all, play_cuts,
+};
+use std::io::Write;
 use std::test::Fail;
 
 const NO_MESSAGE: &'static str = "SENT ERROR no whole message\r\n";
 
 /// Two clients speak in each other's lines.
-const INTERLEAVED: &'static [Step] = &[
+const INTERLEAVED: &'static [Step<'static>] = &[
     Connects(0),
     Connects(1),
     Says(0, b"SEND BF 0"),
@@ -30,7 +32,7 @@ const INTERLEAVED: &'static [Step] = &[
 ];
 
 /// A line goes with its client, and another takes its place.
-const GOES_IN_MID_LINE: &'static [Step] = &[
+const GOES_IN_MID_LINE: &'static [Step<'static>] = &[
     Connects(0),
     Connects(1),
     Says(1, b"SEND 83"),
@@ -45,7 +47,7 @@ const GOES_IN_MID_LINE: &'static [Step] = &[
 ];
 
 /// A ninth is turned away.
-const NINTH: &'static [Step] = &[
+const NINTH: &'static [Step<'static>] = &[
     Connects(0),
     Connects(1),
     Connects(2),
@@ -60,7 +62,7 @@ const NINTH: &'static [Step] = &[
 ];
 
 /// A client that is gone while it still has text to read is reset, and costs itself alone.
-const RESET: &'static [Step] = &[
+const RESET: &'static [Step<'static>] = &[
     Connects(0),
     Connects(1),
     Says(1, b"SEND 83 7C\n"),
@@ -70,7 +72,7 @@ const RESET: &'static [Step] = &[
 ];
 
 /// Behind each message come its turns, three here, and none else.
-const TURNS: &'static [Step] = &[
+const TURNS: &'static [Step<'static>] = &[
     Connects(0),
     Says(0, b"SEND 85 7A\nSEND 83 7C\nSEND 85 7A\n"),
     At(0, 20),
@@ -80,7 +82,7 @@ const TURNS: &'static [Step] = &[
 ];
 
 /// What happens, and the turns behind each message.
-const SCENES: [(&'static [Step], u8); 5] = [
+const SCENES: [(&'static [Step<'static>], u8); 5] = [
     (INTERLEAVED, 0),
     (GOES_IN_MID_LINE, 0),
     (NINTH, 0),
@@ -90,33 +92,37 @@ const SCENES: [(&'static [Step], u8); 5] = [
 
 #[test]
 fn programs(rt: HostRuntime) -> Result<(), Fail> {
-    for (steps, turns) in SCENES {
-        Desk::new(&rt, turns, None)?.play(&rt, steps)?;
-    }
-    Ok(())
+    play_all(&rt, &SCENES)
 }
 
 /// Eight clients say half a line each, and then the other half, in the other order.
 #[test]
 fn eight_clients_are_told_all(rt: HostRuntime) -> Result<(), Fail> {
     let mut desk = Desk::new(&rt, 0, None)?;
+    say_halves(&rt, &mut desk)?;
+    hear_all(&rt, &mut desk)
+}
+
+fn say_halves<R: Place>(rt: &R, desk: &mut Desk<'_>) -> Result<(), Fail> {
     for client in 0..8usize {
-        desk.play(&rt, &[Connects(client), Says(client, b"SEND 8")])?;
+        desk.play(rt, &[Connects(client), Says(client, b"SEND 8")])?;
     }
     for client in 0..8usize {
-        desk.play(&rt, &[Says(7 - client, b"2 7D\n")])?;
+        desk.play(rt, &[Says(7 - client, b"2 7D\n")])?;
     }
+    Ok(())
+}
+
+fn hear_all<R: Place>(rt: &R, desk: &mut Desk<'_>) -> Result<(), Fail> {
     for client in 0..8usize {
-        desk.play(&rt, &[Hears(client, &[VERSION])])?;
+        desk.play(rt, &[Hears(client, &[VERSION])])?;
         for said in 0..8usize {
             let texts: &[&str] = if said + client == 7 {
                 &[POWER_OFF, OK]
             } else {
                 &[POWER_OFF]
             };
-            for text in texts {
-                desk.hear(&rt, client, text)?;
-            }
+            desk.play(rt, &[Hears(client, texts)])?;
         }
     }
     Ok(())
@@ -125,20 +131,14 @@ fn eight_clients_are_told_all(rt: HostRuntime) -> Result<(), Fail> {
 /// One client never reads, and goes when 65,536 bytes wait behind what the system keeps; another drives on.
 #[test]
 fn who_never_reads_is_let_go(rt: HostRuntime) -> Result<(), Fail> {
-    let mut desk = Desk::new(&rt, 0, None)?;
-    desk.play(&rt, &[Connects(0), Connects(1), Hears(0, &[VERSION])])?;
-    // A message that brings as many bytes as a line can.
-    let mut message = Vec::new(rt.alloc());
-    message.extend_from_slice(b"SEND E5 7F")?;
-    for _byte in 0..124u8 {
-        message.extend_from_slice(b" 00")?;
-    }
-    message.extend_from_slice(b" 65\n")?;
+    drive_on(&rt, &mut Desk::new(&rt, 0, None)?)
+}
+
+fn drive_on<R: Place>(rt: &R, desk: &mut Desk<'_>) -> Result<(), Fail> {
+    desk.play(rt, &[Connects(0), Connects(1), Hears(0, &[VERSION])])?;
+    let message = long_message();
     for _message in 0..40_000u32 {
-        desk.streams.of(0)?.write_all(message.as_slice())?;
-        desk.rounds(1)?;
-        let mut told = [0; 399];
-        desk.streams.of(0)?.read_exact(&mut told)?;
+        let told = desk.send(0, &message)?;
         assert!(rt;
             told.as_slice().starts_with(b"RECEIVE E5 7F")
                 && told.as_slice().ends_with(b"SENT OK\r\n")
@@ -151,18 +151,32 @@ fn who_never_reads_is_let_go(rt: HostRuntime) -> Result<(), Fail> {
     Ok(())
 }
 
+/// A message that brings as many bytes as a line can.
+fn long_message() -> [u8; 386] {
+    let mut message = [0; 386];
+    message[..10].copy_from_slice(b"SEND E5 7F");
+    for byte in message[10..382].chunks_exact_mut(3) {
+        byte.copy_from_slice(b" 00");
+    }
+    message[382..].copy_from_slice(b" 65\n");
+    message
+}
+
 /// A megabyte without the end of a line asks nothing, and holds nobody up.
 #[test]
 fn a_flood_holds_nobody_up(rt: HostRuntime) -> Result<(), Fail> {
-    let mut desk = Desk::new(&rt, 0, None)?;
-    desk.play(&rt, &[Connects(0), Connects(1)])?;
+    flood(&rt, &mut Desk::new(&rt, 0, None)?)
+}
+
+fn flood<R: Place>(rt: &R, desk: &mut Desk<'_>) -> Result<(), Fail> {
+    desk.play(rt, &[Connects(0), Connects(1)])?;
     let piece = [b'S'; 1024];
     for _piece in 0..1024u32 {
         desk.streams.of(0)?.write_all(&piece)?;
         desk.rounds(3)?;
     }
     desk.play(
-        &rt,
+        rt,
         &[
             Says(1, b"SEND 82 7D\n"),
             Hears(1, &[VERSION, POWER_OFF, OK]),
@@ -175,13 +189,13 @@ fn a_flood_holds_nobody_up(rt: HostRuntime) -> Result<(), Fail> {
 /// A text asks the same wherever it is cut.
 #[test]
 fn text_in_every_cut(rt: HostRuntime) -> Result<(), Fail> {
-    let text = b"SEND 82 7D\r\n\r\nhello\nSEND 83\n";
     let mut desk = Desk::new(&rt, 0, None)?;
     desk.play(&rt, &[Connects(0), Hears(0, &[VERSION])])?;
-    for cut in 0..=text.len() {
-        desk.say(0, &text[..cut])?;
-        desk.say(0, &text[cut..])?;
-        desk.play(&rt, &[Hears(0, &[POWER_OFF, OK, NO_MESSAGE])])?;
-    }
-    Ok(())
+    play_cuts(
+        &rt,
+        &mut desk,
+        &[],
+        b"SEND 82 7D\r\n\r\nhello\nSEND 83\n",
+        &[Hears(0, &[POWER_OFF, OK, NO_MESSAGE])],
+    )
 }

@@ -1,4 +1,6 @@
 //! The door of the page: who asks by HTTP, until the answer is out or until it has become a client.
+ghost use Rattle.std.specs.Prelude.{◌≡◌, ◌<◌, ◌^◌, ◌++◌, IfOk, length};
+ghost use Rattle.pages.specs.Replies.{page_head_text};
 
 use crate::visitor::{Next, Visitor};
 use mio::net::{TcpListener, TcpStream};
@@ -16,7 +18,7 @@ enum Door {
     /// Nobody is there.
     Free,
     /// Somebody asks.
-    Asked(Visitor),
+    Asked(Visitor<TcpStream>),
     /// Somebody has joined the bus, and waits for a place there.
     Joined(Page<TcpStream>),
 }
@@ -34,25 +36,12 @@ pub(crate) struct Doors {
 }
 
 impl Doors {
-    /// Doors at this listener, where this page is served.
-    ///
-    /// # Errors
-    ///
-    /// Want of memory. Those who ask take none.
-    pub(crate) fn new(
-        alloc: Global,
-        listener: TcpListener,
-        page: &[u8],
-    ) -> Result<Doors, AllocError> {
-        let mut head = Head::new();
-        push_page_head(&mut head, u32::try_from(page.len()).unwrap_or(u32::MAX));
-        let mut whole = Vec::new(alloc);
-        whole.extend_from_slice(head.as_slice())?;
-        whole.extend_from_slice(page)?;
-        Ok(Doors {
+    /// Doors at this listener. `page`: what the page is replied, whole. Those who ask take no memory.
+    pub(crate) fn new(alloc: Global, listener: TcpListener, page: Vec<u8>) -> Doors {
+        Doors {
             alloc,
             listener,
-            page: whole,
+            page,
             doors: [
                 Door::Free,
                 Door::Free,
@@ -72,7 +61,7 @@ impl Doors {
                 Door::Free,
             ],
             is_behind: false,
-        })
+        }
     }
 
     /// The listener.
@@ -119,6 +108,22 @@ impl Doors {
         }
         None
     }
+}
+
+/// What this page is replied, whole.
+///
+/// # Errors
+///
+/// Want of memory.
+pub fn page_reply(alloc: Global, page: &[u8]) -> Result<Vec<u8>, AllocError>
+    ensures { length page.now < 2 ^ 32 → IfOk result (λ reply. reply.items ≡ page_head_text (length page.now) ++ page.now) }
+{
+    let mut head = Head::new();
+    push_page_head(&mut head, u32::try_from(page.len()).unwrap_or(u32::MAX));
+    let mut reply = Vec::new(alloc);
+    reply.extend_from_slice(head.as_slice())?;
+    reply.extend_from_slice(page)?;
+    Ok(reply)
 }
 
 /// Lets in who waits at a free door.

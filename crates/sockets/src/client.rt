@@ -1,0 +1,94 @@
+//! Who has a place on the bus, and the stream.
+ghost use Rattle.std.specs.Io.{ReadsAtMost, WritesAtMost};
+
+use mio::net::TcpStream;
+use pages::Page;
+use std::io;
+use std::io::{ErrorKind, Read, Write};
+
+/// How often a page is read at once that sends no text, as its pings are none.
+const MOST_TRIES: u8 = 4;
+
+/// Who has a place on the bus.
+#[derive(Drop)]
+pub(crate) enum Client {
+    /// A program, by LocoNet over TCP.
+    Program(TcpStream),
+    /// A page, by the same text over a WebSocket.
+    Page(Guest),
+}
+
+impl Client {
+    /// Reads what the client sent, as `Read` does. Where it may have sent more than was looked at, `is_behind` is set.
+    pub(crate) fn read(&mut self, room: &mut [u8], is_behind: &mut bool) -> io::Result<usize>
+        ensures { ReadsAtMost result room.new }
+    {
+        match self {
+            Client::Program(stream) => stream.read(room),
+            Client::Page(guest) => guest.read(room, is_behind),
+        }
+    }
+
+    /// Writes to the client, as `Write` does.
+    pub(crate) fn write(&mut self, bytes: &[u8]) -> io::Result<usize>
+        ensures { WritesAtMost result bytes.now }
+    {
+        match self {
+            Client::Program(stream) => stream.write(bytes),
+            Client::Page(guest) => guest.write(bytes),
+        }
+    }
+}
+
+/// A page that is a client of the bus.
+#[derive(Drop)]
+pub struct Guest {
+    page: Page<TcpStream>,
+    /// Text of the bus was told: the first is the version, before which nothing is told.
+    is_greeted: bool,
+}
+
+impl Guest {
+    /// A page that was told nothing yet.
+    pub(crate) fn new(page: Page<TcpStream>) -> Guest {
+        Guest {
+            page,
+            is_greeted: false,
+        }
+    }
+
+    /// Whether it can be told something beside the lines: text of the bus was told before. What waits goes out first, as far
+    /// as it is taken now.
+    pub fn is_ready(&mut self) -> bool {
+        // Whoever has gone is let go at its next read.
+        let _ = self.page.flush();
+        self.is_greeted
+    }
+
+    /// Tells it one message beside the lines, whole or not at all. False where it was not told.
+    pub fn tell(&mut self, message: &str) -> bool {
+        self.page.tell(message).is_ok()
+    }
+
+    /// Reads what the page sent, as `Read` does. Where it may have sent more, and none of it was text, `is_behind` is set.
+    fn read(&mut self, room: &mut [u8], is_behind: &mut bool) -> io::Result<usize>
+        ensures { ReadsAtMost result room.new }
+    {
+        for _try in 0..MOST_TRIES {
+            match self.page.hear_lines(room) {
+                Err(error) if error.kind() == ErrorKind::Interrupted => {}
+                heard => return heard,
+            }
+        }
+        *is_behind = true;
+        Err(io::Error::from(ErrorKind::WouldBlock))
+    }
+
+    /// Tells the page text of the bus, as `Write` does.
+    fn write(&mut self, bytes: &[u8]) -> io::Result<usize>
+        ensures { WritesAtMost result bytes.now }
+    {
+        self.is_greeted = true;
+        self.page.tell_lines(bytes)
+    }
+}

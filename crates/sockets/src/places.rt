@@ -1,0 +1,259 @@
+//! The ports of a server, and the streams of up to eight clients.
+ghost use Rattle.std.specs.Prelude.{◌≡◌, ◌<◌, length};
+ghost use Rattle.sockets.specs.declared.places.Came.TheVariants.{Gone};
+ghost use Rattle.sockets.specs.Streams.{IsSome};
+
+use crate::client::{Client, Guest};
+use crate::doors::{DOORS, Doors};
+use crate::visitor::is_only_late;
+use mio::net::{TcpListener, TcpStream};
+use mio::{Events, Interest, Poll, Registry, Token};
+use outbox::PLACES;
+use over_tcp::{Text, push_no_place};
+use pages::Page;
+use std::alloc::Global;
+use std::io;
+use std::io::{ErrorKind, Write};
+use std::net::SocketAddr;
+use std::time::Duration;
+
+/// What a read or a write of a client came to.
+#[derive(Clone, Copy, Debug, PartialEq, Eq)]
+pub enum Came {
+    /// So many bytes came or went, at least one.
+    Bytes(usize),
+    /// None does now.
+    Nothing,
+    /// The client has gone, and its connection is closed.
+    Gone,
+}
+
+/// The ports, and the streams of the clients that were let in, each at its place, 0 to 7.
+///
+/// What sockets deliver no contract can say.
+#[derive(Drop)]
+pub struct Sockets {
+    poll: Poll,
+    events: Events,
+    listener: TcpListener,
+    clients: [Option<Client>; PLACES],
+    doors: Option<Doors>,
+    /// A page has sent something, and may have sent more.
+    is_behind: bool,
+}
+
+impl Sockets {
+    /// Sockets for those who come to this listener. They take all their memory at once.
+    ///
+    /// # Errors
+    ///
+    /// Want of memory, and where the listener cannot be registered.
+    pub fn new(alloc: Global, poll: Poll, listener: TcpListener) -> io::Result<Sockets> {
+        let mut listener = listener;
+        note_comers(&mut listener, poll.registry(), PLACES)?;
+        Ok(Sockets {
+            poll,
+            events: Events::with_capacity(alloc, PLACES + DOORS + 2)?,
+            listener,
+            clients: [None, None, None, None, None, None, None, None],
+            doors: None,
+            is_behind: false,
+        })
+    }
+
+    /// Lets browsers in that come to this listener. `page`: what the page is replied, whole.
+    ///
+    /// # Errors
+    ///
+    /// Where the listener cannot be registered.
+    pub fn open_doors(
+        &mut self,
+        alloc: Global,
+        listener: TcpListener,
+        page: Vec<u8>,
+    ) -> io::Result<()> {
+        let mut listener = listener;
+        note_comers(&mut listener, self.poll.registry(), PLACES + 1)?;
+        self.doors = Some(Doors::new(alloc, listener, page));
+        Ok(())
+    }
+
+    /// The address and the port where programs come.
+    pub fn address(&self) -> io::Result<SocketAddr> {
+        self.listener.local_addr()
+    }
+
+    /// The address and the port of the page, where one is served.
+    pub fn page_address(&self) -> Option<io::Result<SocketAddr>> {
+        self.doors
+            .as_ref()
+            .map(|doors| doors.listener().local_addr())
+    }
+
+    /// Waits until something may be there, or so long. `now`: microseconds since the start.
+    ///
+    /// An event only ends the wait: each round goes over all places, so none is looked up, and a stale one does no harm.
+    pub fn wait(&mut self, longest: Option<Duration>, now: u64) -> io::Result<()> {
+        let longest = shorter(longest, self.patience(now));
+        match self.poll.poll(&mut self.events, longest) {
+            Err(error) if error.kind() != ErrorKind::Interrupted => Err(error),
+            _ => Ok(()),
+        }
+    }
+
+    /// How long those who ask for a page, and pages, can be let wait, in microseconds.
+    fn patience(&self, now: u64) -> Option<u64> {
+        match &self.doors {
+            Some(_) if self.is_behind => Some(0),
+            Some(doors) => doors.patience(now),
+            None => None,
+        }
+    }
+
+    /// Goes on with those who ask for a page. `now`: microseconds since the start.
+    pub fn answer(&mut self, now: u64) {
+        self.is_behind = false;
+        if let Some(doors) = &mut self.doors {
+            doors.round(self.poll.registry(), Token(PLACES + 2), now);
+        }
+    }
+
+    /// The page at a place, if it is one that has it.
+    pub fn guest(&mut self, place: usize) -> Option<&mut Guest>
+        requires { place < 8 }
+    {
+        match &mut self.clients[place] {
+            Some(Client::Page(guest)) => Some(guest),
+            _ => None,
+        }
+    }
+
+    /// Lets who waits in at a place: a page that has joined, and else a program. False where nobody waits.
+    pub fn let_in(&mut self, place: usize) -> bool
+        requires { place < 8 }
+    {
+        let client = match self.joined() {
+            Some(page) => Some(Client::Page(Guest::new(page))),
+            None => self.program(place).map(Client::Program),
+        };
+        let is_there = client.is_some();
+        self.clients[place] = client;
+        is_there
+    }
+
+    /// Tells who waits that no place is free, and closes the connection. False where nobody waits.
+    pub fn turn_away(&mut self) -> bool {
+        let mut text = Text::new();
+        push_no_place(&mut text);
+        match self.joined() {
+            Some(page) => turn_page_away(page, text.as_slice()),
+            None => self.turn_program_away(text.as_slice()),
+        }
+    }
+
+    /// Reads what a client sent, to the front of `room`. It never waits.
+    pub fn read(&mut self, place: usize, room: &mut [u8]) -> Came
+        requires { place < 8 }
+        ensures { IsSome result (length room.new) }
+    {
+        let Some(client) = &mut self.clients[place] else {
+            return Came::Nothing;
+        };
+        match client.read(room, &mut self.is_behind) {
+            Ok(count) if count > 0 => Came::Bytes(count),
+            Err(error) if is_only_late(&error) => Came::Nothing,
+            _ => self.let_go(place),
+        }
+    }
+
+    /// Writes bytes to a client, as many from the front as are taken. It never waits.
+    pub fn write(&mut self, place: usize, bytes: &[u8]) -> Came
+        requires { place < 8 }
+        ensures { IsSome result (length bytes.now) }
+    {
+        let Some(client) = &mut self.clients[place] else {
+            return Came::Nothing;
+        };
+        match client.write(bytes) {
+            Ok(count) if count > 0 => Came::Bytes(count),
+            Err(error) if is_only_late(&error) => Came::Nothing,
+            _ => self.let_go(place),
+        }
+    }
+
+    /// Closes the connection of a client.
+    pub fn close(&mut self, place: usize)
+        requires { place < 8 }
+    {
+        self.clients[place] = None;
+    }
+
+    /// Closes the connection of a client that has gone.
+    fn let_go(&mut self, place: usize) -> Came
+        requires { place < 8 }
+        ensures { result ≡ Gone }
+    {
+        self.close(place);
+        Came::Gone
+    }
+
+    /// A page that has joined, and has no place yet.
+    fn joined(&mut self) -> Option<Page<TcpStream>> {
+        match &mut self.doors {
+            Some(doors) => doors.take_joined(),
+            None => None,
+        }
+    }
+
+    /// A program that waits at the port.
+    fn program(&mut self, place: usize) -> Option<TcpStream> {
+        let (mut stream, _) = self.listener.accept().ok()?;
+        self.prepare(&mut stream, place).ok()?;
+        Some(stream)
+    }
+
+    /// Makes a stream ready to be served at a place.
+    fn prepare(&self, stream: &mut TcpStream, place: usize) -> io::Result<()> {
+        // Else a second write waits some 40 ms for the client to acknowledge the first.
+        stream.set_nodelay(true)?;
+        // Both ways from the start, since a change is reported once.
+        self.poll.registry().register(
+            stream,
+            Token(place),
+            Interest::READABLE | Interest::WRITABLE,
+        )
+    }
+
+    /// Tells a program that waits at the port that no place is free. False where nobody waits.
+    fn turn_program_away(&mut self, text: &[u8]) -> bool {
+        let Ok((mut stream, _)) = self.listener.accept() else {
+            return false;
+        };
+        let _ = stream.write(text);
+        true
+    }
+}
+
+/// Tells a page that has joined that no place is free: true.
+fn turn_page_away(page: Page<TcpStream>, text: &[u8]) -> bool {
+    let mut page = page;
+    // Whoever has gone already need not be told.
+    let _ = page.tell_lines(text);
+    page.close();
+    true
+}
+
+/// Has it noted when somebody comes to a listener.
+fn note_comers(listener: &mut TcpListener, registry: &Registry, token: usize) -> io::Result<()> {
+    registry.register(listener, Token(token), Interest::READABLE)
+}
+
+/// The shorter of two times, of which each may be without end.
+fn shorter(one: Option<Duration>, micros: Option<u64>) -> Option<Duration> {
+    let other = micros.map(Duration::from_micros);
+    match (one, other) {
+        (Some(one), Some(other)) => Some(one.min(other)),
+        (Some(time), None) | (None, Some(time)) => Some(time),
+        (None, None) => None,
+    }
+}
