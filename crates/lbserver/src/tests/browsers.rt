@@ -4,7 +4,7 @@ use crate::tests::desk::Step::{
     At, Browses, Connects, Hears, HearsTheEnd, IsGone, IsTold, Leaves, Printed, Says,
 };
 use crate::tests::desk::{
-    Desk, OK, POWER_OFF, POWER_ON, Place, SLOT_1, Step, TAKE_3, VERSION, play_all, play_cuts,
+    Desk, OK, POWER_OFF, POWER_ON, Place, SLOT_1, Step, TAKE_3, VERSION, play_cuts,
 };
 use std::test::Fail;
 
@@ -24,34 +24,37 @@ const JOINED: &'static str =
 const GREETING: &'static str = "VERSION lbserver station";
 
 /// Requests, and how their replies begin.
-const REPLIES: [(&'static str, &'static str); 9] = [
-    ("GET / HTTP/1.1\r\nHost: 127.0.0.1:8080\r\n\r\n", PAGE_REPLY),
-    ("GET / HTTP/1.0\r\n\r\n", PAGE_REPLY),
+const REPLIES: [(&'static [u8], &'static [&'static str]); 9] = [
     (
-        "GET /index.html HTTP/1.1\r\n\r\n",
-        "HTTP/1.1 404 Not Found\r\n",
+        b"GET / HTTP/1.1\r\nHost: 127.0.0.1:8080\r\n\r\n",
+        &[PAGE_REPLY],
+    ),
+    (b"GET / HTTP/1.0\r\n\r\n", &[PAGE_REPLY]),
+    (
+        b"GET /index.html HTTP/1.1\r\n\r\n",
+        &["HTTP/1.1 404 Not Found\r\n"],
     ),
     (
-        "GET /pages/throttle.html HTTP/1.1\r\n\r\n",
-        "HTTP/1.1 404 Not Found\r\n",
+        b"GET /pages/throttle.html HTTP/1.1\r\n\r\n",
+        &["HTTP/1.1 404 Not Found\r\n"],
     ),
     (
-        "POST / HTTP/1.1\r\nContent-Length: 2\r\n\r\n{}",
-        "HTTP/1.1 405 Method Not Allowed\r\n",
+        b"POST / HTTP/1.1\r\nContent-Length: 2\r\n\r\n{}",
+        &["HTTP/1.1 405 Method Not Allowed\r\n"],
     ),
     (
-        "GET /bus HTTP/1.1\r\nHost: 127.0.0.1:8080\r\n\r\n",
-        "HTTP/1.1 403 Forbidden\r\n",
+        b"GET /bus HTTP/1.1\r\nHost: 127.0.0.1:8080\r\n\r\n",
+        &["HTTP/1.1 403 Forbidden\r\n"],
     ),
     (
-        "GET /bus HTTP/1.1\r\nHost: 127.0.0.1:8080\r\nOrigin: http://example.com\r\nUpgrade: websocket\r\nConnection: Upgrade\r\nSec-WebSocket-Key: dGhlIHNhbXBsZSBub25jZQ==\r\nSec-WebSocket-Version: 13\r\n\r\n",
-        "HTTP/1.1 403 Forbidden\r\n",
+        b"GET /bus HTTP/1.1\r\nHost: 127.0.0.1:8080\r\nOrigin: http://example.com\r\nUpgrade: websocket\r\nConnection: Upgrade\r\nSec-WebSocket-Key: dGhlIHNhbXBsZSBub25jZQ==\r\nSec-WebSocket-Version: 13\r\n\r\n",
+        &["HTTP/1.1 403 Forbidden\r\n"],
     ),
     (
-        "GET /bus HTTP/1.1\r\nHost: 127.0.0.1:8080\r\nOrigin: http://127.0.0.1:8080\r\n\r\n",
-        "HTTP/1.1 400 Bad Request\r\n",
+        b"GET /bus HTTP/1.1\r\nHost: 127.0.0.1:8080\r\nOrigin: http://127.0.0.1:8080\r\n\r\n",
+        &["HTTP/1.1 400 Bad Request\r\n"],
     ),
-    ("SEND 83 7C\r\n", "HTTP/1.1 400 Bad Request\r\n"),
+    (b"SEND 83 7C\r\n", &["HTTP/1.1 400 Bad Request\r\n"]),
 ];
 
 #[test]
@@ -61,10 +64,7 @@ fn requests_are_replied(rt: HostRuntime) -> Result<(), Fail> {
 
 fn ask_all<R: Place>(rt: &R, desk: &mut Desk<'_>) -> Result<(), Fail> {
     for (request, reply) in REPLIES {
-        desk.play(
-            rt,
-            &[Browses(0), Says(0, request.as_bytes()), Hears(0, &[reply])],
-        )?;
+        desk.play(rt, &[Browses(0), Says(0, request), Hears(0, reply)])?;
     }
     // A page that is read is no client, and nobody who was refused is one.
     desk.play(rt, &[Printed("")])
@@ -82,7 +82,7 @@ fn a_request_in_every_cut(rt: HostRuntime) -> Result<(), Fail> {
 }
 
 /// The page ends where its connection does.
-const WHOLE_PAGE: &'static [Step<'static>] = &[
+const WHOLE_PAGE: &'static [Step] = &[
     Browses(0),
     Says(0, b"GET / HTTP/1.1\r\n\r\n"),
     Hears(0, &[PAGE_REPLY]),
@@ -90,7 +90,7 @@ const WHOLE_PAGE: &'static [Step<'static>] = &[
 ];
 
 /// A head that is not whole after five seconds is refused, and one that is too long is at once.
-const SLOW_AND_LONG_HEADS: &'static [Step<'static>] = &[
+const SLOW_AND_LONG_HEADS: &'static [Step] = &[
     Browses(0),
     Says(0, b"GET / HTTP/1.1\r\n"),
     At(4_999_999, 1),
@@ -107,7 +107,7 @@ const SLOW_AND_LONG_HEADS: &'static [Step<'static>] = &[
 ];
 
 /// A page takes a locomotive and hears what others say, and nothing from before it joined.
-const A_CLIENT: &'static [Step<'static>] = &[
+const A_CLIENT: &'static [Step] = &[
     Connects(0),
     Says(0, b"SEND 82 7D\n"),
     Browses(1),
@@ -129,7 +129,7 @@ const A_CLIENT: &'static [Step<'static>] = &[
 ];
 
 /// A page that goes without a word leaves its place, and costs itself alone.
-const GOES_WITHOUT_A_WORD: &'static [Step<'static>] = &[
+const GOES_WITHOUT_A_WORD: &'static [Step] = &[
     Browses(0),
     Says(0, JOINS),
     Hears(0, &[JOINED]),
@@ -143,7 +143,7 @@ const GOES_WITHOUT_A_WORD: &'static [Step<'static>] = &[
 ];
 
 /// What happens where each message has a turn behind it.
-const SCENES: [(&'static [Step<'static>], u8); 4] = [
+const SCENES: [(&'static [Step], u8); 4] = [
     (WHOLE_PAGE, 1),
     (SLOW_AND_LONG_HEADS, 1),
     (A_CLIENT, 1),
@@ -152,7 +152,10 @@ const SCENES: [(&'static [Step<'static>], u8); 4] = [
 
 #[test]
 fn browsers(rt: HostRuntime) -> Result<(), Fail> {
-    play_all(&rt, &SCENES)
+    for (steps, turns) in SCENES {
+        Desk::new(&rt, turns, None)?.play(&rt, steps)?;
+    }
+    Ok(())
 }
 
 /// Sixteen connections are heard at once. A seventeenth waits until they have had their five seconds, and the second in which
@@ -197,7 +200,7 @@ fn join_nine_times<R: Place>(rt: &R, desk: &mut Desk<'_>) -> Result<(), Fail> {
 }
 
 /// A page is told each decoder when it joins, and then the one that has changed.
-const DECODERS: &'static [Step<'static>] = &[
+const DECODERS: &'static [Step] = &[
     Browses(0),
     Says(0, JOINS),
     Hears(0, &[JOINED]),

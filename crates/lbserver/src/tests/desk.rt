@@ -39,17 +39,17 @@ const MOST: usize = 17;
 
 /// What happens at a desk. A connection is told by its number, below 17.
 #[derive(Clone, Copy, Debug)]
-pub(crate) enum Step<'a> {
+pub(crate) enum Step {
     /// A program connects.
     Connects(usize),
     /// A browser connects.
     Browses(usize),
     /// It writes these bytes, and is heard.
-    Says(usize, &'a [u8]),
+    Says(usize, &'static [u8]),
     /// It is told just these texts next.
-    Hears(usize, &'a [&'a str]),
+    Hears(usize, &'static [&'static str]),
     /// It is told just these messages next: frames of text, not masked (RFC 6455, section 5.2).
-    IsTold(usize, &'a [&'a str]),
+    IsTold(usize, &'static [&'static str]),
     /// It is told nothing more: what it reads next is the end.
     HearsTheEnd(usize),
     /// It ends the connection both ways.
@@ -59,7 +59,7 @@ pub(crate) enum Step<'a> {
     /// So many microseconds after the start, so many rounds.
     At(u64, u32),
     /// This was printed so far.
-    Printed(&'a str),
+    Printed(&'static str),
 }
 
 /// Those who are connected, by their numbers.
@@ -136,22 +136,14 @@ impl<'a> Desk<'a> {
     }
 
     /// What happens here, one after another.
-    pub(crate) fn play<R: Place>(
-        &mut self,
-        rt: &R,
-        steps: &[Step<'_>],
-    ) -> Result<(), Fail> {
+    pub(crate) fn play<R: Place>(&mut self, rt: &R, steps: &[Step]) -> Result<(), Fail> {
         for step in steps {
             self.step(rt, step)?;
         }
         Ok(())
     }
 
-    fn step<R: Place>(
-        &mut self,
-        rt: &R,
-        step: &Step<'_>,
-    ) -> Result<(), Fail> {
+    fn step<R: Place>(&mut self, rt: &R, step: &Step) -> Result<(), Fail> {
         match step {
             Step::Connects(who) => {
                 let address = self.clients.sockets.address()?;
@@ -185,12 +177,7 @@ impl<'a> Desk<'a> {
     }
 
     /// Somebody connects, and is let in.
-    fn connect<R: Place>(
-        &mut self,
-        rt: &R,
-        who: usize,
-        address: SocketAddr,
-    ) -> Result<(), Fail> {
+    fn connect<R: Place>(&mut self, rt: &R, who: usize, address: SocketAddr) -> Result<(), Fail> {
         let stream = TcpStream::connect(rt, address)?;
         stream.set_nodelay(true)?;
         self.streams.put(who, Some(stream));
@@ -218,21 +205,13 @@ impl<'a> Desk<'a> {
     }
 }
 
-/// Plays each scene at a desk of its own, with so many turns behind each message.
-pub(crate) fn play_all<R: Place>(rt: &R, scenes: &[(&[Step<'_>], u8)]) -> Result<(), Fail> {
-    for (steps, turns) in scenes {
-        Desk::new(rt, *turns, None)?.play(rt, steps)?;
-    }
-    Ok(())
-}
-
 /// Connection 0 writes a text in two pieces, cut at each place in turn, and the same happens before it and behind it.
 pub(crate) fn play_cuts<R: Place>(
     rt: &R,
     desk: &mut Desk<'_>,
-    before: &[Step<'_>],
-    text: &[u8],
-    behind: &[Step<'_>],
+    before: &[Step],
+    text: &'static [u8],
+    behind: &[Step],
 ) -> Result<(), Fail> {
     for cut in 0..=text.len() {
         desk.play(rt, before)?;
@@ -258,11 +237,7 @@ fn loopback() -> SocketAddr {
 }
 
 /// What one who is connected hears, or does to its stream alone.
-fn hear<R: Place>(
-    rt: &R,
-    stream: &mut TcpStream,
-    step: &Step<'_>,
-) -> Result<(), Fail> {
+fn hear<R: Place>(rt: &R, stream: &mut TcpStream, step: &Step) -> Result<(), Fail> {
     match step {
         Step::Hears(_, texts) => {
             for text in *texts {
@@ -290,11 +265,7 @@ fn hears<R: Place>(rt: &R, stream: &mut TcpStream, text: &str) -> Result<(), Fai
 }
 
 /// A page is told just this message next.
-fn is_told<R: Place>(
-    rt: &R,
-    page: &mut TcpStream,
-    message: &str,
-) -> Result<(), Fail> {
+fn is_told<R: Place>(rt: &R, page: &mut TcpStream, message: &str) -> Result<(), Fail> {
     let mut head = [0; 2];
     page.read_exact(&mut head)?;
     assert!(rt;

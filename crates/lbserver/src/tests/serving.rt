@@ -2,7 +2,7 @@
 
 use crate::tests::desk::Step::{At, Connects, Hears, HearsTheEnd, IsGone, Leaves, Printed, Says};
 use crate::tests::desk::{
-    Desk, OK, POWER_OFF, POWER_ON, Place, SLOT_1, Step, TAKE_3, VERSION, play_all, play_cuts,
+    Desk, OK, POWER_OFF, POWER_ON, Place, SLOT_1, Step, TAKE_3, VERSION, play_cuts,
 };
 use std::io::Write;
 use std::test::Fail;
@@ -10,7 +10,7 @@ use std::test::Fail;
 const NO_MESSAGE: &'static str = "SENT ERROR no whole message\r\n";
 
 /// Two clients speak in each other's lines.
-const INTERLEAVED: &'static [Step<'static>] = &[
+const INTERLEAVED: &'static [Step] = &[
     Connects(0),
     Connects(1),
     Says(0, b"SEND BF 0"),
@@ -32,7 +32,7 @@ const INTERLEAVED: &'static [Step<'static>] = &[
 ];
 
 /// A line goes with its client, and another takes its place.
-const GOES_IN_MID_LINE: &'static [Step<'static>] = &[
+const GOES_IN_MID_LINE: &'static [Step] = &[
     Connects(0),
     Connects(1),
     Says(1, b"SEND 83"),
@@ -47,7 +47,7 @@ const GOES_IN_MID_LINE: &'static [Step<'static>] = &[
 ];
 
 /// A ninth is turned away.
-const NINTH: &'static [Step<'static>] = &[
+const NINTH: &'static [Step] = &[
     Connects(0),
     Connects(1),
     Connects(2),
@@ -62,7 +62,7 @@ const NINTH: &'static [Step<'static>] = &[
 ];
 
 /// A client that is gone while it still has text to read is reset, and costs itself alone.
-const RESET: &'static [Step<'static>] = &[
+const RESET: &'static [Step] = &[
     Connects(0),
     Connects(1),
     Says(1, b"SEND 83 7C\n"),
@@ -72,7 +72,7 @@ const RESET: &'static [Step<'static>] = &[
 ];
 
 /// Behind each message come its turns, three here, and none else.
-const TURNS: &'static [Step<'static>] = &[
+const TURNS: &'static [Step] = &[
     Connects(0),
     Says(0, b"SEND 85 7A\nSEND 83 7C\nSEND 85 7A\n"),
     At(0, 20),
@@ -82,7 +82,7 @@ const TURNS: &'static [Step<'static>] = &[
 ];
 
 /// What happens, and the turns behind each message.
-const SCENES: [(&'static [Step<'static>], u8); 5] = [
+const SCENES: [(&'static [Step], u8); 5] = [
     (INTERLEAVED, 0),
     (GOES_IN_MID_LINE, 0),
     (NINTH, 0),
@@ -92,7 +92,10 @@ const SCENES: [(&'static [Step<'static>], u8); 5] = [
 
 #[test]
 fn programs(rt: HostRuntime) -> Result<(), Fail> {
-    play_all(&rt, &SCENES)
+    for (steps, turns) in SCENES {
+        Desk::new(&rt, turns, None)?.play(&rt, steps)?;
+    }
+    Ok(())
 }
 
 /// Eight clients say half a line each, and then the other half, in the other order.
@@ -117,7 +120,7 @@ fn hear_all<R: Place>(rt: &R, desk: &mut Desk<'_>) -> Result<(), Fail> {
     for client in 0..8usize {
         desk.play(rt, &[Hears(client, &[VERSION])])?;
         for said in 0..8usize {
-            let texts: &[&str] = if said + client == 7 {
+            let texts: &'static [&'static str] = if said + client == 7 {
                 &[POWER_OFF, OK]
             } else {
                 &[POWER_OFF]
