@@ -56,7 +56,7 @@ fn leaves_power(rt: &impl Abort, alloc: Global, bytes: &[u8], power: Power) -> R
 #[test]
 fn the_longest_message(rt: HostRuntime) -> Result<(), Fail> {
     let all = longest([0x7F, 0x00]);
-    let bytes = &all[..127];
+    let bytes = all.get(..127).ok_or("127 bytes")?;
     let message = message_at_end(bytes).ok_or("a message")?;
     assert!(rt; message.bytes() == bytes);
     assert!(rt; read(&message) == Op::Other);
