@@ -1,4 +1,5 @@
 pub mod Boards
 pub mod Decoders
 pub mod Lines
+pub mod Listening
 pub mod Printers

@@ -8,7 +8,7 @@ use crate::printer::MOST_NODES;
 use layout_core::{Standing, World};
 
 /// What one who watches a layout was told last of each of its decoders, in the order of their roster.
-#[derive(Drop)]
+#[derive(Clone, Copy)]
 pub struct Board {
     pub(crate) told: [Option<Standing>; MOST_NODES],
     ghost places: { length told ≡ 64 },

@@ -2,7 +2,9 @@
 #![tactic(auto)]
 
 mod board;
+mod listening;
 mod printer;
 
 pub use board::Board;
+pub use listening::print_listening;
 pub use printer::Printer;

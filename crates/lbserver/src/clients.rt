@@ -9,7 +9,7 @@ use layout_core::World;
 use mio::Poll;
 use mio::net::TcpListener;
 use show_text::Line;
-use sockets::{Came, Guest, Sockets, page_reply};
+use sockets::{Came, Guest, Sockets};
 use std::alloc::AllocGlobal;
 use std::io;
 use std::io::Write;
@@ -31,16 +31,7 @@ impl Clients {
         let listener = TcpListener::bind(rt, address)?;
         Ok(Clients {
             sockets: Sockets::new(rt.alloc(), poll, listener)?,
-            boards: [
-                Board::new(),
-                Board::new(),
-                Board::new(),
-                Board::new(),
-                Board::new(),
-                Board::new(),
-                Board::new(),
-                Board::new(),
-            ],
+            boards: [Board::new(); PLACES],
         })
     }
 
@@ -51,9 +42,8 @@ impl Clients {
         address: SocketAddr,
         page: &[u8],
     ) -> io::Result<()> {
-        let reply = page_reply(rt.alloc(), page)?;
         let listener = TcpListener::bind(rt, address)?;
-        self.sockets.open_doors(rt.alloc(), listener, reply)
+        self.sockets.open_doors(rt.alloc(), listener, page)
     }
 
     /// Tells each page the decoders that it was not told as they stand.

@@ -4,7 +4,7 @@ ghost use Rattle.bus_lines.specs.Decoders.{entries_of, specs_of};
 ghost use Rattle.hub.specs.Hubs.{Watches};
 
 use crate::clients::Clients;
-use bus_lines::Printer;
+use bus_lines::{Printer, print_listening};
 use command_line::{FileName, ServerOrder, server_order};
 use console::{RunFault, Unwritten, read_roster, read_whole, tell_as};
 use decoder_node::NodeList;
@@ -125,7 +125,7 @@ fn with_printer<O: Write>(
     let Ok(mut lines) = BufWriter::new(rt.alloc(), output) else {
         return Err(RunFault::NoMemory);
     };
-    print_listening(&clients.sockets, &mut lines)?;
+    tell_addresses(&clients.sockets, &mut lines)?;
     let mut printer = Printer::new(lines, roster, order.track, server.world());
     serve(rt, server, clients, &mut printer, order.clients)
 }
@@ -165,24 +165,12 @@ fn read_page(rt: &HostRuntime, file: Option<FileName>) -> Result<Vec<u8>, RunFau
 }
 
 /// Tells the addresses and the ports that are bound, at once.
-fn print_listening<O: Write>(sockets: &Sockets, output: &mut O) -> Result<(), RunFault> {
-    let Ok(address) = sockets.address() else {
+fn tell_addresses<O: Write>(sockets: &Sockets, output: &mut O) -> Result<(), RunFault> {
+    let Ok((bus, page)) = sockets.addresses() else {
         return Err(RunFault::Network);
     };
-    writeln!(output, "listening {address}").map_err(|_| RunFault::Output)?;
-    print_page(sockets, output)?;
+    print_listening(output, bus, page)?;
     output.flush().map_err(|_| RunFault::Output)
-}
-
-/// Tells where the page is, if one is served.
-fn print_page<O: Write>(sockets: &Sockets, output: &mut O) -> Result<(), RunFault> {
-    match sockets.page_address() {
-        Some(Ok(address)) => writeln!(output, "page http://{address}/").map_err(
-            |_| RunFault::Output,
-        ),
-        Some(Err(_)) => Err(RunFault::Network),
-        None => Ok(()),
-    }
 }
 
 /// Serves until so many clients have come and gone, at `most`, or for ever: 2 ^ 64 rounds.
@@ -218,11 +206,7 @@ fn go_round<O: Write>(
     requires { Watches (specs_of (entries_of printer.old.roster)) server.old.hub }
     ensures { Watches (specs_of (entries_of printer.new.roster)) server.new.hub }
 {
-    let now = clock.now(rt)?;
-    if clients.sockets.wait(longest_wait(server), now).is_err() {
-        return Err(RunFault::Network);
-    }
-    clients.sockets.answer(clock.now(rt)?);
+    attend(rt, &mut clients.sockets, clock, longest_wait(server))?;
     server.round(clients, printer)?;
     if server.turns().is_none() {
         let micros = clock.passed(rt)?;
@@ -230,6 +214,21 @@ fn go_round<O: Write>(
     }
     clients.tell_pages(printer, server.world());
     Ok(printer.flush()?)
+}
+
+/// Waits until something may be there, or so long, and goes on with those who ask for a page.
+fn attend(
+    rt: &HostRuntime,
+    sockets: &mut Sockets,
+    clock: &Clock,
+    longest: Option<Duration>,
+) -> Result<(), RunFault> {
+    let now = clock.now(rt)?;
+    if sockets.wait(longest, now).is_err() {
+        return Err(RunFault::Network);
+    }
+    sockets.answer(clock.now(rt)?);
+    Ok(())
 }
 
 /// How long a round may wait: not where somebody may have more to say, in real time until the turn under way ends, and
@@ -249,7 +248,7 @@ fn pass<O: Write>(
     server: &mut Server,
     printer: &mut Printer<'_, O>,
     micros: u64,
-) -> Result<(), RunFault>
+) -> Result<(), Unwritten>
     requires { Watches (specs_of (entries_of printer.old.roster)) server.old.hub }
     ensures { Watches (specs_of (entries_of printer.new.roster)) server.new.hub }
 {
@@ -257,7 +256,7 @@ fn pass<O: Write>(
     if slept > 0 {
         printer.print_slept(slept / 1000)?;
     }
-    Ok(server.pass(micros.min(MOST_MICROS) as u32, printer)?)
+    server.pass(micros.min(MOST_MICROS) as u32, printer)
 }
 
 /// A clock that tells the whole microseconds that went by, so that none is lost where time is cut.

@@ -4,7 +4,7 @@ ghost use Rattle.sockets.specs.declared.places.Came.TheVariants.{Gone};
 ghost use Rattle.sockets.specs.Streams.{IsSome};
 
 use crate::client::{Client, Guest};
-use crate::doors::{DOORS, Doors};
+use crate::doors::{DOORS, Doors, page_reply};
 use crate::visitor::is_only_late;
 use mio::net::{TcpListener, TcpStream};
 use mio::{Events, Interest, Poll, Registry, Token};
@@ -61,33 +61,35 @@ impl Sockets {
         })
     }
 
-    /// Lets browsers in that come to this listener. `page`: what the page is replied, whole.
+    /// Serves a page to browsers that come to this listener, and lets them in. It takes all its memory at once.
     ///
     /// # Errors
     ///
-    /// Where the listener cannot be registered.
+    /// Want of memory, and where the listener cannot be registered.
     pub fn open_doors(
         &mut self,
         alloc: Global,
         listener: TcpListener,
-        page: Vec<u8>,
+        page: &[u8],
     ) -> io::Result<()> {
+        let reply = page_reply(alloc, page)?;
         let mut listener = listener;
         note_comers(&mut listener, self.poll.registry(), PLACES + 1)?;
-        self.doors = Some(Doors::new(alloc, listener, page));
+        self.doors = Some(Doors::new(alloc, listener, reply));
         Ok(())
     }
 
-    /// The address and the port where programs come.
-    pub fn address(&self) -> io::Result<SocketAddr> {
-        self.listener.local_addr()
-    }
-
-    /// The address and the port of the page, where one is served.
-    pub fn page_address(&self) -> Option<io::Result<SocketAddr>> {
-        self.doors
-            .as_ref()
-            .map(|doors| doors.listener().local_addr())
+    /// The address and the port where programs come, and those of the page, where one is served.
+    ///
+    /// # Errors
+    ///
+    /// Where the system does not tell them.
+    pub fn addresses(&self) -> io::Result<(SocketAddr, Option<SocketAddr>)> {
+        let page = match &self.doors {
+            Some(doors) => Some(doors.listener().local_addr()?),
+            None => None,
+        };
+        Ok((self.listener.local_addr()?, page))
     }
 
     /// Waits until something may be there, or so long. `now`: microseconds since the start.

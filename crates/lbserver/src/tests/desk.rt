@@ -146,11 +146,12 @@ impl<'a> Desk<'a> {
     fn step<R: Place>(&mut self, rt: &R, step: &Step) -> Result<(), Fail> {
         match step {
             Step::Connects(who) => {
-                let address = self.clients.sockets.address()?;
+                let (address, _) = self.clients.sockets.addresses()?;
                 self.connect(rt, *who, address)
             }
             Step::Browses(who) => {
-                let address = self.clients.sockets.page_address().ok_or("no page")??;
+                let (_, page) = self.clients.sockets.addresses()?;
+                let address = page.ok_or("no page")?;
                 self.connect(rt, *who, address)
             }
             Step::At(now, rounds) => {
