@@ -115,7 +115,7 @@ impl Doors {
 /// # Errors
 ///
 /// Want of memory.
-pub(crate) fn page_reply(alloc: Global, page: &[u8]) -> Result<Vec<u8>, AllocError>
+pub fn page_reply(alloc: Global, page: &[u8]) -> Result<Vec<u8>, AllocError>
     ensures { length page.now < 2 ^ 32 → IfOk result (λ reply. reply.items ≡ page_head_text (length page.now) ++ page.now) }
 {
     let mut head = Head::new();

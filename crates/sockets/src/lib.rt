@@ -10,5 +10,6 @@ mod places;
 mod visitor;
 
 pub use client::Guest;
+pub use doors::page_reply;
 pub use places::{Came, Sockets};
 pub use visitor::{Next, Stream, Visitor, is_only_late};
