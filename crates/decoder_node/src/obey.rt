@@ -1,5 +1,5 @@
 //! What a packet does to a locomotive decoder.
-ghost use Rattle.std.specs.Prelude.{◌≡◌, ◌<◌, ◌/◌, ◌%◌};
+ghost use Rattle.std.specs.Prelude.{◌≡◌, ◌<◌, ◌/◌, ◌%◌, true};
 ghost use Rattle.dcc_packet.specs.SpeedNumbers.{motion_of_number};
 ghost use Rattle.decoder_node.specs.Bits.{with_bits};
 ghost use Rattle.decoder_node.specs.Concerned.{concerns};
@@ -43,9 +43,10 @@ fn concerns(cv: &CvSet, instr: &Instr) -> bool
     }
 }
 
-/// How it runs after an instruction.
+/// How it runs after an instruction that is for it.
 #[inline(never)]
 fn after_instr(cv: &CvSet, running: Running, instr: Instr) -> Running
+    requires { concerns cv.now instr ≡ true }
     ensures { result ≡ obeyed cv.now running instr }
 {
     match instr {
@@ -58,27 +59,27 @@ fn after_instr(cv: &CvSet, running: Running, instr: Instr) -> Running
             },
             ..running
         },
-        Instr::Speed { address, d, low } if is_own(cv, address) => drive(cv, running, d, low),
-        Instr::Speed128 { address, d, s } if is_own(cv, address) => Running {
+        Instr::Speed { d, low, .. } => drive(cv, running, d, low),
+        Instr::Speed128 { d, s, .. } => Running {
             motion: motion_of_number(Steps::S128, s),
             forward: own_forward(cv, d),
             ..running
         },
-        Instr::GroupOne { address, bits } if is_own(cv, address) => Running {
+        Instr::GroupOne { bits, .. } => Running {
             functions: light(cv, running.functions, bits),
             ..running
         },
-        Instr::GroupTwo { address, bits } if is_own(cv, address) => Running {
+        Instr::GroupTwo { bits, .. } => Running {
             functions: running.functions / 512 * 512
                 + 32 * u16::from(bits % 16)
                 + running.functions % 32,
             ..running
         },
-        Instr::GroupThree { address, bits } if is_own(cv, address) => Running {
+        Instr::GroupThree { bits, .. } => Running {
             functions: 512 * u16::from(bits % 16) + running.functions % 512,
             ..running
         },
-        _ => running,
+        Instr::Idle | Instr::Accessory { .. } => running,
     }
 }
 

@@ -121,7 +121,7 @@ impl JobQueue {
 
     // The first job.
     #[inline]
-    pub(crate) fn first(&self) -> Option<Job>
+    fn first(&self) -> Option<Job>
         ensures first { result ≡ first_of self.now }
         ensures legal { IfSome result IsJob }
         ensures queue { IsQueue self.now }
@@ -129,17 +129,20 @@ impl JobQueue {
         self.jobs.front().copied()
     }
 
-    // Drops the jobs at the head whose slot is not refreshed.
-    pub(crate) fn drop_stale<R: Ring>(&mut self, ring: &R)
+    // The first job that is live. Those ahead of it, whose slot is not refreshed, are dropped.
+    pub(crate) fn first_live<R: Ring>(&mut self, ring: &R) -> Option<Job>
+        ensures first { result ≡ first_of self.new }
+        ensures legal { IfSome result IsJob }
         ensures jobs { self.new ≡ live_jobs (R.slots ring.now) self.old }
         ensures queue { IsQueue self.new }
     {
         while let Some(job) = self.first() {
             if is_live(job, ring) {
-                return;
+                return Some(job);
             }
             self.drop_first();
         }
+        None
     }
 
     // The first job leaves.

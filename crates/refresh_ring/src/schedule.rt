@@ -1,20 +1,20 @@
 //! The schedule of a command station: what waits, where the ring stands, and what is sent next.
-ghost use Rattle.std.specs.Prelude.{◌≡◌, ◌≤◌, ◌<◌, ◌-◌, Some, IfOk, IfSome, if◌then◌else◌};
+ghost use Rattle.std.specs.Prelude.{◌≡◌, ◌≤◌, ◌<◌, ◌-◌, None, Some, IfOk, IfSome, if◌then◌else◌, not};
 ghost use Rattle.dcc_packet.specs.Sent.{last_switch};
 ghost use Rattle.refresh_ring.specs.Places.{IsSlot, IsPlace, next_place};
-ghost use Rattle.refresh_ring.specs.Jobs.{requests_in, sends_ahead, first_of};
+ghost use Rattle.refresh_ring.specs.Jobs.{IsJob, requests_in, sends_ahead, first_of};
 ghost use Rattle.refresh_ring.specs.Scheduled.{IsScheduled, first_schedule, after_refresh, after_changed, after_switch, switch_answer};
-ghost use Rattle.refresh_ring.specs.Picked.{IsCandidate, picked, turned, sent, idle};
+ghost use Rattle.refresh_ring.specs.Picked.{IsCandidate, candidate, picked, turned, sent, idle, is_last};
 ghost use Rattle.refresh_ring.specs.Sent.{IsDue, IsLegalPick};
 
 use crate::fault::{Full, NoMemory};
-use crate::job::Destination;
+use crate::job::{Destination, Job};
 use crate::kind::Kind;
 use crate::pick::{Pick, Power};
 use crate::place::{kind_of, slot_of};
 use crate::queue::{JobQueue, MOST_REQUESTS};
 use crate::ring::Ring;
-use crate::turn::{Candidate, choose, destination_of, is_last, pick_of};
+use crate::turn::{Candidate, destination_of, is_last, pick_of};
 use crate::view::View;
 use std::alloc::Global;
 use std::marker::Model;
@@ -136,17 +136,29 @@ impl<R: Ring> Schedule<R> {
         ensures range { IsLegalPick result }
         ensures legal { IsScheduled self.new }
     {
-        self.queue.drop_stale(&self.ring);
-        let job = self.queue.first();
-        // A job that is preferred and waits goes first, so nobody has to ask the ring.
-        let place = if job.is_some() && self.prefers_jobs {
-            None
-        } else {
-            self.next_place()
-        };
-        match choose(self.prefers_jobs, job, place) {
+        let job = self.queue.first_live(&self.ring);
+        match self.candidate(job) {
             Some(candidate) => self.offer(view, candidate),
             None => self.stay_idle(),
+        }
+    }
+
+    // The preferred one of the first job and the ring's next place, or else the other.
+    #[inline]
+    fn candidate(&self, job: Option<Job>) -> Option<Candidate>
+        requires { IfSome job IsJob }
+        ensures chosen { result ≡ candidate self.now.prefers_jobs job (next_place self.now.slots self.now.cursor) }
+        ensures legal { IfSome result IsCandidate }
+    {
+        let place = match job {
+            // A job that is preferred goes first, so nobody has to ask the ring.
+            Some(job) if self.prefers_jobs => return Some(Candidate::FromJobs { job }),
+            _ => self.next_place(),
+        };
+        match (place, job) {
+            (Some(place), _) => Some(Candidate::FromRing { place }),
+            (None, Some(job)) => Some(Candidate::FromJobs { job }),
+            (None, None) => None,
         }
     }
 
@@ -166,31 +178,46 @@ impl<R: Ring> Schedule<R> {
         ensures range { IsLegalPick result }
         ensures legal { IsScheduled self.new }
     {
-        let there = match candidate {
-            Candidate::FromJobs { job } => destination_of(view, job),
-            Candidate::FromRing { place } => Destination::Loco {
-                address: view.address(slot_of(place)),
-            },
-        };
-        if is_last(self.last, there) {
-            return self.stay_idle();
-        }
-        self.last = Some(there);
         match candidate {
             Candidate::FromJobs { job } => {
+                if !self.note_destination(destination_of(view, job)) {
+                    return Pick::Idle;
+                }
                 self.queue.note_sent();
                 self.prefers_jobs = false;
                 pick_of(job)
             }
             Candidate::FromRing { place } => {
+                let slot = slot_of(place);
+                let there = Destination::Loco {
+                    address: view.address(slot),
+                };
+                if !self.note_destination(there) {
+                    return Pick::Idle;
+                }
                 self.cursor = place;
                 self.prefers_jobs = true;
                 Pick::Place {
-                    slot: slot_of(place),
+                    slot,
                     kind: kind_of(place),
                 }
             }
         }
+    }
+
+    // Notes where a packet goes, and whether it may: where the last one went there too, none goes, and none is noted.
+    #[inline]
+    fn note_destination(&mut self, there: Destination) -> bool
+        ensures may { result ≡ not (is_last self.old.last there) }
+        ensures state { self.new ≡ record self.old { last = if is_last self.old.last there then None else Some there } }
+        ensures legal { IsScheduled self.new }
+    {
+        if is_last(self.last, there) {
+            self.last = None;
+            return false;
+        }
+        self.last = Some(there);
+        true
     }
 
     // Sends the idle packet.

@@ -1,9 +1,8 @@
 //! What a turn chooses from, and where it goes.
-ghost use Rattle.std.specs.Prelude.{◌≡◌, IfSome};
-ghost use Rattle.refresh_ring.specs.Places.{IsPlace};
+ghost use Rattle.std.specs.Prelude.{◌≡◌};
 ghost use Rattle.refresh_ring.specs.Jobs.{IsJob};
 ghost use Rattle.refresh_ring.specs.Sent.{IsLegalPick};
-ghost use Rattle.refresh_ring.specs.Picked.{IsCandidate, candidate, destination_of, pick_of, is_last};
+ghost use Rattle.refresh_ring.specs.Picked.{destination_of, pick_of, is_last};
 
 use crate::job::{Destination, Job};
 use crate::pick::Pick;
@@ -14,28 +13,6 @@ use crate::view::View;
 pub(crate) enum Candidate {
     FromJobs { job: Job },
     FromRing { place: u16 },
-}
-
-// The preferred one, or else the other.
-#[inline]
-pub(crate) fn choose(prefers_jobs: bool, job: Option<Job>, place: Option<u16>) -> Option<Candidate>
-    requires job { IfSome job IsJob }
-    requires place { IfSome place IsPlace }
-    ensures chosen { result ≡ candidate prefers_jobs job place }
-    ensures legal { IfSome result IsCandidate }
-{
-    match (job, place) {
-        (Some(job), Some(place)) => {
-            if prefers_jobs {
-                Some(Candidate::FromJobs { job })
-            } else {
-                Some(Candidate::FromRing { place })
-            }
-        }
-        (Some(job), None) => Some(Candidate::FromJobs { job }),
-        (None, Some(place)) => Some(Candidate::FromRing { place }),
-        (None, None) => None,
-    }
 }
 
 // Where a job's packet goes.

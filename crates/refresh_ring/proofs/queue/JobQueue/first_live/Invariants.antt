@@ -1,6 +1,6 @@
 use Rattle.std.proofs.Common.{◌≡◌, length}
 use Rattle.refresh_ring.specs.Jobs.{live_jobs}
-use Rattle.refresh_ring.proofs.queue.JobQueue.drop_stale.Given as goal
+use Rattle.refresh_ring.proofs.queue.JobQueue.first_live.Given as goal
 
 -- only stale jobs were dropped
 abbrev pub invariant-loop-job : goal.invariant-loop-job
