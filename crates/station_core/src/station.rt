@@ -179,8 +179,11 @@ impl Station {
         laws::changes_wait();
         left_is_enough();
         let framer = &mut self.framers[line as usize];
-        let message = framer.push(byte)?;
-        self.obey(read(&message))
+        // A message, which has room for 127 bytes, is read where it lies.
+        match &framer.push(byte) {
+            Some(message) => self.obey(read(message)),
+            None => None,
+        }
     }
 
     /// The packet that is sent now. None exactly while the power is off.
