@@ -1,7 +1,7 @@
 -- What a throttle asks of a slot by OPC_LOCO_ADR, OPC_LOCO_SPD, OPC_LOCO_DIRF, OPC_LOCO_SND, OPC_IMM_PACKET, OPC_SLOT_STAT1
 -- and OPC_WR_SL_DATA.
 -- Each refusal is this project's own profile.
-use Rattle.std.specs.Prelude.{ℕ, ◌==◌, ◌&&◌, ◌||◌, ◌%◌, Bool, true, false, not, if◌then◌else◌, Option, Some, None, Result, Ok, Err, is_ok}
+use Rattle.std.specs.Prelude.{ℕ, ◌≡◌, ◌==◌, ◌&&◌, ◌||◌, ◌%◌, Bool, true, false, not, if◌then◌else◌, Option, Some, None, Result, Ok, Err, OnOk, OnErr, is_ok}
 use Rattle.ln_ops.specs.declared.row.State.TheVariants.{Idle}
 use Rattle.ln_ops.specs.Fields.{SlotBytes}
 use Rattle.ln_ops.specs.Slot.{is_held, is_slot, is_address, is_stat, state_of, kind_of, address_of}
@@ -9,10 +9,10 @@ use Rattle.slot_table.specs.declared.fault.SlotFault.{SlotFault}
 use Rattle.slot_table.specs.declared.fault.SlotFault.TheVariants.{NoFree, Illegal, Held}
 use Rattle.slot_table.specs.declared.field.Field.{Field}
 use Rattle.slot_table.specs.declared.field.Field.TheVariants.{Speed, Dirf, Snd, More, Stat}
-use Rattle.slot_table.specs.Entry.{Entry}
-use Rattle.slot_table.specs.Desk.{Desk}
+use Rattle.slot_table.specs.Entry.{Entry, IsSlot}
+use Rattle.slot_table.specs.Desk.{Desk, IsDesk}
 use Rattle.slot_table.specs.Reading.{row_of, slot_of, free_slot, is_placed}
-use Rattle.slot_table.specs.Changes.{entered, cleared, changed}
+use Rattle.slot_table.specs.Changes.{entered, cleared, changed, done_if}
 
 -- ---- OPC_LOCO_ADR: an address is loaded
 
@@ -65,6 +65,14 @@ keeps_slot _ = true
 abbrev pub after_field : Desk → ℕ → Field → Desk
 after_field desk n field =
     if can_field desk n field then (if keeps_slot field then changed desk n (with_field field) else cleared desk n) else desk
+
+-- What a call does that writes one field: it is done or refused, on a slot and as above; a refusal changes nothing.
+pub record WritesField (old : Desk) (n : ℕ) (field : Field) (answered : Result (Unit {0}) SlotFault) (new : Desk) : Type 0 where
+  pub answer : answered ≡ done_if (can_field old n field)
+  pub slot : OnOk answered (IsSlot n)
+  pub after : new ≡ after_field old n field
+  pub refused : OnErr answered (new ≡ old)
+  pub desk : IsDesk new
 
 -- ---- OPC_WR_SL_DATA: a whole slot
 

@@ -3,10 +3,8 @@ ghost use Rattle.std.specs.Prelude.{◌≡◌, ◌<◌, IfOk, OnOk, OnErr};
 ghost use Rattle.slot_table.specs.{address_of};
 ghost use Rattle.slot_table.specs.Entry.{IsSlot, entry_of, row_with};
 ghost use Rattle.slot_table.specs.Desk.{IsDesk};
-ghost use Rattle.slot_table.specs.Reading.{is_placed};
-ghost use Rattle.slot_table.specs.Changes.{done_if};
 ghost use Rattle.slot_table.specs.Values.{IsValue};
-ghost use Rattle.slot_table.specs.Writes.{take_answer, after_take, is_legal_field, keeps_slot, with_field, can_field, after_field, kept_more, entry_from, is_elsewhere, write_answer, after_write};
+ghost use Rattle.slot_table.specs.Writes.{WritesField, take_answer, after_take, is_legal_field, keeps_slot, with_field, kept_more, entry_from, is_elsewhere, write_answer, after_write};
 
 use crate::bytes::{is_address, is_held, is_slot, is_stat, state_of};
 use crate::fault::SlotFault;
@@ -49,11 +47,7 @@ impl SlotTable {
     /// Sets SPD (OPC_LOCO_SPD), below 128. Refused as `Illegal` unless the slot is in 1 to 119 and not free.
     pub fn set_speed(&mut self, n: u8, spd: u8) -> Result<(), SlotFault>
         requires { spd < 128 }
-        ensures answer { result ≡ done_if (is_placed self.old n) }
-        ensures slot { OnOk result (IsSlot n) }
-        ensures after { self.new ≡ after_field self.old n (Field.Speed spd) }
-        ensures refused { OnErr result (self.new ≡ self.old) }
-        ensures desk { IsDesk self.new }
+        ensures { WritesField self.old n (Field.Speed spd) result self.new }
     {
         self.set_field(n, Field::Speed(spd))
     }
@@ -62,11 +56,7 @@ impl SlotTable {
     /// Refused as `Illegal` unless the slot is in 1 to 119 and not free.
     pub fn set_dirf(&mut self, n: u8, dirf: u8) -> Result<(), SlotFault>
         requires { dirf < 128 }
-        ensures answer { result ≡ done_if (is_placed self.old n) }
-        ensures slot { OnOk result (IsSlot n) }
-        ensures after { self.new ≡ after_field self.old n (Field.Dirf dirf) }
-        ensures refused { OnErr result (self.new ≡ self.old) }
-        ensures desk { IsDesk self.new }
+        ensures { WritesField self.old n (Field.Dirf dirf) result self.new }
     {
         self.set_field(n, Field::Dirf(dirf))
     }
@@ -75,11 +65,7 @@ impl SlotTable {
     /// Refused as `Illegal` unless the slot is in 1 to 119 and not free.
     pub fn set_snd(&mut self, n: u8, snd: u8) -> Result<(), SlotFault>
         requires { snd < 128 }
-        ensures answer { result ≡ done_if (is_placed self.old n) }
-        ensures slot { OnOk result (IsSlot n) }
-        ensures after { self.new ≡ after_field self.old n (Field.Snd snd) }
-        ensures refused { OnErr result (self.new ≡ self.old) }
-        ensures desk { IsDesk self.new }
+        ensures { WritesField self.old n (Field.Snd snd) result self.new }
     {
         self.set_field(n, Field::Snd(snd))
     }
@@ -88,27 +74,9 @@ impl SlotTable {
     pub fn set_more(&mut self, n: u8, more: u8) -> Result<(), SlotFault>
         requires slot { IsSlot n }
         requires more { more < 16 }
-        ensures answer { result ≡ done_if (is_placed self.old n) }
-        ensures slot { OnOk result (IsSlot n) }
-        ensures after { self.new ≡ after_field self.old n (Field.More more) }
-        ensures refused { OnErr result (self.new ≡ self.old) }
-        ensures desk { IsDesk self.new }
+        ensures { WritesField self.old n (Field.More more) result self.new }
     {
         self.set_field(n, Field::More(more))
-    }
-
-    /// Sets state and decoder type (OPC_SLOT_STAT1), below 128. The state free clears the slot, and a mark on it.
-    ///
-    /// Refused as `Illegal` unless the slot is in 1 to 119 and not free, and STAT1 is one that a slot may have.
-    pub fn set_stat(&mut self, n: u8, stat: u8) -> Result<(), SlotFault>
-        requires { stat < 128 }
-        ensures answer { result ≡ done_if (can_field self.old n (Field.Stat stat)) }
-        ensures slot { OnOk result (IsSlot n) }
-        ensures after { self.new ≡ after_field self.old n (Field.Stat stat) }
-        ensures refused { OnErr result (self.new ≡ self.old) }
-        ensures desk { IsDesk self.new }
-    {
-        self.set_field(n, Field::Stat(stat))
     }
 
     /// Writes one field of a slot.
@@ -116,11 +84,7 @@ impl SlotTable {
     /// Refused as `Illegal` unless the slot is in 1 to 119 and not free, and a STAT1 is one that a slot may have.
     pub fn set_field(&mut self, n: u8, field: Field) -> Result<(), SlotFault>
         requires { IsValue field }
-        ensures answer { result ≡ done_if (can_field self.old n field) }
-        ensures slot { OnOk result (IsSlot n) }
-        ensures after { self.new ≡ after_field self.old n field }
-        ensures refused { OnErr result (self.new ≡ self.old) }
-        ensures desk { IsDesk self.new }
+        ensures { WritesField self.old n field result self.new }
     {
         let row = self.held(n)?;
         if !is_legal_field(field) {
@@ -132,6 +96,16 @@ impl SlotTable {
             self.clear(n);
         }
         Ok(())
+    }
+
+    /// Sets state and decoder type (OPC_SLOT_STAT1), below 128. The state free clears the slot, and a mark on it.
+    ///
+    /// Refused as `Illegal` unless the slot is in 1 to 119 and not free, and STAT1 is one that a slot may have.
+    pub fn set_stat(&mut self, n: u8, stat: u8) -> Result<(), SlotFault>
+        requires { stat < 128 }
+        ensures { WritesField self.old n (Field.Stat stat) result self.new }
+    {
+        self.set_field(n, Field::Stat(stat))
     }
 
     /// Writes a whole slot (OPC_WR_SL_DATA), TRK ignored. The slot no longer waits to be dispatched, and the state
