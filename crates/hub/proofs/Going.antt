@@ -23,7 +23,7 @@ use Rattle.hub.specs.Rounds.{Keeps}
 use Rattle.hub.specs.Served.{AreTurns, Does, HasPassed, HaveHappened, Serves, Serving, waiting_behind}
 use Rattle.outbox.specs.Waiting.{waits}
 use Rattle.hub.specs.Places.{Places, waiting_after}
-use Rattle.hub.specs.Wire.{Grows, Passed}
+use Rattle.outbox.specs.Wire.{Grows, Passed}
 use Rattle.hub.proofs.Keeping.{keeps_more, keeps_same}
 
 -- The wire.

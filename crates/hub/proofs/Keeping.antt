@@ -7,7 +7,7 @@ use Rattle.std.proofs.lemmas.List.{get_or-set_same, get_or-set_other, length-app
 use Rattle.std.proofs.lemmas.List.Elements.{filter-append}
 use Rattle.std.proofs.lemmas.List.Folds.{list_any-append}
 use Rattle.bus.specs.declared.event.Event.{Event}
-use Rattle.bus.specs.declared.event.Event.TheVariants.{Joins, Hears, Leaves}
+use Rattle.bus.specs.declared.event.Event.TheVariants.{Joins, Leaves}
 use Rattle.bus.specs.declared.event.Told.{Told}
 use Rattle.bus.specs.declared.event.Told.TheVariants.{Joined}
 use Rattle.bus.specs.Bus.{SeenBus}
@@ -17,7 +17,7 @@ use Rattle.hub.specs.Rounds.{HasMorePlaces, IsWrittenTo, Keeps, NothingWaits, is
 use Rattle.hub.specs.Served.{AreTurns, Does, HaveHappened, Serves, Serving, has_place, is_late}
 use Rattle.outbox.specs.Waiting.{has_room, told_one, waits}
 use Rattle.hub.specs.Places.{Places, told_all, told_from}
-use Rattle.hub.specs.Wire.{Brought, Passed, Put, TurnedAway}
+use Rattle.outbox.specs.Wire.{Comes, Goes, Passed, Put, Says, TurnedAway}
 
 -- What was done is done of a longer list.
 
@@ -147,11 +147,11 @@ no_turns : (behind : List Event) → AreTurns 0 behind → behind ≡ []
 no_turns [] are = refl
 no_turns (event ∷ behind) are = absurd are
 
-pub only_leaves : (turns : Option ℕ) (client : ℕ) (old new : Serving) → Does turns (Brought (Leaves client)) old new → HaveHappened (Leaves client ∷ []) old new
+pub only_leaves : (turns : Option ℕ) (client : ℕ) (old new : Serving) → Does turns (Goes client) old new → HaveHappened (Leaves client ∷ []) old new
 only_leaves None client old new does = subst (λ (behind : List Event). HaveHappened (Leaves client ∷ behind) old new) (no_turns does.1 does.2) does.3
 only_leaves (Some turns) client old new does = subst (λ (behind : List Event). HaveHappened (Leaves client ∷ behind) old new) (no_turns does.1 does.2) does.3
 
-pub only_joins : (turns : Option ℕ) (client : ℕ) (old new : Serving) → Does turns (Brought (Joins client)) old new → HaveHappened (Joins client ∷ []) old new
+pub only_joins : (turns : Option ℕ) (client : ℕ) (old new : Serving) → Does turns (Comes client) old new → HaveHappened (Joins client ∷ []) old new
 only_joins None client old new does = subst (λ (behind : List Event). HaveHappened (Joins client ∷ behind) old new) (no_turns does.1 does.2) does.3
 only_joins (Some turns) client old new does = subst (λ (behind : List Event). HaveHappened (Joins client ∷ behind) old new) (no_turns does.1 does.2) does.3
 
@@ -194,15 +194,15 @@ joined_one places client within =
     told_there (Joined client) (slice_set places client (Some [])) client
     ∙ ap₂ told_one text (get_or-set_same places client (Some []) None within)
 
-joins_now : (client : ℕ) → list_any (takes_later client) (Brought (Joins client) ∷ []) ≡ true
+joins_now : (client : ℕ) → list_any (takes_later client) (Comes client ∷ []) ≡ true
 joins_now client = or_left (client == client) false (eq-eqb client client refl)
 
 pub joined_keeps : (client : ℕ) (old new : Serving) → client < length old.places → list_all has_room old.places ≡ true
-    → HaveHappened (Joins client ∷ []) old new → Keeps (Brought (Joins client) ∷ []) old new
+    → HaveHappened (Joins client ∷ []) old new → Keeps (Comes client ∷ []) old new
 joined_keeps client old new within room happened =
-    keeps_where (Brought (Joins client) ∷ []) old new
+    keeps_where (Comes client ∷ []) old new
     (λ other none. elim (cases_eq other client) [
-      | inl same ↦ inl (subst (λ (i : ℕ). list_any (takes_later i) (Brought (Joins client) ∷ []) ≡ true) (sym same) (joins_now client))
+      | inl same ↦ inl (subst (λ (i : ℕ). list_any (takes_later i) (Comes client ∷ []) ≡ true) (sym same) (joins_now client))
       | inr differs ↦ inr (ap (λ (places : Places). waits (slice_index_or places other None)) happened.places ∙ ap waits (joined_other old.places client other room differs) ∙ none)
     ])
     (λ other late. elim (cases_eq other client) [
@@ -234,9 +234,9 @@ joined_places client old new within happened =
 pub heard_now : (client : ℕ) → ((client == client) || false) ≡ true
 heard_now client = or_left (client == client) false (eq-eqb client client refl)
 
-pub heard_some : (client : ℕ) (bytes : List ℕ) → 0 < length bytes → list_any (is_heard client) (map (λ byte. Brought (Hears client byte)) bytes) ≡ true
+pub heard_some : (client : ℕ) (bytes : List ℕ) → 0 < length bytes → list_any (is_heard client) (map (λ byte. Says client byte) bytes) ≡ true
 heard_some client [] some = absurd (omega (arith, some))
-heard_some client (byte ∷ bytes) some = or_left (client == client) (list_any (is_heard client) (map (λ byte. Brought (Hears client byte)) bytes)) (eq-eqb client client refl)
+heard_some client (byte ∷ bytes) some = or_left (client == client) (list_any (is_heard client) (map (λ byte. Says client byte) bytes)) (eq-eqb client client refl)
 
 pub turned_away_all : (turns : Option ℕ) (count : ℕ) (all : Serving) → ((client : ℕ) → client < 8 → has_place all client ≡ true) → Serves turns (replicate count TurnedAway) all all
 turned_away_all turns zero all taken = refl

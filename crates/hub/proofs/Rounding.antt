@@ -7,8 +7,8 @@ use Rattle.hub.specs.declared.hub.Hub.{Hub}
 use Rattle.hub.specs.Hubs.{GoesOnCalmly, WritesTo, serving}
 use Rattle.hub.specs.Rounds.{AllWrittenTo, HasMorePlaces, IsRound, IsWrittenTo, Keeps, LetsIn, TurnsAway, is_heard, is_put}
 use Rattle.hub.specs.Served.{Does, HaveHappened, Serves, Serving, has_place, is_late}
-use Rattle.hub.specs.declared.wire.Wrote.TheVariants.{Later}
-use Rattle.hub.specs.Wire.{Brought, Full, Grows, NobodyWaits, Passed, Put, TurnedAway}
+use Rattle.outbox.specs.declared.wire.Came.TheVariants.{Nothing}
+use Rattle.outbox.specs.Wire.{Full, Goes, Grows, NobodyWaits, Passed, Put, TurnedAway}
 use Rattle.hub.proofs.Going.{Claim, Moment, calm_then, same_on_wire, serves_more}
 use Rattle.hub.proofs.Keeping.{any_before, any_behind, count-append, heard_now, left_keeps, left_waits, only_leaves, put_keeps, put_more, turned_away_all, written_behind}
 
@@ -47,20 +47,20 @@ wrote_one turns client bytes a b old new grows does =
       (put_keeps turns client bytes (Put client bytes ∷ []) (serving old) (serving new) does, put_more client bytes [] 0 none),
     )
 
-pub wrote_later : (turns : Option ℕ) (client : ℕ) (a b : Option (List Passed)) (old new : Hub) → WritesTo client Later a b (serving old) (serving new) → GoesOnCalmly (IsWrittenTo client) turns a b old new
+pub wrote_later : (turns : Option ℕ) (client : ℕ) (a b : Option (List Passed)) (old new : Hub) → WritesTo client Nothing a b (serving old) (serving new) → GoesOnCalmly (IsWrittenTo client) turns a b old new
 wrote_later turns client a b old new wrote = elim wrote.0 [
   | inl nothing ↦ same_on_wire (IsWrittenTo client) turns a b [] old new nothing.0 refl wrote.1 (inl nothing.1)
   | inr full ↦ same_on_wire (IsWrittenTo client) turns a b (Full client ∷ []) old new full (serving old, refl, refl) wrote.1 (inr (inl (heard_now client)))
 ]
 
-pub wrote_to_none : (turns : Option ℕ) (client : ℕ) (a b : Option (List Passed)) (old new : Hub) → Grows a b (Brought (Leaves client) ∷ []) → Does turns (Brought (Leaves client)) (serving old) (serving new)
+pub wrote_to_none : (turns : Option ℕ) (client : ℕ) (a b : Option (List Passed)) (old new : Hub) → Grows a b (Goes client ∷ []) → Does turns (Goes client) (serving old) (serving new)
     → GoesOnCalmly (IsWrittenTo client) turns a b old new
 wrote_to_none turns client a b old new grows does =
     let left : HaveHappened (Leaves client ∷ []) (serving old) (serving new) = only_leaves turns client (serving old) (serving new) does in (
-      Brought (Leaves client) ∷ [],
+      Goes client ∷ [],
       grows,
       (serving new, does, refl),
-      (left_keeps client (Brought (Leaves client) ∷ []) (serving old) (serving new) left, inl (left_waits client (serving old) (serving new) left)),
+      (left_keeps client (Goes client ∷ []) (serving old) (serving new) left, inl (left_waits client (serving old) (serving new) left)),
     )
 
 pub more_pieces : (client n : ℕ) (first second : List Passed) → n ≤ length (filter (is_put client) first) → 1 ≤ length (filter (is_put client) second) → n + 1 ≤ length (filter (is_put client) (first ++ second))

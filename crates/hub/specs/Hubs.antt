@@ -1,15 +1,14 @@
 -- A hub, as contracts see it, and how it and its wire go on.
 use Rattle.std.specs.Prelude.{ℕ, ◌≡◌, ◌⊎◌, Bool, true, false, List, [], ◌∷◌, map, Option, None}
-use Rattle.bus.specs.declared.event.Event.TheVariants.{Leaves}
 use Rattle.bus.specs.Seen.{seen_of}
 use Rattle.decoder_node.specs.declared.node.NodeSpec.{NodeSpec}
 use Rattle.layout_core.specs.Nodes.{spec_of}
 use Rattle.hub.specs.declared.hub.Hub.{Hub}
 use Rattle.hub.specs.Rounds.{HasMorePlaces, Keeps, NothingWaits}
 use Rattle.hub.specs.Served.{Does, Serves, Serving}
-use Rattle.hub.specs.declared.wire.Wrote.{Wrote}
-use Rattle.hub.specs.declared.wire.Wrote.TheVariants.{Broken, Later, Taken}
-use Rattle.hub.specs.Wire.{Brought, Full, Grows, NobodyWaits, Passed, Put}
+use Rattle.outbox.specs.declared.wire.Came.{Came}
+use Rattle.outbox.specs.declared.wire.Came.TheVariants.{Bytes, Gone, Nothing}
+use Rattle.outbox.specs.Wire.{Full, Goes, Grows, NobodyWaits, Passed, Put}
 
 abbrev pub serving : Hub → Serving
 serving hub = record { bus = seen_of hub.bus; nodes = hub.bus.world.nodes; places = hub.places }
@@ -35,7 +34,7 @@ Seats client false turns passed passed' old new = Grows passed passed' (NobodyWa
 -- A write to a client of the front of what waits for it: what was taken waits no more. Where nothing waits, nothing is
 -- written. A write that was not taken changes nothing, and one that finds the client gone is told by the wire, and not yet by
 -- the hub.
-abbrev pub WritesTo : (client : ℕ) → Wrote → (passed passed' : Option (List Passed)) → Serving → Serving → Type 0
-WritesTo client (Taken count) passed passed' old new = (bytes : List ℕ) × Grows passed passed' (Put client bytes ∷ []) × Does None (Put client bytes) old new
-WritesTo client Later passed passed' old new = ((Grows passed passed' [] × NothingWaits client old) ⊎ Grows passed passed' (Full client ∷ [])) × (new ≡ old)
-WritesTo client Broken passed passed' old new = Grows passed passed' (Brought (Leaves client) ∷ []) × (new ≡ old)
+abbrev pub WritesTo : (client : ℕ) → Came → (passed passed' : Option (List Passed)) → Serving → Serving → Type 0
+WritesTo client (Bytes count) passed passed' old new = (bytes : List ℕ) × Grows passed passed' (Put client bytes ∷ []) × Does None (Put client bytes) old new
+WritesTo client Nothing passed passed' old new = ((Grows passed passed' [] × NothingWaits client old) ⊎ Grows passed passed' (Full client ∷ [])) × (new ≡ old)
+WritesTo client Gone passed passed' old new = Grows passed passed' (Goes client ∷ []) × (new ≡ old)

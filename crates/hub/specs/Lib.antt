@@ -2,4 +2,3 @@ pub mod Hubs
 pub mod Places
 pub mod Rounds
 pub mod Served
-pub mod Wire

@@ -1,26 +1,14 @@
 -- What a round of a server is: everybody is heard and written to, nobody stays late, and who waits is let in.
 use Rattle.std.specs.Prelude.{ℕ, ◌≡◌, ◌⊎◌, ◌<◌, ◌≤◌, ◌==◌, Bool, true, false, List, [], ◌∷◌, ◌++◌, length, replicate, Option, None}
 use Rattle.std.specs.List.{filter, list_any, slice_index_or}
-use Rattle.bus.specs.declared.event.Event.{Event}
-use Rattle.bus.specs.declared.event.Event.TheVariants.{Joins, Hears, Leaves}
 use Rattle.hub.specs.Served.{Serving, has_place, is_late}
 use Rattle.outbox.specs.Waiting.{waits}
-use Rattle.hub.specs.Wire.{Brought, Full, Grows, NobodyWaits, Passed, Put, Quiet, TurnedAway}
-
--- a client joins
-abbrev pub joins : (client : ℕ) → Event → Bool
-joins i (Joins client) = client == i
-joins i other = false
-
--- an event is a byte of this client, or that it has gone
-abbrev pub is_of : (client : ℕ) → Event → Bool
-is_of i (Hears client byte) = client == i
-is_of i (Leaves client) = client == i
-is_of i other = false
+use Rattle.outbox.specs.Wire.{Comes, Full, Goes, Grows, NobodyWaits, Passed, Put, Quiet, Says, TurnedAway}
 
 -- a client is heard: it says something, has sent nothing, or has gone
 abbrev pub is_heard : (client : ℕ) → Passed → Bool
-is_heard i (Brought event) = is_of i event
+is_heard i (Says client byte) = client == i
+is_heard i (Goes client) = client == i
 is_heard i (Quiet client) = client == i
 is_heard i other = false
 
@@ -31,7 +19,7 @@ is_put i other = false
 
 -- a client takes no more, or has only just come
 abbrev pub takes_later : (client : ℕ) → Passed → Bool
-takes_later i (Brought event) = joins i event
+takes_later i (Comes client) = client == i
 takes_later i (Full client) = client == i
 takes_later i other = false
 

@@ -6,14 +6,14 @@ use Rattle.layout_core.specs.declared.node.Node.{Node}
 use Rattle.layout_core.specs.Nodes.{node_of}
 use Rattle.layout_core.specs.World.{HaveHeard}
 use Rattle.bus.specs.declared.event.Event.{Event}
-use Rattle.bus.specs.declared.event.Event.TheVariants.{Joins, Leaves, Turn}
+use Rattle.bus.specs.declared.event.Event.TheVariants.{Hears, Joins, Leaves, Turn}
 use Rattle.bus.specs.declared.event.Told.{Told}
 use Rattle.bus.specs.declared.event.Told.TheVariants.{Sent}
 use Rattle.bus.specs.Bus.{AreEvents, SeenBus, after_events, client_of, first_bus, told_by, told_of}
 use Rattle.bus.specs.Course.{is_time, micros_in}
 use Rattle.bus.specs.Layout.{layout_events}
 use Rattle.hub.specs.Places.{Places, waiting_after}
-use Rattle.hub.specs.Wire.{Brought, Closed, Passed, Put, TurnedAway}
+use Rattle.outbox.specs.Wire.{Closed, Comes, Goes, Passed, Put, Says, TurnedAway}
 
 -- what a server is: its bus, the decoders, and what waits for each client
 pub record Serving : Type 0 where
@@ -66,12 +66,18 @@ finds_place serving other = true
 abbrev pub is_late : Serving → (client : ℕ) → Bool
 is_late serving client = has_place serving client && not (is_some (slice_index_or serving.places client None))
 
--- What is brought over the wire happens on the bus, and behind a message its turns; who comes takes a free place. What is
--- written to a client is the front of what waited for it. Closed is a late client, and no other; turned away is who comes
--- where all eight places are taken, and no other. All else changes nothing.
-abbrev pub Does : Option ℕ → Passed → Serving → Serving → Type 0
-Does turns (Brought event) old new =
+-- What comes of a client happens on the bus, and behind a message its turns; who comes takes a free place.
+abbrev pub Brings : Option ℕ → Event → Serving → Serving → Type 0
+Brings turns event old new =
     (finds_place old event ≡ true) × (behind : List Event) × AreTurns (turns_behind turns (told_by old.bus event)) behind × HaveHappened (event ∷ behind) old new
+
+-- Who comes, each byte and who goes are such an event. What is written to a client is the front of what waited for it. Closed
+-- is a late client, and no other; turned away is who comes where all eight places are taken, and no other. All else changes
+-- nothing.
+abbrev pub Does : Option ℕ → Passed → Serving → Serving → Type 0
+Does turns (Comes client) old new = Brings turns (Joins client) old new
+Does turns (Says client byte) old new = Brings turns (Hears client byte) old new
+Does turns (Goes client) old new = Brings turns (Leaves client) old new
 Does turns (Put client bytes) old new =
     (rest : List ℕ) × (slice_index_or old.places client None ≡ Some (bytes ++ rest)) × (new ≡ record old { places = slice_set old.places client (Some rest) })
 Does turns (Closed client) old new =

@@ -4,10 +4,9 @@ ghost use Rattle.std.specs.List.{list_all};
 ghost use Rattle.outbox.specs.Waiting.{has_room, waits};
 ghost use Rattle.hub.specs.Places.{is_placed, told_all, waiting_after};
 
-use crate::wire::{Wire, Wrote};
 use bus::{Bus, Event, Told};
 use layout_core::NodeList;
-use outbox::{Places, no_clients};
+use outbox::{Came, Places, Wire, no_clients};
 use over_tcp::Text;
 use std::alloc::{AllocError, Global};
 
@@ -59,17 +58,17 @@ impl Hub {
     }
 
     /// Writes the first piece of what waits for a client, if anything waits.
-    pub(crate) fn write<W: Wire>(&mut self, client: u8, wire: &mut W) -> Wrote
+    pub(crate) fn write<W: Wire>(&mut self, client: u8, wire: &mut W) -> Came
         requires { client < 8 }
         ensures wrote { WritesTo client result (W.passed wire.old) (W.passed wire.new) (serving self.old) (serving self.new) }
         ensures bus { self.new.bus ≡ self.old.bus }
     {
         let piece = piece(&self.places, client);
         if piece.is_empty() {
-            return Wrote::Later;
+            return Came::Nothing;
         }
         let wrote = wire.write(client, piece);
-        if let Wrote::Taken(count) = wrote {
+        if let Came::Bytes(count) = wrote {
             written(&mut self.places, client, count);
         }
         wrote

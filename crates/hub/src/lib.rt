@@ -4,8 +4,6 @@
 
 mod hub;
 mod server;
-mod wire;
 
-pub use outbox::PLACES;
+pub use outbox::{Came, PLACES, Wire};
 pub use server::Server;
-pub use wire::{Heard, Wire, Wrote};

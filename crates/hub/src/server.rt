@@ -4,19 +4,18 @@ ghost use Rattle.std.specs.List.{list_any};
 ghost use Rattle.decoder_node.specs.declared.node.NodeSpec.{NodeSpec};
 ghost use Rattle.layout_core.specs.Nodes.{spec_of};
 ghost use Rattle.bus.specs.declared.event.Event.{Event as BusEvent};
-ghost use Rattle.bus.specs.declared.event.Event.TheVariants.{Hears};
 ghost use Rattle.bus.specs.Bus.{client_of, is_event};
 ghost use Rattle.bus.specs.Seen.{seen_of};
-ghost use Rattle.hub.specs.Wire.{Brought};
-ghost use Rattle.hub.specs.Served.{AreTurns, Does, HasPassed, HaveHappened, Serves, finds_place, first_serving, is_late, turns_behind};
+ghost use Rattle.outbox.specs.Wire.{Says};
+ghost use Rattle.hub.specs.Served.{AreTurns, Brings, HasPassed, HaveHappened, Serves, finds_place, first_serving, is_late, turns_behind};
 ghost use Rattle.hub.specs.Hubs.{GoesOn, GoesOnCalmly, Seats, Watches, serving};
 ghost use Rattle.hub.specs.Rounds.{AllWrittenTo, IsRound, IsWrittenTo, LetsIn, TurnsAway, is_heard};
 
 use crate::hub::Hub;
-use crate::wire::{Heard, Wire, Wrote};
 use bus::{Event, Told, Witness};
 use layout_core::{NodeList, World};
 use losses::Losses;
+use outbox::{Came, Wire};
 use std::alloc::{AllocError, Global};
 
 /// The most bytes that are read of a client before all are written to.
@@ -198,12 +197,12 @@ impl Server {
     {
         let mut room = [0; MOST_HEARD];
         match wire.read(client, &mut room) {
-            Heard::Bytes(count) => {
+            Came::Bytes(count) => {
                 self.is_behind = true;
                 self.hear_all(client, &room[..count], witness)
             }
-            Heard::Nothing => Ok(()),
-            Heard::Gone => self.happen(Event::Leaves { client }, witness),
+            Came::Nothing => Ok(()),
+            Came::Gone => self.happen(Event::Leaves { client }, witness),
         }
     }
 
@@ -213,7 +212,7 @@ impl Server {
         requires watched { Watches (P.decoders witness.old) self.old.hub }
         ensures watched { Watches (P.decoders witness.new) self.new.hub }
         ensures turns { self.new.turns ≡ self.old.turns }
-        ensures served { OnOk result (Serves self.old.turns (map (λ byte. Brought (Hears client byte)) bytes.now) (serving self.old.hub) (serving self.new.hub)) }
+        ensures served { OnOk result (Serves self.old.turns (map (λ byte. Says client byte) bytes.now) (serving self.old.hub) (serving self.new.hub)) }
     {
         for byte in bytes {
             self.happen(
@@ -251,9 +250,9 @@ impl Server {
     {
         for _piece in 0..MOST_WRITES {
             match self.hub.write(client, wire) {
-                Wrote::Taken(_) => {}
-                Wrote::Later => return Ok(()),
-                Wrote::Broken => return self.happen(Event::Leaves { client }, witness),
+                Came::Bytes(_) => {}
+                Came::Nothing => return Ok(()),
+                Came::Gone => return self.happen(Event::Leaves { client }, witness),
             }
         }
         Ok(())
@@ -313,7 +312,7 @@ impl Server {
         requires watched { Watches (P.decoders witness.old) self.old.hub }
         ensures watched { Watches (P.decoders witness.new) self.new.hub }
         ensures turns { self.new.turns ≡ self.old.turns }
-        ensures happened { OnOk result (Does self.old.turns (Brought event) (serving self.old.hub) (serving self.new.hub)) }
+        ensures happened { OnOk result (Brings self.old.turns event (serving self.old.hub) (serving self.new.hub)) }
     {
         bus::laws::headline();
         self.hub.bus.always_kept();

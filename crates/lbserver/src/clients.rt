@@ -4,20 +4,18 @@ ghost use Rattle.bus_lines.specs.Decoders.{entries_of, specs_of};
 ghost use Rattle.layout_core.specs.Nodes.{spec_of};
 
 use bus_lines::{Board, Printer};
-use hub::{Heard, PLACES, Wire, Wrote};
+use hub::{Came, PLACES, Wire};
 use layout_core::World;
 use mio::Poll;
 use mio::net::TcpListener;
 use show_text::Line;
-use sockets::{Came, Guest, Sockets};
+use sockets::{Guest, Sockets};
 use std::alloc::AllocGlobal;
 use std::io;
 use std::io::Write;
 use std::net::{Net, SocketAddr};
 
 /// The sockets, and what each page that has a place was told of the decoders.
-///
-/// What sockets deliver no contract can say, so of this wire nothing is known.
 #[derive(Drop)]
 pub(crate) struct Clients {
     pub(crate) sockets: Sockets,
@@ -46,6 +44,11 @@ impl Clients {
         self.sockets.open_doors(rt.alloc(), listener, page)
     }
 
+    /// Closes all connections and the ports.
+    pub(crate) fn close_all(self) {
+        self.sockets.close_all();
+    }
+
     /// Tells each page the decoders that it was not told as they stand.
     pub(crate) fn tell_pages<O: Write>(&mut self, printer: &Printer<'_, O>, world: &World)
         requires { map spec_of world.now.nodes ≡ specs_of (entries_of printer.now.roster) }
@@ -62,34 +65,25 @@ impl Wire for Clients {
     ghost passed = { λ _. None };
 
     fn let_in(&mut self, client: u8) -> bool {
-        let place = usize::from(client);
         // Who comes was told nothing yet.
-        self.boards[place] = Board::new();
-        self.sockets.let_in(place)
+        self.boards[usize::from(client)] = Board::new();
+        self.sockets.let_in(client)
     }
 
     fn turn_away(&mut self) -> bool {
         self.sockets.turn_away()
     }
 
-    fn read(&mut self, client: u8, room: &mut [u8]) -> Heard {
-        match self.sockets.read(usize::from(client), room) {
-            Came::Bytes(count) => Heard::Bytes(count),
-            Came::Nothing => Heard::Nothing,
-            Came::Gone => Heard::Gone,
-        }
+    fn read(&mut self, client: u8, room: &mut [u8]) -> Came {
+        self.sockets.read(client, room)
     }
 
-    fn write(&mut self, client: u8, bytes: &[u8]) -> Wrote {
-        match self.sockets.write(usize::from(client), bytes) {
-            Came::Bytes(count) => Wrote::Taken(count),
-            Came::Nothing => Wrote::Later,
-            Came::Gone => Wrote::Broken,
-        }
+    fn write(&mut self, client: u8, bytes: &[u8]) -> Came {
+        self.sockets.write(client, bytes)
     }
 
     fn close(&mut self, client: u8) {
-        self.sockets.close(usize::from(client));
+        self.sockets.close(client);
     }
 }
 

@@ -90,7 +90,9 @@ fn with_sockets<O: Write>(
     let Ok(mut clients) = Clients::bind(rt, address) else {
         return Err(RunFault::Network);
     };
-    with_page(rt, order, roster, server, &mut clients, output)
+    let served = with_page(rt, order, roster, server, &mut clients, output);
+    clients.close_all();
+    served
 }
 
 /// Does it with the page, if one is served.

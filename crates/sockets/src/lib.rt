@@ -11,5 +11,5 @@ mod visitor;
 
 pub use client::Guest;
 pub use doors::page_reply;
-pub use places::{Came, Sockets};
+pub use places::Sockets;
 pub use visitor::{Next, Stream, Visitor, is_only_late};

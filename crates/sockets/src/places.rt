@@ -1,14 +1,13 @@
 //! The ports of a server, and the streams of up to eight clients.
-ghost use Rattle.std.specs.Prelude.{◌≡◌, ◌<◌, length};
-ghost use Rattle.sockets.specs.declared.places.Came.TheVariants.{Gone};
-ghost use Rattle.sockets.specs.Streams.{IsSome};
+ghost use Rattle.std.specs.Prelude.{◌≡◌, ◌<◌, None};
+ghost use Rattle.outbox.specs.declared.wire.Came.TheVariants.{Gone};
 
 use crate::client::{Client, Guest};
 use crate::doors::{DOORS, Doors, page_reply};
 use crate::visitor::is_only_late;
 use mio::net::{TcpListener, TcpStream};
 use mio::{Events, Interest, Poll, Registry, Token};
-use outbox::PLACES;
+use outbox::{Came, PLACES, Wire};
 use over_tcp::{Text, push_no_place};
 use pages::Page;
 use std::alloc::Global;
@@ -17,20 +16,9 @@ use std::io::{ErrorKind, Write};
 use std::net::SocketAddr;
 use std::time::Duration;
 
-/// What a read or a write of a client came to.
-#[derive(Clone, Copy, Debug, PartialEq, Eq)]
-pub enum Came {
-    /// So many bytes came or went, at least one.
-    Bytes(usize),
-    /// None does now.
-    Nothing,
-    /// The client has gone, and its connection is closed.
-    Gone,
-}
-
 /// The ports, and the streams of the clients that were let in, each at its place, 0 to 7.
 ///
-/// What sockets deliver no contract can say.
+/// What sockets deliver no contract can say, so of this wire nothing is known.
 #[derive(Drop)]
 pub struct Sockets {
     poll: Poll,
@@ -130,72 +118,17 @@ impl Sockets {
         }
     }
 
-    /// Lets who waits in at a place: a page that has joined, and else a program. False where nobody waits.
-    pub fn let_in(&mut self, place: usize) -> bool
-        requires { place < 8 }
-    {
-        let client = match self.joined() {
-            Some(page) => Some(Client::Page(Guest::new(page))),
-            None => self.program(place).map(Client::Program),
-        };
-        let is_there = client.is_some();
-        self.clients[place] = client;
-        is_there
-    }
-
-    /// Tells who waits that no place is free, and closes the connection. False where nobody waits.
-    pub fn turn_away(&mut self) -> bool {
-        let mut text = Text::new();
-        push_no_place(&mut text);
-        match self.joined() {
-            Some(page) => turn_page_away(page, text.as_slice()),
-            None => self.turn_program_away(text.as_slice()),
-        }
-    }
-
-    /// Reads what a client sent, to the front of `room`. It never waits.
-    pub fn read(&mut self, place: usize, room: &mut [u8]) -> Came
-        requires { place < 8 }
-        ensures { IsSome result (length room.new) }
-    {
-        let Some(client) = &mut self.clients[place] else {
-            return Came::Nothing;
-        };
-        match client.read(room, &mut self.is_behind) {
-            Ok(count) if count > 0 => Came::Bytes(count),
-            Err(error) if is_only_late(&error) => Came::Nothing,
-            _ => self.let_go(place),
-        }
-    }
-
-    /// Writes bytes to a client, as many from the front as are taken. It never waits.
-    pub fn write(&mut self, place: usize, bytes: &[u8]) -> Came
-        requires { place < 8 }
-        ensures { IsSome result (length bytes.now) }
-    {
-        let Some(client) = &mut self.clients[place] else {
-            return Came::Nothing;
-        };
-        match client.write(bytes) {
-            Ok(count) if count > 0 => Came::Bytes(count),
-            Err(error) if is_only_late(&error) => Came::Nothing,
-            _ => self.let_go(place),
-        }
-    }
-
-    /// Closes the connection of a client.
-    pub fn close(&mut self, place: usize)
-        requires { place < 8 }
-    {
-        self.clients[place] = None;
-    }
+    /// Closes all connections and the ports.
+    ///
+    /// Who holds the sockets lets them go by this, so that what that takes is proved here alone.
+    pub fn close_all(self) {}
 
     /// Closes the connection of a client that has gone.
-    fn let_go(&mut self, place: usize) -> Came
-        requires { place < 8 }
+    fn let_go(&mut self, client: u8) -> Came
+        requires { client < 8 }
         ensures { result ≡ Gone }
     {
-        self.close(place);
+        self.clients[usize::from(client)] = None;
         Came::Gone
     }
 
@@ -233,6 +166,57 @@ impl Sockets {
         };
         let _ = stream.write(text);
         true
+    }
+}
+
+impl Wire for Sockets {
+    ghost passed = { λ _. None };
+
+    /// A page that has joined is let in first, and else a program.
+    fn let_in(&mut self, client: u8) -> bool {
+        let place = usize::from(client);
+        let comer = match self.joined() {
+            Some(page) => Some(Client::Page(Guest::new(page))),
+            None => self.program(place).map(Client::Program),
+        };
+        let is_there = comer.is_some();
+        self.clients[place] = comer;
+        is_there
+    }
+
+    fn turn_away(&mut self) -> bool {
+        let mut text = Text::new();
+        push_no_place(&mut text);
+        match self.joined() {
+            Some(page) => turn_page_away(page, text.as_slice()),
+            None => self.turn_program_away(text.as_slice()),
+        }
+    }
+
+    fn read(&mut self, client: u8, room: &mut [u8]) -> Came {
+        let Some(stream) = &mut self.clients[usize::from(client)] else {
+            return Came::Nothing;
+        };
+        match stream.read(room, &mut self.is_behind) {
+            Ok(count) if count > 0 => Came::Bytes(count),
+            Err(error) if is_only_late(&error) => Came::Nothing,
+            _ => self.let_go(client),
+        }
+    }
+
+    fn write(&mut self, client: u8, bytes: &[u8]) -> Came {
+        let Some(stream) = &mut self.clients[usize::from(client)] else {
+            return Came::Nothing;
+        };
+        match stream.write(bytes) {
+            Ok(count) if count > 0 => Came::Bytes(count),
+            Err(error) if is_only_late(&error) => Came::Nothing,
+            _ => self.let_go(client),
+        }
+    }
+
+    fn close(&mut self, client: u8) {
+        self.clients[usize::from(client)] = None;
     }
 }
 

@@ -1,5 +1,5 @@
 use Rattle.std.proofs.Common.{◌≡◌, ◌∷◌, [], ℕ, List, arith, replicate, subst}
-use Rattle.hub.specs.Wire.{Grows, NobodyWaits, Passed, TurnedAway}
+use Rattle.outbox.specs.Wire.{Grows, NobodyWaits, Passed, TurnedAway}
 use Rattle.hub.proofs.Going.{grows_more}
 use Rattle.hub.proofs.Keeping.{one_turned_more}
 use Rattle.hub.proofs.server.turn_away.Goals as goal

@@ -1,5 +1,5 @@
 use Rattle.std.proofs.Common.{replicate}
-use Rattle.hub.specs.Wire.{Grows, TurnedAway}
+use Rattle.outbox.specs.Wire.{Grows, TurnedAway}
 use Rattle.hub.proofs.server.turn_away.Given as goal
 
 abbrev pub invariant-loop-turned : goal.invariant-loop-turned

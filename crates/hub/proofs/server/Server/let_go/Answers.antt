@@ -1,7 +1,7 @@
 use Rattle.std.proofs.Common.{◌≡◌, ◌∷◌, [], false, refl, sym, ◌∙◌}
 use Rattle.hub.specs.Hubs.{serving}
 use Rattle.hub.specs.Served.{is_late}
-use Rattle.hub.specs.Wire.{Closed}
+use Rattle.outbox.specs.Wire.{Closed}
 use Rattle.hub.proofs.Going.{calm_nowhere, moment, whatever}
 use Rattle.hub.proofs.Keeping.{left_is_not_late, left_keeps}
 use Rattle.hub.proofs.server.Server.let_go.Goals as goal

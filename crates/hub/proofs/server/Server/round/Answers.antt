@@ -4,7 +4,7 @@ use Rattle.std.proofs.lemmas.Result.{on_ok_weaker}
 use Rattle.hub.specs.Hubs.{serving}
 use Rattle.hub.specs.Rounds.{AllWrittenTo, IsRound, Keeps, LetsIn, is_heard}
 use Rattle.hub.specs.Served.{Serving}
-use Rattle.hub.specs.Wire.{Passed}
+use Rattle.outbox.specs.Wire.{Passed}
 use Rattle.hub.proofs.Going.{goes_nowhere, goes_then, moment}
 use Rattle.hub.proofs.Rounding.{IsSoFar, heard_more, more_so_far, none_so_far, whole_round}
 use Rattle.hub.proofs.server.Server.round.Goals as goal

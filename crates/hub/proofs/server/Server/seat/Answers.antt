@@ -1,8 +1,7 @@
 use Rattle.std.proofs.Common.{◌<◌, ◌∷◌, [], length, refl, sym, ◌∙◌, arith}
-use Rattle.bus.specs.declared.event.Event.TheVariants.{Joins}
 use Rattle.hub.specs.Hubs.{serving}
 use Rattle.hub.specs.Rounds.{HasMorePlaces}
-use Rattle.hub.specs.Wire.{Brought}
+use Rattle.outbox.specs.Wire.{Comes}
 use Rattle.hub.proofs.Going.{calm_nowhere, moment}
 use Rattle.hub.proofs.Keeping.{joined_keeps, joined_places, only_joins}
 use Rattle.hub.proofs.server.Server.seat.Goals as goal
@@ -22,7 +21,7 @@ returns-clause-seats g c =
     let joined = only_joins c.args.self.now.turns client old new does in
     let place : client < length old.places = omega (arith, c.args.self.now.hub.eight, c.requires.client) in
     let line : client < length old.bus.clients = omega (arith, c.always_kept.ensures.kept.places, c.requires.client) in (
-      Brought (Joins client) ∷ [],
+      Comes client ∷ [],
       c.if-not-let_in.ensures,
       (new, does, refl),
       (joined_keeps client old new place c.args.self.now.hub.room joined, joined_places client old new line joined),

@@ -2,11 +2,10 @@ use Rattle.std.proofs.Common.{◌+◌, ◌∙◌, ap, inr, map, refl, subst, ari
 use Rattle.layout_core.specs.Nodes.{spec_of}
 use Rattle.bus.specs.declared.bus.Bus.{Bus}
 use Rattle.std.proofs.lemmas.Result.{on_ok_weaker}
-use Rattle.bus.specs.declared.event.Event.TheVariants.{Leaves}
 use Rattle.hub.specs.Hubs.{serving}
 use Rattle.hub.specs.Rounds.{IsWrittenTo}
 use Rattle.hub.specs.Served.{Does, Serving}
-use Rattle.hub.specs.Wire.{Brought}
+use Rattle.outbox.specs.Wire.{Goes}
 use Rattle.hub.proofs.Going.{calm_nowhere, calm_then, moment}
 use Rattle.hub.proofs.Rounding.{HasPut, calm_weaker, more_pieces, put_then, wrote_later, wrote_one, wrote_to_none}
 use Rattle.hub.proofs.server.Server.write.Goals as goal
@@ -24,9 +23,9 @@ loop-piece-preserved g c =
     let client = c.args.client in
     let passed = g.W.Wire.passed in
     let first = c.loop-piece in
-    let wrote = c.in-Taken.ensures.wrote in
+    let wrote = c.in-Bytes.ensures.wrote in
     record {
-      watched = ap (λ (bus : Bus). map spec_of bus.world.nodes) c.in-Taken.ensures.bus ∙ first.invariant.watched;
+      watched = ap (λ (bus : Bus). map spec_of bus.world.nodes) c.in-Bytes.ensures.bus ∙ first.invariant.watched;
       turns = first.invariant.turns;
       served =
           calm_then (HasPut client first._piece) (HasPut client 1) (HasPut client (first._piece + 1))
@@ -36,28 +35,28 @@ loop-piece-preserved g c =
           (wrote_one turns client wrote.0 (passed first.wire) (passed c.write.new.wire) first.self.hub c.write.new.self wrote.1 wrote.2);
     }
 
-pub returns-in-Later-clause-served : goal.returns-in-Later-clause-served
-returns-in-Later-clause-served g c =
+pub returns-in-Nothing-clause-served : goal.returns-in-Nothing-clause-served
+returns-in-Nothing-clause-served g c =
     let passed = g.W.Wire.passed in
     let first = c.loop-piece in
     put_then c.args.client first._piece
     (moment c.args.self.now (passed c.args.wire.now)) (moment (record c.args.self.now { hub = first.self.hub }) (passed first.wire)) (moment (record c.args.self.now { hub = c.write.new.self }) (passed c.write.new.wire)) refl
     first.invariant.served
-    (wrote_later c.args.self.now.turns c.args.client (passed first.wire) (passed c.write.new.wire) first.self.hub c.write.new.self c.in-Later.ensures.wrote)
+    (wrote_later c.args.self.now.turns c.args.client (passed first.wire) (passed c.write.new.wire) first.self.hub c.write.new.self c.in-Nothing.ensures.wrote)
 
-pub returns-in-Broken-clause-served : goal.returns-in-Broken-clause-served
-returns-in-Broken-clause-served g c =
+pub returns-in-Gone-clause-served : goal.returns-in-Gone-clause-served
+returns-in-Gone-clause-served g c =
     let passed = g.W.Wire.passed in
     let first = c.loop-piece in
     let turns = first.self.turns in
     let client = c.args.client in
-    let wrote = c.in-Broken.ensures.wrote in
+    let wrote = c.in-Gone.ensures.wrote in
     on_ok_weaker c.happen.result
     (λ does. put_then client first._piece
     (moment c.args.self.now (passed c.args.wire.now)) (moment first.self (passed first.wire)) (moment c.happen.new.self (passed c.write.new.wire)) first.invariant.turns
     first.invariant.served
     (wrote_to_none turns client (passed first.wire) (passed c.write.new.wire) first.self.hub c.happen.new.self.hub wrote.0
-    (subst (λ (old : Serving). Does turns (Brought (Leaves client)) old (serving c.happen.new.self.hub)) wrote.1 does)))
+    (subst (λ (old : Serving). Does turns (Goes client) old (serving c.happen.new.self.hub)) wrote.1 does)))
     c.happen.ensures.happened
 
 pub returns-clause-served : goal.returns-clause-served

@@ -1,16 +1,16 @@
 -- What comes over the wire to the clients of a server, and what goes over it, in order.
 use Rattle.std.specs.Prelude.{ℕ, ◌≡◌, ◌<◌, ◌≤◌, Bool, true, false, List, [], ◌∷◌, ◌++◌, map, take, Option, Some, None}
-use Rattle.bus.specs.declared.event.Event.{Event}
-use Rattle.bus.specs.declared.event.Event.TheVariants.{Joins, Hears, Leaves}
-use Rattle.hub.specs.declared.wire.Heard.{Heard}
-use Rattle.hub.specs.declared.wire.Heard.TheVariants.{Bytes, Nothing, Gone}
-use Rattle.hub.specs.declared.wire.Wrote.{Wrote}
-use Rattle.hub.specs.declared.wire.Wrote.TheVariants.{Taken, Later, Broken}
+use Rattle.outbox.specs.declared.wire.Came.{Came}
+use Rattle.outbox.specs.declared.wire.Came.TheVariants.{Bytes, Nothing, Gone}
 
 -- one thing that happens on the wire
 pub data Passed : Type 0 where
-  -- a client comes, is heard or goes
-  Brought : (event : Event) → Passed
+  -- a client comes, and takes a place
+  Comes : (client : ℕ) → Passed
+  -- a byte of a client is read
+  Says : (client byte : ℕ) → Passed
+  -- a client has gone
+  Goes : (client : ℕ) → Passed
   -- bytes are written to a client
   Put : (client : ℕ) → (bytes : List ℕ) → Passed
   -- the server closes the connection of a client
@@ -33,7 +33,7 @@ Grows (Some old) (Some new) more = new ≡ old ++ more
 
 -- who waits takes a place
 abbrev pub taken_place : (client : ℕ) → (comes : Bool) → List Passed
-taken_place client true = Brought (Joins client) ∷ []
+taken_place client true = Comes client ∷ []
 taken_place client false = NobodyWaits ∷ []
 
 -- who waits is turned away
@@ -42,24 +42,19 @@ turned_away true = TurnedAway ∷ []
 turned_away false = NobodyWaits ∷ []
 
 -- what a read into this room came to
-abbrev pub read_of : (client : ℕ) → Heard → (room : List ℕ) → List Passed
-read_of client (Bytes count) room = map (λ byte. Brought (Hears client byte)) (take count room)
+abbrev pub read_of : (client : ℕ) → Came → (room : List ℕ) → List Passed
+read_of client (Bytes count) room = map (λ byte. Says client byte) (take count room)
 read_of client Nothing room = Quiet client ∷ []
-read_of client Gone room = Brought (Leaves client) ∷ []
+read_of client Gone room = Goes client ∷ []
 
 -- what a write of these bytes came to
-abbrev pub write_of : (client : ℕ) → Wrote → (bytes : List ℕ) → List Passed
-write_of client (Taken count) bytes = Put client (take count bytes) ∷ []
-write_of client Later bytes = Full client ∷ []
-write_of client Broken bytes = Brought (Leaves client) ∷ []
+abbrev pub write_of : (client : ℕ) → Came → (bytes : List ℕ) → List Passed
+write_of client (Bytes count) bytes = Put client (take count bytes) ∷ []
+write_of client Nothing bytes = Full client ∷ []
+write_of client Gone bytes = Goes client ∷ []
 
 -- some bytes, and no more than there is room, or than were given
-abbrev pub IsRead : Heard → ℕ → Type 0
-IsRead (Bytes count) room = (0 < count) × (count ≤ room)
-IsRead Nothing room = Unit {0}
-IsRead Gone room = Unit {0}
-
-abbrev pub IsWritten : Wrote → ℕ → Type 0
-IsWritten (Taken count) given = (0 < count) × (count ≤ given)
-IsWritten Later given = Unit {0}
-IsWritten Broken given = Unit {0}
+abbrev pub IsWithin : Came → ℕ → Type 0
+IsWithin (Bytes count) most = (0 < count) × (count ≤ most)
+IsWithin Nothing most = Unit {0}
+IsWithin Gone most = Unit {0}

@@ -1,27 +1,16 @@
 //! What the clients of a server are connected by.
 ghost use Rattle.std.specs.Prelude.{◌≡◌, ◌<◌, Option, List, [], ◌∷◌, length};
-ghost use Rattle.hub.specs.Wire.{Closed, Grows, IsRead, IsWritten, Passed, read_of, taken_place, turned_away, write_of};
+ghost use Rattle.outbox.specs.Wire.{Closed, Grows, IsWithin, Passed, read_of, taken_place, turned_away, write_of};
 
-/// What a read came to.
-#[derive(Clone, Copy)]
-pub enum Heard {
-    /// So many bytes.
+/// What a read or a write of a client came to.
+#[derive(Clone, Copy, Debug, PartialEq, Eq)]
+pub enum Came {
+    /// So many bytes came or went, at least one.
     Bytes(usize),
-    /// Nothing is there now.
+    /// None does now.
     Nothing,
     /// The client has gone, and its connection is closed.
     Gone,
-}
-
-/// What a write came to.
-#[derive(Clone, Copy)]
-pub enum Wrote {
-    /// So many bytes were taken from the front.
-    Taken(usize),
-    /// None are taken now.
-    Later,
-    /// The client has gone, and its connection is closed.
-    Broken,
 }
 
 /// The connections of up to eight clients, each at a place, 0 to 7.
@@ -38,17 +27,17 @@ pub trait Wire {
     fn turn_away(&mut self) -> bool
         ensures { Grows (passed self.old) (passed self.new) (turned_away result) };
 
-    /// Reads what a client sent, to the front of `room`: at least one byte, if it answers bytes. It never waits.
-    fn read(&mut self, client: u8, room: &mut [u8]) -> Heard
+    /// Reads what a client sent, to the front of `room`. It never waits.
+    fn read(&mut self, client: u8, room: &mut [u8]) -> Came
         requires { client < 8 }
-        ensures within { IsRead result (length room.new) }
+        ensures within { IsWithin result (length room.new) }
         ensures passed { Grows (passed self.old) (passed self.new) (read_of client result room.new) };
 
-    /// Writes bytes to a client, as many as are taken: at least one, if it answers that some were. It never waits.
-    fn write(&mut self, client: u8, bytes: &[u8]) -> Wrote
+    /// Writes bytes to a client, as many from the front as are taken. It never waits.
+    fn write(&mut self, client: u8, bytes: &[u8]) -> Came
         requires client { client < 8 }
         requires some { 0 < length bytes.now }
-        ensures within { IsWritten result (length bytes.now) }
+        ensures within { IsWithin result (length bytes.now) }
         ensures passed { Grows (passed self.old) (passed self.new) (write_of client result bytes.now) };
 
     /// Closes the connection of a client.
