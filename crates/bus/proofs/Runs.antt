@@ -1,28 +1,21 @@
 -- Lists of events.
-use Rattle.std.proofs.Common.{◌≡◌, ℕ, zero, suc, ◌<◌, true, List, [], ◌∷◌, ◌++◌, refl, ap, ◌∙◌, length, arith}
-use Rattle.std.specs.Prelude.{IsTrue}
-use Rattle.std.specs.List.{list_all, slice_index_or}
+use Rattle.std.proofs.Common.{◌≡◌, true, List, [], ◌∷◌, ◌++◌, refl, ap, subst, sym, ◌∙◌, append_assoc}
+use Rattle.std.specs.List.{list_all}
 use Rattle.std.proofs.lemmas.Bool.{and_parts}
 use Rattle.station_core.specs.Seen.{Seen}
 use Rattle.layout_core.specs.declared.event.Event.{Event as LayoutEvent}
+use Rattle.layout_core.specs.declared.node.Node.{Node}
 use Rattle.layout_core.specs.Played.{after_events as played}
+use Rattle.layout_core.specs.World.{HaveHeard}
 use Rattle.bus.specs.declared.event.Event.{Event}
-use Rattle.bus.specs.Bus.{AreEvents, SeenBus, after_event, after_events, is_event, told_by, told_of}
-use Rattle.bus.specs.Course.{lasting, micros_in, micros_of, turns_lasting}
+use Rattle.bus.specs.Bus.{AreEvents, SeenBus, after_event, after_events, is_event}
 use Rattle.bus.specs.Kept.{IsKept}
 use Rattle.bus.specs.Layout.{layout_event, layout_events}
-use Rattle.bus.specs.Time.{HasPassed}
-use Rattle.bus.proofs.Account.{adds_up, nothing}
 use Rattle.bus.specs.Below.{StationMoves, TurnsAreBounded}
-use Rattle.bus.proofs.Steps.{keeps, passed_by, plays}
+use Rattle.bus.proofs.Steps.{keeps, plays}
 
 pub first_legal : (event : Event) (events : List Event) → AreEvents (event ∷ events) → is_event event ≡ true
 first_legal event events legal = (and_parts (is_event event) (list_all is_event events) legal).0
-
-pub legal_at : (events : List Event) (i : ℕ) (d : Event) → i < length events → AreEvents events → IsTrue (is_event (slice_index_or events i d))
-legal_at [] i d below legal = absurd (omega arith)
-legal_at (event ∷ events) zero d below legal = first_legal event events legal
-legal_at (event ∷ events) (suc i) d below legal = legal_at events i d (omega arith) ((and_parts (is_event event) (list_all is_event events) legal).1)
 
 pub rest_legal : (event : Event) (events : List Event) → AreEvents (event ∷ events) → AreEvents events
 rest_legal event events legal = (and_parts (is_event event) (list_all is_event events) legal).1
@@ -46,12 +39,21 @@ all_played bounds laws (event ∷ events) bus h legal =
     ∙ ap (λ (seen : Seen). played seen (layout_events later events)) (plays laws bus event h (first_legal event events legal))
     ∙ all_played bounds laws events later (keeps bounds bus event h (first_legal event events legal)) (rest_legal event events legal)
 
-pub all_passed : TurnsAreBounded → (events : List Event) (bus : SeenBus) → IsKept bus → AreEvents events
-    → HasPassed bus.left (micros_in bus events) (turns_lasting (told_of bus events)) (after_events bus events).left
-all_passed laws [] bus h legal = nothing bus.left h.under_way
-all_passed laws (event ∷ events) bus h legal =
-    let later : SeenBus = after_event bus event in
-    adds_up bus.left (micros_of bus event) later.left (micros_in later events) (after_events later events).left
-    (lasting (told_by bus event)) (turns_lasting (told_of later events))
-    (passed_by laws bus event h (first_legal event events legal))
-    (all_passed laws events later (keeps laws bus event h (first_legal event events legal)) (rest_legal event events legal))
+-- The events of the layout of events, and of more behind them.
+
+pub layout-append : (events later : List Event) (bus : SeenBus) → layout_events bus (events ++ later) ≡ layout_events bus events ++ layout_events (after_events bus events) later
+layout-append [] later bus = refl
+layout-append (event ∷ events) later bus =
+    ap (λ (rest : List LayoutEvent). layout_event bus event ++ rest) (layout-append events later (after_event bus event))
+    ∙ sym (append_assoc (layout_event bus event) (layout_events (after_event bus event) events) (layout_events (after_events (after_event bus event) events) later))
+
+-- What was heard of events, and then of more.
+
+pub heard_more : ((seen : Seen) (events later : List LayoutEvent) (old mid new : List Node) → HaveHeard seen events old mid → HaveHeard (played seen events) later mid new → HaveHeard seen (events ++ later) old new)
+    → (bus : SeenBus) (events later : List Event) (old mid new : List Node) → played bus.station (layout_events bus events) ≡ (after_events bus events).station
+    → HaveHeard bus.station (layout_events bus events) old mid → HaveHeard (after_events bus events).station (layout_events (after_events bus events) later) mid new
+    → HaveHeard bus.station (layout_events bus (events ++ later)) old new
+heard_more adds_up bus events later old mid new station first second =
+    subst (λ (all : List LayoutEvent). HaveHeard bus.station all old new) (sym (layout-append events later bus))
+    (adds_up bus.station (layout_events bus events) (layout_events (after_events bus events) later) old mid new first
+    (subst (λ (seen : Seen). HaveHeard seen (layout_events (after_events bus events) later) mid new) (sym station) second))

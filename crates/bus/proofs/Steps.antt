@@ -1,10 +1,9 @@
--- What each event keeps of a bus, and what it is to the layout and to time.
-use Rattle.std.proofs.Common.{◌≡◌, ℕ, ◌+◌, ◌-◌, ◌<◌, ◌≤◌, Bool, true, false, List, [], ◌∷◌, length, Option, Some, None, refl, ap, sym, subst, ◌∙◌, arith, inl, inr, if◌then◌else◌, nat_lt, replicate}
-use Rattle.std.specs.Prelude.{IfSome, IsTrue, slice_set}
+-- What each event keeps of a bus, and what it is to the layout.
+use Rattle.std.proofs.Common.{◌≡◌, ℕ, ◌+◌, ◌-◌, ◌<◌, ◌≤◌, Bool, true, false, List, [], length, Option, Some, None, refl, ap, sym, subst, ◌∙◌, arith, inl, inr, if◌then◌else◌, nat_lt, replicate}
+use Rattle.std.specs.Prelude.{slice_set}
 use Rattle.std.specs.List.{after_first}
 use Rattle.std.proofs.lemmas.Bool.{cases_lt, ltb-true, leb-true, le-leb, lt-leb}
 use Rattle.std.proofs.lemmas.List.{length-set}
-use Rattle.dcc_packet.specs.Packet.{is_checked}
 use Rattle.ln_frame.specs.Message.{IsWhole, has_form, is_whole}
 use Rattle.over_tcp.specs.declared.ask.Ask.{Ask}
 use Rattle.over_tcp.specs.declared.ask.Ask.TheVariants.{Send, Refused}
@@ -12,38 +11,16 @@ use Rattle.over_tcp.specs.declared.ask.Reason.TheVariants.{TooLong, NoMessage, W
 use Rattle.ascii_words.specs.Words.{is_blank, words_of}
 use Rattle.over_tcp.specs.Asked.{ask_to_send, asked_of, bytes_of, is_send}
 use Rattle.over_tcp.specs.Text.{is_end}
-use Rattle.station_core.specs.Moved.{packet_of_turn}
 use Rattle.station_core.specs.Seen.{Seen}
 use Rattle.layout_core.specs.declared.event.Event.{Event as LayoutEvent}
 use Rattle.layout_core.specs.Played.{after_events as played}
 use Rattle.bus.specs.declared.event.Event.{Event}
 use Rattle.bus.specs.declared.event.Event.TheVariants.{Joins, Hears, Leaves, Passes, Turn}
-use Rattle.bus.specs.declared.event.Told.{Told}
-use Rattle.bus.specs.declared.event.Told.TheVariants.{Nothing, Turned}
 use Rattle.bus.specs.Below.{StationMoves, TurnsAreBounded}
-use Rattle.bus.specs.Bus.{SeenBus, after_event, ask_at, client_of, is_event, kept_at, lasts, station_asked, told_asked, told_by, turned}
-use Rattle.bus.specs.Course.{lasting, micros_of}
+use Rattle.bus.specs.Bus.{SeenBus, after_event, ask_at, client_of, is_event, kept_at, station_asked, turned}
 use Rattle.bus.specs.Kept.{IsKept}
 use Rattle.bus.specs.Layout.{layout_asked, layout_event, turn_of}
-use Rattle.bus.specs.Time.{HasPassed}
-use Rattle.bus.proofs.Account.{begins, nothing, passes}
 use Rattle.bus.proofs.Whole.{whole_after}
-
--- What turns last.
-
-least_lasts : TurnsAreBounded → (sent : Option (List ℕ)) → IfSome sent (λ packet. 3 ≤ length packet) → IfSome sent (λ packet. IsTrue (is_checked packet)) → 5796 ≤ lasts sent
-least_lasts laws None some checked = omega (arith, laws.idle)
-least_lasts laws (Some packet) some checked = laws.shortest packet some checked
-
-most_lasts : TurnsAreBounded → (sent : Option (List ℕ)) → IfSome sent (λ packet. length packet ≤ 5) → lasts sent ≤ 10740
-most_lasts laws None few = omega (arith, laws.idle)
-most_lasts laws (Some packet) few = laws.longest packet few
-
-pub at_least : TurnsAreBounded → (seen : Seen) → 5796 ≤ lasts (packet_of_turn seen)
-at_least laws seen = least_lasts laws (packet_of_turn seen) (laws.some seen) (laws.checked seen)
-
-pub at_most : TurnsAreBounded → (seen : Seen) → lasts (packet_of_turn seen) ≤ 10740
-at_most laws seen = most_lasts laws (packet_of_turn seen) (laws.few seen)
 
 -- What is asked to be sent is a whole message.
 
@@ -88,12 +65,6 @@ waits_for bus micros missed less = rw (lt-leb bus.left micros less) refl
 turns_in_it : (bus : SeenBus) (micros missed : ℕ) → bus.left ≤ micros → layout_event bus (Passes micros missed) ≡ turn_of missed
 turns_in_it bus micros missed ends = rw (le-leb bus.left micros ends) refl
 
-told_on : (bus : SeenBus) (micros missed : ℕ) → micros < bus.left → told_by bus (Passes micros missed) ≡ Nothing
-told_on bus micros missed less = rw (lt-leb bus.left micros less) refl
-
-told_over : (bus : SeenBus) (micros missed : ℕ) → bus.left ≤ micros → told_by bus (Passes micros missed) ≡ Turned (packet_of_turn bus.station)
-told_over bus micros missed ends = rw (le-leb bus.left micros ends) refl
-
 -- What an event keeps.
 
 kept_clients : (bus : SeenBus) (station : Seen) (client : ℕ) (kept : Option (List ℕ)) → IsKept bus → station.lines ≡ bus.station.lines
@@ -114,8 +85,8 @@ kept_turned : TurnsAreBounded → (bus : SeenBus) (micros : ℕ) → IsKept bus 
 kept_turned laws bus micros h ends soon = record {
   idle = h.idle;
   places = h.places;
-  under_way = omega (arith, at_least laws bus.station, ends, soon);
-  longest = omega (arith, at_most laws bus.station, ends);
+  under_way = omega (arith, laws.shortest bus.station, ends, soon);
+  longest = omega (arith, laws.longest bus.station, ends);
 }
 
 kept_waiting : (bus : SeenBus) (micros : ℕ) → IsKept bus → micros < bus.left → IsKept (record bus { left = bus.left - micros })
@@ -150,36 +121,4 @@ plays laws bus (Turn missed) h legal = laws.turn bus.station
 plays laws bus (Passes micros missed) h legal = elim (cases_lt micros bus.left) [
   | inl less ↦ ap (λ (events : List LayoutEvent). played bus.station events) (waits_for bus micros missed less) ∙ sym (ap (λ (b : SeenBus). b.station) (passes_on bus micros missed less))
   | inr ends ↦ ap (λ (events : List LayoutEvent). played bus.station events) (turns_in_it bus micros missed ends) ∙ laws.turn bus.station ∙ sym (ap (λ (b : SeenBus). b.station) (passes_over bus micros missed ends))
-]
-
--- What it is to time.
-
-asked_lasting : (station : Seen) (client : ℕ) (ask : Option Ask) → lasting (told_asked station client ask) ≡ []
-asked_lasting station client None = refl
-asked_lasting station client (Some (Refused reason)) = refl
-asked_lasting station client (Some (Send message)) = refl
-
-no_time : (left left' : ℕ) (turns : List ℕ) → 0 < left → turns ≡ [] → HasPassed left 0 turns left
-no_time left left' turns some none = subst (λ (t : List ℕ). HasPassed left 0 t left) (sym none) (nothing left some)
-
-turn_passed : TurnsAreBounded → (bus : SeenBus) (micros : ℕ) → bus.left ≤ micros → micros ≤ bus.left + 5795 → HasPassed bus.left micros (lasts (packet_of_turn bus.station) ∷ []) (turned bus micros).left
-turn_passed laws bus micros ends soon = begins bus.left micros (lasts (packet_of_turn bus.station)) ends (omega (arith, at_least laws bus.station, soon))
-
-agrees : (bus : SeenBus) (event : Event) (micros : ℕ) (told : Told) (later : SeenBus) → told_by bus event ≡ told → after_event bus event ≡ later
-    → HasPassed bus.left micros (lasting told) later.left → HasPassed bus.left micros (lasting (told_by bus event)) (after_event bus event).left
-agrees bus event micros told later e f passed =
-    subst (λ (t : Told). HasPassed bus.left micros (lasting t) (after_event bus event).left) (sym e)
-    (subst (λ (b : SeenBus). HasPassed bus.left micros (lasting told) b.left) (sym f) passed)
-
-pub passed_by : TurnsAreBounded → (bus : SeenBus) (event : Event) → IsKept bus → is_event event ≡ true
-    → HasPassed bus.left (micros_of bus event) (lasting (told_by bus event)) (after_event bus event).left
-passed_by laws bus (Joins client) h legal = nothing bus.left h.under_way
-passed_by laws bus (Leaves client) h legal = nothing bus.left h.under_way
-passed_by laws bus (Hears client byte) h legal = no_time bus.left bus.left _ h.under_way (asked_lasting bus.station client (ask_at (client_of bus client) byte))
-passed_by laws bus (Turn missed) h legal = turn_passed laws bus bus.left (omega arith) (omega arith)
-passed_by laws bus (Passes micros missed) h legal = elim (cases_lt micros bus.left) [
-  | inl less ↦ agrees bus (Passes micros missed) micros Nothing (record bus { left = bus.left - micros }) (told_on bus micros missed less) (passes_on bus micros missed less)
-      (passes bus.left micros less)
-  | inr ends ↦ agrees bus (Passes micros missed) micros (Turned (packet_of_turn bus.station)) (turned bus micros) (told_over bus micros missed ends) (passes_over bus micros missed ends)
-      (turn_passed laws bus micros ends (omega (arith, leb-true micros 5796 legal, h.under_way)))
 ]

@@ -1,8 +1,5 @@
 -- What the layers below promise of the turns of a station, and of a message that comes whole, as the bus builds on it.
-use Rattle.std.specs.Prelude.{ℕ, ◌≡◌, ◌≤◌, List, [], ◌∷◌, ◌++◌, length, Some, None, IfSome, IsTrue}
-use Rattle.dcc_packet.specs.Packet.{is_checked}
-use Rattle.dcc_packet.specs.Sent.{idle_bytes}
-use Rattle.half_bits.specs.Halves.{duration_of}
+use Rattle.std.specs.Prelude.{ℕ, ◌≡◌, ◌≤◌, List, [], ◌∷◌, ◌++◌, Some, None}
 use Rattle.ln_frame.specs.Message.{IsWhole}
 use Rattle.ln_frame.specs.Stream.{message_at_end}
 use Rattle.ln_frame.specs.Unfinished.{unfinished_of}
@@ -10,15 +7,12 @@ use Rattle.station_core.specs.declared.call.Call.TheVariants.{Byte, Turn}
 use Rattle.station_core.specs.Moved.{after_byte, after_turn, answer_to_byte, packet_of_turn, replied}
 use Rattle.station_core.specs.Runs.{answer_of, state_of}
 use Rattle.station_core.specs.Seen.{Seen}
+use Rattle.bus.specs.Bus.{lasts}
 
--- the shortest and the longest packet of a turn
+-- the shortest and the longest turn of a station, in microseconds
 pub record TurnsAreBounded : Type 0 where
-  pub some : (seen : Seen) → IfSome (packet_of_turn seen) (λ packet. 3 ≤ length packet)
-  pub few : (seen : Seen) → IfSome (packet_of_turn seen) (λ packet. length packet ≤ 5)
-  pub checked : (seen : Seen) → IfSome (packet_of_turn seen) (λ packet. IsTrue (is_checked packet))
-  pub shortest : (packet : List ℕ) → 3 ≤ length packet → IsTrue (is_checked packet) → 5796 ≤ duration_of packet
-  pub longest : (packet : List ℕ) → length packet ≤ 5 → duration_of packet ≤ 10740
-  pub idle : duration_of idle_bytes ≡ 5796
+  pub shortest : (seen : Seen) → 5796 ≤ lasts (packet_of_turn seen)
+  pub longest : (seen : Seen) → lasts (packet_of_turn seen) ≤ 10740
 
 -- what a byte and a turn make of a station, and that a whole message is one, and none before its last byte
 pub record StationMoves : Type 0 where

@@ -1,10 +1,7 @@
 pub mod Below
 pub mod Bus
 pub mod Course
-pub mod Cycle
 pub mod Kept
 pub mod Layout
-pub mod Own
 pub mod Seen
 pub mod Texts
-pub mod Time

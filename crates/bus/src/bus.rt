@@ -2,7 +2,6 @@
 ghost use Rattle.std.specs.Prelude.{◌≡◌, ◌<◌, ◌≤◌, ◌+◌, [], IfErr, IfOk, IsTrue, is_some, length, map, replicate};
 
 use crate::event::{Event, Told};
-use crate::laws;
 use crate::sending::send;
 use crate::turning::{lasts, turn};
 use layout_core::{NodeList, World};
@@ -36,16 +35,10 @@ impl Bus {
     ghost use Rattle.layout_core.specs.World.{HaveHeard, IsSameLayout};
     ghost use Rattle.station_core.specs.Moved.{packet_of_turn};
     ghost use Rattle.station_core.specs.Powered.{HasDesk};
-    ghost use Rattle.station_core.specs.Seen.{known_of};
-    ghost use Rattle.layout_core.specs.Cycle.{RunsAsWanted};
-    ghost use Rattle.layout_core.specs.Played.{after_events as played};
-    ghost use Rattle.bus.specs.Bus.{AreEvents, after_event, after_events, client_of, first_bus, is_event, told_by, told_of, turned};
-    ghost use Rattle.bus.specs.Course.{micros_in, turns_lasting};
-    ghost use Rattle.bus.specs.Cycle.{RunsInTime};
+    ghost use Rattle.bus.specs.Bus.{after_event, client_of, first_bus, is_event, told_by, turned};
     ghost use Rattle.bus.specs.Kept.{IsKept};
-    ghost use Rattle.bus.specs.Layout.{layout_event, layout_events, turn_of};
+    ghost use Rattle.bus.specs.Layout.{layout_event, turn_of};
     ghost use Rattle.bus.specs.Seen.{seen_of};
-    ghost use Rattle.bus.specs.Time.{HasPassed};
 
     /// A new layout of eight lines with these decoders, without clients.
     ///
@@ -109,32 +102,6 @@ impl Bus {
             Event::Hears { client, byte } => self.hear(client, byte),
             Event::Passes { micros, missed } => self.pass(micros, missed),
             Event::Turn { missed } => self.begin(self.left, missed),
-        }
-    }
-
-    /// Each event in order, what is told of it written at its place. A list of events may be cut anywhere.
-    pub fn run(&mut self, events: &[Event], told: &mut [Told])
-        requires places { length events.now ≡ length told.old }
-        requires events { AreEvents events.now }
-        ensures bus { seen_of self.new ≡ after_events (seen_of self.old) events.now }
-        ensures told { told.new ≡ told_of (seen_of self.old) events.now }
-        ensures nodes { HaveHeard self.old.world.station (layout_events (seen_of self.old) events.now) self.old.world.nodes self.new.world.nodes }
-        ensures same { IsSameLayout self.old.world self.new.world }
-        // The layout is that of the events of its own that these are.
-        ensures layout { self.new.world.station ≡ played self.old.world.station (layout_events (seen_of self.old) events.now) }
-        // The turns are those of the time that passed.
-        ensures turns { HasPassed self.old.left (micros_in (seen_of self.old) events.now) (turns_lasting told.new) self.new.left }
-        // A locomotive that hears a full refresh cycle runs as its slot says.
-        ensures headline { RunsAsWanted (known_of self.old.world.station) (layout_events (seen_of self.old) events.now) self.old.world.nodes self.new.world.nodes }
-        // So does one that hears everything for 171,840 microseconds for each slot that is refreshed.
-        ensures in_time { RunsInTime (seen_of self.old) events.now self.old.world.nodes self.new.world.nodes }
-    {
-        laws::events_are_the_layout();
-        laws::headline();
-        layout_core::laws::events_add_up();
-        self.world.station().always_legal();
-        for (i, event) in events.iter().enumerate() {
-            told[i] = self.step(*event);
         }
     }
 

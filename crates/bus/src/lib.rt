@@ -7,12 +7,10 @@ mod event;
 pub mod laws;
 mod sending;
 mod texts;
-mod time;
 mod turning;
 mod witness;
 
 pub use bus::Bus;
 pub use event::{Event, Told};
-pub use laws::{events_are_the_layout, headline, however_cut, own_lines, told_since_joining};
-pub use time::time_adds_up;
+pub use laws::{events_are_the_layout, turns_are_bounded};
 pub use witness::Witness;

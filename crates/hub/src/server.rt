@@ -267,7 +267,7 @@ impl Server {
         ensures turns { self.new.turns ≡ self.old.turns }
         ensures passed { OnOk result (HasPassed micros (serving self.old.hub) (serving self.new.hub)) }
     {
-        bus::laws::headline();
+        bus::laws::events_are_the_layout();
         layout_core::laws::events_add_up();
         self.hub.bus.always_kept();
         let mut rest = micros;
@@ -314,7 +314,7 @@ impl Server {
         ensures turns { self.new.turns ≡ self.old.turns }
         ensures happened { OnOk result (Brings self.old.turns event (serving self.old.hub) (serving self.new.hub)) }
     {
-        bus::laws::headline();
+        bus::laws::events_are_the_layout();
         self.hub.bus.always_kept();
         let told = self.hub.step(event);
         witness.told(&told, self.hub.bus.world())?;
@@ -329,7 +329,7 @@ impl Server {
         ensures turns { self.new.turns ≡ self.old.turns }
         ensures happened { OnOk result ((behind : List BusEvent) × AreTurns turns behind × HaveHappened behind (serving self.old.hub) (serving self.new.hub)) }
     {
-        bus::laws::headline();
+        bus::laws::events_are_the_layout();
         layout_core::laws::events_add_up();
         self.hub.bus.always_kept();
         for _turn in 0..turns {

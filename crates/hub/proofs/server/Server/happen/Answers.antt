@@ -17,7 +17,7 @@ returns-clause-happened g c =
       c.requires.place,
       behind.0,
       subst (λ (n : ℕ). AreTurns n behind.0) count behind.1,
-      happened_more c.headline.ensures.more (c.args.event ∷ []) behind.0 old (serving c.step-told.new.self) (serving c.run_turns.new.self.hub)
+      happened_more c.events_are_the_layout.ensures.more (c.args.event ∷ []) behind.0 old (serving c.step-told.new.self) (serving c.run_turns.new.self.hub)
           c.always_kept.ensures.kept c.step-told.ensures.happened behind.2,
     ))
     c.run_turns.ensures.happened

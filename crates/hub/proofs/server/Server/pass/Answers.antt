@@ -25,7 +25,7 @@ loop-rest-preserved g c =
       passed = (
         so_far.0 + piece,
         omega (arith, so_far.1, c.min-piece.ensures),
-        more_time c.headline.ensures.more so_far.0 piece c.draw_within-missed.result (serving c.args.self.now.hub) (serving c.loop-rest.self.hub) (serving c.step-told.new.self)
+        more_time c.events_are_the_layout.ensures.more so_far.0 piece c.draw_within-missed.result (serving c.args.self.now.hub) (serving c.loop-rest.self.hub) (serving c.step-told.new.self)
             c.always_kept.ensures.kept so_far.2 now,
       );
     }

@@ -24,7 +24,7 @@ loop-turn-preserved g c =
       happened = (
         so_far.0 ++ Turn c.draw-missed.result ∷ [],
         turns_more c.loop-turn._turn c.draw-missed.result so_far.0 so_far.1,
-        happened_more c.headline.ensures.more so_far.0 (Turn c.draw-missed.result ∷ []) (serving c.args.self.now.hub) (serving c.loop-turn.self.hub) (serving c.step-told.new.self)
+        happened_more c.events_are_the_layout.ensures.more so_far.0 (Turn c.draw-missed.result ∷ []) (serving c.args.self.now.hub) (serving c.loop-turn.self.hub) (serving c.step-told.new.self)
             c.always_kept.ensures.kept so_far.2 now,
       );
     }

@@ -1,5 +1,5 @@
-use Rattle.bus.proofs.Own.{own, visit_so_far, whole_visit}
-use Rattle.bus.proofs.laws.own_lines.Goals as goal
+use Rattle.bus_runs.proofs.Own.{own, visit_so_far, whole_visit}
+use Rattle.bus_runs.proofs.laws.own_lines.Goals as goal
 
 pub returns : goal.returns
 returns c = record {

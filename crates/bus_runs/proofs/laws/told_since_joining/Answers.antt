@@ -1,7 +1,7 @@
 use Rattle.std.proofs.Common.{sym}
-use Rattle.bus.proofs.Telling.{bystander, came, goes_on, gone, joins, leaves, stayed}
-use Rattle.bus.proofs.There.{who_is_there}
-use Rattle.bus.proofs.laws.told_since_joining.Goals as goal
+use Rattle.bus_runs.proofs.Telling.{bystander, came, goes_on, gone, joins, leaves, stayed}
+use Rattle.bus_runs.proofs.There.{who_is_there}
+use Rattle.bus_runs.proofs.laws.told_since_joining.Goals as goal
 
 pub returns : goal.returns
 returns c = record {

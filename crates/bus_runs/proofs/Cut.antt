@@ -8,8 +8,8 @@ use Rattle.bus.specs.declared.event.Event.TheVariants.{Joins, Hears, Leaves, Pas
 use Rattle.bus.specs.declared.event.Told.TheVariants.{Nothing, Turned}
 use Rattle.bus.specs.Bus.{SeenBus, after_events, lasts, told_of, turned}
 use Rattle.bus.specs.Course.{is_time, lasting, micros_in, turns_lasting}
-use Rattle.bus.specs.Time.{HasPassed}
-use Rattle.bus.proofs.Account.{same}
+use Rattle.bus_runs.specs.Time.{HasPassed}
+use Rattle.bus_runs.proofs.Account.{same}
 
 -- what so many turns of a station last, and the station behind them
 durations : ℕ → Seen → List ℕ

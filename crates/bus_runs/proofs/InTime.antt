@@ -1,5 +1,5 @@
 -- From a cycle told by time to one told by turns.
-use Rattle.std.proofs.Common.{◌≡◌, ℕ, ◌+◌, ◌*◌, ◌≤◌, Bool, true, false, if◌then◌else◌, nat_le, List, [], ◌∷◌, ◌++◌, All, length, Option, Some, None, refl, ap, sym, subst, ◌∙◌, arith, append_assoc, length-append}
+use Rattle.std.proofs.Common.{◌≡◌, ℕ, ◌+◌, ◌*◌, ◌≤◌, Bool, true, false, if◌then◌else◌, nat_le, List, [], ◌∷◌, ◌++◌, All, length, Option, Some, None, refl, ap, subst, ◌∙◌, arith, length-append}
 use Rattle.std.specs.List.{list_all}
 use Rattle.std.proofs.lemmas.Bool.{and_parts, and_from}
 use Rattle.std.proofs.lemmas.List.Elements.{All-append, All-cons, All-nil}
@@ -20,25 +20,12 @@ use Rattle.bus.specs.declared.event.Event.TheVariants.{Joins, Hears, Leaves, Pas
 use Rattle.bus.specs.declared.event.Told.TheVariants.{Nothing, Turned}
 use Rattle.bus.specs.Bus.{AreEvents, SeenBus, after_event, after_events, ask_at, client_of, is_event, lasts, told_asked, told_by, told_of}
 use Rattle.bus.specs.Course.{lasting, micros_in, turns_lasting}
-use Rattle.bus.specs.Cycle.{IsTimedCycleOf, RunsInTime}
+use Rattle.bus_runs.specs.Cycle.{IsTimedCycleOf, RunsInTime}
 use Rattle.bus.specs.Kept.{IsKept}
 use Rattle.bus.specs.Layout.{bytes_on, layout_asked, layout_event, layout_events, turn_of}
-use Rattle.bus.specs.Time.{HasPassed}
-use Rattle.bus.proofs.Account.{enough}
+use Rattle.bus_runs.specs.Time.{HasPassed}
+use Rattle.bus_runs.proofs.Account.{enough}
 use Rattle.bus.specs.Below.{TurnsAreBounded}
-use Rattle.bus.proofs.Steps.{at_most}
-
--- The events of the layout of events, and of more behind them.
-
-pub layout-append : (events later : List Event) (bus : SeenBus) → layout_events bus (events ++ later) ≡ layout_events bus events ++ layout_events (after_events bus events) later
-layout-append [] later bus = refl
-layout-append (event ∷ events) later bus =
-    ap (λ (rest : List LayoutEvent). layout_event bus event ++ rest) (layout-append events later (after_event bus event))
-    ∙ sym (append_assoc (layout_event bus event) (layout_events (after_event bus event) events) (layout_events (after_events (after_event bus event) events) later))
-
-pub after-append : (events later : List Event) (bus : SeenBus) → after_events bus (events ++ later) ≡ after_events (after_events bus events) later
-after-append [] later bus = refl
-after-append (event ∷ events) later bus = after-append events later (after_event bus event)
 
 -- No noise is among them.
 
@@ -124,7 +111,7 @@ asked_short station client (Some (Refused reason)) = All-nil IsShort
 asked_short station client (Some (Send message)) = All-nil IsShort
 
 turn_short : TurnsAreBounded → (bus : SeenBus) → All IsShort (lasting (Turned (packet_of_turn bus.station)))
-turn_short laws bus = All-cons IsShort (lasts (packet_of_turn bus.station)) [] (at_most laws bus.station) (All-nil IsShort)
+turn_short laws bus = All-cons IsShort (lasts (packet_of_turn bus.station)) [] (laws.longest bus.station) (All-nil IsShort)
 
 passing_short : TurnsAreBounded → (bus : SeenBus) (ends : Bool) → All IsShort (lasting (if ends then Turned (packet_of_turn bus.station) else Nothing))
 passing_short laws bus true = turn_short laws bus
@@ -171,14 +158,16 @@ end_legal : (these those : List Event) → AreEvents (these ++ those) → AreEve
 end_legal [] those legal = legal
 end_legal (event ∷ these) those legal = end_legal these those ((and_parts (is_event event) (list_all is_event (these ++ those)) legal).1)
 
-pub runs_in_time : TurnsAreBounded → ((bus : SeenBus) (events : List Event) → IsKept bus → AreEvents events → IsKept (after_events bus events))
+pub runs_in_time : TurnsAreBounded
+    → ((bus : SeenBus) (events later : List Event) → layout_events bus (events ++ later) ≡ layout_events bus events ++ layout_events (after_events bus events) later)
+    → ((bus : SeenBus) (events : List Event) → IsKept bus → AreEvents events → IsKept (after_events bus events))
     → ((bus : SeenBus) (events : List Event) → IsKept bus → AreEvents events → HasPassed bus.left (micros_in bus events) (turns_lasting (told_of bus events)) (after_events bus events).left)
     → (start : SeenBus) (events : List Event) (old new : List Node) → IsKept start → AreEvents events
     → RunsAsWanted (known_of start.station) (layout_events start events) old new → RunsInTime start events old new
-runs_in_time laws keeps passes start events old new h legal runs before cycle i loco none split below stands slot a e between hears timed =
+runs_in_time laws cut keeps passes start events old new h legal runs before cycle i loco none split below stands slot a e between hears timed =
     let mid : SeenBus = after_events start before in
     let both : AreEvents (before ++ cycle) = subst AreEvents split legal in
     let kept : IsKept mid = keeps start before h (front_legal before cycle both) in
     runs (layout_events start before) (layout_events mid cycle) i loco none
-    (ap (layout_events start) split ∙ layout-append before cycle start) below stands slot a e between (quiet i before start) hears
+    (ap (layout_events start) split ∙ cut start before cycle) below stands slot a e between (quiet i before start) hears
     (full laws slot a e (known_after_all (known_of start.station) (calls_in (layout_events start before))) mid cycle kept (passes mid cycle kept (end_legal before cycle both)) timed)

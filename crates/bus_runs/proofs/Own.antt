@@ -14,7 +14,7 @@ use Rattle.bus.specs.declared.event.Event.{Event}
 use Rattle.bus.specs.declared.event.Event.TheVariants.{Joins, Hears, Leaves, Passes, Turn}
 use Rattle.bus.specs.declared.event.Told.TheVariants.{Nothing, Turned}
 use Rattle.bus.specs.Bus.{AreEvents, SeenBus, after_event, ask_at, client_of, is_event, kept_at, told_asked, told_of, turned}
-use Rattle.bus.specs.Own.{keeps_place, message_on, messages_on, own_asks, sends_in, text_from}
+use Rattle.bus_runs.specs.Own.{keeps_place, message_on, messages_on, own_asks, sends_in, text_from}
 
 -- ---- what is kept of the text of client i, once that of client c is this
 

@@ -13,8 +13,8 @@ use Rattle.bus.specs.declared.event.Event.TheVariants.{Joins, Hears, Leaves, Pas
 use Rattle.bus.specs.declared.event.Told.{Told}
 use Rattle.bus.specs.declared.event.Told.TheVariants.{Nothing, Turned}
 use Rattle.bus.specs.Bus.{AreEvents, SeenBus, after_event, after_events, ask_at, client_of, first_bus, is_event, kept_at, told_asked, told_by, told_of}
-use Rattle.bus.specs.Texts.{is_joining, is_leaving, is_some_told, is_there, moves, since_joined, stays}
-use Rattle.bus.proofs.Own.{place, same_clients}
+use Rattle.bus_runs.specs.Since.{is_joining, is_leaving, is_some_told, is_there, moves, since_joined, stays}
+use Rattle.bus_runs.proofs.Own.{place, same_clients}
 
 -- whether somebody is there behind an event, by whether somebody was
 

@@ -4,7 +4,7 @@ use Rattle.std.proofs.lemmas.Bool.{cases_lt}
 use Rattle.std.proofs.lemmas.List.Elements.{All-head, All-tail}
 use Rattle.std.proofs.lemmas.List.Sums.{sum_by-append, sum_by-cons, sum_by-le}
 use Rattle.std.proofs.Math.Nat.{mul-le-mul_left}
-use Rattle.bus.specs.Time.{last_or, HasPassed}
+use Rattle.bus_runs.specs.Time.{last_or, HasPassed}
 
 -- ---- sums and last turns
 

@@ -1,0 +1,4 @@
+pub mod Cycle
+pub mod Own
+pub mod Since
+pub mod Time
