@@ -1,10 +1,10 @@
 //! The clients of the bus on their sockets, and what each page of them was told of the decoders.
-ghost use Rattle.std.specs.Prelude.{◌≡◌, None, map};
+ghost use Rattle.std.specs.Prelude.{◌≡◌, map};
 ghost use Rattle.bus_lines.specs.Decoders.{entries_of, specs_of};
 ghost use Rattle.layout_core.specs.Nodes.{spec_of};
 
 use bus_lines::{Board, Printer};
-use hub::{Came, PLACES, Wire};
+use hub::PLACES;
 use layout_core::World;
 use mio::Poll;
 use mio::net::TcpListener;
@@ -15,7 +15,7 @@ use std::io;
 use std::io::Write;
 use std::net::{Net, SocketAddr};
 
-/// The sockets, and what each page that has a place was told of the decoders.
+/// The sockets, and what the page at each place was told of the decoders.
 #[derive(Drop)]
 pub(crate) struct Clients {
     pub(crate) sockets: Sockets,
@@ -54,36 +54,14 @@ impl Clients {
         requires { map spec_of world.now.nodes ≡ specs_of (entries_of printer.now.roster) }
     {
         for (place, board) in self.boards.iter_mut().enumerate() {
-            if let Some(guest) = self.sockets.guest(place) {
-                tell(guest, board, printer, world);
+            let Some(guest) = self.sockets.guest(place) else {
+                continue;
+            };
+            if guest.is_new() {
+                *board = Board::new();
             }
+            tell(guest, board, printer, world);
         }
-    }
-}
-
-impl Wire for Clients {
-    ghost passed = { λ _. None };
-
-    fn let_in(&mut self, client: u8) -> bool {
-        // Who comes was told nothing yet.
-        self.boards[usize::from(client)] = Board::new();
-        self.sockets.let_in(client)
-    }
-
-    fn turn_away(&mut self) -> bool {
-        self.sockets.turn_away()
-    }
-
-    fn read(&mut self, client: u8, room: &mut [u8]) -> Came {
-        self.sockets.read(client, room)
-    }
-
-    fn write(&mut self, client: u8, bytes: &[u8]) -> Came {
-        self.sockets.write(client, bytes)
-    }
-
-    fn close(&mut self, client: u8) {
-        self.sockets.close(client);
     }
 }
 

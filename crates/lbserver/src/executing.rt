@@ -209,7 +209,7 @@ fn go_round<O: Write>(
     ensures { Watches (specs_of (entries_of printer.new.roster)) server.new.hub }
 {
     attend(rt, &mut clients.sockets, clock, longest_wait(server))?;
-    server.round(clients, printer)?;
+    server.round(&mut clients.sockets, printer)?;
     if server.turns().is_none() {
         let micros = clock.passed(rt)?;
         pass(server, printer, micros)?;

@@ -1,6 +1,8 @@
 //! A page that joined, as a stream of lines.
-ghost use Rattle.std.specs.Prelude.{◌≡◌, ◌≢◌, ◌<◌, ◌≤◌, ◌∷◌, ◌++◌, [], IfErr, IfOk, List, OnOk, length, take, true, false, ℕ};
+ghost use Rattle.std.specs.Prelude.{◌≡◌, ◌≢◌, ◌<◌, ◌≤◌, ◌∷◌, ◌++◌, [], Err, IfErr, IfOk, List, OnOk, length, take, true, false, ℕ};
 ghost use Rattle.std.specs.IoError.{error_kind};
+ghost use Rattle.tungstenite.specs.declared.error.Error.TheVariants.{WriteBufferFull};
+ghost use Rattle.tungstenite.specs.Failure.{IsIo};
 ghost use Rattle.tungstenite.specs.Socket.{Flushed};
 ghost use Rattle.pages.specs.Hearing.{Hears};
 ghost use Rattle.pages.specs.Messages.{held_along, messages_along, without_return};
@@ -159,9 +161,14 @@ impl<S: Read + Write + Drop> Page<S> {
     /// Tells the page that the server goes, where it can be told, and ends the stream.
     pub fn close(&mut self) {
         self.has_gone = true;
+        self.end(CloseCode::Away);
+    }
+
+    /// Ends the WebSocket for this reason, in whatever state it is.
+    fn end(&mut self, code: CloseCode) {
         // Whoever has gone already need not be told.
         let _ = self.socket.close(Some(CloseFrame {
-            code: CloseCode::Away,
+            code,
             reason: Utf8Bytes::from_static(""),
         }));
     }
@@ -174,7 +181,10 @@ impl<S: Read + Write + Drop> Page<S> {
     {
         match self.socket.read() {
             Ok(Message::Text(text)) => Ok(self.hear_text(text.as_bytes())),
-            Ok(Message::Binary(_)) => Ok(self.refuse(CloseCode::Unsupported)),
+            Ok(Message::Binary(_)) => {
+                self.end(CloseCode::Unsupported);
+                Ok(false)
+            }
             Ok(_) => Err(io::Error::from(ErrorKind::Interrupted)),
             Err(Error::Io(error)) => Err(error),
             Err(_) => Ok(false),
@@ -187,21 +197,11 @@ impl<S: Read + Write + Drop> Page<S> {
         ensures socket { result ≡ true → self.new.socket ≡ self.old.socket }
     {
         if text.len() > LONGEST_LINE {
-            return self.refuse(CloseCode::Size);
+            self.end(CloseCode::Size);
+            return false;
         }
         self.heard.hear(text);
         true
-    }
-
-    /// Ends the WebSocket for this reason: false.
-    fn refuse(&mut self, code: CloseCode) -> bool
-        ensures { result ≡ false }
-    {
-        let _ = self.socket.close(Some(CloseFrame {
-            code,
-            reason: Utf8Bytes::from_static(""),
-        }));
-        false
     }
 
     /// Takes bytes from the front, each line that ends becoming a message, until too much waits.
@@ -252,12 +252,7 @@ impl<S: Read + Write + Drop> Page<S> {
         ensures unfinished { self.new.unfinished ≡ self.old.unfinished }
         ensures prompt { IfErr result (λ e. error_kind e ≢ ErrorKind.WouldBlock) }
     {
-        match self.socket.flush() {
-            Ok(()) => Ok(()),
-            Err(Error::Io(error)) if error.kind() == ErrorKind::WouldBlock => Ok(()),
-            Err(Error::Io(error)) => Err(error),
-            Err(error) => Err(broken(&error)),
-        }
+        as_written(self.socket.flush())
     }
 }
 
@@ -292,22 +287,21 @@ fn say<S: Read + Write + Drop>(
     let Ok(message) = Message::text(alloc, text) else {
         return Err(io::Error::from(ErrorKind::OutOfMemory));
     };
-    match socket.write(message) {
-        Ok(()) => Ok(()),
-        // It waits; only the stream takes nothing now.
-        Err(Error::Io(error)) if error.kind() == ErrorKind::WouldBlock => Ok(()),
-        Err(Error::WriteBufferFull) => Err(io::Error::from(ErrorKind::WouldBlock)),
-        Err(Error::Io(error)) => Err(error),
-        Err(error) => Err(broken(&error)),
-    }
+    as_written(socket.write(message))
 }
 
-/// A failure of the WebSocket, other than of its stream, as one of a stream.
-fn broken(error: &Error) -> io::Error
-    ensures { error_kind result ≢ ErrorKind.WouldBlock }
+/// What a write of the WebSocket came to, as that of a stream. Where only the stream takes nothing now, what was written
+/// waits. `WouldBlock` where it was not taken, since too much waits.
+fn as_written(written: Result<(), Error>) -> io::Result<()>
+    ensures taken { OnOk result (IfErr written IsIo) }
+    ensures full { IfErr result (λ e. error_kind e ≡ ErrorKind.WouldBlock → written ≡ Err WriteBufferFull) }
 {
-    match error {
-        Error::OutOfMemory => io::Error::from(ErrorKind::OutOfMemory),
-        _ => io::Error::from(ErrorKind::BrokenPipe),
+    match written {
+        Ok(()) => Ok(()),
+        Err(Error::Io(error)) if error.kind() == ErrorKind::WouldBlock => Ok(()),
+        Err(Error::Io(error)) => Err(error),
+        Err(Error::WriteBufferFull) => Err(io::Error::from(ErrorKind::WouldBlock)),
+        Err(Error::OutOfMemory) => Err(io::Error::from(ErrorKind::OutOfMemory)),
+        Err(_) => Err(io::Error::from(ErrorKind::BrokenPipe)),
     }
 }

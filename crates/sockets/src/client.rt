@@ -1,4 +1,5 @@
 //! Who has a place on the bus, and the stream.
+ghost use Rattle.std.specs.Prelude.{◌≡◌, false};
 ghost use Rattle.std.specs.Io.{ReadsAtMost, WritesAtMost};
 
 use mio::net::TcpStream;
@@ -44,6 +45,7 @@ impl Client {
 #[derive(Drop)]
 pub struct Guest {
     page: Page<TcpStream>,
+    is_new: bool,
     /// Text of the bus was told: the first is the version, before which nothing is told.
     is_greeted: bool,
 }
@@ -53,8 +55,19 @@ impl Guest {
     pub(crate) fn new(page: Page<TcpStream>) -> Guest {
         Guest {
             page,
+            is_new: true,
             is_greeted: false,
         }
+    }
+
+    /// Whether this is asked for the first time, so that whoever keeps what was told to the page at a place begins anew.
+    pub fn is_new(&mut self) -> bool
+        ensures first { result ≡ self.old.is_new }
+        ensures once { self.new.is_new ≡ false }
+    {
+        let is_new = self.is_new;
+        self.is_new = false;
+        is_new
     }
 
     /// Whether it can be told something beside the lines: text of the bus was told before. What waits goes out first, as far

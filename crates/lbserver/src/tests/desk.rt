@@ -129,7 +129,8 @@ impl<'a> Desk<'a> {
     pub(crate) fn rounds(&mut self, count: u32) -> Result<(), Fail> {
         for _round in 0..count {
             self.clients.sockets.answer(self.now);
-            self.server.round(&mut self.clients, &mut self.printer)?;
+            self.server
+                .round(&mut self.clients.sockets, &mut self.printer)?;
             self.clients.tell_pages(&self.printer, self.server.world());
         }
         Ok(())
