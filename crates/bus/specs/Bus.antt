@@ -13,8 +13,8 @@ use Rattle.station_core.specs.Moved.{after_message, answer_to_message, after_tur
 use Rattle.station_core.specs.Seen.{Seen, first_seen}
 use Rattle.bus.specs.declared.event.Event.{Event}
 use Rattle.bus.specs.declared.event.Event.TheVariants.{Joins, Hears, Leaves, Passes, Turn}
-use Rattle.bus.specs.declared.event.Told.{Told}
-use Rattle.bus.specs.declared.event.Told.TheVariants.{Nothing, Joined, Left, Refused, Sent, Turned}
+use Rattle.over_tcp.specs.declared.told.Told.{Told}
+use Rattle.over_tcp.specs.declared.told.Told.TheVariants.{Nothing, Joined, Left, Refused, Sent, Turned}
 
 -- what clients can make of a bus, and what its time makes of it: the station, of each client what is kept of its text, or
 -- nothing where no client is, and the microseconds that are left of the turn under way

@@ -4,4 +4,3 @@ pub mod Course
 pub mod Kept
 pub mod Layout
 pub mod Seen
-pub mod Texts

@@ -1,11 +1,11 @@
 //! The bus.
 ghost use Rattle.std.specs.Prelude.{◌≡◌, ◌<◌, ◌≤◌, ◌+◌, [], IfErr, IfOk, IsTrue, is_some, length, map, replicate};
 
-use crate::event::{Event, Told};
+use crate::event::Event;
 use crate::sending::send;
 use crate::turning::{lasts, turn};
 use layout_core::{NodeList, World};
-use over_tcp::{Ask, Reader};
+use over_tcp::{Ask, Reader, Told};
 use station_core::StationFault;
 use std::alloc::Global;
 

@@ -6,11 +6,11 @@ mod bus;
 mod event;
 pub mod laws;
 mod sending;
-mod texts;
 mod turning;
 mod witness;
 
 pub use bus::Bus;
-pub use event::{Event, Told};
+pub use event::Event;
 pub use laws::{events_are_the_layout, turns_are_bounded};
+pub use over_tcp::Told;
 pub use witness::Witness;

@@ -3,8 +3,8 @@ ghost use Rattle.std.specs.Prelude.{◌≡◌, ◌<◌, List, map};
 ghost use Rattle.decoder_node.specs.declared.node.NodeSpec.{NodeSpec};
 ghost use Rattle.layout_core.specs.Nodes.{spec_of};
 
-use crate::event::Told;
 use layout_core::World;
+use over_tcp::Told;
 
 /// Who sees what happens, as it happens.
 pub trait Witness {

@@ -9,9 +9,9 @@ use Rattle.layout_core.specs.Standings.{decoder_line, same_standing, standing_of
 use Rattle.roster.specs.Entry.{Entry}
 use Rattle.show_text.specs.Lines.{track_text}
 use Rattle.show_text.specs.Messages.{message_text}
-use Rattle.bus.specs.declared.event.Told.{Told}
-use Rattle.bus.specs.declared.event.Told.TheVariants.{Nothing, Joined, Left, Refused, Sent, Turned}
-use Rattle.bus.specs.Texts.{messages_in}
+use Rattle.over_tcp.specs.declared.told.Told.{Told}
+use Rattle.over_tcp.specs.declared.told.Told.TheVariants.{Nothing, Joined, Left, Refused, Sent, Turned}
+use Rattle.over_tcp.specs.Texts.{messages_in}
 
 -- What is remembered of what was told: the turns and the clients that have gone, and how each decoder stood when it was
 -- printed last, or at the start.

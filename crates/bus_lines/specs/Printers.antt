@@ -3,7 +3,7 @@ use Rattle.std.specs.Prelude.{ℕ, List, map}
 use Rattle.layout_core.specs.declared.node.Node.{Node}
 use Rattle.layout_core.specs.declared.standing.Standing.{Standing}
 use Rattle.layout_core.specs.Standings.{standing_of}
-use Rattle.bus.specs.declared.event.Told.{Told}
+use Rattle.over_tcp.specs.declared.told.Told.{Told}
 use Rattle.console.specs.Printed.{lines_text}
 use Rattle.bus_lines.specs.declared.printer.Printer.{Printer}
 use Rattle.bus_lines.specs.Decoders.{entries_of}

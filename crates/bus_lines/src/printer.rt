@@ -50,7 +50,7 @@ pub struct Printer<'a, O> {
 impl<'a, O: Write> Printer<'a, O> {
     ghost use Rattle.bus_lines.specs.Printers.{remembered, standings_of, text_of};
     ghost use Rattle.bus_lines.specs.Lines.{first_remembered, line_at, remembered_after};
-    ghost use Rattle.bus.specs.declared.event.Told.TheVariants.{Turned};
+    ghost use Rattle.over_tcp.specs.declared.told.Told.TheVariants.{Turned};
 
     /// A printer of what happens on a layout with the decoders of this roster, or none; `track`: packets too.
     ///

@@ -5,7 +5,7 @@ use Rattle.station_core.specs.Moved.{after_turn, packet_of_turn}
 use Rattle.station_core.specs.Seen.{Seen}
 use Rattle.bus.specs.declared.event.Event.{Event}
 use Rattle.bus.specs.declared.event.Event.TheVariants.{Joins, Hears, Leaves, Passes, Turn}
-use Rattle.bus.specs.declared.event.Told.TheVariants.{Nothing, Turned}
+use Rattle.over_tcp.specs.declared.told.Told.TheVariants.{Nothing, Turned}
 use Rattle.bus.specs.Bus.{SeenBus, after_events, lasts, told_of, turned}
 use Rattle.bus.specs.Course.{is_time, lasting, micros_in, turns_lasting}
 use Rattle.bus_runs.specs.Time.{HasPassed}

@@ -17,7 +17,7 @@ use Rattle.layout_core.specs.Cycle.{IsCycleOf, RunsAsWanted}
 use Rattle.layout_core.specs.Events.{NoNoise, calls_in}
 use Rattle.bus.specs.declared.event.Event.{Event}
 use Rattle.bus.specs.declared.event.Event.TheVariants.{Joins, Hears, Leaves, Passes, Turn}
-use Rattle.bus.specs.declared.event.Told.TheVariants.{Nothing, Turned}
+use Rattle.over_tcp.specs.declared.told.Told.TheVariants.{Nothing, Turned}
 use Rattle.bus.specs.Bus.{AreEvents, SeenBus, after_event, after_events, ask_at, client_of, is_event, lasts, told_asked, told_by, told_of}
 use Rattle.bus.specs.Course.{lasting, micros_in, turns_lasting}
 use Rattle.bus_runs.specs.Cycle.{IsTimedCycleOf, RunsInTime}

@@ -12,7 +12,7 @@ use Rattle.station_core.specs.Seen.{Seen}
 use Rattle.station_core.specs.Moved.{packet_of_turn}
 use Rattle.bus.specs.declared.event.Event.{Event}
 use Rattle.bus.specs.declared.event.Event.TheVariants.{Joins, Hears, Leaves, Passes, Turn}
-use Rattle.bus.specs.declared.event.Told.TheVariants.{Nothing, Turned}
+use Rattle.over_tcp.specs.declared.told.Told.TheVariants.{Nothing, Turned}
 use Rattle.bus.specs.Bus.{AreEvents, SeenBus, after_event, ask_at, client_of, is_event, kept_at, told_asked, told_of, turned}
 use Rattle.bus_runs.specs.Own.{keeps_place, message_on, messages_on, own_asks, sends_in, text_from}
 

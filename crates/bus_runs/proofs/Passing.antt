@@ -9,7 +9,7 @@ use Rattle.station_core.specs.Moved.{packet_of_turn}
 use Rattle.station_core.specs.Seen.{Seen}
 use Rattle.bus.specs.declared.event.Event.{Event}
 use Rattle.bus.specs.declared.event.Event.TheVariants.{Joins, Hears, Leaves, Passes, Turn}
-use Rattle.bus.specs.declared.event.Told.TheVariants.{Nothing, Turned}
+use Rattle.over_tcp.specs.declared.told.Told.TheVariants.{Nothing, Turned}
 use Rattle.bus.specs.Below.{TurnsAreBounded}
 use Rattle.bus.specs.Bus.{AreEvents, SeenBus, after_event, after_events, ask_at, client_of, is_event, lasts, told_asked, told_by, told_of, turned}
 use Rattle.bus.specs.Course.{lasting, micros_in, micros_of, turns_lasting}

@@ -8,9 +8,9 @@ use Rattle.std.proofs.lemmas.Grind.{flat_map-append}
 use Rattle.std.proofs.lemmas.List.Folds.{list_all-append}
 use Rattle.over_tcp.specs.declared.ask.Reason.{Reason}
 use Rattle.over_tcp.specs.Told.{receive_text, sent_error_text, sent_ok_text, version_text}
-use Rattle.bus.specs.declared.event.Told.{Told}
-use Rattle.bus.specs.declared.event.Told.TheVariants.{Nothing, Joined, Left, Refused, Sent, Turned}
-use Rattle.bus.specs.Texts.{messages_in, reply_text, text_for}
+use Rattle.over_tcp.specs.declared.told.Told.{Told}
+use Rattle.over_tcp.specs.declared.told.Told.TheVariants.{Nothing, Joined, Left, Refused, Sent, Turned}
+use Rattle.over_tcp.specs.Texts.{messages_in, reply_text, text_for}
 use Rattle.bus_runs.specs.Since.{asks_to_send, heard_since, is_joining, is_leaving, is_quiet, is_some_told, is_there, moves, since_joined, stays, traffic}
 
 -- ---- one more event

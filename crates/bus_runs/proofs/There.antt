@@ -10,8 +10,8 @@ use Rattle.station_core.specs.Seen.{Seen}
 use Rattle.station_core.specs.Moved.{packet_of_turn}
 use Rattle.bus.specs.declared.event.Event.{Event}
 use Rattle.bus.specs.declared.event.Event.TheVariants.{Joins, Hears, Leaves, Passes, Turn}
-use Rattle.bus.specs.declared.event.Told.{Told}
-use Rattle.bus.specs.declared.event.Told.TheVariants.{Nothing, Turned}
+use Rattle.over_tcp.specs.declared.told.Told.{Told}
+use Rattle.over_tcp.specs.declared.told.Told.TheVariants.{Nothing, Turned}
 use Rattle.bus.specs.Bus.{AreEvents, SeenBus, after_event, after_events, ask_at, client_of, first_bus, is_event, kept_at, told_asked, told_by, told_of}
 use Rattle.bus_runs.specs.Since.{is_joining, is_leaving, is_some_told, is_there, moves, since_joined, stays}
 use Rattle.bus_runs.proofs.Own.{place, same_clients}

@@ -6,8 +6,8 @@ use Rattle.over_tcp.specs.declared.ask.Ask.{Ask}
 use Rattle.over_tcp.specs.declared.ask.Ask.TheVariants.{Send, Refused as NoMessage}
 use Rattle.bus.specs.declared.event.Event.{Event}
 use Rattle.bus.specs.declared.event.Event.TheVariants.{Joins, Hears, Leaves, Passes, Turn}
-use Rattle.bus.specs.declared.event.Told.{Told}
-use Rattle.bus.specs.declared.event.Told.TheVariants.{Sent}
+use Rattle.over_tcp.specs.declared.told.Told.{Told}
+use Rattle.over_tcp.specs.declared.told.Told.TheVariants.{Sent}
 use Rattle.bus.specs.Bus.{ask_at, kept_at}
 
 -- the message that was put on line i

@@ -1,9 +1,9 @@
 -- What each client was told since it joined, of all that was told.
 use Rattle.std.specs.Prelude.{ℕ, Bool, true, false, ◌&&◌, ◌||◌, ◌==◌, if◌then◌else◌, not, List, [], ◌∷◌}
 use Rattle.std.specs.List.{flat_map, list_all}
-use Rattle.bus.specs.declared.event.Told.{Told}
-use Rattle.bus.specs.declared.event.Told.TheVariants.{Joined, Left, Refused, Sent}
-use Rattle.bus.specs.Texts.{messages_in, text_for}
+use Rattle.over_tcp.specs.declared.told.Told.{Told}
+use Rattle.over_tcp.specs.declared.told.Told.TheVariants.{Joined, Left, Refused, Sent}
+use Rattle.over_tcp.specs.Texts.{messages_in, text_for}
 
 abbrev pub is_joining : (client : ℕ) → Told → Bool
 is_joining i (Joined client) = client == i

@@ -8,10 +8,10 @@ use Rattle.std.proofs.lemmas.List.Elements.{filter-append}
 use Rattle.std.proofs.lemmas.List.Folds.{list_any-append}
 use Rattle.bus.specs.declared.event.Event.{Event}
 use Rattle.bus.specs.declared.event.Event.TheVariants.{Joins, Leaves}
-use Rattle.bus.specs.declared.event.Told.{Told}
-use Rattle.bus.specs.declared.event.Told.TheVariants.{Joined}
+use Rattle.over_tcp.specs.declared.told.Told.{Told}
+use Rattle.over_tcp.specs.declared.told.Told.TheVariants.{Joined}
 use Rattle.bus.specs.Bus.{SeenBus}
-use Rattle.bus.specs.Texts.{text_for}
+use Rattle.over_tcp.specs.Texts.{text_for}
 use Rattle.over_tcp.specs.Told.{version_text}
 use Rattle.hub.specs.Rounds.{HasMorePlaces, IsWrittenTo, Keeps, NothingWaits, is_heard, is_put, takes_later}
 use Rattle.hub.specs.Served.{AreTurns, Does, HaveHappened, Serves, Serving, has_place, is_late}

@@ -11,10 +11,10 @@ use Rattle.station_core.specs.Moved.{packet_of_turn}
 use Rattle.station_core.specs.Seen.{Seen}
 use Rattle.bus.specs.declared.event.Event.{Event}
 use Rattle.bus.specs.declared.event.Event.TheVariants.{Joins, Hears, Leaves, Passes, Turn}
-use Rattle.bus.specs.declared.event.Told.{Told}
-use Rattle.bus.specs.declared.event.Told.TheVariants.{Nothing, Joined, Left, Refused, Sent, Turned}
+use Rattle.over_tcp.specs.declared.told.Told.{Told}
+use Rattle.over_tcp.specs.declared.told.Told.TheVariants.{Nothing, Joined, Left, Refused, Sent, Turned}
 use Rattle.bus.specs.Bus.{SeenBus, ask_at, client_of, is_event, told_asked, told_by}
-use Rattle.bus.specs.Texts.{text_for}
+use Rattle.over_tcp.specs.Texts.{text_for}
 use Rattle.outbox.specs.Waiting.{has_room, told_one, waits}
 use Rattle.hub.specs.Places.{Places, is_placed, told_from, waiting_after}
 use Rattle.hub.proofs.Keeping.{room_set}

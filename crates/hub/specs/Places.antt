@@ -1,9 +1,9 @@
 -- What waits for the clients of a bus, and what an event adds to it.
 use Rattle.std.specs.Prelude.{ℕ, ◌+◌, Bool, true, nat_lt, List, [], ◌∷◌, Option, Some, None, slice_set}
 use Rattle.outbox.specs.Waiting.{told_one}
-use Rattle.bus.specs.declared.event.Told.{Told}
-use Rattle.bus.specs.declared.event.Told.TheVariants.{Nothing, Joined, Left, Refused, Sent, Turned}
-use Rattle.bus.specs.Texts.{text_for}
+use Rattle.over_tcp.specs.declared.told.Told.{Told}
+use Rattle.over_tcp.specs.declared.told.Told.TheVariants.{Nothing, Joined, Left, Refused, Sent, Turned}
+use Rattle.over_tcp.specs.Texts.{text_for}
 
 -- what waits in each place
 abbrev pub Places : Type 0

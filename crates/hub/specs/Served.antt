@@ -7,8 +7,8 @@ use Rattle.layout_core.specs.Nodes.{node_of}
 use Rattle.layout_core.specs.World.{HaveHeard}
 use Rattle.bus.specs.declared.event.Event.{Event}
 use Rattle.bus.specs.declared.event.Event.TheVariants.{Hears, Joins, Leaves, Turn}
-use Rattle.bus.specs.declared.event.Told.{Told}
-use Rattle.bus.specs.declared.event.Told.TheVariants.{Sent}
+use Rattle.over_tcp.specs.declared.told.Told.{Told}
+use Rattle.over_tcp.specs.declared.told.Told.TheVariants.{Sent}
 use Rattle.bus.specs.Bus.{AreEvents, SeenBus, after_events, client_of, first_bus, told_by, told_of}
 use Rattle.bus.specs.Course.{is_time, micros_in}
 use Rattle.bus.specs.Layout.{layout_events}

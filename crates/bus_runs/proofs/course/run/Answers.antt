@@ -6,7 +6,7 @@ use Rattle.layout_core.specs.declared.node.Node.{Node}
 use Rattle.layout_core.specs.World.{HaveHeard}
 use Rattle.bus.specs.declared.event.Event.{Event}
 use Rattle.bus.specs.declared.event.Event.TheVariants.{Joins}
-use Rattle.bus.specs.declared.event.Told.{Told}
+use Rattle.over_tcp.specs.declared.told.Told.{Told}
 use Rattle.bus.specs.Bus.{SeenBus, after_event, after_events, is_event, told_by, told_of}
 use Rattle.bus.specs.Kept.{IsKept}
 use Rattle.bus.specs.Layout.{layout_event, layout_events}

@@ -1,6 +1,6 @@
 use Rattle.std.proofs.Common.{◌∙◌, ap, length}
 use Rattle.std.specs.List.{list_all}
-use Rattle.bus.specs.declared.event.Told.{Told}
+use Rattle.over_tcp.specs.declared.told.Told.{Told}
 use Rattle.bus.specs.Seen.{seen_of}
 use Rattle.hub.specs.Hubs.{serving}
 use Rattle.outbox.specs.Waiting.{has_room}

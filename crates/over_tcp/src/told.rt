@@ -1,10 +1,42 @@
-//! What each client is told of an event, as text.
+//! What is told of what happens on a bus, and its text for each client.
 ghost use Rattle.std.specs.Prelude.{◌≡◌, ◌+◌, ◌≤◌, ◌++◌};
 ghost use Rattle.arrayvec.specs.ArrayVec.{array_vec_len};
-ghost use Rattle.bus.specs.Texts.{text_for};
+ghost use Rattle.over_tcp.specs.Texts.{text_for};
 
-use crate::event::Told;
-use over_tcp::{Text, push_receive, push_sent_error, push_sent_ok, push_version};
+use crate::ask::Reason;
+use crate::telling::{Text, push_receive, push_sent_error, push_sent_ok, push_version};
+use dcc_packet::Packet;
+use ln_frame::Msg;
+
+/// What is told of an event.
+#[derive(Debug, Drop, PartialEq, Eq)]
+pub enum Told {
+    /// Nothing.
+    Nothing,
+    /// The client that joins is told the version.
+    Joined {
+        client: u8,
+    },
+    /// The client that leaves is told nothing more.
+    Left {
+        client: u8,
+    },
+    /// The client is told why its line sends nothing.
+    Refused {
+        client: u8,
+        reason: Reason,
+    },
+    /// All are told the message, then its sender that it was sent, then all the reply, if there is one.
+    Sent {
+        client: u8,
+        message: Msg,
+        reply: Option<Msg>,
+    },
+    /// No client is told anything: a turn began, and sent this packet, or none while the power is off.
+    Turned {
+        packet: Option<Packet>,
+    },
+}
 
 impl Told {
     /// Appends what a client is told of the event, at most 789 bytes.

@@ -3,8 +3,8 @@
 use Rattle.std.specs.Prelude.{ℕ, ◌==◌, if◌then◌else◌, List, [], ◌∷◌, ◌++◌, Option, Some, None}
 use Rattle.std.specs.Option.{option_to_list}
 use Rattle.over_tcp.specs.Told.{receive_text, sent_error_text, sent_ok_text, version_text}
-use Rattle.bus.specs.declared.event.Told.{Told}
-use Rattle.bus.specs.declared.event.Told.TheVariants.{Joined, Refused, Sent}
+use Rattle.over_tcp.specs.declared.told.Told.{Told}
+use Rattle.over_tcp.specs.declared.told.Told.TheVariants.{Joined, Refused, Sent}
 
 -- a reply was on the line, if there is one
 abbrev pub reply_text : Option (List ℕ) → List ℕ
