@@ -57,7 +57,7 @@ impl Clients {
             let Some(guest) = self.sockets.guest(place) else {
                 continue;
             };
-            if guest.is_new() {
+            if guest.take_new() {
                 *board = Board::new();
             }
             tell(guest, board, printer, world);

@@ -1,5 +1,5 @@
 //! Who has a place on the bus, and the stream.
-ghost use Rattle.std.specs.Prelude.{◌≡◌, false};
+ghost use Rattle.std.specs.Prelude.{◌≡◌, false, true};
 ghost use Rattle.std.specs.Io.{ReadsAtMost, WritesAtMost};
 
 use mio::net::TcpStream;
@@ -45,6 +45,7 @@ impl Client {
 #[derive(Drop)]
 pub struct Guest {
     page: Page<TcpStream>,
+    /// Nobody has asked yet whether it is.
     is_new: bool,
     /// Text of the bus was told: the first is the version, before which nothing is told.
     is_greeted: bool,
@@ -52,7 +53,9 @@ pub struct Guest {
 
 impl Guest {
     /// A page that was told nothing yet.
-    pub(crate) fn new(page: Page<TcpStream>) -> Guest {
+    pub(crate) fn new(page: Page<TcpStream>) -> Guest
+        ensures { result.is_new ≡ true }
+    {
         Guest {
             page,
             is_new: true,
@@ -60,8 +63,8 @@ impl Guest {
         }
     }
 
-    /// Whether this is asked for the first time, so that whoever keeps what was told to the page at a place begins anew.
-    pub fn is_new(&mut self) -> bool
+    /// Whether it is new at its place, so that whoever keeps what the page there was told begins anew: from then on it is not.
+    pub fn take_new(&mut self) -> bool
         ensures first { result ≡ self.old.is_new }
         ensures once { self.new.is_new ≡ false }
     {

@@ -164,6 +164,5 @@ impl<S: Stream> Visitor<S> {
 pub fn is_only_late(error: &Error) -> bool
     ensures { result ≡ true ↔ (error_kind error.now ≡ ErrorKind.WouldBlock) ⊎ (error_kind error.now ≡ ErrorKind.Interrupted) }
 {
-    let kind = error.kind();
-    kind == ErrorKind::WouldBlock || kind == ErrorKind::Interrupted
+    matches!(error.kind(), ErrorKind::WouldBlock | ErrorKind::Interrupted)
 }
