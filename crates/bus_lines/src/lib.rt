@@ -5,6 +5,6 @@ mod board;
 mod listening;
 mod printer;
 
-pub use board::Board;
+pub use board::{Board, Boards};
 pub use listening::print_listening;
-pub use printer::Printer;
+pub use printer::{Printer, decoders};

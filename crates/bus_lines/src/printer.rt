@@ -18,7 +18,7 @@ use arrayvec::ArrayVec;
 use bus::{Told, Witness};
 use console::{Unwritten, print};
 use dcc_packet::{Packet, idle};
-use decoder_node::NodeSpec;
+use decoder_node::{NodeList, NodeSpec};
 use layout_core::{Standing, World};
 use ln_frame::Msg;
 use roster::Roster;
@@ -100,6 +100,17 @@ impl<'a, O: Write> Printer<'a, O> {
         world
             .standing(decoder)
             .line(roster.name(decoder), &specs.as_slice()[decoder])
+    }
+
+    /// What a page is told of a decoder: `NODE` and its line, which has less than 100 bytes.
+    pub(crate) fn message(&self, decoder: usize, world: &World) -> Line
+        requires decoders { map spec_of world.now.nodes ≡ specs_of (entries_of self.now.roster) }
+        requires decoder { decoder < length world.now.nodes }
+    {
+        let mut message = Line::new();
+        let _ = message.try_push_str("NODE ");
+        let _ = message.try_push_str(self.line(decoder, world).as_str());
+        message
     }
 
     /// Lets all lines go out.
@@ -185,6 +196,16 @@ impl<O: Write> Witness for Printer<'_, O> {
         ensures track { self.new.track ≡ self.old.track }
     {
         print_client(&mut self.output, client, " is too slow")
+    }
+}
+
+/// The decoders of a roster; none without one.
+pub fn decoders(roster: Option<&Roster>) -> NodeList
+    ensures { result.items ≡ specs_of (entries_of roster.entry) }
+{
+    match roster {
+        Some(roster) => roster.nodes(),
+        None => NodeList::new(),
     }
 }
 

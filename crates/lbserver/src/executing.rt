@@ -4,17 +4,16 @@ ghost use Rattle.bus_lines.specs.Decoders.{entries_of, specs_of};
 ghost use Rattle.hub.specs.Hubs.{Watches};
 
 use crate::clients::Clients;
-use bus_lines::{Printer, print_listening};
+use bus_lines::{Printer, decoders, print_listening};
 use command_line::{FileName, ServerOrder, server_order};
 use console::{RunFault, Unwritten, read_roster, read_whole, tell_as};
-use decoder_node::NodeList;
 use hub::Server;
 use losses::Losses;
 use roster::Roster;
-use sockets::Sockets;
+use sockets::{Sockets, Stopwatch};
 use std::io::{BufWriter, ErrorKind, Write};
 use std::net::SocketAddr;
-use std::time::{Duration, Instant};
+use std::time::Duration;
 
 /// What the program is called where it tells a fault.
 pub(crate) const NAME: &'static str = "lbserver";
@@ -132,16 +131,6 @@ fn with_printer<O: Write>(
     serve(rt, server, clients, &mut printer, order.clients)
 }
 
-/// The decoders of a roster; none without one.
-pub(crate) fn decoders(roster: Option<&Roster>) -> NodeList
-    ensures { result.items ≡ specs_of (entries_of roster.entry) }
-{
-    match roster {
-        Some(roster) => roster.nodes(),
-        None => NodeList::new(),
-    }
-}
-
 /// Reads a page, and serves it.
 fn bind_page(
     rt: &HostRuntime,
@@ -172,7 +161,10 @@ fn tell_addresses<O: Write>(sockets: &Sockets, output: &mut O) -> Result<(), Run
         return Err(RunFault::Network);
     };
     print_listening(output, bus, page)?;
-    output.flush().map_err(|_| RunFault::Output)
+    if output.flush().is_err() {
+        return Err(RunFault::Output);
+    }
+    Ok(())
 }
 
 /// Serves until so many clients have come and gone, at `most`, or for ever: 2 ^ 64 rounds.
@@ -185,14 +177,18 @@ fn serve<O: Write>(
 ) -> Result<(), RunFault>
     requires { Watches (specs_of (entries_of printer.old.roster)) server.old.hub }
 {
-    let Ok(mut clock) = Clock::new(rt) else {
+    let Ok(mut watch) = Stopwatch::new(rt) else {
         return Err(RunFault::Network);
     };
+    let most = match most {
+        Some(most) => u64::from(most),
+        None => u64::MAX,
+    };
     for _round in 0..u64::MAX {
-        if most.is_some_and(|most| printer.gone() >= u64::from(most)) {
+        if printer.gone() >= most {
             break;
         }
-        go_round(rt, server, clients, printer, &mut clock)?;
+        go_round(rt, server, clients, printer, &mut watch)?;
     }
     Ok(())
 }
@@ -203,34 +199,29 @@ fn go_round<O: Write>(
     server: &mut Server,
     clients: &mut Clients,
     printer: &mut Printer<'_, O>,
-    clock: &mut Clock,
+    watch: &mut Stopwatch,
 ) -> Result<(), RunFault>
     requires { Watches (specs_of (entries_of printer.old.roster)) server.old.hub }
     ensures { Watches (specs_of (entries_of printer.new.roster)) server.new.hub }
 {
-    attend(rt, &mut clients.sockets, clock, longest_wait(server))?;
-    server.round(&mut clients.sockets, printer)?;
-    if server.turns().is_none() {
-        let micros = clock.passed(rt)?;
-        pass(server, printer, micros)?;
-    }
-    clients.tell_pages(printer, server.world());
-    Ok(printer.flush()?)
-}
-
-/// Waits until something may be there, or so long, and goes on with those who ask for a page.
-fn attend(
-    rt: &HostRuntime,
-    sockets: &mut Sockets,
-    clock: &Clock,
-    longest: Option<Duration>,
-) -> Result<(), RunFault> {
-    let now = clock.now(rt)?;
-    if sockets.wait(longest, now).is_err() {
+    if clients
+        .sockets
+        .attend(rt, watch, longest_wait(server))
+        .is_err()
+    {
         return Err(RunFault::Network);
     }
-    sockets.answer(clock.now(rt)?);
-    Ok(())
+    server.round(&mut clients.sockets, printer)?;
+    if server.turns().is_none() {
+        let Ok(micros) = watch.passed(rt) else {
+            return Err(RunFault::Network);
+        };
+        pass(server, printer, micros)?;
+    }
+    clients
+        .boards
+        .tell_all(&mut clients.sockets, printer, server.world());
+    Ok(printer.flush()?)
 }
 
 /// How long a round may wait: not where somebody may have more to say, in real time until the turn under way ends, and
@@ -259,36 +250,4 @@ fn pass<O: Write>(
         printer.print_slept(slept / 1000)?;
     }
     server.pass(micros.min(MOST_MICROS) as u32, printer)
-}
-
-/// A clock that tells the whole microseconds that went by, so that none is lost where time is cut.
-#[derive(Drop)]
-struct Clock {
-    start: Instant,
-    told: u64,
-}
-
-impl Clock {
-    fn new(rt: &HostRuntime) -> std::io::Result<Clock> {
-        Ok(Clock {
-            start: Instant::now(rt)?,
-            told: 0,
-        })
-    }
-
-    /// The microseconds since the start.
-    fn now(&self, rt: &HostRuntime) -> Result<u64, RunFault> {
-        match self.start.elapsed(rt) {
-            Ok(elapsed) => Ok(u64::try_from(elapsed.as_micros()).unwrap_or(u64::MAX)),
-            Err(_) => Err(RunFault::Network),
-        }
-    }
-
-    /// The microseconds since this was last asked.
-    fn passed(&mut self, rt: &HostRuntime) -> Result<u64, RunFault> {
-        let now = self.now(rt)?;
-        let passed = now.saturating_sub(self.told);
-        self.told = now;
-        Ok(passed)
-    }
 }

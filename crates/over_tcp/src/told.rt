@@ -8,7 +8,7 @@ use crate::telling::{Text, push_receive, push_sent_error, push_sent_ok, push_ver
 use dcc_packet::Packet;
 use ln_frame::Msg;
 
-/// What is told of an event.
+/// What is told of an event on a bus. Clients are numbered from 0 to 7.
 #[derive(Debug, Drop, PartialEq, Eq)]
 pub enum Told {
     /// Nothing.

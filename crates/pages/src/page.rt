@@ -1,7 +1,7 @@
 //! A page that joined, as a stream of lines.
 ghost use Rattle.std.specs.Prelude.{◌≡◌, ◌≢◌, ◌<◌, ◌≤◌, ◌∷◌, ◌++◌, [], Err, IfErr, IfOk, List, OnOk, length, take, true, false, ℕ};
 ghost use Rattle.std.specs.IoError.{error_kind};
-ghost use Rattle.tungstenite.specs.declared.error.Error.TheVariants.{WriteBufferFull};
+ghost use Rattle.tungstenite.specs.declared.error.Error.TheVariants.{Io, WriteBufferFull};
 ghost use Rattle.tungstenite.specs.Failure.{IsIo};
 ghost use Rattle.tungstenite.specs.Socket.{Flushed};
 ghost use Rattle.pages.specs.Hearing.{Hears};
@@ -294,6 +294,7 @@ fn say<S: Read + Write + Drop>(
 /// waits. `WouldBlock` where it was not taken, since too much waits.
 fn as_written(written: Result<(), Error>) -> io::Result<()>
     ensures taken { OnOk result (IfErr written IsIo) }
+    ensures waits { OnOk result (IfErr written (λ e. (cause : _) → e ≡ Io cause → error_kind cause ≡ ErrorKind.WouldBlock)) }
     ensures full { IfErr result (λ e. error_kind e ≡ ErrorKind.WouldBlock → written ≡ Err WriteBufferFull) }
 {
     match written {

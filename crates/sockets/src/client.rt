@@ -43,7 +43,7 @@ impl Client {
 
 /// A page that is a client of the bus.
 #[derive(Drop)]
-pub struct Guest {
+pub(crate) struct Guest {
     page: Page<TcpStream>,
     /// Nobody has asked yet whether it is.
     is_new: bool,
@@ -64,7 +64,7 @@ impl Guest {
     }
 
     /// Whether it is new at its place, so that whoever keeps what the page there was told begins anew: from then on it is not.
-    pub fn take_new(&mut self) -> bool
+    pub(crate) fn take_new(&mut self) -> bool
         ensures first { result ≡ self.old.is_new }
         ensures once { self.new.is_new ≡ false }
     {
@@ -75,14 +75,14 @@ impl Guest {
 
     /// Whether it can be told something beside the lines: text of the bus was told before. What waits goes out first, as far
     /// as it is taken now.
-    pub fn is_ready(&mut self) -> bool {
+    pub(crate) fn is_ready(&mut self) -> bool {
         // Whoever has gone is let go at its next read.
         let _ = self.page.flush();
         self.is_greeted
     }
 
     /// Tells it one message beside the lines, whole or not at all. False where it was not told.
-    pub fn tell(&mut self, message: &str) -> bool {
+    pub(crate) fn tell(&mut self, message: &str) -> bool {
         self.page.tell(message).is_ok()
     }
 

@@ -4,17 +4,18 @@ ghost use Rattle.outbox.specs.declared.wire.Came.TheVariants.{Gone};
 
 use crate::client::{Client, Guest};
 use crate::doors::{DOORS, Doors, page_reply};
+use crate::stopwatch::Stopwatch;
 use crate::visitor::is_only_late;
 use mio::net::{TcpListener, TcpStream};
 use mio::{Events, Interest, Poll, Registry, Token};
-use outbox::{Came, PLACES, Wire};
+use outbox::{Came, Guests, PLACES, Wire};
 use over_tcp::{Text, push_no_place};
 use pages::Page;
 use std::alloc::Global;
 use std::io;
 use std::io::{ErrorKind, Write};
 use std::net::SocketAddr;
-use std::time::Duration;
+use std::time::{Clock, Duration};
 
 /// The ports, and the streams of the clients that were let in, each at its place, 0 to 7.
 ///
@@ -80,10 +81,26 @@ impl Sockets {
         Ok((self.listener.local_addr()?, page))
     }
 
+    /// Waits until something may be there, or so long, and goes on with those who ask for a page.
+    ///
+    /// # Errors
+    ///
+    /// Where the clock cannot be read, and where the system does not wait.
+    pub fn attend<C: Clock>(
+        &mut self,
+        clock: &C,
+        watch: &Stopwatch,
+        longest: Option<Duration>,
+    ) -> io::Result<()> {
+        self.wait(longest, watch.now(clock)?)?;
+        self.answer(watch.now(clock)?);
+        Ok(())
+    }
+
     /// Waits until something may be there, or so long. `now`: microseconds since the start.
     ///
     /// An event only ends the wait: each round goes over all places, so none is looked up, and a stale one does no harm.
-    pub fn wait(&mut self, longest: Option<Duration>, now: u64) -> io::Result<()> {
+    fn wait(&mut self, longest: Option<Duration>, now: u64) -> io::Result<()> {
         let longest = shorter(longest, self.patience(now));
         match self.poll.poll(&mut self.events, longest) {
             Err(error) if error.kind() != ErrorKind::Interrupted => Err(error),
@@ -109,7 +126,7 @@ impl Sockets {
     }
 
     /// The page at a place, if it is one that has it.
-    pub fn guest(&mut self, place: usize) -> Option<&mut Guest>
+    fn guest(&mut self, place: usize) -> Option<&mut Guest>
         requires { place < 8 }
     {
         match &mut self.clients[place] {
@@ -217,6 +234,29 @@ impl Wire for Sockets {
 
     fn close(&mut self, client: u8) {
         self.clients[usize::from(client)] = None;
+    }
+}
+
+impl Guests for Sockets {
+    fn take_new(&mut self, place: usize) -> bool {
+        match self.guest(place) {
+            Some(guest) => guest.take_new(),
+            None => false,
+        }
+    }
+
+    fn is_ready(&mut self, place: usize) -> bool {
+        match self.guest(place) {
+            Some(guest) => guest.is_ready(),
+            None => false,
+        }
+    }
+
+    fn tell(&mut self, place: usize, message: &str) -> bool {
+        match self.guest(place) {
+            Some(guest) => guest.tell(message),
+            None => false,
+        }
     }
 }
 

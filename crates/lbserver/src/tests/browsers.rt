@@ -199,7 +199,7 @@ fn join_nine_times<R: Place>(rt: &R, desk: &mut Desk<'_>) -> Result<(), Fail> {
     )
 }
 
-/// A page is told each decoder when it joins, and then the one that has changed.
+/// A page is told each decoder when it joins, and then the one that has changed; and so is the one that takes its place.
 const DECODERS: &'static [Step] = &[
     Browses(0),
     Says(0, JOINS),
@@ -225,6 +225,18 @@ const DECODERS: &'static [Step] = &[
             "RECEIVE E7 0E 01 33 03 00 00 07 00 00 00 00 00 20",
             "RECEIVE A0 01 40 1E",
             "NODE node shunter short 3 step 63 of 128 forward F 0000000000000",
+        ],
+    ),
+    Leaves(0),
+    Browses(2),
+    Says(2, JOINS),
+    Hears(2, &[JOINED]),
+    IsTold(
+        2,
+        &[
+            GREETING,
+            "NODE node shunter short 3 step 63 of 128 forward F 0000000000000",
+            "NODE node yard module 1 outputs 00000000",
         ],
     ),
 ];

@@ -3,8 +3,7 @@ ghost use Rattle.bus_lines.specs.Decoders.{entries_of, specs_of};
 ghost use Rattle.hub.specs.Hubs.{Watches};
 
 use crate::clients::Clients;
-use crate::executing::decoders;
-use bus_lines::Printer;
+use bus_lines::{Printer, decoders};
 use hub::Server;
 use losses::Losses;
 use roster::Roster;
@@ -131,7 +130,11 @@ impl<'a> Desk<'a> {
             self.clients.sockets.answer(self.now);
             self.server
                 .round(&mut self.clients.sockets, &mut self.printer)?;
-            self.clients.tell_pages(&self.printer, self.server.world());
+            self.clients.boards.tell_all(
+                &mut self.clients.sockets,
+                &self.printer,
+                self.server.world(),
+            );
         }
         Ok(())
     }
