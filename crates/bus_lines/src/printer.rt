@@ -16,7 +16,7 @@ ghost use Rattle.bus_lines.specs.Lines.{changed_lines, client_line, late_line, o
 
 use arrayvec::ArrayVec;
 use bus::{Told, Witness};
-use console::{Unwritten, print};
+use console::{Unwritten, print_to};
 use dcc_packet::{Packet, idle};
 use decoder_node::{NodeList, NodeSpec};
 use layout_core::{Standing, World};
@@ -247,7 +247,7 @@ fn print_messages<O: Write>(
 ) -> Result<(), Unwritten>
     ensures { OnOk result (Appends (O.contents output.old) (O.contents output.new) (lines_text (map message_text (message.now ∷ option_to_list reply.now)))) }
 {
-    print(output, &message_line(message))?;
+    print_to(output, &message_line(message))?;
     print_reply(output, reply)
 }
 
@@ -256,7 +256,7 @@ fn print_reply<O: Write>(output: &mut O, reply: &Option<Msg>) -> Result<(), Unwr
     ensures { OnOk result (Appends (O.contents output.old) (O.contents output.new) (lines_text (map message_text (option_to_list reply.now)))) }
 {
     match reply {
-        Some(reply) => print(output, &message_line(reply)),
+        Some(reply) => print_to(output, &message_line(reply)),
         None => Ok(()),
     }
 }
@@ -276,7 +276,7 @@ fn print_packet<O: Write>(
     if !track || packet.bytes() == idle().bytes() {
         return Ok(());
     }
-    print(output, &track_line(turn, packet))
+    print_to(output, &track_line(turn, packet))
 }
 
 /// Prints each decoder that stands otherwise than it did.
@@ -293,7 +293,7 @@ fn print_changed<O: Write>(
     for (i, spec) in roster.nodes().as_slice().iter().enumerate() {
         let now = world.standing(i);
         if !before[i].is_same(&now) {
-            print(output, &now.line(roster.name(i), spec))?;
+            print_to(output, &now.line(roster.name(i), spec))?;
         }
     }
     Ok(())

@@ -1,3 +1,2 @@
-pub mod Fronts
-pub mod Lending
+pub mod Buffering
 pub mod Printing

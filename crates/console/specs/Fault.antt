@@ -1,5 +1,5 @@
 -- The exit status of a fault, and the numbers of faults.
-use Rattle.std.specs.Prelude.{ℕ, Bool, true, false, Result, Ok, Err}
+use Rattle.std.specs.Prelude.{ℕ, ◌==◌, Bool, true, false, Result, Ok, Err}
 use Rattle.clap.specs.Words.{Text}
 use Rattle.show_text.specs.declared.command.Why.{Why as ScriptWhy}
 use Rattle.show_text.specs.declared.command.Why.TheVariants as script
@@ -49,6 +49,12 @@ is_unread_file other = false
 abbrev pub is_unread_input : RunFault → Bool
 is_unread_input UnreadableInput = true
 is_unread_input other = false
+
+-- the output could not be written: by a line of a run, or by the trace of a connection
+abbrev pub is_unwritten : RunFault → Bool
+is_unwritten Output = true
+is_unwritten (Serve number) = number == 3
+is_unwritten other = false
 
 -- whether a run ended in such a fault
 abbrev pub ended_by : {A : Type 0} → (RunFault → Bool) → Result A RunFault → Bool

@@ -1,6 +1,6 @@
+pub mod Buffered
 pub mod Fault
 pub mod Files
-pub mod Lent
 pub mod Monitored
 pub mod Printed
 pub mod Words

@@ -1,13 +1,9 @@
 -- What a run prints.
-use Rattle.std.specs.Prelude.{ℕ, ◌≡◌, ◌<◌, List, [], ◌∷◌, ◌++◌, Option, Ok, length, take}
+use Rattle.std.specs.Prelude.{ℕ, ◌≡◌, List, [], ◌∷◌, ◌++◌, Option, Ok}
 use Rattle.std.specs.Io.KnownBytes.{Appends}
 use Rattle.ln_frame.specs.Stream.{messages_of}
 use Rattle.show_text.specs.Hex.{hex_of}
 use Rattle.show_text.specs.Messages.{message_text}
-
--- a front of a text was written, and not all of it
-abbrev pub AppendsFront : (old new : Option (List ℕ)) → (text : List ℕ) → Type 0
-AppendsFront old new text = (n : ℕ) × (n < length text) × Appends old new (take n text)
 
 -- a line, and its line feed
 abbrev pub ended : List ℕ → List ℕ

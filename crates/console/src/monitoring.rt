@@ -2,19 +2,21 @@
 ghost use Rattle.std.specs.Prelude.{ℕ, ◌≡◌, ◌≢◌, List, IfErr, None, OnOk, false};
 ghost use Rattle.std.specs.Io.KnownBytes.{Appends};
 ghost use Rattle.ln_frame.specs.Stream.{messages_of};
-ghost use Rattle.console.specs.Fault.{ended_by, is_unread_file};
+ghost use Rattle.input_text.specs.Write.{failed_after};
+ghost use Rattle.console.specs.Fault.{ended_by, is_unread_file, is_unwritten};
 ghost use Rattle.console.specs.Monitored.{FailsHex, FailsMonitor, MonitorsInput};
 ghost use Rattle.console.specs.Printed.{PrintsMessages, messages_text};
 
+use crate::buffered::Buffered;
 use crate::fault::RunFault;
+use crate::flushing::flush_after;
 use crate::input::{not_read, open};
-use crate::output::{Lent, Unwritten, flush_after, print};
+use crate::output::{Unwritten, print};
 use command_line::FileName;
-use input_text::{Input, read_most};
+use input_text::{Input, Output, Sink, read_most};
 use ln_frame::{Framer, any_cut};
 use show_text::{LONGEST_TEXT, message_line, read_hex};
 use std::alloc::Global;
-use std::io::{BufWriter, Write};
 use std::rt::Files;
 
 /// Reads hex text from a file, whole, and then prints each message in its bytes. A file of more than 1,048,576 bytes is
@@ -24,14 +26,17 @@ use std::rt::Files;
 ///
 /// `Unreadable` where the file is not opened or a read fails, `Hex` with the first fault of its text, `Output` where a
 /// write fails, and `NoMemory`.
-pub fn monitor<R: Files + AllocGlobal, O: Write>(
+pub fn monitor<R: Files + AllocGlobal, O: Output>(
     rt: &R,
     file: FileName,
     output: &mut O,
 ) -> Result<(), RunFault>
+    requires { O.failed output.old ≡ false }
     // What a file holds is not known, but that there is a text.
-    ensures printed { OnOk result ((text : List ℕ) × PrintsMessages text (O.contents output.old) (O.contents output.new)) }
+    ensures printed { OnOk result ((text : List ℕ) × PrintsMessages text (O.held output.old) (O.held output.new)) }
     ensures fault { IfErr result (FailsMonitor file None None) }
+    // The output could not be written exactly where a write or a flush of it failed.
+    ensures unwritten { O.failed output.new ≡ ended_by is_unwritten result }
     // Where neither memory ran out nor the output failed, a fault prints nothing.
     ensures untouched { IfErr result (λ e. e ≢ RunFault.NoMemory → e ≢ RunFault.Output → output.new ≡ output.old) }
 {
@@ -42,16 +47,18 @@ pub fn monitor<R: Files + AllocGlobal, O: Write>(
 }
 
 /// The same of an input, which is the file of this name: `Unreadable` comes exactly where a read failed.
-pub fn monitor_from<I: Input, O: Write>(
+pub fn monitor_from<I: Input, O: Output>(
     alloc: Global,
     file: FileName,
     input: &mut I,
     output: &mut O,
 ) -> Result<(), RunFault>
-    requires { I.failed input.old ≡ false }
-    ensures printed { OnOk result (MonitorsInput (I.left input.old) (I.left input.new) (O.contents output.old) (O.contents output.new)) }
+    requires reads { I.failed input.old ≡ false }
+    requires writes { O.failed output.old ≡ false }
+    ensures printed { OnOk result (MonitorsInput (I.left input.old) (I.left input.new) (O.held output.old) (O.held output.new)) }
     ensures fault { IfErr result (FailsMonitor file (I.left input.old) (I.left input.new)) }
     ensures failed { I.failed input.new ≡ ended_by is_unread_file result }
+    ensures unwritten { O.failed output.new ≡ ended_by is_unwritten result }
     ensures untouched { IfErr result (λ e. e ≢ RunFault.NoMemory → e ≢ RunFault.Output → output.new ≡ output.old) }
 {
     let text = match read_most(alloc, input, LONGEST_TEXT + 1) {
@@ -62,25 +69,25 @@ pub fn monitor_from<I: Input, O: Write>(
 }
 
 /// Prints each message in the bytes of a hex text, by a buffer.
-fn print_hex<O: Write>(alloc: Global, text: &[u8], output: &mut O) -> Result<(), RunFault>
-    ensures printed { OnOk result (PrintsMessages text.now (O.contents output.old) (O.contents output.new)) }
+fn print_hex<O: Output>(alloc: Global, text: &[u8], output: &mut O) -> Result<(), RunFault>
+    requires { O.failed output.old ≡ false }
+    ensures printed { OnOk result (PrintsMessages text.now (O.held output.old) (O.held output.new)) }
     ensures fault { IfErr result (FailsHex text.now) }
+    ensures unwritten { O.failed output.new ≡ ended_by is_unwritten result }
     ensures untouched { IfErr result (λ e. e ≢ RunFault.NoMemory → e ≢ RunFault.Output → output.new ≡ output.old) }
 {
-    let Ok(mut buffered) = BufWriter::new(alloc, Lent::new(output)) else {
-        return Err(RunFault::NoMemory);
-    };
+    let mut buffered = Buffered::new(output);
     let done = monitor_text(alloc, text, &mut buffered);
-    let done = flush_after(done, &mut buffered);
-    let (lent, _rest) = buffered.into_parts();
-    let Lent { writer: _writer } = lent;
-    done
+    flush_after(done, &mut buffered)
 }
 
 /// Prints each message in the bytes of a hex text.
-fn monitor_text<O: Write>(alloc: Global, text: &[u8], output: &mut O) -> Result<(), RunFault>
-    ensures printed { OnOk result (PrintsMessages text.now (O.contents output.old) (O.contents output.new)) }
+fn monitor_text<O: Sink>(alloc: Global, text: &[u8], output: &mut O) -> Result<(), RunFault>
+    requires { O.failed output.old ≡ false }
+    ensures printed { OnOk result (PrintsMessages text.now (O.held output.old) (O.held output.new)) }
     ensures fault { IfErr result (FailsHex text.now) }
+    ensures unwritten { O.failed output.new ≡ ended_by is_unwritten result }
+    ensures same { O.loan output.new ≡ O.loan output.old }
     // A text with a fault prints nothing.
     ensures untouched { IfErr result (λ e. e ≢ RunFault.Output → output.new ≡ output.old) }
 {
@@ -89,8 +96,10 @@ fn monitor_text<O: Write>(alloc: Global, text: &[u8], output: &mut O) -> Result<
 }
 
 /// Prints each message that ends in these bytes.
-fn print_messages<O: Write>(bytes: &[u8], output: &mut O) -> Result<(), Unwritten>
-    ensures printed { OnOk result (Appends (O.contents output.old) (O.contents output.new) (messages_text (messages_of bytes.now))) }
+fn print_messages<O: Sink>(bytes: &[u8], output: &mut O) -> Result<(), Unwritten>
+    ensures printed { OnOk result (Appends (O.held output.old) (O.held output.new) (messages_text (messages_of bytes.now))) }
+    ensures failed { O.failed output.new ≡ failed_after result (O.failed output.old) }
+    ensures same { O.loan output.new ≡ O.loan output.old }
 {
     any_cut();
     let mut framer = Framer::new();

@@ -1,14 +1,11 @@
 //! Printing lines.
-ghost use Rattle.std.specs.Prelude.{◌≡◌, IfErr, IfOk, OnErr, OnOk, ◌<◌, ◌≤◌, ◌++◌, ◌∷◌, [], Err, is_ok, length, true};
-ghost use Rattle.std.specs.Io.Buffered.{writer_buffer};
-ghost use Rattle.std.specs.Io.KnownBytes.{Appends, Keeps, WriteAppends};
-ghost use Rattle.console.specs.Lent.{buffered_contents, lent_contents};
-ghost use Rattle.console.specs.Printed.{AppendsFront};
+ghost use Rattle.std.specs.Prelude.{◌≡◌, OnErr, OnOk, ◌<◌, ◌++◌, ◌∷◌, [], length};
+ghost use Rattle.std.specs.Io.KnownBytes.{Appends};
+ghost use Rattle.input_text.specs.Write.{AppendsFront, failed_after};
 
-use crate::fault::RunFault;
+use input_text::{Sink, put_all};
 use show_text::Line;
-use std::io;
-use std::io::{BufWriter, ErrorKind, Write};
+use std::io::Write;
 
 /// The output could not be written.
 ///
@@ -16,117 +13,54 @@ use std::io::{BufWriter, ErrorKind, Write};
 #[derive(Clone, Copy, Debug, PartialEq, Eq)]
 pub struct Unwritten;
 
-/// A writer that is lent, as a value of its own.
-///
-/// What proofs see in it begins with the name of the loan, and the writer's bytes follow. So where bytes were appended
-/// to it, whoever did that, they were appended to this writer and to no other.
-#[derive(Drop)]
-pub struct Lent<'a, W> {
-    /// The writer that is lent.
-    pub writer: &'a mut W,
-}
-
-impl<'a, W: Write> Lent<'a, W> {
-    /// Lends a writer.
-    pub fn new(writer: &'a mut W) -> Lent<'a, W>
-        ensures same_reference { result.writer.ghost_name ≡ writer.entry.ghost_name }
-        ensures value { result.writer.now ≡ writer.old }
-    {
-        Lent { writer }
-    }
-}
-
-impl<W: Write> Write for Lent<'_, W> {
-    ghost contents = { lent_contents W.contents };
-
-    fn write(&mut self, buf: &[u8]) -> io::Result<usize> {
-        self.writer.write(buf)
-    }
-
-    fn flush(&mut self) -> io::Result<()> {
-        self.writer.flush()
-    }
-
-    fn write_all(&mut self, buf: &[u8]) -> io::Result<()> {
-        self.writer.write_all(buf)
-    }
-}
-
-/// Lets the bytes of a buffer go to its writer, where a run that printed to it came to its end. Its fault stays as it is.
-///
-/// # Errors
-///
-/// That of the run, and then the buffer is as it was; `Output` where the bytes could not be written.
-pub fn flush_after<O: Write>(
-    done: Result<(), RunFault>,
-    buffered: &mut BufWriter<Lent<'_, O>>,
-) -> Result<(), RunFault>
-    ensures done { OnOk result (is_ok done ≡ true) }
-    ensures empty { OnOk result (writer_buffer buffered.new ≡ []) }
-    ensures kept { OnOk result (Keeps (buffered_contents O.contents buffered.old) (buffered_contents O.contents buffered.new)) }
-    ensures untouched { IfErr done (λ e. (result ≡ Err e) × (buffered.new ≡ buffered.old)) }
-    ensures fault { OnOk done (IfErr result (λ e. e ≡ RunFault.Output)) }
-{
-    done?;
-    buffered.flush().map_err(|_| RunFault::Output)
-}
-
 /// Prints a line, and a line feed, by two writes.
 ///
 /// # Errors
 ///
-/// `Unwritten` where a write fails. Then a front of the line is written, and not its line feed.
-pub fn print<O: Write>(output: &mut O, line: &Line) -> Result<(), Unwritten>
-    ensures printed { OnOk result (Appends (O.contents output.old) (O.contents output.new) (line.now.bytes ++ 10 ∷ [])) }
-    ensures front { OnErr result (AppendsFront (O.contents output.old) (O.contents output.new) (line.now.bytes ++ 10 ∷ [])) }
+/// `Unwritten` exactly where a write fails. Then a front of the line is written, and not its line feed.
+pub fn print<O: Sink>(output: &mut O, line: &Line) -> Result<(), Unwritten>
+    ensures printed { OnOk result (Appends (O.held output.old) (O.held output.new) (line.now.bytes ++ 10 ∷ [])) }
+    ensures front { OnErr result (AppendsFront (O.held output.old) (O.held output.new) (line.now.bytes ++ 10 ∷ [])) }
+    ensures failed { O.failed output.new ≡ failed_after result (O.failed output.old) }
+    ensures same { O.loan output.new ≡ O.loan output.old }
 {
     print_all(output, line.as_str().as_bytes())?;
     print_all(output, b"\n")
+}
+
+/// The same to a writer, whose failure is not recorded.
+///
+/// # Errors
+///
+/// `Unwritten` where the writer does not take it. How much of the line was written is not known.
+pub fn print_to<W: Write>(writer: &mut W, line: &Line) -> Result<(), Unwritten>
+    ensures { OnOk result (Appends (W.contents writer.old) (W.contents writer.new) (line.now.bytes ++ 10 ∷ [])) }
+{
+    writeln!(writer, "{line}").map_err(|_| Unwritten)
 }
 
 /// Ends a line of less than 640 bytes with a line feed, and prints it by one write.
 ///
 /// # Errors
 ///
-/// `Unwritten` where the write fails. Then a front of the line is written, and not its line feed.
-pub fn print_ended<O: Write>(output: &mut O, line: &mut Line) -> Result<(), Unwritten>
+/// `Unwritten` exactly where the write fails. Then a front of the line is written, and not its line feed.
+pub fn print_ended<O: Sink>(output: &mut O, line: &mut Line) -> Result<(), Unwritten>
     requires { length line.old.bytes < 640 }
-    ensures printed { OnOk result (Appends (O.contents output.old) (O.contents output.new) (line.old.bytes ++ 10 ∷ [])) }
-    ensures front { OnErr result (AppendsFront (O.contents output.old) (O.contents output.new) (line.old.bytes ++ 10 ∷ [])) }
+    ensures printed { OnOk result (Appends (O.held output.old) (O.held output.new) (line.old.bytes ++ 10 ∷ [])) }
+    ensures front { OnErr result (AppendsFront (O.held output.old) (O.held output.new) (line.old.bytes ++ 10 ∷ [])) }
+    ensures failed { O.failed output.new ≡ failed_after result (O.failed output.old) }
+    ensures same { O.loan output.new ≡ O.loan output.old }
 {
     line.push_str("\n");
     print_all(output, line.as_str().as_bytes())
 }
 
 /// Writes all bytes, or, where a write fails, a front of them that is not all.
-fn print_all<O: Write>(output: &mut O, bytes: &[u8]) -> Result<(), Unwritten>
-    ensures printed { OnOk result (Appends (O.contents output.old) (O.contents output.new) bytes.now) }
-    ensures front { OnErr result (AppendsFront (O.contents output.old) (O.contents output.new) bytes.now) }
+fn print_all<O: Sink>(output: &mut O, bytes: &[u8]) -> Result<(), Unwritten>
+    ensures printed { OnOk result (Appends (O.held output.old) (O.held output.new) bytes.now) }
+    ensures front { OnErr result (AppendsFront (O.held output.old) (O.held output.new) bytes.now) }
+    ensures failed { O.failed output.new ≡ failed_after result (O.failed output.old) }
+    ensures same { O.loan output.new ≡ O.loan output.old }
 {
-    let mut rest = bytes;
-    while !rest.is_empty() {
-        let count = print_some(output, rest)?;
-        rest = &rest[count..];
-    }
-    Ok(())
-}
-
-/// Writes as many bytes as are taken at once, at least 1. A write that was only interrupted is tried again.
-fn print_some<O: Write>(output: &mut O, bytes: &[u8]) -> Result<usize, Unwritten>
-    requires { 0 < length bytes.now }
-    ensures bound { IfOk result (λ n. (0 < n) × (n ≤ length bytes.now)) }
-    ensures bytes { WriteAppends (O.contents output.old) (O.contents output.new) result bytes.now }
-{
-    for _ in 0..u64::MAX {
-        match output.write(bytes) {
-            Ok(0) => return Err(Unwritten),
-            Ok(count) => return Ok(count),
-            Err(error) => {
-                if error.kind() != ErrorKind::Interrupted {
-                    return Err(Unwritten);
-                }
-            }
-        }
-    }
-    Err(Unwritten)
+    put_all(output, bytes).map_err(|_| Unwritten)
 }

@@ -1,7 +1,7 @@
 //! A drawing as a program.
 
 use failing_streams::{Program, Streams};
-use input_text::Input;
+use input_text::{Input, Output};
 use run_drawing::{Drawing, execute};
 use std::alloc::Global;
 use std::io::Write;
@@ -14,7 +14,11 @@ pub struct Drawn<D> {
 }
 
 impl<D: Drawing> Program for Drawn<D> {
-    fn execute<I: Input, O: Write, E: Write>(&self, alloc: Global, on: Streams<'_, I, O, E>) -> u8 {
+    fn execute<I: Input, O: Output, E: Write>(
+        &self,
+        alloc: Global,
+        on: Streams<'_, I, O, E>,
+    ) -> u8 {
         let Streams(input, output, faults) = on;
         execute(&self.drawing, alloc, input, output, faults)
     }

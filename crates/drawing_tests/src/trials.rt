@@ -2,7 +2,7 @@
 
 use crate::drawn::Drawn;
 use failing_streams::{
-    Broken, Ran, Spaces, Uneven, run, run_as_room_grows, run_from, run_to, run_untold,
+    Broken, Ran, Rough, Spaces, Uneven, run, run_as_room_grows, run_from, run_to, run_untold,
 };
 use run_drawing::Drawing;
 use std::alloc::{AllocError, Global};
@@ -51,6 +51,33 @@ fn is_told_unwritten<D: Drawing>(drawing: &Drawn<D>, alloc: Global, unwritten: &
     status == 4 && faults.as_slice() == unwritten
 }
 
+/// Whether an output that fails behind its first 100 bytes is told, be it by a failure or by a write of no byte.
+fn is_told_half_written<D: Drawing>(drawing: &Drawn<D>, alloc: Global, unwritten: &[u8]) -> bool {
+    for end in [Some(ErrorKind::Other), None] {
+        let mut text = ONE_PACKET;
+        let mut output = Rough::new(alloc, 100, 1, 1, end);
+        let (status, faults) = run_to(drawing, alloc, &mut text, &mut output);
+        if status != 4 || faults.as_slice() != unwritten || output.written.len() != 100 {
+            return false;
+        }
+    }
+    true
+}
+
+/// Whether writes are tried again of which every second is interrupted, or two of three, and written whole of which each
+/// takes few bytes.
+fn stands_rough_output<D: Drawing>(drawing: &Drawn<D>, alloc: Global, end: &[u8]) -> bool {
+    for interrupts in 1..3u32 {
+        let mut text = ONE_PACKET;
+        let mut output = Rough::new(alloc, 100, interrupts, 1000, None);
+        let (status, _) = run_to(drawing, alloc, &mut text, &mut output);
+        if status != 0 || !output.written.as_slice().ends_with(end) {
+            return false;
+        }
+    }
+    true
+}
+
 /// Whether a fault that cannot be told ends the program as one that can.
 fn stands_untold<D: Drawing>(drawing: &Drawn<D>, alloc: Global) -> bool {
     let mut text = b"track\n".as_slice();
@@ -82,6 +109,12 @@ pub fn first_not_stood<D: Drawing>(
     let unwritten = fault_line(alloc, drawing.name, "output")?;
     if !is_told_unwritten(drawing, alloc, unwritten.as_bytes()) {
         return Ok(Some("standard output cannot be written"));
+    }
+    if !is_told_half_written(drawing, alloc, unwritten.as_bytes()) {
+        return Ok(Some("standard output fails at a later write"));
+    }
+    if !stands_rough_output(drawing, alloc, end) {
+        return Ok(Some("standard output is interrupted"));
     }
     if !stands_untold(drawing, alloc) {
         return Ok(Some("standard error cannot be written"));

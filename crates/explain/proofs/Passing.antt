@@ -3,46 +3,17 @@ use Rattle.std.proofs.Common.{◌≡◌, ℕ, ◌-◌, Bool, List, [], ◌∷◌
 use Rattle.std.specs.Prelude.{Result, Ok, Err, OnErr, IsErrAnd, MatchOption}
 use Rattle.std.specs.Io.KnownBytes.{Appends, Consumes, Keeps}
 use Rattle.std.proofs.KnownBytes.{Appends-kept, Appends-nil, Appends-trans, Consumes-nil, Consumes-kept, Consumes-trans}
-use Rattle.std.proofs.lemmas.List.{take-append-drop, take_rest}
+use Rattle.std.proofs.lemmas.List.{take-append-drop}
+use Rattle.input_text.specs.Write.{AppendsFront as ProperFront}
 use Rattle.explain.specs.Explained.{explained}
 use Rattle.explain.specs.Streams.{AppendsFront, Begins, Explains, ExplainsFront, Follows}
 use Rattle.explain.specs.Unfinished.{to_write}
 
--- A text that is written piece by piece.
+-- A text that is written.
 
--- the front of a text was written, and this is the rest
-abbrev pub HasWritten : (old new : Option (List ℕ)) → (text rest : List ℕ) → Type 0
-HasWritten old new text rest = (written : List ℕ) × Appends old new written × (text ≡ written ++ rest)
-
-pub written-none : (o : Option (List ℕ)) (text : List ℕ) → HasWritten o o text text
-written-none o text = ([], Appends-nil o, refl)
-
-pub written-more : (o p q : Option (List ℕ)) (text rest : List ℕ) (k : ℕ) → HasWritten o p text rest → Appends p q (take k rest) → HasWritten o q text (drop k rest)
-written-more o p q text rest k so_far more =
-    let written = so_far.0 in (
-      written ++ take k rest,
-      Appends-trans o p q written (take k rest) so_far.1 more,
-      so_far.2 ∙ ap (λ (bs : List ℕ). written ++ bs) (sym (take-append-drop k rest)) ∙ sym (append_assoc written (take k rest) (drop k rest)),
-    )
-
-pub written-kept : (o p q : Option (List ℕ)) (text rest : List ℕ) → HasWritten o p text rest → Keeps p q → HasWritten o q text rest
-written-kept o p q text rest so_far k = (so_far.0, Appends-kept o p q so_far.0 so_far.1 k, so_far.2)
-
-pub written-part : (o p q : Option (List ℕ)) (text rest left : List ℕ) (k : ℕ) → HasWritten o p text rest → Appends p q (take k rest) → left ≡ take (length rest - k) (drop k rest) → HasWritten o q text left
-written-part o p q text rest left k so_far more is =
-    subst (λ (bs : List ℕ). HasWritten o q text bs) (sym (is ∙ take_rest rest k)) (written-more o p q text rest k so_far more)
-
-pub written-same : (o p q : Option (List ℕ)) (text rest left : List ℕ) → HasWritten o p text rest → Keeps p q → left ≡ rest → HasWritten o q text left
-written-same o p q text rest left so_far k is = subst (λ (bs : List ℕ). HasWritten o q text bs) (sym is) (written-kept o p q text rest so_far k)
-
-pub written-front : (o p : Option (List ℕ)) (text rest : List ℕ) → HasWritten o p text rest → AppendsFront o p text
-written-front o p text rest so_far = (so_far.0, rest, so_far.1, so_far.2)
-
-pub written-all : (o p q : Option (List ℕ)) (text rest : List ℕ) → HasWritten o p text rest → length rest ≡ 0 → Keeps p q → Appends o q text
-written-all o p q text [] so_far none k =
-    let kept = written-kept o p q text [] so_far k in
-    subst (λ (bs : List ℕ). Appends o q bs) (sym (kept.2 ∙ append-nil kept.0)) kept.1
-written-all o p q text (b ∷ rest) so_far none k = absurd (omega arith)
+-- a proper front is a front
+pub front-part : (o p : Option (List ℕ)) (text : List ℕ) → ProperFront o p text → AppendsFront o p text
+front-part o p text front = (take front.0 text, drop front.0 text, front.2, sym (take-append-drop front.0 text))
 
 -- Reads, one after another.
 

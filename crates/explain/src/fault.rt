@@ -1,8 +1,9 @@
 //! Why a run ends with a status other than 0.
 ghost use Rattle.std.specs.Prelude.{◌≡◌};
-ghost use Rattle.explain.specs.declared.fault.ExplainFault.TheVariants.{NoMemory};
+ghost use Rattle.explain.specs.declared.fault.ExplainFault.TheVariants.{NoMemory, Output};
 ghost use Rattle.explain.specs.Fault.{status_of};
 
+use input_text::Broken;
 use std::alloc::AllocError;
 use thiserror::Error;
 
@@ -34,5 +35,14 @@ impl From<AllocError> for ExplainFault {
 
     fn from(_: AllocError) -> Self {
         ExplainFault::NoMemory
+    }
+}
+
+/// Of standard output.
+impl From<Broken> for ExplainFault {
+    ghost from_gives = { λ _ fault. fault ≡ Output };
+
+    fn from(_: Broken) -> Self {
+        ExplainFault::Output
     }
 }

@@ -11,7 +11,7 @@ mod subjects;
 
 pub use explainer::Explainer;
 pub use fault::ExplainFault;
-use input_text::Noting;
+use input_text::{Noting, TrackedWriter};
 pub use laws::told_is_explained;
 use std::io;
 use std::process::ExitCode;
@@ -24,7 +24,7 @@ fn main(rt: HostRuntime) -> ExitCode {
     ExitCode::from(execute(
         rt.alloc(),
         &mut Noting::new(rt.reader()),
-        &mut io::writer(&rt),
+        &mut TrackedWriter::new(io::writer(&rt)),
         &mut rt.stderr(),
     ))
 }

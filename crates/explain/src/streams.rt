@@ -1,16 +1,17 @@
 //! The program on its streams.
-ghost use Rattle.std.specs.Prelude.{◌≡◌, ◌⊎◌, ◌<◌, ◌^◌, IfErr, IfOk, None, OnErr, OnOk, Some, false, true};
+ghost use Rattle.std.specs.Prelude.{◌≡◌, ◌==◌, ◌⊎◌, ◌<◌, ◌^◌, IfErr, IfOk, None, OnErr, OnOk, Some, false, true};
 ghost use Rattle.std.specs.Io.KnownBytes.{Appends, IsAtEnd};
-ghost use Rattle.explain.specs.Ends.{has_unread, has_unread_yet, is_unread};
+ghost use Rattle.input_text.specs.Write.{failed_after};
+ghost use Rattle.explain.specs.Ends.{has_unread, has_unread_yet, has_unwritten, is_unread};
 ghost use Rattle.explain.specs.Fault.{status_of};
 ghost use Rattle.explain.specs.Streams.{AppendsFront, Begins, Explains, ExplainsFront, Follows};
 
 use crate::end::End;
 use crate::explainer::Explainer;
 use crate::fault::ExplainFault;
-use input_text::{Input, ReadFault};
+use input_text::{Input, Output, ReadFault, put_all};
 use std::alloc::Global;
-use std::io::{ErrorKind, Write};
+use std::io::Write;
 
 /// How many bytes are asked of a reader at a time.
 const CHUNK: usize = 4096;
@@ -22,18 +23,21 @@ const CHUNK: usize = 4096;
 pub fn execute<I, O, E>(alloc: Global, input: &mut I, output: &mut O, faults: &mut E) -> u8
 where
     I: Input,
-    O: Write,
+    O: Output,
     E: Write,
-    requires { I.failed input.old ≡ false }
+    requires reads { I.failed input.old ≡ false }
+    requires writes { O.failed output.old ≡ false }
     ensures status { (result ≡ 0) ⊎ (result ≡ 2) ⊎ (result ≡ 4) ⊎ (result ≡ 6) }
-    ensures explained { result ≡ 0 → Explains (I.left input.old) (I.left input.new) (O.contents output.old) (O.contents output.new) }
+    ensures explained { result ≡ 0 → Explains (I.left input.old) (I.left input.new) (O.held output.old) (O.held output.new) }
     ensures end { result ≡ 0 → IsAtEnd (I.left input.new) }
     // No read failed where the status is 0. Where it is 2 one did, and all that was read before is explained.
     ensures read { result ≡ 0 → I.failed input.new ≡ false }
     ensures failed { result ≡ 2 → I.failed input.new ≡ true }
-    ensures unread { result ≡ 2 → Explains (I.left input.old) (I.left input.new) (O.contents output.old) (O.contents output.new) }
+    ensures unread { result ≡ 2 → Explains (I.left input.old) (I.left input.new) (O.held output.old) (O.held output.new) }
+    // It is 4 exactly where a write or a flush failed.
+    ensures unwritten { O.failed output.new ≡ (result == 4) }
     // Whatever fails, nothing is made up.
-    ensures begun { ExplainsFront (I.left input.old) (I.left input.new) (O.contents output.old) (O.contents output.new) }
+    ensures begun { ExplainsFront (I.left input.old) (I.left input.new) (O.held output.old) (O.held output.new) }
     ensures quiet { result ≡ 0 → faults.new ≡ faults.old }
 {
     match explain_input(alloc, input, output) {
@@ -52,17 +56,19 @@ fn tell<E: Write>(fault: ExplainFault, faults: &mut E) -> u8
 }
 
 /// Explains the lines of the input, to its end or to a read that fails.
-fn explain_input<I: Input, O: Write>(
+fn explain_input<I: Input, O: Output>(
     alloc: Global,
     input: &mut I,
     output: &mut O,
 ) -> Result<End, ExplainFault>
-    requires { I.failed input.old ≡ false }
-    ensures explained { OnOk result (Explains (I.left input.old) (I.left input.new) (O.contents output.old) (O.contents output.new)) }
+    requires reads { I.failed input.old ≡ false }
+    requires writes { O.failed output.old ≡ false }
+    ensures explained { OnOk result (Explains (I.left input.old) (I.left input.new) (O.held output.old) (O.held output.new)) }
     ensures end { IfOk result (λ end. end ≡ End.Whole → IsAtEnd (I.left input.new)) }
     ensures failed { IfOk result (λ end. I.failed input.new ≡ is_unread end) }
-    ensures begun { ExplainsFront (I.left input.old) (I.left input.new) (O.contents output.old) (O.contents output.new) }
+    ensures begun { ExplainsFront (I.left input.old) (I.left input.new) (O.held output.old) (O.held output.new) }
     ensures fault { IfErr result (λ e. (e ≡ ExplainFault.Output) ⊎ (e ≡ ExplainFault.NoMemory)) }
+    ensures unwritten { O.failed output.new ≡ has_unwritten result }
 {
     let mut explainer = Explainer::new();
     let mut text = Vec::new(alloc);
@@ -74,18 +80,20 @@ fn explain_input<I: Input, O: Write>(
 }
 
 /// Hears all that a reader gives, to its end or to a read that fails, and writes each line as its end is read.
-fn hear_all<I: Input, O: Write>(
+fn hear_all<I: Input, O: Output>(
     explainer: &mut Explainer,
     text: &mut Vec<u8>,
     input: &mut I,
     output: &mut O,
 ) -> Result<End, ExplainFault>
-    requires { I.failed input.old ≡ false }
-    ensures followed { OnOk result (Follows (I.left input.old) (I.left input.new) (O.contents output.old) (O.contents output.new) explainer.old.is_long explainer.old.line.items explainer.new.is_long explainer.new.line.items) }
+    requires reads { I.failed input.old ≡ false }
+    requires writes { O.failed output.old ≡ false }
+    ensures followed { OnOk result (Follows (I.left input.old) (I.left input.new) (O.held output.old) (O.held output.new) explainer.old.is_long explainer.old.line.items explainer.new.is_long explainer.new.line.items) }
     ensures end { IfOk result (λ end. end ≡ End.Whole → IsAtEnd (I.left input.new)) }
     ensures failed { I.failed input.new ≡ has_unread result }
-    ensures begun { OnErr result (Begins (I.left input.old) (I.left input.new) (O.contents output.old) (O.contents output.new) explainer.old.is_long explainer.old.line.items) }
+    ensures begun { OnErr result (Begins (I.left input.old) (I.left input.new) (O.held output.old) (O.held output.new) explainer.old.is_long explainer.old.line.items) }
     ensures fault { IfErr result (λ e. (e ≡ ExplainFault.Output) ⊎ (e ≡ ExplainFault.NoMemory)) }
+    ensures unwritten { O.failed output.new ≡ has_unwritten result }
 {
     loop {
         if let Some(end) = hear_some(explainer, text, input, output)? {
@@ -95,19 +103,21 @@ fn hear_all<I: Input, O: Write>(
 }
 
 /// Hears what one read gives, and writes the lines that end in it. None where more may come.
-fn hear_some<I: Input, O: Write>(
+fn hear_some<I: Input, O: Output>(
     explainer: &mut Explainer,
     text: &mut Vec<u8>,
     input: &mut I,
     output: &mut O,
 ) -> Result<Option<End>, ExplainFault>
-    requires { I.failed input.old ≡ false }
-    ensures followed { OnOk result (Follows (I.left input.old) (I.left input.new) (O.contents output.old) (O.contents output.new) explainer.old.is_long explainer.old.line.items explainer.new.is_long explainer.new.line.items) }
+    requires reads { I.failed input.old ≡ false }
+    requires writes { O.failed output.old ≡ false }
+    ensures followed { OnOk result (Follows (I.left input.old) (I.left input.new) (O.held output.old) (O.held output.new) explainer.old.is_long explainer.old.line.items explainer.new.is_long explainer.new.line.items) }
     ensures end { IfOk result (λ end. end ≡ Some End.Whole → IsAtEnd (I.left input.new)) }
     ensures failed { I.failed input.new ≡ has_unread_yet result }
     ensures gives { IfOk result (λ end. end ≡ None → (I.given input.old < I.given input.new) × (I.given input.new < 2 ^ 64)) }
-    ensures begun { OnErr result (Begins (I.left input.old) (I.left input.new) (O.contents output.old) (O.contents output.new) explainer.old.is_long explainer.old.line.items) }
+    ensures begun { OnErr result (Begins (I.left input.old) (I.left input.new) (O.held output.old) (O.held output.new) explainer.old.is_long explainer.old.line.items) }
     ensures fault { IfErr result (λ e. (e ≡ ExplainFault.Output) ⊎ (e ≡ ExplainFault.NoMemory)) }
+    ensures unwritten { O.failed output.new ≡ has_unwritten result }
 {
     let mut chunk = [0u8; CHUNK];
     let count = match input.get(&mut chunk) {
@@ -122,27 +132,13 @@ fn hear_some<I: Input, O: Write>(
     Ok(None)
 }
 
-/// Writes a text, and lets it go out. However that ends, what was written is a front of the text. A write that was only
-/// interrupted is tried again.
-fn write_text<O: Write>(text: &[u8], output: &mut O) -> Result<(), ExplainFault>
-    ensures written { OnOk result (Appends (O.contents output.old) (O.contents output.new) text.now) }
-    ensures front { AppendsFront (O.contents output.old) (O.contents output.new) text.now }
+/// Writes a text, and lets it go out. However that ends, what was written is a front of the text.
+fn write_text<O: Output>(text: &[u8], output: &mut O) -> Result<(), ExplainFault>
+    ensures written { OnOk result (Appends (O.held output.old) (O.held output.new) text.now) }
+    ensures front { AppendsFront (O.held output.old) (O.held output.new) text.now }
     ensures fault { IfErr result (λ e. e ≡ ExplainFault.Output) }
+    ensures failed { O.failed output.new ≡ failed_after result (O.failed output.old) }
 {
-    let mut rest = text;
-    for _ in 0..u64::MAX {
-        if rest.is_empty() {
-            return output.flush().map_err(|_| ExplainFault::Output);
-        }
-        match output.write(rest) {
-            Ok(0) => return Err(ExplainFault::Output),
-            Ok(count) => rest = &rest[count..],
-            Err(error) => {
-                if error.kind() != ErrorKind::Interrupted {
-                    return Err(ExplainFault::Output);
-                }
-            }
-        }
-    }
-    Err(ExplainFault::Output)
+    put_all(output, text)?;
+    Ok(output.flush()?)
 }

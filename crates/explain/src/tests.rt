@@ -6,7 +6,7 @@ mod memory;
 
 use crate::execute;
 use failing_streams::{Program, Streams};
-use input_text::Input;
+use input_text::{Input, Output};
 use std::alloc::Global;
 use std::io::Write;
 
@@ -14,7 +14,11 @@ use std::io::Write;
 struct Explain;
 
 impl Program for Explain {
-    fn execute<I: Input, O: Write, E: Write>(&self, alloc: Global, on: Streams<'_, I, O, E>) -> u8 {
+    fn execute<I: Input, O: Output, E: Write>(
+        &self,
+        alloc: Global,
+        on: Streams<'_, I, O, E>,
+    ) -> u8 {
         let Streams(input, output, faults) = on;
         execute(alloc, input, output, faults)
     }

@@ -1,5 +1,6 @@
 //! Readers and writers that fail, or that go on without end.
 
+use std::alloc::Global;
 use std::io;
 use std::io::{ErrorKind, Read, Write};
 
@@ -83,6 +84,79 @@ impl Read for Uneven<'_> {
         let mut piece = &self.text[..count];
         self.text = &self.text[count..];
         piece.read(buf)
+    }
+}
+
+/// A writer that takes some bytes at a time, and fails after so many writes.
+#[derive(Drop)]
+pub struct Rough {
+    /// What was written.
+    pub written: Vec<u8>,
+    /// The most bytes of a write.
+    most: usize,
+    /// How many calls in a row are interrupted before each that is not.
+    interrupts: u32,
+    /// How many more of these calls are interrupted.
+    left: u32,
+    /// How many more writes take bytes.
+    writes: u32,
+    /// What a write or a flush behind them is: a failure of this kind, or else a write of no byte.
+    end: Option<ErrorKind>,
+}
+
+impl Rough {
+    /// A writer that takes at most so many bytes in each of so many writes, each after so many calls that are interrupted.
+    pub fn new(
+        alloc: Global,
+        most: usize,
+        interrupts: u32,
+        writes: u32,
+        end: Option<ErrorKind>,
+    ) -> Self {
+        Rough {
+            written: Vec::new(alloc),
+            most,
+            interrupts,
+            left: interrupts,
+            writes,
+            end,
+        }
+    }
+
+    /// Whether this call is interrupted.
+    fn is_interrupted(&mut self) -> bool {
+        if self.left == 0 {
+            self.left = self.interrupts;
+            return false;
+        }
+        self.left -= 1;
+        true
+    }
+}
+
+impl Write for Rough {
+    fn write(&mut self, buf: &[u8]) -> io::Result<usize> {
+        if self.is_interrupted() {
+            return Err(io::Error::from(ErrorKind::Interrupted));
+        }
+        if self.writes == 0 {
+            return match self.end {
+                Some(kind) => Err(io::Error::from(kind)),
+                None => Ok(0),
+            };
+        }
+        self.writes -= 1;
+        self.written.write(&buf[..buf.len().min(self.most)])
+    }
+
+    fn flush(&mut self) -> io::Result<()> {
+        if self.is_interrupted() {
+            return Err(io::Error::from(ErrorKind::Interrupted));
+        }
+        match self.end {
+            Some(kind) if self.writes == 0 => Err(io::Error::from(kind)),
+            _ => Ok(()),
+        }
     }
 }
 

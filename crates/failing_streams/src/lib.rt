@@ -7,7 +7,7 @@ mod memory;
 mod runs;
 mod words;
 
-pub use devices::{Broken, Spaces, Stuck, Uneven};
+pub use devices::{Broken, Rough, Spaces, Stuck, Uneven};
 pub use memory::{Scarcity, Taken, take_all_but};
 pub use runs::{Program, Ran, Streams, run, run_as_room_grows, run_from, run_to, run_untold};
 pub use words::{Given, has_all};

@@ -3,9 +3,10 @@ ghost use Rattle.std.specs.Prelude.{◌≡◌, false};
 
 use crate::devices::Broken;
 use crate::memory::Scarcity;
-use input_text::{Input, Noting};
+use input_text::{Input, Noting, Output, TrackedWriter};
 use std::alloc::{AllocError, Global};
 use std::io::{Read, Write};
+use std::mem;
 
 /// How many bytes more are left from run to run: what the allocator of the C library rounds to, so that no growth is
 /// stepped over.
@@ -20,8 +21,9 @@ pub struct Streams<'a, I, O, E>(pub &'a mut I, pub &'a mut O, pub &'a mut E);
 /// A program that has no words.
 pub trait Program {
     /// Runs it on these streams, and answers the exit status.
-    fn execute<I: Input, O: Write, E: Write>(&self, alloc: Global, on: Streams<'_, I, O, E>) -> u8
-        requires { I.failed on.0.now ≡ false };
+    fn execute<I: Input, O: Output, E: Write>(&self, alloc: Global, on: Streams<'_, I, O, E>) -> u8
+        requires reads { I.failed on.0.now ≡ false }
+        requires writes { O.failed on.1.now ≡ false };
 }
 
 /// What a run answers, writes and tells.
@@ -70,13 +72,14 @@ pub fn run_to<P: Program, R: Read, O: Write>(
 ) -> (u8, Vec<u8>) {
     let mut faults = Vec::new(alloc);
     let mut input = Noting::new(reader);
-    let status = program.execute(alloc, Streams(&mut input, output, &mut faults));
+    let mut output = TrackedWriter::new(output);
+    let status = program.execute(alloc, Streams(&mut input, &mut output, &mut faults));
     (status, faults)
 }
 
 /// The status of a run on what this reader gives where nobody can be told a fault.
 pub fn run_untold<P: Program, R: Read>(program: &P, alloc: Global, reader: &mut R) -> u8 {
-    let mut output = Vec::new(alloc);
+    let mut output = TrackedWriter::new(Vec::new(alloc));
     let mut input = Noting::new(reader);
     program.execute(alloc, Streams(&mut input, &mut output, &mut Broken::new()))
 }
@@ -104,8 +107,10 @@ pub fn run_as_room_grows<P: Program>(
         ran.faults.clear();
         let mut input = Noting::new(text);
         scarcity.leave(refused as usize * STEP)?;
-        let streams = Streams(&mut input, &mut ran.output, &mut ran.faults);
+        let mut output = TrackedWriter::new(mem::replace(&mut ran.output, Vec::new(alloc)));
+        let streams = Streams(&mut input, &mut output, &mut ran.faults);
         ran.status = program.execute(alloc, streams);
+        ran.output = output.into_inner();
         scarcity.relax();
         if ran.status != 6 || !ran.output.is_empty() || ran.faults.as_slice() != no_memory {
             return Ok((refused, ran));

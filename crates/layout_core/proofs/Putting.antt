@@ -5,7 +5,7 @@ use Rattle.std.specs.Io.KnownBytes.{Appends}
 use Rattle.std.specs.Result.{result_or}
 use Rattle.std.proofs.lemmas.Result.{on_err_weaker}
 use Rattle.station_core.specs.declared.call.Step.{Step}
-use Rattle.layout_core.specs.declared.device.Broken.{Broken}
+use Rattle.input_text.specs.declared.output.Broken.{Broken}
 use Rattle.layout_core.specs.declared.engine.ServeFault.{ServeFault}
 use Rattle.layout_core.specs.declared.engine.ServeFault.TheVariants.{Trace}
 use Rattle.layout_core.specs.Faults.{AppendsFront, PutsOut, ended_by, is_trace, is_write}

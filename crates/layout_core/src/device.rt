@@ -1,10 +1,8 @@
-//! What a served connection reads from and writes to.
+//! What a served connection reads from. What it writes to is a [`Sink`](input_text::Sink).
 ghost use Rattle.std.specs.Prelude.{◌≡◌, ℕ, ◌+◌, ◌<◌, ◌≤◌, ◌==◌, Bool, true, false, Option, List, length, IfOk, OnOk, OnErr};
-ghost use Rattle.std.specs.Io.KnownBytes.{ReadConsumes, WriteAppends};
+ghost use Rattle.std.specs.Io.KnownBytes.{ReadConsumes};
 
-/// A device failed.
-#[derive(Clone, Copy, Debug, PartialEq, Eq)]
-pub struct Broken;
+use input_text::Broken;
 
 /// What bytes are read from.
 pub trait Source {
@@ -30,23 +28,6 @@ pub trait Source {
         ensures counted { reads self.new ≡ reads self.old + 1 }
         ensures end { IfOk result (λ n. ended self.new ≡ (n == 0)) }
         ensures still { OnErr result (ended self.new ≡ false) }
-        ensures failed_ok { OnOk result (failed self.new ≡ failed self.old) }
-        ensures failed_err { OnErr result (failed self.new ≡ true) };
-}
-
-/// What bytes are written to.
-pub trait Sink {
-    /// The bytes that it holds, where it tells them.
-    ghost held: { Self → Option (List ℕ) };
-
-    /// Whether a write failed.
-    ghost failed: { Self → Bool };
-
-    /// Writes bytes from the front of a slice that is not empty, and tells how many: at least 1. An error writes none.
-    fn put(&mut self, bytes: &[u8]) -> Result<usize, Broken>
-        requires room { 0 < length bytes.now }
-        ensures bound { IfOk result (λ n. (0 < n) × (n ≤ length bytes.now)) }
-        ensures bytes { WriteAppends (held self.old) (held self.new) result bytes.now }
         ensures failed_ok { OnOk result (failed self.new ≡ failed self.old) }
         ensures failed_err { OnErr result (failed self.new ≡ true) };
 }

@@ -7,11 +7,12 @@ ghost use Rattle.layout_core.specs.Faults.{HasFaulted, PutsOut, ServesOrStops, e
 ghost use Rattle.layout_core.specs.Served.{HasServed, IsSendableAnswer, bytes_of_answer, input_of, line_of_answer, moment_of, replies_of_answer, served_events, turns_of_answer};
 ghost use Rattle.layout_core.specs.World.{IsSameLayout};
 
-use crate::device::{Sink, Source};
+use crate::device::Source;
 use crate::event::Event;
 use crate::laws;
 use crate::world::World;
 use crate::writing::{put_all, put_line};
+use input_text::Sink;
 use ln_ops::to_msg;
 use show_text::{off_line, reply_line, track_line};
 use station_core::Step;

@@ -15,9 +15,10 @@ mod standing;
 mod world;
 mod writing;
 
-pub use device::{Broken, Sink, Source};
+pub use device::Source;
 pub use engine::{Limits, ServeFault, Summary, serve};
 pub use event::Event;
+pub use input_text::{Broken, Sink};
 pub use laws::{events_add_up, headline, others_leave_it, settling};
 pub use nodes::Nodes;
 pub use port::Port;

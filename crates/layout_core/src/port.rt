@@ -2,8 +2,9 @@
 ghost use Rattle.std.specs.Prelude.{◌≡◌, false};
 ghost use Rattle.layout_core.specs.Port.{count_of, some_count_of};
 
-use crate::device::{Broken, Sink, Source};
+use crate::device::Source;
 use crate::ghost_count::GhostCount;
+use input_text::{Broken, Sink};
 use std::io;
 use std::io::{Read, Write};
 

@@ -4,7 +4,7 @@ ghost use Rattle.std.specs.Io.KnownBytes.{Appends};
 ghost use Rattle.layout_core.specs.Faults.{AppendsFront};
 ghost use Rattle.layout_core.specs.Served.{ended_line};
 
-use crate::device::{Broken, Sink};
+use input_text::{Broken, Sink};
 use show_text::Line;
 
 /// Writes all of the bytes, by as many writes as the sink asks for.

@@ -21,7 +21,7 @@ use Rattle.layout_core.specs.World.{HaveHeard}
 use Rattle.station_core.specs.Powered.{HasDesk}
 use Rattle.station_core.specs.Seen.{Seen, known_of}
 use Rattle.console.specs.Fault.{status_of}
-use Rattle.console.specs.Printed.{AppendsFront as PrintedFront}
+use Rattle.input_text.specs.Write.{AppendsFront as PrintedFront}
 use Rattle.program.specs.Fault.{of_serve}
 use Rattle.program.specs.Replayed.{HasDone}
 use Rattle.roster.specs.Entry.{Entry}

@@ -5,7 +5,6 @@ pub mod Replaying
 pub mod Running
 pub mod Standing
 pub mod Few
-pub mod Lending
 pub mod Wanted
 pub mod Refusing
 pub mod Ordering

@@ -2,8 +2,9 @@
 use Rattle.std.proofs.Common.{◌≡◌, ◌<◌, ℕ, ◌+◌, List, [], ◌∷◌, ◌++◌, length, take, drop, get_or, Option, refl, ap, sym, subst, ◌∙◌, append_assoc}
 use Rattle.std.proofs.lemmas.List.{append-nil, drop_more, take-append-drop, take_more}
 use Rattle.std.specs.Io.KnownBytes.{Appends}
-use Rattle.console.specs.Printed.{AppendsFront, ended, lines_text}
-use Rattle.console.proofs.Fronts.{front_before, front_behind}
+use Rattle.input_text.specs.Write.{AppendsFront}
+use Rattle.console.specs.Printed.{ended, lines_text}
+use Rattle.input_text.proofs.Fronts.{front_before, front_behind}
 use Rattle.std.proofs.KnownBytes.{Appends-trans}
 
 drop_more_get : (lines : List (List ℕ)) (i : ℕ) → i < length lines → drop i lines ≡ get_or lines i [] ∷ drop (i + 1) lines

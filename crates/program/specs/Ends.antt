@@ -9,7 +9,7 @@ use Rattle.command_line.specs.Fault.{refusals}
 use Rattle.command_line.specs.Order.{HasNone, IsOrderOf}
 use Rattle.console.specs.declared.fault.RunFault.{RunFault}
 use Rattle.console.specs.declared.fault.RunFault.TheVariants.{Lines, NoMemory, Output, UnreadableInput}
-use Rattle.console.specs.Fault.{of_script, status_of}
+use Rattle.console.specs.Fault.{is_unwritten, of_script, status_of}
 use Rattle.console.specs.Files.{HasNoRoster, IsRosterOf}
 use Rattle.console.specs.Monitored.{FailsMonitor}
 use Rattle.input_text.specs.Read.{ReadsMost}
@@ -52,9 +52,10 @@ abbrev pub AreNoOrder : List Text → Type 0
 AreNoOrder words = ((kind : ErrorKind) × IsAmong kind (refusals words)) ⊎ HasNone (IsOrderOf words)
 
 -- The status of a run that does not end with 0. The words are no order, 1, or memory ran out, 6; or they are one, which is
--- not carried out.
-abbrev pub EndsAs : (words : List Text) → (old_input new_input : Option (List ℕ)) → (has_failed : Bool) → (status : ℕ) → Type 0
-EndsAs words old_input new_input has_failed status =
-    ((status ≡ 1) × AreNoOrder words)
-    ⊎ (status ≡ 6)
-    ⊎ ((order : Order) × (fault : RunFault) × IsOrderOf words order × FailsOrder order old_input new_input has_failed fault × (status ≡ status_of fault))
+-- not carried out. A write or a flush of the output failed exactly where the fault is that it could not be written.
+abbrev pub EndsAs : (words : List Text) → (old_input new_input : Option (List ℕ)) → (read_failed write_failed : Bool) → (status : ℕ) → Type 0
+EndsAs words old_input new_input read_failed write_failed status =
+    ((status ≡ 1) × AreNoOrder words × (write_failed ≡ false))
+    ⊎ ((status ≡ 6) × (write_failed ≡ false))
+    ⊎ ((order : Order) × (fault : RunFault) × IsOrderOf words order × FailsOrder order old_input new_input read_failed fault
+    × (write_failed ≡ is_unwritten fault) × (status ≡ status_of fault))

@@ -1,6 +1,6 @@
 //! The program on its words and streams.
 ghost use Rattle.std.specs.Prelude.{◌≡◌, ◌≢◌, ◌≤◌, IfErr, OnOk, false, map, true};
-ghost use Rattle.console.specs.Fault.{ended_by, is_unread_input, status_of};
+ghost use Rattle.console.specs.Fault.{ended_by, is_unread_input, is_unwritten, status_of};
 ghost use Rattle.program.specs.Ends.{EndsAs, FailsOrder, FailsReplayNew, FailsServe};
 ghost use Rattle.program.specs.Runs.{CarriesOut, ReplaysNew, Runs, ServesNew};
 
@@ -9,7 +9,7 @@ use crate::replay::replay;
 use crate::serving::{listen, serve_on};
 use command_line::{FileName, Order, order};
 use console::{RunFault, monitor, read_roster, tell};
-use input_text::Input;
+use input_text::{Input, Output};
 use layout_core::Limits;
 use std::io::Write;
 use std::net::{Net, TcpListener, TcpStream};
@@ -29,15 +29,19 @@ pub fn execute<R, I, O, E>(
 where
     R: Files + AllocGlobal + Net<Listener = TcpListener, Stream = TcpStream>,
     I: Input,
-    O: Write,
+    O: Output,
     E: Write,
-    requires { I.failed input.old ≡ false }
+    requires reads { I.failed input.old ≡ false }
+    requires writes { O.failed output.old ≡ false }
     ensures most { result ≤ 6 }
     // The words are an order, and it was carried out.
-    ensures done { result ≡ 0 → Runs (map (λ word. word.now) words.entry.now) (I.left input.old) (I.left input.new) (O.contents output.old) (O.contents output.new) }
+    ensures done { result ≡ 0 → Runs (map (λ word. word.now) words.entry.now) (I.left input.old) (I.left input.new) (O.held output.old) (O.held output.new) }
     // Else it was not, and the status tells why.
-    ensures ends { result ≢ 0 → EndsAs (map (λ word. word.now) words.entry.now) (I.left input.old) (I.left input.new) (I.failed input.new) result }
+    ensures ends { result ≢ 0 → EndsAs (map (λ word. word.now) words.entry.now) (I.left input.old) (I.left input.new) (I.failed input.new) (O.failed output.new) result }
     ensures unread { I.failed input.new ≡ true → result ≡ 2 }
+    // No write of the output failed where the status is 0; where one failed, the status is 4.
+    ensures written { result ≡ 0 → O.failed output.new ≡ false }
+    ensures unwritten { O.failed output.new ≡ true → result ≡ 4 }
     // A fault of the words, of what is read, of a roster, a script or a hex text prints nothing.
     ensures untouched { result ≢ 0 → result ≢ 4 → result ≢ 6 → output.new ≡ output.old }
 {
@@ -52,11 +56,13 @@ fn obey<R, I, O>(rt: &R, words: &[&str], input: &mut I, output: &mut O) -> Resul
 where
     R: Files + AllocGlobal + Net<Listener = TcpListener, Stream = TcpStream>,
     I: Input,
-    O: Write,
-    requires { I.failed input.old ≡ false }
-    ensures done { OnOk result (Runs (map (λ word. word.now) words.entry.now) (I.left input.old) (I.left input.new) (O.contents output.old) (O.contents output.new)) }
-    ensures ends { IfErr result (λ e. EndsAs (map (λ word. word.now) words.entry.now) (I.left input.old) (I.left input.new) (I.failed input.new) (status_of e)) }
+    O: Output,
+    requires reads { I.failed input.old ≡ false }
+    requires writes { O.failed output.old ≡ false }
+    ensures done { OnOk result (Runs (map (λ word. word.now) words.entry.now) (I.left input.old) (I.left input.new) (O.held output.old) (O.held output.new)) }
+    ensures ends { IfErr result (λ e. EndsAs (map (λ word. word.now) words.entry.now) (I.left input.old) (I.left input.new) (I.failed input.new) (O.failed output.new) (status_of e)) }
     ensures unread { I.failed input.new ≡ ended_by is_unread_input result }
+    ensures unwritten { O.failed output.new ≡ ended_by is_unwritten result }
     ensures untouched { IfErr result (λ e. status_of e ≢ 4 → status_of e ≢ 6 → output.new ≡ output.old) }
 {
     let order = order(rt.alloc(), words)?;
@@ -68,11 +74,13 @@ fn carry_out<R, I, O>(rt: &R, order: Order, input: &mut I, output: &mut O) -> Re
 where
     R: Files + AllocGlobal + Net<Listener = TcpListener, Stream = TcpStream>,
     I: Input,
-    O: Write,
-    requires { I.failed input.old ≡ false }
-    ensures done { OnOk result (CarriesOut order (I.left input.old) (I.left input.new) (O.contents output.old) (O.contents output.new)) }
+    O: Output,
+    requires reads { I.failed input.old ≡ false }
+    requires writes { O.failed output.old ≡ false }
+    ensures done { OnOk result (CarriesOut order (I.left input.old) (I.left input.new) (O.held output.old) (O.held output.new)) }
     ensures fails { IfErr result (FailsOrder order (I.left input.old) (I.left input.new) (I.failed input.new)) }
     ensures unread { I.failed input.new ≡ ended_by is_unread_input result }
+    ensures unwritten { O.failed output.new ≡ ended_by is_unwritten result }
     ensures untouched { IfErr result (λ e. status_of e ≢ 4 → status_of e ≢ 6 → output.new ≡ output.old) }
 {
     match order {
@@ -102,11 +110,13 @@ fn replay_new<R, I, O>(
 where
     R: Files + AllocGlobal,
     I: Input,
-    O: Write,
-    requires { I.failed input.old ≡ false }
-    ensures done { OnOk result (ReplaysNew lines roster (I.left input.old) (I.left input.new) (O.contents output.old) (O.contents output.new)) }
+    O: Output,
+    requires reads { I.failed input.old ≡ false }
+    requires writes { O.failed output.old ≡ false }
+    ensures done { OnOk result (ReplaysNew lines roster (I.left input.old) (I.left input.new) (O.held output.old) (O.held output.new)) }
     ensures fails { IfErr result (FailsReplayNew lines roster (I.left input.old) (I.left input.new) (I.failed input.new)) }
     ensures unread { I.failed input.new ≡ ended_by is_unread_input result }
+    ensures unwritten { O.failed output.new ≡ ended_by is_unwritten result }
     ensures untouched { IfErr result (λ e. status_of e ≢ 4 → status_of e ≢ 6 → output.new ≡ output.old) }
 {
     let roster = read_roster(rt, roster)?;
@@ -125,9 +135,11 @@ fn serve_new<R, O>(
 ) -> Result<(), RunFault>
 where
     R: Files + AllocGlobal + Net<Listener = TcpListener, Stream = TcpStream>,
-    O: Write,
-    ensures done { OnOk result (ServesNew port roster limits connections (O.contents output.old) (O.contents output.new)) }
+    O: Output,
+    requires { O.failed output.old ≡ false }
+    ensures done { OnOk result (ServesNew port roster limits connections (O.held output.old) (O.held output.new)) }
     ensures fails { IfErr result (FailsServe roster) }
+    ensures unwritten { O.failed output.new ≡ ended_by is_unwritten result }
     ensures untouched { IfErr result (λ e. status_of e ≢ 4 → status_of e ≢ 6 → output.new ≡ output.old) }
 {
     let roster = read_roster(rt, roster)?;

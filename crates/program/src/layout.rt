@@ -5,17 +5,18 @@ ghost use Rattle.station_core.specs.Seen.{is_line_count};
 ghost use Rattle.program.specs.Fault.{of_station};
 ghost use Rattle.program.specs.Layout.{AreBetween, IsWorldOf, entries_in, roster_value};
 ghost use Rattle.program.specs.Runs.{IsNew};
-ghost use Rattle.console.specs.Printed.{AppendsFront, lines_text};
+ghost use Rattle.input_text.specs.Write.{AppendsFront, failed_after};
+ghost use Rattle.console.specs.Printed.{lines_text};
 ghost use Rattle.layout_core.specs.Standings.{standing_of};
 ghost use Rattle.program.specs.Printed.{decoder_lines};
 
 use console::{RunFault, Unwritten, print};
 use decoder_node::NodeList;
+use input_text::Sink;
 use layout_core::World;
 use roster::Roster;
 use station_core::StationFault;
 use std::alloc::Global;
-use std::io::Write;
 
 /// A new station with so many lines, and the decoders of the roster; without one there are none.
 pub fn new_world(alloc: Global, lines: u8, roster: Option<&Roster>) -> Result<World, RunFault>
@@ -48,14 +49,16 @@ fn no_station(fault: StationFault) -> RunFault
 }
 
 /// Prints how each decoder stands, in order.
-pub(crate) fn print_nodes<O: Write>(
+pub(crate) fn print_nodes<O: Sink>(
     world: &World,
     roster: Option<&Roster>,
     output: &mut O,
 ) -> Result<(), Unwritten>
     requires { IsWorldOf (roster_value roster) world.now.nodes }
-    ensures printed { OnOk result (Appends (O.contents output.old) (O.contents output.new) (lines_text (decoder_lines (entries_in (roster_value roster.entry)) (map standing_of world.now.nodes)))) }
-    ensures front { OnErr result (AppendsFront (O.contents output.old) (O.contents output.new) (lines_text (decoder_lines (entries_in (roster_value roster.entry)) (map standing_of world.now.nodes)))) }
+    ensures printed { OnOk result (Appends (O.held output.old) (O.held output.new) (lines_text (decoder_lines (entries_in (roster_value roster.entry)) (map standing_of world.now.nodes)))) }
+    ensures front { OnErr result (AppendsFront (O.held output.old) (O.held output.new) (lines_text (decoder_lines (entries_in (roster_value roster.entry)) (map standing_of world.now.nodes)))) }
+    ensures failed { O.failed output.new ≡ failed_after result (O.failed output.old) }
+    ensures loan { O.loan output.new ≡ O.loan output.old }
 {
     match roster {
         Some(roster) => print_decoders(world, roster, output),
@@ -64,10 +67,12 @@ pub(crate) fn print_nodes<O: Write>(
 }
 
 /// Prints a line for each decoder of the roster.
-fn print_decoders<O: Write>(world: &World, roster: &Roster, output: &mut O) -> Result<(), Unwritten>
+fn print_decoders<O: Sink>(world: &World, roster: &Roster, output: &mut O) -> Result<(), Unwritten>
     requires { IsWorldOf (Some roster.now) world.now.nodes }
-    ensures printed { OnOk result (Appends (O.contents output.old) (O.contents output.new) (lines_text (decoder_lines roster.now (map standing_of world.now.nodes)))) }
-    ensures front { OnErr result (AppendsFront (O.contents output.old) (O.contents output.new) (lines_text (decoder_lines roster.now (map standing_of world.now.nodes)))) }
+    ensures printed { OnOk result (Appends (O.held output.old) (O.held output.new) (lines_text (decoder_lines roster.now (map standing_of world.now.nodes)))) }
+    ensures front { OnErr result (AppendsFront (O.held output.old) (O.held output.new) (lines_text (decoder_lines roster.now (map standing_of world.now.nodes)))) }
+    ensures failed { O.failed output.new ≡ failed_after result (O.failed output.old) }
+    ensures loan { O.loan output.new ≡ O.loan output.old }
 {
     for (i, spec) in roster.nodes().as_slice().iter().enumerate() {
         let line = world.standing(i).line(roster.name(i), spec);

@@ -27,6 +27,15 @@ is_unread (Err (BadLine number)) = false
 is_unread (Err TooLong) = false
 is_unread (Err NoMemory) = false
 
+-- whether a run ended since its output could not be written
+abbrev pub is_unwritten : {A : Type 0} → Result A DrawFault → Bool
+is_unwritten (Ok a) = false
+is_unwritten (Err Unreadable) = false
+is_unwritten (Err Output) = true
+is_unwritten (Err (BadLine number)) = false
+is_unwritten (Err TooLong) = false
+is_unwritten (Err NoMemory) = false
+
 -- the text has this fault, where its lines tell what they do
 abbrev pub Refuses : {A : Type 0} → (List ℕ → Option A → Type 0) → List ℕ → DrawFault → Type 0
 Refuses Tells text TooLong = 16777216 < length text

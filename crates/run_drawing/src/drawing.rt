@@ -1,11 +1,12 @@
 //! What a program draws.
-ghost use Rattle.std.specs.Prelude.{◌≡◌, ◌⊎◌, ◌≤◌, ℕ, Bool, true, List, Option, Ok, IfErr, IfOk, OnOk, length};
+ghost use Rattle.std.specs.Prelude.{◌≡◌, ◌⊎◌, ◌≤◌, ℕ, Bool, true, false, List, Option, Ok, IfErr, IfOk, OnOk, length};
 ghost use Rattle.std.specs.Io.KnownBytes.{Appends};
+ghost use Rattle.run_drawing.specs.Fault.{is_unwritten};
 ghost use Rattle.run_drawing.specs.declared.fault.DrawFault.TheVariants.{NoMemory, Output};
 
 use crate::fault::DrawFault;
+use input_text::Output;
 use std::alloc::Global;
-use std::io::Write;
 
 /// Of a line that begins as one that is drawn and is none.
 #[derive(Clone, Copy, Debug)]
@@ -37,14 +38,16 @@ pub trait Drawing {
         ensures exact { (told : Option Self.Told) → tells line.now told → result ≡ Ok told };
 
     /// Draws what lines tell, at most 16,777,216 of them.
-    fn draw<O: Write>(
+    fn draw<O: Output>(
         &self,
         alloc: Global,
         told: &[Self::Told],
         output: &mut O,
     ) -> Result<(), DrawFault>
-        requires { length told.now ≤ 16777216 }
-        ensures text { OnOk result (Appends (O.contents output.old) (O.contents output.new) (drawn told.now)) }
+        requires few { length told.now ≤ 16777216 }
+        requires writes { O.failed output.old ≡ false }
+        ensures text { OnOk result (Appends (O.held output.old) (O.held output.new) (drawn told.now)) }
         ensures fault { IfErr result (λ e. (e ≡ Output) ⊎ (e ≡ NoMemory)) }
+        ensures unwritten { O.failed output.new ≡ is_unwritten result }
         ensures kept { IfErr result (λ e. e ≡ NoMemory → is_whole ≡ true → output.new ≡ output.old) };
 }

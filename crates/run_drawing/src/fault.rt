@@ -1,9 +1,9 @@
 //! Why a run ends with a status other than 0.
 ghost use Rattle.std.specs.Prelude.{◌≡◌};
 ghost use Rattle.run_drawing.specs.Fault.{of_read, status_of};
-ghost use Rattle.run_drawing.specs.declared.fault.DrawFault.TheVariants.{NoMemory as NoMemoryLeft};
+ghost use Rattle.run_drawing.specs.declared.fault.DrawFault.TheVariants.{NoMemory as NoMemoryLeft, Output as Unwritten};
 
-use input_text::ReadFault;
+use input_text::{Broken, ReadFault};
 use std::alloc::{AllocError, AllocFailed};
 use thiserror::Error;
 
@@ -32,6 +32,15 @@ impl From<ReadFault> for DrawFault {
 
     fn from(fault: ReadFault) -> DrawFault {
         fault.choose(DrawFault::Unreadable, DrawFault::NoMemory)
+    }
+}
+
+/// Of standard output.
+impl From<Broken> for DrawFault {
+    ghost from_gives = { λ _ fault. fault ≡ Unwritten };
+
+    fn from(_error: Broken) -> DrawFault {
+        DrawFault::Output
     }
 }
 

@@ -1,12 +1,12 @@
 //! A program that draws, on its streams.
 ghost use Rattle.std.specs.Prelude.{◌≡◌, ◌≢◌, ◌==◌, false, true, IfErr, OnOk};
 ghost use Rattle.run_drawing.specs.Drawn.{DrawsInput, EndsAs, FailsInput, RefusesInput};
-ghost use Rattle.run_drawing.specs.Fault.{is_unread, status_of};
+ghost use Rattle.run_drawing.specs.Fault.{is_unread, is_unwritten, status_of};
 
 use crate::drawing::Drawing;
 use crate::fault::DrawFault;
 use crate::reading::read_lines;
-use input_text::{Input, read_most};
+use input_text::{Input, Output, read_most};
 use station_text::LONGEST_TEXT;
 use std::alloc::Global;
 use std::io::Write;
@@ -24,13 +24,16 @@ pub fn execute<D, I, O, E>(
 where
     D: Drawing,
     I: Input,
-    O: Write,
+    O: Output,
     E: Write,
-    requires { I.failed input.old ≡ false }
+    requires reads { I.failed input.old ≡ false }
+    requires writes { O.failed output.old ≡ false }
     ensures status { EndsAs D.tells (I.left input.old) result }
-    ensures drawn { result ≡ 0 → DrawsInput D.tells D.drawn (I.left input.old) (I.left input.new) (O.contents output.old) (O.contents output.new) }
+    ensures drawn { result ≡ 0 → DrawsInput D.tells D.drawn (I.left input.old) (I.left input.new) (O.held output.old) (O.held output.new) }
     // The status is 2 exactly where a read failed.
     ensures unread { I.failed input.new ≡ (result == 2) }
+    // And 4 exactly where a write or a flush failed.
+    ensures unwritten { O.failed output.new ≡ (result == 4) }
     // Where the output did not fail, a fault writes nothing, but for want of memory where the drawing is not whole.
     ensures kept { result ≢ 0 → result ≢ 4 → (result ≡ 6 → D.is_whole ≡ true) → output.new ≡ output.old }
 {
@@ -56,17 +59,19 @@ fn tell<D: Drawing, E: Write>(drawing: &D, fault: DrawFault, faults: &mut E) -> 
 }
 
 /// Reads the input, whole, and then draws what its lines tell. Where a line has a fault nothing is written.
-fn draw_input<D: Drawing, I: Input, O: Write>(
+fn draw_input<D: Drawing, I: Input, O: Output>(
     drawing: &D,
     alloc: Global,
     input: &mut I,
     output: &mut O,
 ) -> Result<(), DrawFault>
-    requires { I.failed input.old ≡ false }
-    ensures drawn { OnOk result (DrawsInput D.tells D.drawn (I.left input.old) (I.left input.new) (O.contents output.old) (O.contents output.new)) }
-    ensures refused { RefusesInput D.tells (I.left input.old) result (O.contents output.old) (O.contents output.new) }
+    requires reads { I.failed input.old ≡ false }
+    requires writes { O.failed output.old ≡ false }
+    ensures drawn { OnOk result (DrawsInput D.tells D.drawn (I.left input.old) (I.left input.new) (O.held output.old) (O.held output.new)) }
+    ensures refused { RefusesInput D.tells (I.left input.old) result (O.held output.old) (O.held output.new) }
     ensures failed { FailsInput D.tells (I.left input.old) result }
     ensures unread { I.failed input.new ≡ is_unread result }
+    ensures unwritten { O.failed output.new ≡ is_unwritten result }
     ensures kept { IfErr result (λ e. e ≢ DrawFault.Output → (e ≡ DrawFault.NoMemory → D.is_whole ≡ true) → output.new ≡ output.old) }
 {
     let text = read_most(alloc, input, LONGEST_TEXT + 1)?;

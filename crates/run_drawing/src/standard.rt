@@ -2,7 +2,7 @@
 
 use crate::drawing::Drawing;
 use crate::run::execute;
-use input_text::Noting;
+use input_text::{Noting, TrackedWriter};
 use std::io;
 use std::process::ExitCode;
 
@@ -12,7 +12,7 @@ pub fn draw_standard<D: Drawing>(drawing: &D, rt: &HostRuntime) -> ExitCode {
         drawing,
         rt.alloc(),
         &mut Noting::new(rt.reader()),
-        &mut io::writer(rt),
+        &mut TrackedWriter::new(io::writer(rt)),
         &mut rt.stderr(),
     ))
 }

@@ -5,7 +5,7 @@
 use command_line::no_text;
 pub use command_line::{FileName, Order, OrderFault, order};
 use console::{read_words, texts};
-use input_text::Noting;
+use input_text::{Noting, TrackedWriter};
 use program::tell;
 pub use program::{RunFault, execute, serve_on};
 use std::io;
@@ -29,7 +29,7 @@ fn run_words(rt: &HostRuntime) -> Result<u8, RunFault> {
         rt,
         texts.as_slice(),
         &mut Noting::new(rt.reader()),
-        &mut io::writer(rt),
+        &mut TrackedWriter::new(io::writer(rt)),
         &mut rt.stderr(),
     ))
 }

@@ -4,13 +4,14 @@ mod devices;
 mod examples;
 mod files;
 mod memory;
+mod outputs;
 mod scripts;
 mod served;
 mod sockets;
 mod words;
 
 use crate::execute;
-use input_text::Noting;
+use input_text::{Noting, TrackedWriter};
 use std::fs;
 use std::process::Abort;
 use std::test::Fail;
@@ -28,7 +29,13 @@ fn run(rt: &HostRuntime, words: &[&str], text: &[u8]) -> Ran {
     let mut input = Noting::new(text);
     let mut output = Vec::new(rt.alloc());
     let mut faults = Vec::new(rt.alloc());
-    let status = execute(rt, words, &mut input, &mut output, &mut faults);
+    let status = execute(
+        rt,
+        words,
+        &mut input,
+        &mut TrackedWriter::new(&mut output),
+        &mut faults,
+    );
     Ran {
         status,
         output,

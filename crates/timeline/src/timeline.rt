@@ -7,9 +7,9 @@ use crate::drawing::{bottom_of, turns_in, write_picture};
 use crate::event::Event;
 use crate::reading::event_told;
 use crate::rows::rows_of;
+use input_text::{Output, put_all};
 use run_drawing::{BadLine, DrawFault, Drawing};
 use std::alloc::Global;
-use std::io::Write;
 
 /// The picture of a run. It is drawn whole before it is written.
 pub struct Timeline;
@@ -35,7 +35,7 @@ impl Drawing for Timeline {
         event_told(line)
     }
 
-    fn draw<O: Write>(
+    fn draw<O: Output>(
         &self,
         alloc: Global,
         events: &[Event],
@@ -48,8 +48,6 @@ impl Drawing for Timeline {
         write_picture(rows.as_slice(), turns, bottom, events, &mut text).map_err(
             |_| DrawFault::NoMemory,
         )?;
-        output
-            .write_all(text.as_slice())
-            .map_err(|_| DrawFault::Output)
+        put_all(output, text.as_slice()).map_err(|_| DrawFault::Output)
     }
 }

@@ -1,12 +1,14 @@
 //! The value change dump of packets (IEEE 1364, 18).
-ghost use Rattle.std.specs.Prelude.{ℕ, ◌≡◌, ◌+◌, ◌*◌, ◌<◌, ◌≤◌, ◌^◌, ◌⊎◌, Some, true, IfErr, IfOk, OnOk, length, sum};
+ghost use Rattle.std.specs.Prelude.{ℕ, false, ◌≡◌, ◌+◌, ◌*◌, ◌<◌, ◌≤◌, ◌^◌, ◌⊎◌, Some, true, IfErr, IfOk, OnOk, length, sum};
 ghost use Rattle.std.specs.Io.KnownBytes.{Appends};
 ghost use Rattle.half_bits.specs.Halves.{halves_of};
+ghost use Rattle.run_drawing.specs.Fault.{is_unwritten};
 ghost use Rattle.run_drawing.specs.declared.fault.DrawFault.TheVariants.{NoMemory, Output};
 ghost use Rattle.track_signal.specs.Dump.{change_text, changes_from, changes_text, dump_of, halves_in, stamp};
 
 use dcc_packet::Packet;
 use half_bits::halves;
+use input_text::{Output, put_all};
 use run_drawing::DrawFault;
 use std::alloc::Global;
 use std::io;
@@ -52,49 +54,58 @@ fn draw_packet<O: Write>(packet: &Packet, start: u64, output: &mut O) -> io::Res
     Ok(time)
 }
 
-fn write_bytes<O: Write>(bytes: &[u8], output: &mut O) -> Result<(), DrawFault>
-    ensures text { OnOk result (Appends (O.contents output.old) (O.contents output.new) bytes.now) }
-    ensures fault { IfErr result (λ e. e ≡ Output) }
-{
-    output.write_all(bytes).map_err(|_| DrawFault::Output)
-}
-
 /// The same by one write: `text` is cleared, and the packet drawn there first.
-fn write_packet<O: Write>(
+fn write_packet<O: Output>(
     packet: &Packet,
     start: u64,
     text: &mut Vec<u8>,
     output: &mut O,
 ) -> Result<u64, DrawFault>
-    requires { start + 13800 < 2 ^ 64 }
-    ensures text { OnOk result (Appends (O.contents output.old) (O.contents output.new) (changes_text (changes_from start true (halves_of packet.now)))) }
+    requires end { start + 13800 < 2 ^ 64 }
+    requires writes { O.failed output.old ≡ false }
+    ensures text { OnOk result (Appends (O.held output.old) (O.held output.new) (changes_text (changes_from start true (halves_of packet.now)))) }
     ensures end { IfOk result (λ end. end ≡ start + sum (halves_of packet.now)) }
     ensures soon { IfOk result (λ end. end ≤ start + 13800) }
     ensures fault { IfErr result (λ e. (e ≡ Output) ⊎ (e ≡ NoMemory)) }
+    ensures unwritten { O.failed output.new ≡ is_unwritten result }
 {
     text.clear();
     let end = draw_packet(packet, start, text).map_err(|_| DrawFault::NoMemory)?;
-    write_bytes(text.as_slice(), output)?;
+    put_all(output, text.as_slice())?;
     Ok(end)
 }
 
+/// Writes the time stamp of the end, by one write: `text` is cleared, and the stamp written there first.
+fn write_end<O: Output>(time: u64, text: &mut Vec<u8>, output: &mut O) -> Result<(), DrawFault>
+    requires { O.failed output.old ≡ false }
+    ensures text { OnOk result (Appends (O.held output.old) (O.held output.new) (stamp time)) }
+    ensures fault { IfErr result (λ e. (e ≡ Output) ⊎ (e ≡ NoMemory)) }
+    ensures unwritten { O.failed output.new ≡ is_unwritten result }
+{
+    text.clear();
+    write_stamp(time, text).map_err(|_| DrawFault::NoMemory)?;
+    Ok(put_all(output, text.as_slice())?)
+}
+
 /// Draws packets that are sent one after another, from the header to the time at their end.
-pub(crate) fn draw_packets<O: Write>(
+pub(crate) fn draw_packets<O: Output>(
     alloc: Global,
     packets: &[Packet],
     output: &mut O,
 ) -> Result<(), DrawFault>
-    requires { length packets.now ≤ 16777216 }
-    ensures text { OnOk result (Appends (O.contents output.old) (O.contents output.new) (dump_of packets.now)) }
+    requires few { length packets.now ≤ 16777216 }
+    requires writes { O.failed output.old ≡ false }
+    ensures text { OnOk result (Appends (O.held output.old) (O.held output.new) (dump_of packets.now)) }
     ensures fault { IfErr result (λ e. (e ≡ Output) ⊎ (e ≡ NoMemory)) }
+    ensures unwritten { O.failed output.new ≡ is_unwritten result }
 {
     let Ok(mut text) = Vec::with_capacity(alloc, ROOM) else {
         return Err(DrawFault::NoMemory);
     };
-    write_bytes(HEADER, output)?;
+    put_all(output, HEADER)?;
     let mut time = 0;
     for packet in packets {
         time = write_packet(packet, time, &mut text, output)?;
     }
-    write_stamp(time, output).map_err(|_| DrawFault::Output)
+    write_end(time, &mut text, output)
 }

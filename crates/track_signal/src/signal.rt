@@ -5,10 +5,10 @@ ghost use Rattle.track_signal.specs.Dump.{dump_of};
 
 use crate::drawing::draw_packets;
 use dcc_packet::Packet;
+use input_text::Output;
 use run_drawing::{BadLine, DrawFault, Drawing};
 use station_text::packet_told;
 use std::alloc::Global;
-use std::io::Write;
 
 /// The signal on the rails. It is written packet by packet.
 pub struct TrackSignal;
@@ -34,7 +34,7 @@ impl Drawing for TrackSignal {
         packet_told(line).map_err(|_| BadLine)
     }
 
-    fn draw<O: Write>(
+    fn draw<O: Output>(
         &self,
         alloc: Global,
         packets: &[Packet],

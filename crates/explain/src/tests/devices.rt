@@ -1,7 +1,7 @@
 //! Standard streams that fail, and what is written when.
 
 use super::Explain;
-use failing_streams::{Broken, Stuck, Uneven, run_from, run_to, run_untold};
+use failing_streams::{Broken, Rough, Stuck, Uneven, run_from, run_to, run_untold};
 use std::alloc::Global;
 use std::io;
 use std::io::{ErrorKind, Write};
@@ -76,6 +76,31 @@ fn standard_output_cannot_be_written(rt: HostRuntime) {
         let (status, faults) = run_to(&Explain, rt.alloc(), &mut reader, &mut Broken::new());
         assert_eq!(rt; status, 4);
         assert_eq!(rt; faults.as_slice(), b"explain: output\n".as_slice());
+    }
+}
+
+#[test]
+fn a_line_is_written_or_it_is_told(rt: HostRuntime) {
+    let explained = b"track 1 FF 00 FF  idle\n";
+    // How many calls in a row are interrupted, how many writes take five bytes, and what comes behind them: a failure, or a
+    // write of no byte. Then the status, and how many bytes are written.
+    let rows: [(u32, u32, Option<ErrorKind>, u8, usize); 7] = [
+        (0, 100, Some(ErrorKind::Other), 0, 23),
+        (1, 100, Some(ErrorKind::Other), 0, 23),
+        (2, 100, Some(ErrorKind::Other), 0, 23),
+        (0, 0, Some(ErrorKind::Other), 4, 0),
+        (1, 2, None, 4, 10),
+        // All is written, and does not go out; and does.
+        (2, 5, Some(ErrorKind::Other), 4, 23),
+        (2, 5, None, 0, 23),
+    ];
+    for (interrupts, writes, end, wanted, count) in rows {
+        let mut text = b"track 1 FF 00 FF\n".as_slice();
+        let mut output = Rough::new(rt.alloc(), 5, interrupts, writes, end);
+        let (status, faults) = run_to(&Explain, rt.alloc(), &mut text, &mut output);
+        assert_eq!(rt; status, wanted);
+        assert_eq!(rt; faults.is_empty(), wanted == 0);
+        assert_eq!(rt; output.written.as_slice(), &explained[..count]);
     }
 }
 

@@ -3,7 +3,7 @@
 use super::{Ran, look};
 use crate::execute;
 use failing_streams::{Broken, Spaces, Stuck, Uneven};
-use input_text::Noting;
+use input_text::{Noting, TrackedWriter};
 use std::io::ErrorKind;
 
 #[test]
@@ -19,7 +19,7 @@ fn standard_input_cannot_be_read(rt: HostRuntime) {
             &rt,
             &[],
             &mut Noting::new(Broken { kind }),
-            &mut output,
+            &mut TrackedWriter::new(&mut output),
             &mut faults,
         );
         let ran = Ran {
@@ -36,7 +36,13 @@ fn standard_input_is_interrupted(rt: HostRuntime) {
     let mut input = Noting::new(Uneven::new(b"turn 1", 4, None));
     let mut output = Vec::new(rt.alloc());
     let mut faults = Vec::new(rt.alloc());
-    let status = execute(&rt, &[], &mut input, &mut output, &mut faults);
+    let status = execute(
+        &rt,
+        &[],
+        &mut input,
+        &mut TrackedWriter::new(&mut output),
+        &mut faults,
+    );
     let ran = Ran {
         status,
         output,
@@ -56,7 +62,16 @@ fn standard_output_cannot_be_written(rt: HostRuntime) {
         let mut input = Noting::new(text);
         let mut broken = Broken { kind };
         let mut faults = Vec::new(rt.alloc());
-        assert_eq!(rt; execute(&rt, &[], &mut input, &mut broken, &mut faults), 4);
+        assert_eq!(rt;
+            execute(
+                &rt,
+                &[],
+                &mut input,
+                &mut TrackedWriter::new(&mut broken),
+                &mut faults
+            ),
+            4
+        );
         assert_eq!(rt; faults.as_slice(), b"station: output\n".as_slice());
     }
 }
@@ -65,7 +80,16 @@ fn standard_output_cannot_be_written(rt: HostRuntime) {
 fn standard_output_cannot_be_flushed(rt: HostRuntime) {
     let mut input = Noting::new(b"turn 1".as_slice());
     let mut faults = Vec::new(rt.alloc());
-    assert_eq!(rt; execute(&rt, &[], &mut input, &mut Stuck, &mut faults), 4);
+    assert_eq!(rt;
+        execute(
+            &rt,
+            &[],
+            &mut input,
+            &mut TrackedWriter::new(Stuck),
+            &mut faults
+        ),
+        4
+    );
     assert_eq!(rt; faults.as_slice(), b"station: output\n".as_slice());
 }
 
@@ -74,7 +98,16 @@ fn standard_error_cannot_be_written(rt: HostRuntime) {
     let mut input = Noting::new(b"turn 0".as_slice());
     let mut output = Vec::new(rt.alloc());
     let mut broken = Broken::new();
-    assert_eq!(rt; execute(&rt, &[], &mut input, &mut output, &mut broken), 5);
+    assert_eq!(rt;
+        execute(
+            &rt,
+            &[],
+            &mut input,
+            &mut TrackedWriter::new(&mut output),
+            &mut broken
+        ),
+        5
+    );
 }
 
 #[test]
@@ -83,7 +116,16 @@ fn a_long_script_is_read_one_byte_past_the_limit(rt: HostRuntime) {
     let mut input = Noting::new(&mut spaces);
     let mut output = Vec::new(rt.alloc());
     let mut faults = Vec::new(rt.alloc());
-    assert_eq!(rt; execute(&rt, &[], &mut input, &mut output, &mut faults), 5);
+    assert_eq!(rt;
+        execute(
+            &rt,
+            &[],
+            &mut input,
+            &mut TrackedWriter::new(&mut output),
+            &mut faults
+        ),
+        5
+    );
     assert_eq!(rt;
         faults.as_slice(),
         b"station: script fault 6 at line 0\n".as_slice()

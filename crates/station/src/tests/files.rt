@@ -2,7 +2,7 @@
 
 use super::{look, run, run_on};
 use crate::execute;
-use input_text::Noting;
+use input_text::{Noting, TrackedWriter};
 use std::alloc::Global;
 use std::io::{ErrorKind, Write};
 use std::test::Fail;
@@ -167,7 +167,13 @@ fn a_monitor_that_cannot_print(rt: HostRuntime) -> Result<(), Fail> {
     let mut input = Noting::new(b"".as_slice());
     let mut faults = Vec::new(rt.alloc());
     assert_eq!(rt;
-        execute(&rt, &["monitor", file], &mut input, &mut Full, &mut faults),
+        execute(
+            &rt,
+            &["monitor", file],
+            &mut input,
+            &mut TrackedWriter::new(Full),
+            &mut faults
+        ),
         4
     );
     assert_eq!(rt; faults.as_slice(), b"station: output\n".as_slice());

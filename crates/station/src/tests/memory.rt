@@ -7,15 +7,15 @@ use super::examples::LAYOUT;
 use crate::{OrderFault, execute, order};
 use decoder_node::NodeList;
 use failing_streams::Scarcity;
-use input_text::Noting;
+use input_text::{Noting, TrackedWriter};
 use layout_core::World;
 use refresh_ring::{BitRing, Schedule};
 use show_text::{Command, HexWhy, read_hex, read_script};
 use station_core::{Station, StationFault};
 use std::alloc::Global;
-use std::fs;
 use std::net::TcpListener;
 use std::test::Fail;
+use std::{fs, mem};
 
 const SHOWN: &[u8] = b"node shunter short 3 stop forward F 0000000000000
 node yard module 1 outputs 00000000
@@ -48,13 +48,9 @@ impl<'a> Run<'a> {
     /// Whether the run is the ordinary one. None where it says that there is no memory, and prints nothing.
     fn answer(self, rt: &HostRuntime, pages: &mut Pages) -> Option<bool> {
         let mut input = Noting::new(self.text);
-        let found = execute(
-            rt,
-            self.words,
-            &mut input,
-            &mut pages.output,
-            &mut pages.faults,
-        );
+        let mut output = TrackedWriter::new(mem::replace(&mut pages.output, Vec::new(rt.alloc())));
+        let found = execute(rt, self.words, &mut input, &mut output, &mut pages.faults);
+        pages.output = output.into_inner();
         let told = pages.faults.as_slice();
         if found == 6 {
             return other_than(

@@ -2,7 +2,7 @@
 
 use super::Ran;
 use crate::execute;
-use input_text::Noting;
+use input_text::{Noting, TrackedWriter};
 use std::alloc::{Allocator, Global};
 use std::cell::{Cell, RefCell};
 use std::fs::{Files, Metadata, OpenOptions};
@@ -103,8 +103,14 @@ impl<'a> Files for Visited<'a> {
     }
 }
 
-/// What a run of these words does where its clients have sent this, and the address that it binds.
-fn serve(rt: &HostRuntime, words: &[&str], sent: &[&[u8]]) -> (Ran, Option<SocketAddr>) {
+/// Runs these words to this output where its clients have sent this. Gives the status, what is told, and the address that it
+/// binds.
+pub(super) fn serve_to<W: Write>(
+    rt: &HostRuntime,
+    words: &[&str],
+    sent: &[&[u8]],
+    output: &mut W,
+) -> (u8, Vec<u8>, Option<SocketAddr>) {
     let host = Visited {
         rt,
         sent,
@@ -112,10 +118,16 @@ fn serve(rt: &HostRuntime, words: &[&str], sent: &[&[u8]]) -> (Ran, Option<Socke
         clients: RefCell::new(Vec::new(rt.alloc())),
     };
     let mut input = Noting::new(b"".as_slice());
-    let mut output = Vec::new(rt.alloc());
+    let mut output = TrackedWriter::new(output);
     let mut faults = Vec::new(rt.alloc());
     let status = execute(&host, words, &mut input, &mut output, &mut faults);
-    let asked = host.asked.get();
+    (status, faults, host.asked.get())
+}
+
+/// What a run of these words does where its clients have sent this, and the address that it binds.
+fn serve(rt: &HostRuntime, words: &[&str], sent: &[&[u8]]) -> (Ran, Option<SocketAddr>) {
+    let mut output = Vec::new(rt.alloc());
+    let (status, faults, asked) = serve_to(rt, words, sent, &mut output);
     let ran = Ran {
         status,
         output,

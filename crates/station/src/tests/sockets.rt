@@ -2,6 +2,7 @@
 
 use super::{look, run};
 use crate::serve_on;
+use input_text::TrackedWriter;
 use layout_core::Limits;
 use ln_ops::State;
 use program::new_world;
@@ -36,7 +37,14 @@ fn two_clients_make_one_message(rt: HostRuntime) -> Result<(), Fail> {
     let mut second = client(&rt, &listener, &[0x03, 0x43])?;
     let mut world = new_world(rt.alloc(), 1, None).ok().ok_or("no world")?;
     let mut output = Vec::new(rt.alloc());
-    let served = serve_on(&listener, &mut world, None, ONE_TURN, 2, &mut output);
+    let served = serve_on(
+        &listener,
+        &mut world,
+        None,
+        ONE_TURN,
+        2,
+        &mut TrackedWriter::new(&mut output),
+    );
     assert!(rt; served.is_ok());
     assert!(rt; received(&rt, &mut first)?.is_empty());
     assert_eq!(rt;
@@ -69,7 +77,14 @@ fn a_connection_with_too_many_reads(rt: HostRuntime) -> Result<(), Fail> {
     let mut world = new_world(rt.alloc(), 1, None).ok().ok_or("no world")?;
     let mut output = Vec::new(rt.alloc());
     let limits = Limits { reads: 1, turns: 1 };
-    let served = serve_on(&listener, &mut world, None, limits, 2, &mut output);
+    let served = serve_on(
+        &listener,
+        &mut world,
+        None,
+        limits,
+        2,
+        &mut TrackedWriter::new(&mut output),
+    );
     let fault = served.err().ok_or("no fault")?;
     let text = format!(in rt.alloc(); "{fault}")?;
     assert_eq!(rt; text.as_str(), "serve fault 4");

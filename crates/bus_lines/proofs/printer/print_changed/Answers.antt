@@ -9,7 +9,7 @@ use Rattle.layout_core.specs.Standings.{decoder_line, standing_of}
 use Rattle.roster.specs.Entry.{Entry, spec_of as entry_spec}
 use Rattle.console.specs.Printed.{lines_text}
 use Rattle.bus_lines.proofs.Changed.{changed, line_if, rest_more, unchanged}
-use Rattle.bus_lines.proofs.printer.print_changed.Goals.{then-not-is_same+in_ok-print, else-not-is_same}
+use Rattle.bus_lines.proofs.printer.print_changed.Goals.{then-not-is_same+in_ok-print_to, else-not-is_same}
 use Rattle.bus_lines.proofs.printer.print_changed.Goals as goal
 
 pub loop-i-preserved : goal.loop-i-preserved
@@ -33,12 +33,12 @@ loop-i-preserved g c =
     let stands : get_or (map standing_of nodes) i now ≡ now = get_or-map standing_of nodes i (node_of spec) now listens ∙ sym (c.standing-now.ensures.standing (node_of spec)) in
     let entry : Entry = get_or entries i none in
     let one : Appends (contents c.loop-i.output) (contents c.if-not-is_same.output) (lines_text (line_if entry last now)) = elim c.if-not-is_same.branch [
-      | then-not-is_same+in_ok-print w ↦
+      | then-not-is_same+in_ok-print_to w ↦
           let of_entry : spec ≡ entry.spec = c.spec-item.is ∙ ap (λ (ss : List NodeSpec). get_or ss i spec) are ∙ get_or-map entry_spec entries i none spec inside in
           let line : w.line.result.bytes ≡ decoder_line entry.name entry.spec now =
           w.line.ensures ∙ ap₂ (λ (name : List ℕ) (s : NodeSpec). decoder_line name s now) (w.name.ensures.value none) of_entry in
           subst (λ (o : Option (List ℕ)). Appends (contents c.loop-i.output) o (lines_text (line_if entry last now))) (sym (ap contents w.output-is))
-          (changed entry last now w.line.result.bytes (contents c.loop-i.output) (contents w.print.new.output) (sym c.is_same.ensures ∙ w.if-not-is_same.true) line w.in_ok-print.ensures.printed)
+          (changed entry last now w.line.result.bytes (contents c.loop-i.output) (contents w.print_to.new.writer) (sym c.is_same.ensures ∙ w.if-not-is_same.true) line w.in_ok-print_to.ensures)
       | else-not-is_same w ↦ unchanged entry last now (contents c.loop-i.output) (contents c.if-not-is_same.output) (sym c.is_same.ensures ∙ w.if-not-is_same.false) (ap contents w.output-is)
     ] in
     rest_more entries before (map standing_of nodes) i none (record { running = None; outputs = None }) now (contents c.args.output.now) (contents c.loop-i.output) (contents c.if-not-is_same.output)

@@ -10,9 +10,9 @@ use Rattle.bus_lines.proofs.printer.print_messages.Goals as goal
 pub returns : goal.returns
 returns g c =
     let contents = g.O.Write.contents in
-    let message : Appends (contents c.args.output.now) (contents c.print.new.output) (ended (message_text c.args.message.now)) =
-    subst (λ (bs : List ℕ). Appends (contents c.args.output.now) (contents c.print.new.output) (bs ++ 10 ∷ [])) c.message_line.ensures c.in_ok-print.ensures.printed in
+    let message : Appends (contents c.args.output.now) (contents c.print_to.new.writer) (ended (message_text c.args.message.now)) =
+    subst (λ (bs : List ℕ). Appends (contents c.args.output.now) (contents c.print_to.new.writer) (bs ++ 10 ∷ [])) c.message_line.ensures c.in_ok-print_to.ensures in
     on_ok_weaker c.print_reply.result
-    (λ reply. Appends-trans (contents c.args.output.now) (contents c.print.new.output) (contents c.print_reply.new.output)
+    (λ reply. Appends-trans (contents c.args.output.now) (contents c.print_to.new.writer) (contents c.print_reply.new.output)
     (ended (message_text c.args.message.now)) (lines_text (map message_text (option_to_list c.args.reply.now))) message reply)
     c.print_reply.ensures

@@ -1,6 +1,11 @@
-use Rattle.std.proofs.Common.{drop}
+use Rattle.std.proofs.Common.{◌≡◌, drop}
 use Rattle.console.proofs.Printing.{HasPrinted}
 use Rattle.console.proofs.monitoring.print_messages.Given as goal
 
+-- what was printed so far, and nothing failed
 abbrev pub invariant-loop-byte : goal.invariant-loop-byte
-invariant-loop-byte g l = HasPrinted l.bytes l.framer (drop l.byte-index l.bytes) (g.O.Write.contents l.fn.output) (g.O.Write.contents l.output)
+invariant-loop-byte g l = record {
+  printed : HasPrinted l.bytes l.framer (drop l.byte-index l.bytes) (g.O.Sink.held l.fn.output) (g.O.Sink.held l.output);
+  failed : g.O.Sink.failed l.output ≡ g.O.Sink.failed l.fn.output;
+  same : g.O.Sink.loan l.output ≡ g.O.Sink.loan l.fn.output;
+}

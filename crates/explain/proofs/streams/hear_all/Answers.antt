@@ -7,9 +7,9 @@ pub returns-in_err-end-clause-begun : goal.returns-in_err-end-clause-begun
 returns-in_err-end-clause-begun g c =
     let before = c.args.explainer.now in
     let now = c.loop-end.explainer in
-    let begun = begins-behind (g.I.Input.left c.args.input.now) (g.I.Input.left c.loop-end.input) (g.I.Input.left c.hear_some.new.input) (g.O.Write.contents c.args.output.now) (g.O.Write.contents c.loop-end.output) (g.O.Write.contents c.hear_some.new.output)
+    let begun = begins-behind (g.I.Input.left c.args.input.now) (g.I.Input.left c.loop-end.input) (g.I.Input.left c.hear_some.new.input) (g.O.Sink.held c.args.output.now) (g.O.Sink.held c.loop-end.output) (g.O.Sink.held c.hear_some.new.output)
     before.is_long now.is_long before.line.items now.line.items c.loop-end.invariant.followed c.in_err-end.ensures.begun in
-    passed_up c.from_residual.result c.in_err-end.field-0.0 (Begins (g.I.Input.left c.args.input.now) (g.I.Input.left c.hear_some.new.input) (g.O.Write.contents c.args.output.now) (g.O.Write.contents c.hear_some.new.output) before.is_long before.line.items)
+    passed_up c.from_residual.result c.in_err-end.field-0.0 (Begins (g.I.Input.left c.args.input.now) (g.I.Input.left c.hear_some.new.input) (g.O.Sink.held c.args.output.now) (g.O.Sink.held c.hear_some.new.output) before.is_long before.line.items)
     c.from_residual.ensures.1 begun
 
 pub returns-in-Some-clause-followed : goal.returns-in-Some-clause-followed
@@ -17,7 +17,7 @@ returns-in-Some-clause-followed g c =
     let before = c.args.explainer.now in
     let now = c.loop-end.explainer in
     let after = c.hear_some.new.explainer in
-    follows-trans (g.I.Input.left c.args.input.now) (g.I.Input.left c.loop-end.input) (g.I.Input.left c.hear_some.new.input) (g.O.Write.contents c.args.output.now) (g.O.Write.contents c.loop-end.output) (g.O.Write.contents c.hear_some.new.output)
+    follows-trans (g.I.Input.left c.args.input.now) (g.I.Input.left c.loop-end.input) (g.I.Input.left c.hear_some.new.input) (g.O.Sink.held c.args.output.now) (g.O.Sink.held c.loop-end.output) (g.O.Sink.held c.hear_some.new.output)
     before.is_long now.is_long after.is_long before.line.items now.line.items after.line.items c.loop-end.invariant.followed c.in_ok-end.ensures.followed
 
 pub loop-end-preserved : goal.loop-end-preserved
@@ -27,7 +27,8 @@ loop-end-preserved g c =
     let after = c.hear_some.new.explainer in
     record {
       followed =
-          follows-trans (g.I.Input.left c.args.input.now) (g.I.Input.left c.loop-end.input) (g.I.Input.left c.hear_some.new.input) (g.O.Write.contents c.args.output.now) (g.O.Write.contents c.loop-end.output) (g.O.Write.contents c.hear_some.new.output)
+          follows-trans (g.I.Input.left c.args.input.now) (g.I.Input.left c.loop-end.input) (g.I.Input.left c.hear_some.new.input) (g.O.Sink.held c.args.output.now) (g.O.Sink.held c.loop-end.output) (g.O.Sink.held c.hear_some.new.output)
           before.is_long now.is_long after.is_long before.line.items now.line.items after.line.items c.loop-end.invariant.followed c.in_ok-end.ensures.followed;
       works = search rules;
+      writes = search rules;
     }

@@ -5,9 +5,10 @@ use Rattle.explain.proofs.streams.hear_all.Given as goal
 -- what was heard so far
 abbrev pub invariant-loop-end : goal.invariant-loop-end
 invariant-loop-end g l = record {
-  followed : Follows (g.I.Input.left l.initial.input) (g.I.Input.left l.input) (g.O.Write.contents l.initial.output) (g.O.Write.contents l.output)
+  followed : Follows (g.I.Input.left l.initial.input) (g.I.Input.left l.input) (g.O.Sink.held l.initial.output) (g.O.Sink.held l.output)
       l.initial.explainer.is_long l.initial.explainer.line.items l.explainer.is_long l.explainer.line.items;
   works : g.I.Input.failed l.input ≡ false;
+  writes : g.O.Sink.failed l.output ≡ false;
 }
 
 -- an input gives less than 2^64 bytes

@@ -7,8 +7,8 @@ pub returns-in_err-write_text-clause-begun : goal.returns-in_err-write_text-clau
 returns-in_err-write_text-clause-begun g c =
     let a = g.I.Input.left c.args.input.now in
     let b = g.I.Input.left c.get.new.self in
-    let o = g.O.Write.contents c.args.output.now in
-    let p = g.O.Write.contents c.write_text.new.output in
+    let o = g.O.Sink.held c.args.output.now in
+    let p = g.O.Sink.held c.write_text.new.output in
     let before = c.args.explainer.now in
     let after = c.hear.new.self in
     let heard = take c.in-Ok.count c.get.new.buf in

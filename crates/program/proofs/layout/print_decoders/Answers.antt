@@ -10,7 +10,7 @@ use Rattle.show_text.specs.Nodes.{IsToldOf}
 use Rattle.std.specs.List.{slice_index_or}
 use Rattle.program.specs.Printed.{decoder_lines}
 use Rattle.program.proofs.Printing.{front_of_line, one_line_more}
-use Rattle.console.proofs.Fronts.{on_err}
+use Rattle.input_text.proofs.Fronts.{on_err}
 use Rattle.program.proofs.Told.{length-decoder_lines, told_there}
 use Rattle.program.proofs.layout.print_decoders.Goals as goal
 
@@ -24,8 +24,13 @@ loop-i-preserved g c =
     let lines = decoder_lines c.args.roster.now (map standing_of c.args.world.now.nodes) in
     let told = told_there c.args.roster.now c.args.world.now.nodes c.as_slice-spec-items.result.now c.loop-i.i c.name.result.now c.spec-item.result c.standing.result c.line-line.result.bytes
     (c.as_slice-spec-items.ensures.value ∙ c.nodes.ensures.nodes) c.requires c.loop-i-test.true c.spec-item.is c.name.ensures.value c.standing.ensures.standing c.line-line.ensures in
-    one_line_more lines c.loop-i.i c.line-line.result.bytes (g.O.Write.contents c.args.output.now) (g.O.Write.contents c.loop-i.output) (g.O.Write.contents c.print.new.output)
-    told.0 told.1 c.loop-i.invariant c.in_ok-print.ensures.printed
+    record {
+      printed =
+          one_line_more lines c.loop-i.i c.line-line.result.bytes (g.O.Sink.held c.args.output.now) (g.O.Sink.held c.loop-i.output) (g.O.Sink.held c.print.new.output)
+          told.0 told.1 c.loop-i.invariant.printed c.in_ok-print.ensures.printed;
+      failed = ◌∙◌ {b = g.O.Sink.failed c.loop-i.output} c.in_ok-print.ensures.failed c.loop-i.invariant.failed;
+      loan = ◌∙◌ {b = g.O.Sink.loan c.loop-i.output} c.print.ensures.same c.loop-i.invariant.loan;
+    }
 
 pub returns-in_err-print-clause-front : goal.returns-in_err-print-clause-front
 returns-in_err-print-clause-front g c =
@@ -33,8 +38,8 @@ returns-in_err-print-clause-front g c =
     let told = told_there c.args.roster.now c.args.world.now.nodes c.as_slice-spec-items.result.now c.loop-i.i c.name.result.now c.spec-item.result c.standing.result c.line-line.result.bytes
     (c.as_slice-spec-items.ensures.value ∙ c.nodes.ensures.nodes) c.requires c.loop-i-test.true c.spec-item.is c.name.ensures.value c.standing.ensures.standing c.line-line.ensures in
     on_err c.from_residual.result _
-    (front_of_line lines c.loop-i.i c.line-line.result.bytes (g.O.Write.contents c.args.output.now) (g.O.Write.contents c.loop-i.output) (g.O.Write.contents c.print.new.output)
-    told.0 told.1 c.loop-i.invariant c.in_err-print.ensures.front)
+    (front_of_line lines c.loop-i.i c.line-line.result.bytes (g.O.Sink.held c.args.output.now) (g.O.Sink.held c.loop-i.output) (g.O.Sink.held c.print.new.output)
+    told.0 told.1 c.loop-i.invariant.printed c.in_err-print.ensures.front)
 
 pub returns : goal.returns
 returns g c =
@@ -47,6 +52,8 @@ returns g c =
     let so_many : length (decoder_lines entries (map standing_of nodes)) ≡ length entries = length-decoder_lines entries (map standing_of nodes) as_many in
     let all : length (decoder_lines entries (map standing_of nodes)) ≤ c.loop-i.i = omega (arith, over, so_many, ap length are, length-map entries spec_of_entry) in
     record {
-      printed = subst (λ (lines : List (List ℕ)). Appends (g.O.Write.contents c.args.output.now) (g.O.Write.contents c.loop-i.output) (lines_text lines)) (take_all c.loop-i.i (decoder_lines entries (map standing_of nodes)) all) c.loop-i.invariant;
+      printed = subst (λ (lines : List (List ℕ)). Appends (g.O.Sink.held c.args.output.now) (g.O.Sink.held c.loop-i.output) (lines_text lines)) (take_all c.loop-i.i (decoder_lines entries (map standing_of nodes)) all) c.loop-i.invariant.printed;
       front = tt;
+      failed = c.loop-i.invariant.failed;
+      loan = c.loop-i.invariant.loan;
     }

@@ -30,12 +30,14 @@ loop-command-preserved g c =
     let more : take (i + 1) commands ≡ take i commands ++ command ∷ [] = take_more commands i (Byte 0 0) c.loop-command-test.true in
     record {
       replayed =
-          subst (λ (done : List Command). HasReplayed entries done c.in_ok-turn.turn c.args.world.now c.play_command.new.world (g.O.Write.contents c.args.output.now) (g.O.Write.contents c.play_command.new.output)) (sym more)
+          subst (λ (done : List Command). HasReplayed entries done c.in_ok-turn.turn c.args.world.now c.play_command.new.world (g.O.Sink.held c.args.output.now) (g.O.Sink.held c.play_command.new.output)) (sym more)
           (replayed_more c.events_add_up.ensures.more c.events_add_up.ensures.obeyed entries (take i commands) command c.loop-command.turn c.in_ok-turn.turn c.args.world.now c.loop-command.world c.play_command.new.world
-          (g.O.Write.contents c.args.output.now) (g.O.Write.contents c.loop-command.output) (g.O.Write.contents c.play_command.new.output)
+          (g.O.Sink.held c.args.output.now) (g.O.Sink.held c.loop-command.output) (g.O.Sink.held c.play_command.new.output)
           c.requires.between c.loop-command.invariant.replayed c.in_ok-turn.ensures.done c.in_ok-turn.ensures.next c.in_ok-turn.ensures.printed);
       lines = c.play_command.ensures.same.lines ∙ c.loop-command.invariant.lines;
       nodes = c.play_command.ensures.same.specs ∙ c.loop-command.invariant.nodes;
+      failed = ◌∙◌ {b = g.O.Sink.failed c.loop-command.output} c.in_ok-turn.ensures.failed c.loop-command.invariant.failed;
+      loan = ◌∙◌ {b = g.O.Sink.loan c.loop-command.output} c.play_command.ensures.loan c.loop-command.invariant.loan;
     }
 
 pub returns : goal.returns
@@ -49,7 +51,7 @@ returns g c =
       replayed = record {
         done = done;
         printed =
-            subst (λ (done : List Command). Appends (g.O.Write.contents c.args.output.now) (g.O.Write.contents c.loop-command.output) (commands_text c.args.world.now entries [] done)) all
+            subst (λ (done : List Command). Appends (g.O.Sink.held c.args.output.now) (g.O.Sink.held c.loop-command.output) (commands_text c.args.world.now entries [] done)) all
             c.loop-command.invariant.replayed.printed;
         wanted =
             shows_as_wanted c.events_add_up.ensures.obeyed c.headline.ensures.headline c.args.world.now entries commands
@@ -57,11 +59,15 @@ returns g c =
             (as_many (roster_value c.args.roster) c.args.world.now.nodes c.requires.nodes) c.requires.between
             (subst (λ (done : List Command). HasPassed done c.args.world.now) all c.loop-command.invariant.replayed.passed);
       };
+      failed = c.loop-command.invariant.failed;
+      loan = c.loop-command.invariant.loan;
     }
 
 pub loop-command-init : goal.loop-command-init
 loop-command-init g c = record {
-  replayed = replayed_none c.events_add_up.ensures.none (entries_in (roster_value c.args.roster)) c.args.world.now (g.O.Write.contents c.args.output.now);
+  replayed = replayed_none c.events_add_up.ensures.none (entries_in (roster_value c.args.roster)) c.args.world.now (g.O.Sink.held c.args.output.now);
   lines = refl;
   nodes = c.requires.nodes;
+  failed = refl;
+  loan = refl;
 }

@@ -23,7 +23,7 @@ known g c apart = search rules
 pub returns-in_err-commands-clause-refused : goal.returns-in_err-commands-clause-refused
 returns-in_err-commands-clause-refused g c =
     refuses c.from_residual-in_err-commands.result (g.I.Input.left c.read_most.new.input) c.in_ok-text.text.items c.in_err-commands.field-0.0 c.args.world.now c.from_residual-in_err-commands.ensures.1
-    (g.I.Input.left c.args.input.now) (g.O.Write.contents c.args.output.now) (read g c) (known g c)
+    (g.I.Input.left c.args.input.now) (g.O.Sink.held c.args.output.now) (read g c) (known g c)
 
 pub returns-in_err-commands-clause-failed : goal.returns-in_err-commands-clause-failed
 returns-in_err-commands-clause-failed g c =

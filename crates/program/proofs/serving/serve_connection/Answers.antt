@@ -1,6 +1,5 @@
-use Rattle.std.proofs.Common.{refl, rules}
+use Rattle.std.proofs.Common.{refl}
 use Rattle.program.proofs.Connecting.{faulted_part, gives_up, served_whole}
-use Rattle.program.proofs.Lending.{gives_up_through, serves_through}
 use Rattle.program.proofs.serving.serve_connection.Goals as goal
 
 pub returns-in-Err-clause-part : goal.returns-in-Err-clause-part
@@ -9,10 +8,8 @@ returns-in-Err-clause-part g c =
 
 pub returns-in-Err-clause-given_up : goal.returns-in-Err-clause-given_up
 returns-in-Err-clause-given_up g c =
-    gives_up_through g.O.Write.contents c.new-trace.result.inner c.serve.new.trace.inner c.args.output.now _ c.args.limits c.args.world.now c.serve.new.world (search rules) (λ same. search rules) c.given_up.result
-    (gives_up c.given_up.result c.in-Err.fault c.args.limits _ _ c.args.world.now c.serve.new.world _ _ _ _ c.given_up.ensures c.in-Err.ensures.faulted)
+    gives_up c.given_up.result c.in-Err.fault c.args.limits _ _ c.args.world.now c.serve.new.world _ _ _ _ c.given_up.ensures c.in-Err.ensures.faulted
 
 pub returns-in-Ok-clause-served : goal.returns-in-Ok-clause-served
 returns-in-Ok-clause-served g c =
-    serves_through g.O.Write.contents c.new-trace.result.inner c.serve.new.trace.inner c.args.output.now _ c.args.limits c.args.world.now c.serve.new.world (search rules) (λ same. search rules)
-    (served_whole c.args.limits c.in-Ok._summary _ _ _ _ c.in-Ok.ensures.served refl c.serve.ensures.most_reads)
+    served_whole c.args.limits c.in-Ok._summary _ _ _ _ c.in-Ok.ensures.served refl c.serve.ensures.most_reads

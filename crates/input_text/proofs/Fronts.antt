@@ -4,7 +4,7 @@ use Rattle.std.specs.Prelude.{Result, Ok, Err, OnErr}
 use Rattle.std.specs.Io.KnownBytes.{Appends, Keeps}
 use Rattle.std.proofs.KnownBytes.{Appends-kept, Appends-nil, Appends-trans}
 use Rattle.std.proofs.lemmas.List.{take-append-drop, take-append-le, take_rest}
-use Rattle.console.specs.Printed.{AppendsFront}
+use Rattle.input_text.specs.Write.{AppendsFront}
 
 -- the front of a text was written, and this is the rest
 abbrev pub HasWritten : (old new : Option (List ℕ)) → (text rest : List ℕ) → Type 0
