@@ -1,0 +1,180 @@
+"""Clients: which are accepted, what each receives, and where the server can be reached."""
+
+import contextlib
+import pathlib
+import socket
+import statistics
+import time
+
+from server_checks.common import (
+    LAYOUT,
+    POWER_OFF,
+    POWER_ON,
+    holds,
+    is_tried_again,
+    printed_after,
+    receive,
+    run,
+    same,
+    send,
+    serve,
+    stopped,
+    within,
+)
+from serving import Client, Page, free_port, message_hex
+
+
+def clients():
+    """--clients 2: it goes on after one has left, pages are clients, and it ends with status 0 behind the second"""
+    port = free_port()
+    same("--clients 0", run("--clients", "0", "--port", str(port)), (0, f"listening 127.0.0.1:{port}\n", ""))
+    for pace in (("--turns", "1"), ()):
+        with serve("--clients", "2", *pace, page=True) as server:
+            with Page(server).accepted() as page:
+                with Client(server) as client:
+                    client.send(0x83)
+                printed_after(server, "client 2 leaves")
+                time.sleep(0.2)
+                same("status behind one client", server.process.poll(), None)
+                page.write(send(POWER_OFF))
+                same("the page", page.lines_until("SENT OK"), receive(POWER_ON, POWER_OFF) + ["SENT OK"])
+            same("status behind two", server.process.wait(20), 0)
+            wanted = ["client 1 joins", "client 2 joins", "msg 83 7C power on", "client 2 leaves"]
+            wanted += ["msg 82 7D power off", "client 1 leaves"]
+            same("printed", server.printed()[2:], wanted)
+
+
+def addresses():
+    """--address: where it can be reached, for clients and for browsers; 127.0.0.1 without it"""
+    for words, shown, reached in (
+        ((), "127.0.0.1", {"127.0.0.1"}),
+        (("--address", "0.0.0.0"), "0.0.0.0", {"127.0.0.1", "127.0.0.2"}),
+        (("--address", "127.0.0.2"), "127.0.0.2", {"127.0.0.2"}),
+    ):
+        with serve(*words, "--turns", "1", page=True) as server:
+            lines = [f"listening {shown}:{server.port}", f"page http://{shown}:{server.page_port}/"]
+            holds("page ..", server.until_printed(lines[1]))
+            same("printed", server.printed()[:2], lines)
+            for port in (server.port, server.page_port):
+                for host in ("127.0.0.1", "127.0.0.2"):
+                    same(f"{words}: {host} is reached", is_reached(server, host, port), host in reached)
+
+
+def is_reached(server, host, port):
+    try:
+        server.connect(host=host, port=port).close()
+        return True
+    except ConnectionRefusedError:
+        return False
+
+
+def many_messages_in_one_write():
+    """--turns 3 --lose 99: 600 bytes of messages in one write, and then 20,000, are all answered, in order"""
+    with serve(*LAYOUT, "--turns", "3", "--lose", "99", page=True) as server:
+        with Client(server) as client, Page(server) as page:
+            page.lines_until("NODE node yard module 1 outputs 00000000")
+            for count in (34, 1200):
+                texts = [message_hex(0xA0, 1 + i // 128, i % 128) for i in range(count)]
+                client.write(send(*texts))
+                for text in texts:
+                    same("the client", [client.line(), client.line()], [*receive(text), "SENT OK"])
+                same("the page", [page.line() for _ in texts], receive(*texts))
+            texts = [message_hex(0xA0, 1, i % 128) for i in range(300)]
+            page.write(send(*texts))
+            wanted = [line for text in texts for line in [*receive(text), "SENT OK"]]
+            same("the sender", [page.line() for _ in wanted], wanted)
+
+
+def all_hear_the_same():
+    """two pages and two clients see the same messages in the same order"""
+    with serve(*LAYOUT, page=True) as server, contextlib.ExitStack() as stack:
+        everybody = [stack.enter_context(one(server)) for one in (Client, Page, Client, Page)]
+        # Each is accepted before the first message.
+        for one in everybody[1::2]:
+            one.accepted()
+        for i in range(200):
+            for number, one in enumerate(everybody):
+                one.write(send(message_hex(0xA0, 1 + number, i % 128)))
+        found = []
+        for number, one in enumerate(everybody):
+            lines = []
+            while sum(line.startswith("RECEIVE ") for line in lines) < 800 or lines.count("SENT OK") < 200:
+                lines.append(one.line())
+            # Its own message has SENT OK right behind it, and no other has.
+            own = [i for i, line in enumerate(lines) if line.startswith(f"RECEIVE A0 {1 + number:02X} ")]
+            same("SENT OK", [i for i, line in enumerate(lines) if line == "SENT OK"], [i + 1 for i in own])
+            found.append([line for line in lines if line.startswith("RECEIVE ")])
+        for number in range(4):
+            own = [line for line in found[0] if line.startswith(f"RECEIVE A0 {1 + number:02X} ")]
+            wanted = receive(*(message_hex(0xA0, 1 + number, i % 128) for i in range(200)))
+            same("in the order of each", own, wanted)
+        for number in (1, 2, 3):
+            same(f"client {number + 1} and client 1", found[number], found[0])
+
+
+def rejections():
+    """a ninth client and a ninth page are rejected with a line, and so are twelve of twenty that wait"""
+    with serve("--turns", "1", page=True) as server, contextlib.ExitStack() as stack:
+        for _ in range(8):
+            stack.enter_context(Client(server))
+        with server.connect() as ninth:
+            same("a ninth", ninth.makefile("rb").read(), b"ERROR no place\r\n")
+        with Page(server) as ninth:
+            same("a ninth page", ninth.line(), "ERROR no place")
+        same("printed", server.printed()[2:], [f"client {i} joins" for i in range(1, 9)])
+    with serve("--turns", "1") as server, contextlib.ExitStack() as stack:
+        with stopped(server, 0.1):
+            streams = [stack.enter_context(server.connect()) for _ in range(20)]
+        found = sorted(stream.recv(100) for stream in streams)
+        same("twenty", found, 12 * [b"ERROR no place\r\n"] + 8 * [b"VERSION lbserver station\r\n"])
+
+
+def connections_end():
+    """connections that have ended are closed: no file descriptor is left of thirty clients, pages and browsers"""
+    with serve(page=True) as server:
+        folder = pathlib.Path(f"/proc/{server.process.pid}/fd")
+        holds("page ..", server.until(lambda: len(server.printed()) == 2))
+        with Client(server):
+            pass
+        printed_after(server, "client 1 leaves")
+        before = len(list(folder.iterdir()))
+        for _ in range(10):
+            with Client(server) as client, Page(server).accepted() as page:
+                client.write(send(POWER_ON))
+                page.lines_until("RECEIVE 83 7C")
+            with server.connect(port=server.page_port) as browser:
+                browser.sendall(b"GET / HTTP/1.0\r\n\r\n")
+                browser.makefile("rb").read()
+        holds("descriptors are left", server.until(lambda: len(list(folder.iterdir())) == before))
+
+
+def last_messages_are_answered():
+    """a client that ends its sending receives all answers, and then its connection ends, with nothing else to wake it"""
+    for pace in (("--turns", "1"), ()):
+        with serve(*pace) as server, Client(server) as client:
+            client.write(50 * send(POWER_ON))
+            client.stream.shutdown(socket.SHUT_WR)
+            same("what it receives", client.lines.read(), b"RECEIVE 83 7C\r\nSENT OK\r\n" * 50)
+            printed_after(server, "client 1 leaves")
+
+
+def small_pieces_go_at_once():
+    """what a client receives is not held back until it has acknowledged what came before"""
+
+    def measure():
+        with serve("--turns", "0") as server, Client(server) as sender, Client(server) as listener:
+            times = []
+            for _ in range(40):
+                sender.send(0x83)
+                same("the listener", listener.line(), "RECEIVE 83 7C")
+                listener.stream.setsockopt(socket.IPPROTO_TCP, socket.TCP_QUICKACK, 0)
+                start = time.monotonic()
+                for _ in range(3):
+                    sender.send(0x82)
+                for _ in range(3):
+                    listener.line()
+                times.append(time.monotonic() - start)
+            # An acknowledgement is held back for 40 ms.
+            within("seconds, the median", 0, statistics.median(times[10:]), 0.03)
+
+    is_tried_again(measure)

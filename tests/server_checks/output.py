@@ -1,0 +1,103 @@
+"""A standard output that nobody reads, and one that is to be quiet."""
+
+import contextlib
+import re
+import subprocess
+import threading
+import time
+
+from server_checks.common import LAYOUT, holds, printed_after, run, same, serve
+from server_checks.queues import read_beside
+from serving import Client, message
+
+
+# A message without meaning to the station, which is sent behind all others.
+LAST = "msg 80 7F other"
+
+
+def send_all(everybody):
+    """Each of eight clients sends 1,250 messages. Returns the lines that are to be printed, in order."""
+    readers = [read_beside(one, 11_250) for one in everybody]
+    for number, one in enumerate(everybody):
+        one.stream.sendall(b"".join(message(0xA0, 1 + number * 10 + i // 128, i % 128) for i in range(1250)))
+    for reader, lines in readers:
+        reader.join(30)
+        same("lines of a client", (len(lines), lines.count("SENT OK")), (11_250, 1250))
+    order = [f"client {i} joins" for i in range(1, 9)]
+    for line in readers[0][1]:
+        if line.startswith("RECEIVE "):
+            slot, speed = (int(byte, 16) for byte in line.split()[2:4])
+            order.append(f"msg {line[8:]} speed slot {slot} spd {speed}")
+    return order
+
+
+def unread_output():
+    """where nothing reads standard output, 10,000 messages of eight clients are answered, and what is read is in order"""
+    with serve("--turns", "0", output=subprocess.PIPE) as server, contextlib.ExitStack() as stack:
+        everybody = [stack.enter_context(Client(server)) for _ in range(8)]
+        order = send_all(everybody)
+        check_log(read_log(server, everybody[0]), order)
+
+
+def file_output():
+    """where standard output is a file, every line of 10,000 messages of eight clients is there, in order"""
+    with serve("--turns", "0") as server, contextlib.ExitStack() as stack:
+        everybody = [stack.enter_context(Client(server)) for _ in range(8)]
+        order = send_all(everybody)
+        everybody[0].stream.sendall(message(0x80))
+        same("printed", printed_after(server, LAST), [*order, LAST])
+
+
+def read_log(server, client):
+    """Reads what was printed, to a message that is sent once there is room again."""
+    lines = []
+    reader = threading.Thread(target=lambda: lines.extend(iter(server.process.stdout.readline, b"")), daemon=True)
+    reader.start()
+    count = -1
+    while len(lines) != count:
+        count = len(lines)
+        time.sleep(0.3)
+    client.stream.sendall(message(0x80))
+    holds("the last line", server.until(lambda: f"{LAST}\n".encode() in lines[-10:]))
+    return [line.decode("ascii").removesuffix("\n") for line in lines]
+
+
+def check_log(lines, order):
+    """The log has these lines in this order, but for those that it says it left out."""
+    order = [*order, LAST]
+    at = left_out = 0
+    for line in lines:
+        found = re.fullmatch(r"log: (\d{1,3}(?:,\d{3})*) lines left out", line)
+        if found:
+            count = int(found[1].replace(",", ""))
+            left_out += count
+            at += count
+        else:
+            same("a line of the log", line, order[at] if at < len(order) else None)
+            at += 1
+    same("lines", at, len(order))
+    # A pipe holds 65,536 bytes, and the messages are some 400,000.
+    holds("lines are left out", left_out > 0)
+
+
+def closed_output():
+    """a standard output that is closed ends it with status 4"""
+    for pace in (("--turns", "1"), ()):
+        with serve(*pace, output=subprocess.PIPE) as server:
+            server.process.stdout.close()
+            with server.connect():
+                same("status", server.process.wait(20), 4)
+            same("standard error", server.faults.read_text(), "lbserver: output\n")
+
+
+def quiet():
+    """--quiet prints nothing but the addresses"""
+    with serve(*LAYOUT, "--quiet", "--track", "--clients", "1", page=True) as server:
+        wanted = [f"listening 127.0.0.1:{server.port}", f"page http://127.0.0.1:{server.page_port}/"]
+        with Client(server) as client:
+            client.take(3)
+            client.send(0xA0, 1, 0x40)
+            time.sleep(0.5)
+        same("status", server.process.wait(20), 0)
+        same("printed", server.printed(), wanted)
+    holds("--help has it", "--quiet" in run("--help")[2])

@@ -1,0 +1,230 @@
+"""The page and its file, requests, and pages on the bus."""
+
+import contextlib
+import pathlib
+import socket
+import tempfile
+import time
+
+from server_checks.common import (
+    LAYOUT,
+    POWER_OFF,
+    POWER_ON,
+    SHUNTER,
+    SLOT_1_IDLE,
+    SLOT_1_IN_USE,
+    SPEED_63,
+    STOP,
+    TAKE_3,
+    USE_1,
+    holds,
+    printed_after,
+    receive,
+    roster_of,
+    same,
+    send,
+    serve,
+    stopped,
+)
+from server_checks.losses import DECODERS
+from serving import TOP, Client, Page, client_frame, read_head, upgrade_request
+
+
+def response_to(server, request):
+    """The head and the body of what a request is answered, until the connection ends."""
+    with server.connect(port=server.page_port) as browser:
+        browser.sendall(request)
+        stream = browser.makefile("rb")
+        return read_head(stream), stream.read()
+
+
+def get(target, *fields):
+    return "\r\n".join([f"GET {target} HTTP/1.1", *fields, "", ""]).encode()
+
+
+def page_files():
+    """--page serves pages/throttle.html, and with --page-file that file, to the byte, also to one that reads slowly"""
+    with serve("--turns", "1", page=True) as server:
+        check_page(server, (TOP / "pages/throttle.html").read_bytes())
+    with tempfile.NamedTemporaryFile() as file:
+        for data in (b"<!DOCTYPE html><title>Mine</title>\n", b"", bytes(range(256)) * 4096):
+            pathlib.Path(file.name).write_bytes(data)
+            with serve("--turns", "1", "--page-file", file.name, page=True) as server:
+                check_page(server, data)
+    with serve("--turns", "1") as server:
+        same("without --page", server.printed(), [f"listening 127.0.0.1:{server.port}"])
+
+
+def many_browsers():
+    """forty browsers that come at once all have the page, though sixteen are served at a time"""
+    data = (TOP / "pages/throttle.html").read_bytes()
+    with serve("--turns", "1", page=True) as server, contextlib.ExitStack() as stack:
+        with stopped(server, 0):
+            browsers = [stack.enter_context(server.connect(port=server.page_port)) for _ in range(40)]
+            for browser in browsers:
+                # A head that is not read at once.
+                browser.sendall(get("/", f"X-Long: {3000 * 'x'}"))
+        for browser in browsers:
+            found = browser.makefile("rb").read()
+            same("the page", found.endswith(b"\r\n\r\n" + data), True)
+            browser.shutdown(socket.SHUT_WR)
+
+
+def check_page(server, data):
+    head, body = response_to(server, get("/", f"Host: 127.0.0.1:{server.page_port}"))
+    same("the page", body == data, True)
+    lines = head.lower().splitlines()
+    same("its head", lines[0], "http/1.1 200 ok")
+    wanted = [f"content-length: {len(data)}", "connection: close", "cache-control: no-store"]
+    for line in [*wanted, "x-content-type-options: nosniff", "referrer-policy: no-referrer"]:
+        holds(f"{line} in {lines}", line in lines)
+    with server.connect(port=server.page_port, room=4096) as browser:
+        browser.sendall(get("/"))
+        time.sleep(0.2)
+        found = browser.makefile("rb").read()
+        same("the page, read slowly", found.endswith(b"\r\n\r\n" + data), True)
+
+
+def requests():
+    """requests that are refused have the responses of docs/PAGES.md, and are no clients"""
+    with serve("--turns", "1", page=True) as server:
+        own = f"127.0.0.1:{server.page_port}"
+        for request, status in (
+            (get("/index.html"), "404 Not Found"),
+            (get("/pages/throttle.html"), "404 Not Found"),
+            (b"POST / HTTP/1.1\r\nContent-Length: 2\r\n\r\n{}", "405 Method Not Allowed"),
+            (b"HEAD / HTTP/1.1\r\n\r\n", "405 Method Not Allowed"),
+            (b"SEND 83 7C\r\n", "400 Bad Request"),
+            (get("/", 8200 * "x"), "431 Request Header Fields Too Large"),
+            (get("/bus", f"Host: {own}", f"Origin: http://{own}"), "400 Bad Request"),
+            (upgrade_request(own, None, Page.KEY), "403 Forbidden"),
+            (upgrade_request(own, "http://example.com", Page.KEY), "403 Forbidden"),
+            (upgrade_request(own, f"https://{own}", Page.KEY), "403 Forbidden"),
+            (upgrade_request(own, "http://127.0.0.1", Page.KEY), "403 Forbidden"),
+            (upgrade_request("layout.example", "http://layout.example", Page.KEY), "403 Forbidden"),
+        ):
+            head, body = response_to(server, request)
+            same(f"{request[:60]}", head.partition("\r\n")[0], f"HTTP/1.1 {status}")
+            holds("a line that says why", body)
+            same("Allow: GET", "\r\nallow: get\r\n" in head.lower(), status.startswith("405"))
+        same("printed", server.printed()[2:], [])
+
+
+STOPPED, RUNNING = SHUNTER.format("stop"), SHUNTER.format("step 63 of 128")
+GREETING = ["VERSION lbserver station", f"NODE {STOPPED}", "NODE node yard module 1 outputs 00000000"]
+TAKEN = [*receive(TAKE_3), "SENT OK", *receive(SLOT_1_IDLE, POWER_ON), "SENT OK"]
+TAKEN += [*receive(USE_1), "SENT OK", *receive(SLOT_1_IN_USE)]
+
+
+def wanted_of(text, state):
+    """What a page receives for a message of its own that changes a decoder."""
+    return [*receive(text), "SENT OK", f"NODE {state}"]
+
+
+def pages():
+    """a page has 101, it receives the decoders, and its messages are carried out"""
+    with serve(*LAYOUT, "--turns", "20", page=True) as server:
+        with Page(server) as page:
+            same("status", page.head.partition("\r\n")[0], "HTTP/1.1 101 Switching Protocols")
+            accept = f"\r\nsec-websocket-accept: {page.accept_key()}\r\n"
+            holds("its key is answered", accept.lower() in page.head.lower())
+            same("its greeting", [page.line() for _ in GREETING], GREETING)
+            page.write(send(TAKE_3, POWER_ON, USE_1))
+            same("three messages in one write", [page.line() for _ in TAKEN], TAKEN)
+            page.write(send(SPEED_63))
+            wanted = wanted_of(SPEED_63, RUNNING)
+            same("it drives", [page.line() for _ in wanted], wanted)
+            page.write(["SEND 83 7D", "nothing", f"SEND {STOP}\nSEND {POWER_OFF}"])
+            lines = [line for line in page.lines_until(f"RECEIVE {POWER_OFF}") if not line.startswith("NODE ")]
+            wanted = ["SENT ERROR wrong check byte", *receive(STOP), "SENT OK", *receive(POWER_OFF)]
+            same("what is no message, and two lines in one", lines, wanted)
+        # Messages in the same write as the handshake.
+        own = f"127.0.0.1:{server.page_port}"
+        frames = b"".join(client_frame(Page.TEXT, text.encode()) for text in send(POWER_ON, SPEED_63))
+        with Client(server) as client, server.connect(port=server.page_port) as other:
+            other.sendall(upgrade_request(own, f"http://{own}", Page.KEY) + frames)
+            same("behind a handshake", [client.line() for _ in range(2)], receive(POWER_ON, SPEED_63))
+
+
+def messages_in_pieces():
+    """a page's message is carried out once it is whole: in fragments, behind pings, and in several writes"""
+    with serve(*LAYOUT, "--turns", "20", page=True) as server, Page(server) as page:
+        page.write(send(TAKE_3, POWER_ON, USE_1))
+        page.lines_until(TAKEN[-1])
+        text = f"SEND {SPEED_63}".encode()
+        page.stream.sendall(client_frame(Page.TEXT, text[:9], is_last=False))
+        time.sleep(0.05)
+        page.stream.sendall(client_frame(Page.PING, b"there"))
+        same("a ping is answered", page.frame(), (Page.PONG, True, b"there"))
+        page.stream.sendall(client_frame(Page.CONTINUATION, text[9:]))
+        wanted = wanted_of(SPEED_63, RUNNING)
+        same("in fragments", [page.line() for _ in wanted], wanted)
+        # Its head, half a mask, and a part of its text.
+        frame = client_frame(Page.TEXT, f"SEND {STOP}".encode())
+        for start, end in ((0, 1), (1, 2), (2, 4), (4, 15), (15, len(frame))):
+            page.stream.sendall(frame[start:end])
+            time.sleep(0.03)
+        wanted = wanted_of(STOP, STOPPED)
+        same("in several writes", [page.line() for _ in wanted], wanted)
+        # Behind pings in the same write.
+        pings = b"".join(client_frame(Page.PING, bytes([i])) for i in range(20))
+        page.stream.sendall(pings + client_frame(Page.TEXT, text) + pings + client_frame(Page.TEXT, b"SEND 81 7E"))
+        lines = [line for line in page.lines_until("RECEIVE 81 7E") if not line.startswith("NODE ")]
+        same("behind pings", lines, [*receive(SPEED_63), "SENT OK", *receive("81 7E")])
+        # Another client wakes the server between the writes.
+        page.write(send(STOP))
+        page.lines_until(f"NODE {STOPPED}")
+        with Client(server) as client:
+            frame = client_frame(Page.TEXT, text)
+            for start, end in ((0, 3), (3, 12), (12, len(frame))):
+                page.stream.sendall(frame[start:end])
+                client.send(0x83)
+            lines = [line for line in page.lines_until(f"NODE {RUNNING}") if line != f"RECEIVE {POWER_ON}"]
+            same("beside another client", lines, wanted_of(SPEED_63, RUNNING))
+
+
+def pages_leave():
+    """a page leaves by a close, which is answered, and by what breaks the protocol"""
+    with serve("--turns", "1", page=True) as server:
+        for count, (frame, is_answered) in enumerate(
+            (
+                (client_frame(Page.CLOSE, b"\x03\xe8"), b"\x03\xe8"),
+                (client_frame(Page.BINARY, b"SEND 83 7C"), b"\x03\xeb"),
+                (client_frame(Page.TEXT, b"SEND 83 7C".ljust(513)), None),
+                (b"\x81\x0aSEND 83 7C", None),
+                (client_frame(3, b"SEND 83 7C"), None),
+            ),
+            1,
+        ):
+            with Page(server).accepted() as page:
+                page.stream.sendall(frame)
+                if is_answered is not None:
+                    same("the close", page.frame(), (Page.CLOSE, True, is_answered))
+                    same("behind the close", page.bytes.read(), b"")
+                holds("it has left", server.until(lambda: server.printed().count("client 1 leaves") == count))
+        same("printed", server.printed()[2:], 5 * ["client 1 joins", "client 1 leaves"])
+
+
+def many_decoders():
+    """a page receives all 64 decoders when it connects and when all change, and so does the next at its index"""
+    with roster_of(DECODERS) as file, serve("--roster", file, "--turns", "20", page=True) as server:
+        with Client(server) as client:
+            client.take(3)
+            # Nothing else wakes the server meanwhile.
+            with Page(server) as first, Page(server) as second:
+                for motion, speed in (("stop", None), ("step 63 of 128", 0x40), ("stop", 0), ("emergency", 1)):
+                    if speed is not None:
+                        client.send(0xA0, 1, speed)
+                    for page in (first, second):
+                        check_decoders(page, motion)
+            for index in (2, 3):
+                printed_after(server, f"client {index} leaves")
+            with Page(server) as third:
+                check_decoders(third, "emergency")
+
+
+def check_decoders(page, motion):
+    """A page receives one line, and then every decoder."""
+    lines = [page.line() for _ in range(DECODERS + 1)]
+    wanted = [f"NODE node loco-{i} short 3 {motion} forward F 0000000000000" for i in range(DECODERS)]
+    same("decoders", sorted(lines[1:]), sorted(wanted))

@@ -1,0 +1,123 @@
+"""The options --turns, --track and --roster: exact lines, worked out from docs/SENDING.md and docs/DCC.md."""
+
+import time
+
+from server_checks.common import (
+    LAYOUT,
+    POWER_ON,
+    SHUNTER,
+    SLOT_1_IDLE,
+    SLOT_1_IN_USE,
+    SPEED_63,
+    TAKE_3,
+    USE_1,
+    holds,
+    printed_after,
+    receive,
+    same,
+    send,
+    serve,
+    turns_of,
+)
+from serving import Client, Page
+
+# A run with three turns behind each message, by docs/SENDING.md and docs/DCC.md: what is sent, what its client receives, and
+# what is printed. A turn without power and one of an idle packet are counted, and not printed.
+REPLY_1 = f"msg {SLOT_1_IDLE} slot-data slot 1 stat 35 address 3 spd 0 dirf 0 trk 6 ss2 0 snd 0 ids 0 0"
+REPLY_2 = f"msg {SLOT_1_IN_USE} slot-data slot 1 stat 51 address 3 spd 0 dirf 0 trk 7 ss2 0 snd 0 ids 0 0"
+THREE_TURNS = [
+    # Turns 1 to 3 have no power, 4 to 6 nothing to send.
+    (TAKE_3, [SLOT_1_IDLE], ["msg BF 00 03 43 address 3", REPLY_1]),
+    (POWER_ON, [], ["msg 83 7C power on"]),
+    # The four places of the slot wait. After one of them comes the ring, which waits for a turn to the same address.
+    (USE_1, [SLOT_1_IN_USE], ["msg BA 01 01 45 move 1 1", REPLY_2, "track 7 03 3F 80 BC", "track 9 03 3F 80 BC"]),
+    # The speed waits behind groups one, two and three.
+    (SPEED_63, [], ["msg A0 01 40 1E speed slot 1 spd 64", "track 11 03 80 83"]),
+    # Switch 0 is thrown: output 0 of module 1.
+    ("B0 00 10 5F", [], ["msg B0 00 10 5F switch 0 thrown on", "track 13 03 80 83", "track 15 03 B0 B3"]),
+    # Reverse, F0 on: the speed keeps its place before the switch, and group one waits behind it.
+    ("A1 01 30 6F", [], ["msg A1 01 30 6F dirf slot 1 dirf 48", "track 17 03 B0 B3"]),
+    (POWER_ON, [], ["msg 83 7C power on", "track 19 03 A0 A3", "track 21 03 A0 A3"]),
+    (
+        POWER_ON,
+        [],
+        ["msg 83 7C power on", "track 23 03 3F 40 7C", "node shunter short 3 step 63 of 128 reverse F 0000000000000"],
+    ),
+    (
+        POWER_ON,
+        [],
+        [
+            "msg 83 7C power on",
+            "track 25 03 3F 40 7C",
+            "track 26 81 F8 79",
+            "node yard module 1 outputs 10000000",
+            "track 27 03 90 93",
+            "node shunter short 3 step 63 of 128 reverse F 1000000000000",
+        ],
+    ),
+    (POWER_ON, [], ["msg 83 7C power on", "track 28 81 F8 79", "track 29 03 B0 B3"]),
+]
+
+
+def run_three_turns(pause, *words):
+    """Plays the run, with a pause between its messages. Returns the lines that were printed behind the first."""
+    with serve(*LAYOUT, "--turns", "3", "--clients", "1", *words) as server:
+        with Client(server) as client:
+            for text, replies, _ in THREE_TURNS:
+                client.write(send(text))
+                for line in [*receive(text), "SENT OK", *receive(*replies)]:
+                    same(f"behind {text}", client.line(), line)
+                time.sleep(pause)
+        same("status", server.process.wait(20), 0)
+        same("standard error", server.faults.read_text(), "")
+        return server.printed()[1:]
+
+
+def three_turns():
+    """--turns 3 with a roster and --track: the lines of its client and of standard output, and without --track"""
+    lines = [line for _, _, lines in THREE_TURNS for line in lines]
+    wanted = ["client 1 joins", *lines, "client 1 leaves"]
+    same("printed with --track", run_three_turns(0, "--track"), wanted)
+    same("printed with --track, and time between", run_three_turns(0.03, "--track"), wanted)
+    same("printed without --track", run_three_turns(0), [line for line in wanted if not line.startswith("track ")])
+
+
+def other_turns():
+    """--turns 0 brings no turn, and --turns 255 brings 255 behind each message"""
+    for turns in (0, 255):
+        with serve("--turns", str(turns), "--track") as server, Client(server) as client:
+            client.send(0x83)
+            client.request(0xBF, 0, 3)
+            client.request(0xBA, 1, 1)
+            client.send(0x85)
+            printed_after(server, "msg 85 7A force idle")
+            if turns == 0:
+                same("packets", turns_of(server.printed()), [])
+                continue
+            # The slot is refreshed behind the third message, and behind the fourth each turn has a broadcast stop.
+            holds("the last", server.until(lambda: turns_of(server.printed())[-1:] == [4 * turns]))
+            found = turns_of(server.printed())
+            same("the first packet", found[0], 2 * turns + 1)
+            same("the stops", found[-turns:], list(range(3 * turns + 1, 4 * turns + 1)))
+
+
+def no_roster():
+    """without a roster there are no decoders, and a page receives none"""
+    with serve("--turns", "20", page=True) as server, Page(server).accepted() as page, Client(server) as client:
+        client.take(3)
+        client.send(0xA0, 1, 0x40)
+        client.send(0x85)
+        holds("NODE", not [line for line in page.lines_until("RECEIVE 85 7A") if line.startswith("NODE")])
+        holds("node", not [line for line in printed_after(server, "msg 85 7A force idle") if line.startswith("node")])
+
+
+def other_roster():
+    """the roster that is named is taken: the names and addresses of its decoders"""
+    for file, nodes in (
+        ("layout", [SHUNTER.format("stop"), "node yard module 1 outputs 00000000"]),
+        ("pair", [f"node {name} short 3 stop forward F 0000000000000" for name in ("hears-all", "loses-some")]),
+        ("long", ["node express long 1234 stop forward F 0000000000000"]),
+    ):
+        with serve("--turns", "1", "--roster", f"examples/{file}.toml", page=True) as server, Page(server) as page:
+            found = [page.line() for _ in range(len(nodes) + 1)]
+            same(file, found, ["VERSION lbserver station", *(f"NODE {node}" for node in nodes)])

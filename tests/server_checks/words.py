@@ -1,0 +1,108 @@
+"""The words of the command line: the help, and what is refused."""
+
+import re
+import socket
+import tempfile
+
+from server_checks.common import holds, run, same, serve
+from serving import TOP, free_port
+
+# Of each option, how it is written, what its help has to say of its unit, and its default where clap prints it.
+UNITS = {
+    "address": ("<A>", "IPv4", "127.0.0.1"),
+    "port": ("<P>", "TCP port", "1234"),
+    "roster": ("<FILE>", "", None),
+    "turns": ("<T>", "turns after each message", None),
+    "clients": ("<C>", "clients", None),
+    "track": ("", "packets on the track", None),
+    "page": ("<PORT>", "TCP port", None),
+    "page-file": ("<FILE>", "pages/throttle.html", None),
+    "lose": ("<N>", "of 100 packets", "0"),
+    "seed": ("<S>", "", "0"),
+}
+
+
+def help_text():
+    """--help has each option of docs/CLIENTS.md with its range, its unit and its default"""
+    status, wrote, faults = run("--help")
+    same("status and standard output", (status, wrote), (1, ""))
+    parts = dict(re.findall(r"^ +--([a-z-]+) ?(.*)$", faults, re.M))
+    rows = re.findall(r"^\| `--([a-z-]+)[^|]*\| (.*) \| (.*) \|$", (TOP / "docs/CLIENTS.md").read_text(), re.M)
+    same("options of the document", {name for name, _, _ in rows} >= set(UNITS), True)
+    for name, meaning, without in rows:
+        if name not in UNITS:
+            continue
+        word, unit, default = UNITS[name]
+        part = parts.get(name, "")
+        holds(f"--{name} {word} in {part!r}", part.strip().startswith(word) and unit in part)
+        for span in re.findall(r"\d+ to \d+", meaning):
+            # The words are refused past it, and the last of it is no limit that anybody meets.
+            holds(f"--{name} has {span}", span in part or name == "clients")
+        same(f"--{name}: default", re.findall(r"\[default: (.*?)\]", part), [] if default is None else [default])
+        holds(f"--{name} has its default in the document", default is None or without.startswith(default))
+    holds("the real time", "real time" in parts["turns"])
+
+
+# Words that are refused, and what the line says beside `error: `.
+BAD_WORDS = [
+    (["help"], "help"),
+    (["1234"], "1234"),
+    (["--nothing"], "--nothing"),
+    (["--address", "localhost"], "the address is no IPv4 address"),
+    (["--address", "127.0.0.256"], "the address is no IPv4 address"),
+    (["--address", "::1"], "the address is no IPv4 address"),
+    (["--port", "0"], "1..=65535"),
+    (["--port", "65536"], "1..=65535"),
+    (["--port", "x"], "--port"),
+    (["--turns", "256"], "0..=255"),
+    (["--clients", "4294967296"], "0..=4294967295"),
+    (["--track=on"], "--track"),
+    (["--page", "0"], "1..=65535"),
+    (["--page", "65536"], "1..=65535"),
+    (["--page-file"], "--page-file"),
+    (["--lose", "100"], "0..=99"),
+    (["--lose", "x"], "--lose"),
+    (["--seed", "4294967296"], "0..=4294967295"),
+    (["--roster"], "--roster"),
+    ([b"caf\xe9"], "a word is not UTF-8"),
+]
+
+
+def bad_words():
+    """bad words have status 1 and say what is bad, without the help"""
+    for words, part in BAD_WORDS:
+        status, wrote, faults = run(*words)
+        same(f"{words}: status and standard output", (status, wrote), (1, ""))
+        first = faults.splitlines()[:1]
+        holds(f"{words}: {first}, and not an error with {part!r}", faults.startswith("error: ") and part in faults)
+        holds(f"{words}: the help is printed", "up to eight at once" not in faults)
+
+
+def statuses():
+    """files, ports and addresses that are not to be had have their statuses"""
+    port = str(free_port())
+    with tempfile.NamedTemporaryFile() as long, serve("--turns", "1") as server:
+        long.write(b"x" * 1_048_577)
+        long.flush()
+        page = ["--port", port, "--page", str(free_port()), "--page-file"]
+        for words, status, faults in (
+            ([*page, "nowhere.html"], 2, "lbserver: cannot read nowhere.html\n"),
+            ([*page, long.name], 2, f"lbserver: {long.name} is too long\n"),
+            (["--port", port, "--roster", "nowhere.toml"], 2, "lbserver: cannot read nowhere.toml\n"),
+            (["--port", port, "--roster", "README.md"], 3, "lbserver: roster fault 1 at node 0\n"),
+            (["--port", str(server.port)], 4, "lbserver: network\n"),
+            (["--port", port, "--page", str(server.port)], 4, "lbserver: network\n"),
+            (["--port", port, "--address", "192.0.2.1"], 4, "lbserver: network\n"),
+        ):
+            same(f"{words}", run(*words), (status, "", faults))
+
+
+def default_port():
+    """without words it listens on 127.0.0.1:1234"""
+    with socket.socket() as probe:
+        probe.setsockopt(socket.SOL_SOCKET, socket.SO_REUSEADDR, 1)
+        try:
+            probe.bind(("127.0.0.1", 1234))
+        except OSError:
+            return
+    same("a run", run("--clients", "0"), (0, "listening 127.0.0.1:1234\n", ""))
