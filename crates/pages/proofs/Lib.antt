@@ -1,4 +1,5 @@
 mod Cutting
+mod Hearing
 mod Joining
 mod Pieces
 mod Standing

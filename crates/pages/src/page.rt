@@ -1,10 +1,11 @@
 //! A page that joined, as a stream of lines.
-ghost use Rattle.std.specs.Prelude.{◌≡◌, ◌≢◌, ◌<◌, ◌≤◌, ◌∷◌, ◌++◌, [], Err, IfErr, IfOk, List, OnOk, length, take, true, false, ℕ};
+ghost use Rattle.std.specs.Prelude.{◌≡◌, ◌≢◌, ◌<◌, ◌≤◌, ◌∷◌, ◌++◌, ◌⊎◌, [], Err, IfErr, IfOk, List, None, Ok, OnOk, Some, IfSome, length, take, true, false, ℕ};
 ghost use Rattle.std.specs.IoError.{error_kind};
 ghost use Rattle.tungstenite.specs.declared.error.Error.TheVariants.{Io, WriteBufferFull};
 ghost use Rattle.tungstenite.specs.Failure.{IsIo};
-ghost use Rattle.tungstenite.specs.Socket.{Flushed};
-ghost use Rattle.pages.specs.Hearing.{Hears};
+ghost use Rattle.tungstenite.specs.Socket.{Flushed, Reads, content_of};
+ghost use Rattle.websocket.specs.Content.{text};
+ghost use Rattle.pages.specs.Hearing.{Hears, HearsNoText, HearsTheEnd, IsControl, IsForbidden};
 ghost use Rattle.pages.specs.Messages.{held_along, messages_along, without_return};
 ghost use Rattle.pages.specs.Telling.{IsTold, Says, Tells};
 
@@ -47,6 +48,9 @@ impl<S: Read + Write + Drop> Page<S> {
         ensures behind { IfOk result (λ page. page.socket.input ≡ behind.now) }
         ensures stream { IfOk result (λ page. page.socket.stream.stream ≡ stream) }
         ensures nothing { IfOk result (λ page. (page.heard ≡ []) × (page.unfinished ≡ []) × (page.socket.output ≡ [])) }
+        // A longer frame or message ends the WebSocket.
+        ensures limits { IfOk result (λ page. (page.socket.conn.config.max_message_size ≡ Some 512)
+            × (page.socket.conn.config.max_frame_size ≡ Some 512)) }
     {
         let mut input = Vec::with_capacity(alloc, 4 * READ_AT_ONCE)?;
         input.extend_from_slice(behind)?;
@@ -108,12 +112,12 @@ impl<S: Read + Write + Drop> Page<S> {
     /// Reads what the page sent: the text of its messages, a line feed behind each. It never waits, and reads the stream
     /// once at most.
     ///
-    /// `Ok(0)` where the page has closed, or has broken the protocol: then it has gone for good. `WouldBlock` where nothing
-    /// is there. `Interrupted` where nothing is there yet and the stream may have more: ask again without waiting for it.
+    /// Returns `Ok(0)` if the page has closed or has violated the protocol; every later call does too.
     ///
     /// # Errors
     ///
-    /// Those, and any other of the stream: then the page has gone.
+    /// No text message is lost by an error. `WouldBlock` if no text is available; `Interrupted` if none is available yet
+    /// and the stream may hold more: call again without waiting. After any other error of the stream the page has gone.
     pub fn hear_lines(&mut self, room: &mut [u8]) -> io::Result<usize>
         ensures bound { IfOk result (λ n. n ≤ length room.new) }
         ensures len { length room.new ≡ length room.old }
@@ -124,6 +128,13 @@ impl<S: Read + Write + Drop> Page<S> {
         ensures begins { IfOk result (λ n. 0 < n → self.old.heard ≡ [] → (line : List ℕ)
             × Hears (λ gate. S.remaining gate.stream) line self.old.socket self.new.socket
             × (line ++ 10 ∷ [] ≡ take n room.new ++ self.new.heard)) }
+        // An error takes no text: what was held of lines stays, and the frames that were read held none.
+        ensures kept { IfErr result (λ _. (self.new.heard ≡ self.old.heard) × (self.new.has_gone ≡ self.old.has_gone)) }
+        ensures no_text { IfErr result (λ _. HearsNoText (λ gate. S.remaining gate.stream) self.old.socket self.new.socket) }
+        ensures unfinished { self.new.unfinished ≡ self.old.unfinished }
+        // The page goes for good only where it ends.
+        ensures gone { IfOk result (λ n. n ≡ 0 → 0 < length room.new → (self.new.has_gone ≡ true)
+            × (self.old.has_gone ≡ false → HearsTheEnd (λ gate. S.remaining gate.stream) self.old.socket)) }
     {
         if self.has_gone {
             return Ok(0);
@@ -165,7 +176,11 @@ impl<S: Read + Write + Drop> Page<S> {
     }
 
     /// Ends the WebSocket for this reason, in whatever state it is.
-    fn end(&mut self, code: CloseCode) {
+    fn end(&mut self, code: CloseCode)
+        ensures heard { self.new.heard ≡ self.old.heard }
+        ensures unfinished { self.new.unfinished ≡ self.old.unfinished }
+        ensures has_gone { self.new.has_gone ≡ self.old.has_gone }
+    {
         // Whoever has gone already need not be told.
         let _ = self.socket.close(Some(CloseFrame {
             code,
@@ -173,26 +188,56 @@ impl<S: Read + Write + Drop> Page<S> {
         }));
     }
 
-    /// Reads the next message. False where the page has gone; `Interrupted` where it was none of text.
+    /// Reads the next message. Returns false if it is the last; `Interrupted` if it is not of text.
     fn hear(&mut self) -> io::Result<bool>
         ensures heard { IfOk result (λ is_text. is_text ≡ true → (line : List ℕ)
             × Hears (λ gate. S.remaining gate.stream) line self.old.socket self.new.socket
             × (self.new.heard ≡ line ++ 10 ∷ [])) }
+        ensures no_text { IfErr result (λ _. HearsNoText (λ gate. S.remaining gate.stream) self.old.socket self.new.socket) }
+        ensures kept { IfErr result (λ _. self.new.heard ≡ self.old.heard) }
+        ensures last { IfOk result (λ is_text. is_text ≡ false → HearsTheEnd (λ gate. S.remaining gate.stream) self.old.socket) }
+        ensures unfinished { self.new.unfinished ≡ self.old.unfinished }
+        ensures has_gone { self.new.has_gone ≡ self.old.has_gone }
     {
-        match self.socket.read() {
-            Ok(Message::Text(text)) => Ok(self.hear_text(text.as_bytes())),
-            Ok(Message::Binary(_)) => {
+        let Some(message) = self.read_message()? else {
+            return Ok(false);
+        };
+        if is_control(&message) {
+            return Err(io::Error::from(ErrorKind::Interrupted));
+        }
+        match text_of(message) {
+            Some(text) => Ok(self.hear_text(text.as_bytes())),
+            None => {
                 self.end(CloseCode::Unsupported);
                 Ok(false)
             }
-            Ok(_) => Err(io::Error::from(ErrorKind::Interrupted)),
-            Err(Error::Io(error)) => Err(error),
-            Err(_) => Ok(false),
         }
     }
 
-    /// Takes the text of a message. False where it is too long.
+    /// Reads the next message. Returns `None` if there is no further one.
+    fn read_message(&mut self) -> io::Result<Option<Message>>
+        ensures reads { IfOk result (λ found. IfSome found (λ message.
+            Reads (λ gate. S.remaining gate.stream) self.old.socket self.new.socket (Ok message))) }
+        ensures last { IfOk result (λ found. found ≡ None → HearsTheEnd (λ gate. S.remaining gate.stream) self.old.socket) }
+        ensures no_text { IfErr result (λ _. HearsNoText (λ gate. S.remaining gate.stream) self.old.socket self.new.socket) }
+        ensures heard { self.new.heard ≡ self.old.heard }
+        ensures unfinished { self.new.unfinished ≡ self.old.unfinished }
+        ensures has_gone { self.new.has_gone ≡ self.old.has_gone }
+    {
+        match self.socket.read() {
+            Ok(message) => Ok(Some(message)),
+            Err(error) => match stream_error(error) {
+                Some(error) => Err(error),
+                None => Ok(None),
+            },
+        }
+    }
+
+    /// Takes the text of a message. Returns false if it is too long.
     fn hear_text(&mut self, text: &[u8]) -> bool
+        ensures short { result ≡ false → 512 < length text.now }
+        ensures unfinished { self.new.unfinished ≡ self.old.unfinished }
+        ensures has_gone { self.new.has_gone ≡ self.old.has_gone }
         ensures heard { result ≡ true → self.new.heard ≡ text.now ++ 10 ∷ [] }
         ensures socket { result ≡ true → self.new.socket ≡ self.old.socket }
     {
@@ -272,6 +317,39 @@ impl<S: Read + Write + Drop> Write for Page<S> {
     /// Sends what waits, as far as it is taken now.
     fn flush(&mut self) -> io::Result<()> {
         self.send_waiting()
+    }
+}
+
+/// Whether a message is a ping, a pong or a close.
+fn is_control(message: &Message) -> bool
+    ensures control { result ≡ true → IsControl (content_of message.now) }
+    ensures data { result ≡ false → ¬ (IsControl (content_of message.now)) }
+{
+    matches!(
+        message,
+        Message::Ping(_) | Message::Pong(_) | Message::Close(_)
+    )
+}
+
+/// The text of a message, if it is one of text.
+fn text_of(message: Message) -> Option<Utf8Bytes>
+    ensures some { IfSome result (λ line. content_of message ≡ text line) }
+    ensures none { result ≡ None → IsControl (content_of message) ⊎ IsForbidden (content_of message) }
+{
+    match message {
+        Message::Text(text) => Some(text),
+        _ => None,
+    }
+}
+
+/// The error of the stream, if it is one.
+fn stream_error(error: Error) -> Option<io::Error>
+    ensures some { IfSome result (λ _. IsIo error) }
+    ensures none { result ≡ None → ¬ (IsIo error) }
+{
+    match error {
+        Error::Io(error) => Some(error),
+        _ => None,
     }
 }
 
