@@ -1,7 +1,7 @@
 -- Every bus keeps what a bus keeps.
 use Rattle.bus.specs.declared.bus.Bus.{Bus}
-use Rattle.bus.specs.Kept.{IsKept}
-use Rattle.bus.specs.Seen.{seen_of}
+use Rattle.bus.specs.Invariant.{IsInvariant}
+use Rattle.bus.specs.State.{bus_state}
 
-pub kept_of : (bus : Bus) → IsKept (seen_of bus)
-kept_of bus = record { idle = bus.idle; places = bus.places; under_way = bus.under_way; longest = bus.longest }
+pub kept_of : (bus : Bus) → IsInvariant (bus_state bus)
+kept_of bus = record { idle = bus.idle; client_count = bus.client_count; under_way = bus.under_way; longest = bus.longest }

@@ -42,27 +42,27 @@ ended : (seen : Seen) (line byte : ℕ) (front : List ℕ) (message : Option (Li
     → message_at_end (front ++ byte ∷ []) ≡ message → message_ended (with_line seen line front) line byte ≡ message
 ended seen line byte front message within m = ap (λ (bytes : List ℕ). message_at_end (bytes ++ byte ∷ [])) (held seen line front within) ∙ m
 
-left_over : (seen : Seen) (line byte : ℕ) (front left : List ℕ) → line < length seen.lines
-    → unfinished_of (front ++ byte ∷ []) ≡ left → unfinished_of (line_of (with_line seen line front) line ++ byte ∷ []) ≡ left
-left_over seen line byte front left within l = ap (λ (bytes : List ℕ). unfinished_of (bytes ++ byte ∷ [])) (held seen line front within) ∙ l
+left_over : (seen : Seen) (line byte : ℕ) (front remaining : List ℕ) → line < length seen.lines
+    → unfinished_of (front ++ byte ∷ []) ≡ remaining → unfinished_of (line_of (with_line seen line front) line ++ byte ∷ []) ≡ remaining
+left_over seen line byte front remaining within l = ap (λ (bytes : List ℕ). unfinished_of (bytes ++ byte ∷ [])) (held seen line front within) ∙ l
 
 -- whatever was unfinished on its line
-lined : (seen : Seen) (line : ℕ) (front left : List ℕ) (message : Option (List ℕ))
-    → record (after_message (with_line seen line front) message) { lines = slice_set (slice_set seen.lines line front) line left }
-    ≡ with_line (after_message seen message) line left
-lined seen line front left None = ap (λ (lines : List (List ℕ)). record seen { lines = lines }) (set-set seen.lines line front left)
-lined seen line front left (Some message) =
-    ap (λ (lines : List (List ℕ)). record (after_message seen (Some message)) { lines = lines }) (set-set seen.lines line front left)
+lined : (seen : Seen) (line : ℕ) (front remaining : List ℕ) (message : Option (List ℕ))
+    → record (after_message (with_line seen line front) message) { lines = slice_set (slice_set seen.lines line front) line remaining }
+    ≡ with_line (after_message seen message) line remaining
+lined seen line front remaining None = ap (λ (lines : List (List ℕ)). record seen { lines = lines }) (set-set seen.lines line front remaining)
+lined seen line front remaining (Some message) =
+    ap (λ (lines : List (List ℕ)). record (after_message seen (Some message)) { lines = lines }) (set-set seen.lines line front remaining)
 
-after_one : StationMoves → (seen : Seen) (line byte : ℕ) (front : List ℕ) (message : Option (List ℕ)) (left : List ℕ) → line < length seen.lines
-    → message_at_end (front ++ byte ∷ []) ≡ message → unfinished_of (front ++ byte ∷ []) ≡ left
-    → after_event (with_line seen line front) (Byte line byte) ≡ with_line (after_message seen message) line left
-after_one laws seen line byte front message left within m l =
+after_one : StationMoves → (seen : Seen) (line byte : ℕ) (front : List ℕ) (message : Option (List ℕ)) (remaining : List ℕ) → line < length seen.lines
+    → message_at_end (front ++ byte ∷ []) ≡ message → unfinished_of (front ++ byte ∷ []) ≡ remaining
+    → after_event (with_line seen line front) (Byte line byte) ≡ with_line (after_message seen message) line remaining
+after_one laws seen line byte front message remaining within m l =
     let before : Seen = with_line seen line front in
     laws.byte before line byte
     ∙ ap₂ (λ (end : Option (List ℕ)) (rest : List ℕ). record (after_message before end) { lines = slice_set before.lines line rest })
-    (ended seen line byte front message within m) (left_over seen line byte front left within l)
-    ∙ lined seen line front left message
+    (ended seen line byte front message within m) (left_over seen line byte front remaining within l)
+    ∙ lined seen line front remaining message
 
 same_answer : (seen : Seen) (line : ℕ) (front : List ℕ) (message : Option (List ℕ)) → answer_to_message (with_line seen line front) message ≡ answer_to_message seen message
 same_answer seen line front None = refl

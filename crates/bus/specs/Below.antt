@@ -7,12 +7,12 @@ use Rattle.station_core.specs.declared.call.Call.TheVariants.{Byte, Turn}
 use Rattle.station_core.specs.Moved.{after_byte, after_turn, answer_to_byte, packet_of_turn, replied}
 use Rattle.station_core.specs.Runs.{answer_of, state_of}
 use Rattle.station_core.specs.Seen.{Seen}
-use Rattle.bus.specs.Bus.{lasts}
+use Rattle.bus.specs.Bus.{duration}
 
 -- the shortest and the longest turn of a station, in microseconds
 pub record TurnsAreBounded : Type 0 where
-  pub shortest : (seen : Seen) → 5796 ≤ lasts (packet_of_turn seen)
-  pub longest : (seen : Seen) → lasts (packet_of_turn seen) ≤ 10740
+  pub shortest : (seen : Seen) → 5796 ≤ duration (packet_of_turn seen)
+  pub longest : (seen : Seen) → duration (packet_of_turn seen) ≤ 10740
 
 -- what a byte and a turn make of a station, and that a whole message is one, and none before its last byte
 pub record StationMoves : Type 0 where

@@ -1,12 +1,12 @@
 -- What the events of a bus are to its layout.
 use Rattle.std.specs.Prelude.{ℕ, nat_le, if◌then◌else◌, List, [], ◌∷◌, ◌++◌, map, Option, Some, None}
-use Rattle.over_tcp.specs.declared.ask.Ask.{Ask}
-use Rattle.over_tcp.specs.declared.ask.Ask.TheVariants.{Send, Refused}
+use Rattle.loconet_tcp.specs.declared.request.Request.{Request}
+use Rattle.loconet_tcp.specs.declared.request.Request.TheVariants.{Send, Invalid}
 use Rattle.layout_core.specs.declared.event.Event.{Event as LayoutEvent}
 use Rattle.layout_core.specs.declared.event.Event.TheVariants as layout
 use Rattle.bus.specs.declared.event.Event.{Event}
-use Rattle.bus.specs.declared.event.Event.TheVariants.{Joins, Hears, Leaves, Passes, Turn}
-use Rattle.bus.specs.Bus.{SeenBus, after_event, ask_at, client_of}
+use Rattle.bus.specs.declared.event.Event.TheVariants.{Connects, Receives, Disconnects, Elapses, Turn}
+use Rattle.bus.specs.Bus.{BusState, after_event, request_at, client_of}
 
 -- bytes that come on a line
 abbrev pub bytes_on : (line : ℕ) → List ℕ → List LayoutEvent
@@ -17,19 +17,19 @@ abbrev pub turn_of : (missed : ℕ) → List LayoutEvent
 turn_of missed = layout.Turn missed ∷ []
 
 -- a message comes whole, on its client's own line
-abbrev pub layout_asked : (client : ℕ) → Option Ask → List LayoutEvent
-layout_asked client None = []
-layout_asked client (Some (Refused reason)) = []
-layout_asked client (Some (Send message)) = bytes_on client message
+abbrev pub request_events : (client : ℕ) → Option Request → List LayoutEvent
+request_events client None = []
+request_events client (Some (Invalid reason)) = []
+request_events client (Some (Send message)) = bytes_on client message
 
 -- the events of the layout that an event of its bus is
-abbrev pub layout_event : SeenBus → Event → List LayoutEvent
-layout_event bus (Joins client) = []
-layout_event bus (Leaves client) = []
-layout_event bus (Hears client byte) = layout_asked client (ask_at (client_of bus client) byte)
-layout_event bus (Passes micros missed) = if nat_le bus.left micros then turn_of missed else []
+abbrev pub layout_event : BusState → Event → List LayoutEvent
+layout_event bus (Connects client) = []
+layout_event bus (Disconnects client) = []
+layout_event bus (Receives client byte) = request_events client (request_at (client_of bus client) byte)
+layout_event bus (Elapses micros missed) = if nat_le bus.remaining micros then turn_of missed else []
 layout_event bus (Turn missed) = turn_of missed
 
-abbrev pub layout_events : SeenBus → List Event → List LayoutEvent
+abbrev pub layout_events : BusState → List Event → List LayoutEvent
 layout_events bus [] = []
 layout_events bus (event ∷ events) = layout_event bus event ++ layout_events (after_event bus event) events

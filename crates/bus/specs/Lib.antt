@@ -1,6 +1,8 @@
 pub mod Below
 pub mod Bus
 pub mod Course
-pub mod Kept
+pub mod Invariant
 pub mod Layout
-pub mod Seen
+pub mod Log
+pub mod Observations
+pub mod State

@@ -5,8 +5,8 @@ ghost use Rattle.layout_core.specs.World.{HaveHeard};
 ghost use Rattle.layout_core.specs.Played.{after_events as played};
 ghost use Rattle.bus.specs.declared.event.Event.{Event};
 ghost use Rattle.bus.specs.Below.{StationMoves, TurnsAreBounded};
-ghost use Rattle.bus.specs.Bus.{AreEvents, SeenBus, after_event, after_events, is_event};
-ghost use Rattle.bus.specs.Kept.{IsKept};
+ghost use Rattle.bus.specs.Bus.{AreEvents, BusState, after_event, after_events, is_event};
+ghost use Rattle.bus.specs.Invariant.{IsInvariant};
 ghost use Rattle.bus.specs.Layout.{layout_event, layout_events};
 
 use ln_frame::whole_message;
@@ -29,12 +29,12 @@ pub(crate) fn station_moves()
 
 /// What events make of a bus: it keeps what a bus keeps, and its station is that of the layout's events.
 pub fn events_are_the_layout()
-    ensures kept { (bus : SeenBus) (events : List Event) → IsKept bus → AreEvents events → IsKept (after_events bus events) }
-    ensures one { (bus : SeenBus) (event : Event) → IsKept bus → IsTrue (is_event event) → played bus.station (layout_event bus event) ≡ (after_event bus event).station }
-    ensures station { (bus : SeenBus) (events : List Event) → IsKept bus → AreEvents events → played bus.station (layout_events bus events) ≡ (after_events bus events).station }
+    ensures kept { (bus : BusState) (events : List Event) → IsInvariant bus → AreEvents events → IsInvariant (after_events bus events) }
+    ensures one { (bus : BusState) (event : Event) → IsInvariant bus → IsTrue (is_event event) → played bus.station (layout_event bus event) ≡ (after_event bus event).station }
+    ensures station { (bus : BusState) (events : List Event) → IsInvariant bus → AreEvents events → played bus.station (layout_events bus events) ≡ (after_events bus events).station }
     // However a list is cut, it is the same to the layout, and the decoders heard the same.
-    ensures cut { (bus : SeenBus) (events later : List Event) → layout_events bus (events ++ later) ≡ layout_events bus events ++ layout_events (after_events bus events) later }
-    ensures more { (bus : SeenBus) (events later : List Event) (old mid new : List Node) → IsKept bus → AreEvents events
+    ensures cut { (bus : BusState) (events later : List Event) → layout_events bus (events ++ later) ≡ layout_events bus events ++ layout_events (after_events bus events) later }
+    ensures more { (bus : BusState) (events later : List Event) (old mid new : List Node) → IsInvariant bus → AreEvents events
         → HaveHeard bus.station (layout_events bus events) old mid
         → HaveHeard (after_events bus events).station (layout_events (after_events bus events) later) mid new
         → HaveHeard bus.station (layout_events bus (events ++ later)) old new }

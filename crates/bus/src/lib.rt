@@ -5,12 +5,12 @@
 mod bus;
 mod event;
 pub mod laws;
+mod observer;
 mod sending;
 mod turning;
-mod witness;
 
 pub use bus::Bus;
 pub use event::Event;
 pub use laws::{events_are_the_layout, turns_are_bounded};
-pub use over_tcp::Told;
-pub use witness::Witness;
+pub use loconet_tcp::Outcome;
+pub use observer::Observer;

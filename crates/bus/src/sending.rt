@@ -27,13 +27,13 @@ pub(crate) fn send(world: &mut World, line: u8, message: &Msg) -> Option<Msg>
     laws::station_moves();
     let mut reply = None;
     for byte in message.bytes() {
-        reply = hear(world, line, *byte);
+        reply = receive_byte(world, line, *byte);
     }
     reply
 }
 
 /// One byte on a line, and the message that is answered to it.
-fn hear(world: &mut World, line: u8, byte: u8) -> Option<Msg>
+fn receive_byte(world: &mut World, line: u8, byte: u8) -> Option<Msg>
     requires { line < length world.old.station.lines }
     ensures station { world.new.station ≡ after_event world.old.station (Event.Byte line byte) }
     ensures reply { result ≡ message_in (answer_to world.old.station (Event.Byte line byte)) }

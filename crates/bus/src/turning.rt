@@ -2,7 +2,7 @@
 ghost use Rattle.std.specs.Prelude.{◌≡◌, ◌≤◌, option_map};
 ghost use Rattle.layout_core.specs.World.{HaveHeard, IsSameLayout};
 ghost use Rattle.station_core.specs.Moved.{after_turn, packet_of_turn};
-ghost use Rattle.bus.specs.Bus.{lasts};
+ghost use Rattle.bus.specs.Bus.{duration};
 ghost use Rattle.bus.specs.Layout.{turn_of};
 
 use dcc_packet::Packet;
@@ -19,8 +19,8 @@ pub(crate) fn turn(world: &mut World, missed: u64) -> Option<Packet>
     ensures packet { result ≡ packet_of_turn world.old.station }
     ensures nodes { HaveHeard world.old.station (turn_of missed) world.old.nodes world.new.nodes }
     ensures same { IsSameLayout world.old world.new }
-    ensures shortest { 5796 ≤ lasts result }
-    ensures longest { lasts result ≤ 10740 }
+    ensures shortest { 5796 ≤ duration result }
+    ensures longest { duration result ≤ 10740 }
 {
     station_core::laws::calls_are_moves();
     layout_core::laws::events_add_up();
@@ -33,8 +33,8 @@ pub(crate) fn turn(world: &mut World, missed: u64) -> Option<Packet>
 }
 
 /// What a turn lasts that sends this packet, or none, in microseconds.
-pub(crate) fn lasts(packet: Option<&Packet>) -> u32
-    ensures { result ≡ lasts (option_map (λ p. p.now) packet.entry) }
+pub(crate) fn duration(packet: Option<&Packet>) -> u32
+    ensures { result ≡ duration (option_map (λ p. p.now) packet.entry) }
 {
     half_bits::laws::durations_are_bounded();
     match packet {

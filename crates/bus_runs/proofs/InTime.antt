@@ -3,8 +3,8 @@ use Rattle.std.proofs.Common.{◌≡◌, ℕ, ◌+◌, ◌*◌, ◌≤◌, Bool,
 use Rattle.std.specs.List.{list_all}
 use Rattle.std.proofs.lemmas.Bool.{and_parts, and_from}
 use Rattle.std.proofs.lemmas.List.Elements.{All-append, All-cons, All-nil}
-use Rattle.over_tcp.specs.declared.ask.Ask.{Ask}
-use Rattle.over_tcp.specs.declared.ask.Ask.TheVariants.{Send, Refused}
+use Rattle.loconet_tcp.specs.declared.request.Request.{Request}
+use Rattle.loconet_tcp.specs.declared.request.Request.TheVariants.{Send, Invalid}
 use Rattle.slot_table.specs.Entry.{Entry}
 use Rattle.station_core.specs.Known.{Known, known_after_all}
 use Rattle.station_core.specs.Moments.{slots_refreshed, turns_in}
@@ -16,14 +16,14 @@ use Rattle.layout_core.specs.declared.node.Node.{Node}
 use Rattle.layout_core.specs.Cycle.{IsCycleOf, RunsAsWanted}
 use Rattle.layout_core.specs.Events.{NoNoise, calls_in}
 use Rattle.bus.specs.declared.event.Event.{Event}
-use Rattle.bus.specs.declared.event.Event.TheVariants.{Joins, Hears, Leaves, Passes, Turn}
-use Rattle.over_tcp.specs.declared.told.Told.TheVariants.{Nothing, Turned}
-use Rattle.bus.specs.Bus.{AreEvents, SeenBus, after_event, after_events, ask_at, client_of, is_event, lasts, told_asked, told_by, told_of}
-use Rattle.bus.specs.Course.{lasting, micros_in, turns_lasting}
+use Rattle.bus.specs.declared.event.Event.TheVariants.{Connects, Receives, Disconnects, Elapses, Turn}
+use Rattle.loconet_tcp.specs.declared.outcome.Outcome.TheVariants.{Nothing, TurnBegan}
+use Rattle.bus.specs.Bus.{AreEvents, BusState, after_event, after_events, request_at, client_of, is_event, duration, outcome_of_request, outcome_of, outcomes_of}
+use Rattle.bus.specs.Course.{durations_in, micros_in, turn_durations}
 use Rattle.bus_runs.specs.Cycle.{IsTimedCycleOf, RunsInTime}
-use Rattle.bus.specs.Kept.{IsKept}
-use Rattle.bus.specs.Layout.{bytes_on, layout_asked, layout_event, layout_events, turn_of}
-use Rattle.bus_runs.specs.Time.{HasPassed}
+use Rattle.bus.specs.Invariant.{IsInvariant}
+use Rattle.bus.specs.Layout.{bytes_on, request_events, layout_event, layout_events, turn_of}
+use Rattle.bus_runs.specs.Time.{IsTimeAccount}
 use Rattle.bus_runs.proofs.Account.{enough}
 use Rattle.bus.specs.Below.{TurnsAreBounded}
 
@@ -39,23 +39,23 @@ bytes_quiet : (i line : ℕ) (bytes : List ℕ) → NoNoise i (bytes_on line byt
 bytes_quiet i line [] = tt
 bytes_quiet i line (byte ∷ bytes) = bytes_quiet i line bytes
 
-asked_quiet : (i client : ℕ) (ask : Option Ask) → NoNoise i (layout_asked client ask)
+asked_quiet : (i client : ℕ) (request : Option Request) → NoNoise i (request_events client request)
 asked_quiet i client None = tt
-asked_quiet i client (Some (Refused reason)) = tt
+asked_quiet i client (Some (Invalid reason)) = tt
 asked_quiet i client (Some (Send message)) = bytes_quiet i client message
 
 passing_quiet : (i missed : ℕ) (ends : Bool) → NoNoise i (if ends then turn_of missed else [])
 passing_quiet i missed true = tt
 passing_quiet i missed false = tt
 
-event_quiet : (i : ℕ) (bus : SeenBus) (event : Event) → NoNoise i (layout_event bus event)
-event_quiet i bus (Joins client) = tt
-event_quiet i bus (Leaves client) = tt
-event_quiet i bus (Hears client byte) = asked_quiet i client (ask_at (client_of bus client) byte)
-event_quiet i bus (Passes micros missed) = passing_quiet i missed (nat_le bus.left micros)
+event_quiet : (i : ℕ) (bus : BusState) (event : Event) → NoNoise i (layout_event bus event)
+event_quiet i bus (Connects client) = tt
+event_quiet i bus (Disconnects client) = tt
+event_quiet i bus (Receives client byte) = asked_quiet i client (request_at (client_of bus client) byte)
+event_quiet i bus (Elapses micros missed) = passing_quiet i missed (nat_le bus.remaining micros)
 event_quiet i bus (Turn missed) = tt
 
-pub quiet : (i : ℕ) (events : List Event) (bus : SeenBus) → NoNoise i (layout_events bus events)
+pub quiet : (i : ℕ) (events : List Event) (bus : BusState) → NoNoise i (layout_events bus events)
 quiet i [] bus = tt
 quiet i (event ∷ events) bus =
     no_noise-append i (layout_event bus event) (layout_events (after_event bus event) events) (event_quiet i bus event) (quiet i events (after_event bus event))
@@ -72,32 +72,32 @@ bytes_turns : (line : ℕ) (bytes : List ℕ) → turns_in (calls_in (bytes_on l
 bytes_turns line [] = refl
 bytes_turns line (byte ∷ bytes) = omega (arith, bytes_turns line bytes)
 
-asked_turns : (station : Seen) (client : ℕ) (ask : Option Ask) → turns_in (calls_in (layout_asked client ask)) ≡ length (lasting (told_asked station client ask))
+asked_turns : (station : Seen) (client : ℕ) (request : Option Request) → turns_in (calls_in (request_events client request)) ≡ length (durations_in (outcome_of_request station client request))
 asked_turns station client None = refl
-asked_turns station client (Some (Refused reason)) = refl
+asked_turns station client (Some (Invalid reason)) = refl
 asked_turns station client (Some (Send message)) = bytes_turns client message
 
-passing_turns : (missed : ℕ) (packet : Option (List ℕ)) (ends : Bool) → turns_in (calls_in (if ends then turn_of missed else [])) ≡ length (lasting (if ends then Turned packet else Nothing))
+passing_turns : (missed : ℕ) (packet : Option (List ℕ)) (ends : Bool) → turns_in (calls_in (if ends then turn_of missed else [])) ≡ length (durations_in (if ends then TurnBegan packet else Nothing))
 passing_turns missed packet true = refl
 passing_turns missed packet false = refl
 
-event_turns : (bus : SeenBus) (event : Event) → turns_in (calls_in (layout_event bus event)) ≡ length (lasting (told_by bus event))
-event_turns bus (Joins client) = refl
-event_turns bus (Leaves client) = refl
-event_turns bus (Hears client byte) = asked_turns bus.station client (ask_at (client_of bus client) byte)
-event_turns bus (Passes micros missed) = passing_turns missed (packet_of_turn bus.station) (nat_le bus.left micros)
+event_turns : (bus : BusState) (event : Event) → turns_in (calls_in (layout_event bus event)) ≡ length (durations_in (outcome_of bus event))
+event_turns bus (Connects client) = refl
+event_turns bus (Disconnects client) = refl
+event_turns bus (Receives client byte) = asked_turns bus.station client (request_at (client_of bus client) byte)
+event_turns bus (Elapses micros missed) = passing_turns missed (packet_of_turn bus.station) (nat_le bus.remaining micros)
 event_turns bus (Turn missed) = refl
 
-pub turns_told : (events : List Event) (bus : SeenBus) → turns_in (calls_in (layout_events bus events)) ≡ length (turns_lasting (told_of bus events))
+pub turns_told : (events : List Event) (bus : BusState) → turns_in (calls_in (layout_events bus events)) ≡ length (turn_durations (outcomes_of bus events))
 turns_told [] bus = refl
 turns_told (event ∷ events) bus =
-    let later : SeenBus = after_event bus event in
+    let later : BusState = after_event bus event in
     omega (
       arith,
       turns-append (layout_event bus event) (layout_events later events),
       event_turns bus event,
       turns_told events later,
-      length-append (lasting (told_by bus event)) (turns_lasting (told_of later events)),
+      length-append (durations_in (outcome_of bus event)) (turn_durations (outcomes_of later events)),
     )
 
 -- None lasts longer than the longest packet.
@@ -105,42 +105,42 @@ turns_told (event ∷ events) bus =
 abbrev IsShort : ℕ → Type 0
 IsShort turn = turn ≤ 10740
 
-asked_short : (station : Seen) (client : ℕ) (ask : Option Ask) → All IsShort (lasting (told_asked station client ask))
+asked_short : (station : Seen) (client : ℕ) (request : Option Request) → All IsShort (durations_in (outcome_of_request station client request))
 asked_short station client None = All-nil IsShort
-asked_short station client (Some (Refused reason)) = All-nil IsShort
+asked_short station client (Some (Invalid reason)) = All-nil IsShort
 asked_short station client (Some (Send message)) = All-nil IsShort
 
-turn_short : TurnsAreBounded → (bus : SeenBus) → All IsShort (lasting (Turned (packet_of_turn bus.station)))
-turn_short laws bus = All-cons IsShort (lasts (packet_of_turn bus.station)) [] (laws.longest bus.station) (All-nil IsShort)
+turn_short : TurnsAreBounded → (bus : BusState) → All IsShort (durations_in (TurnBegan (packet_of_turn bus.station)))
+turn_short laws bus = All-cons IsShort (duration (packet_of_turn bus.station)) [] (laws.longest bus.station) (All-nil IsShort)
 
-passing_short : TurnsAreBounded → (bus : SeenBus) (ends : Bool) → All IsShort (lasting (if ends then Turned (packet_of_turn bus.station) else Nothing))
+passing_short : TurnsAreBounded → (bus : BusState) (ends : Bool) → All IsShort (durations_in (if ends then TurnBegan (packet_of_turn bus.station) else Nothing))
 passing_short laws bus true = turn_short laws bus
 passing_short laws bus false = All-nil IsShort
 
-event_short : TurnsAreBounded → (bus : SeenBus) (event : Event) → All IsShort (lasting (told_by bus event))
-event_short laws bus (Joins client) = All-nil IsShort
-event_short laws bus (Leaves client) = All-nil IsShort
-event_short laws bus (Hears client byte) = asked_short bus.station client (ask_at (client_of bus client) byte)
-event_short laws bus (Passes micros missed) = passing_short laws bus (nat_le bus.left micros)
+event_short : TurnsAreBounded → (bus : BusState) (event : Event) → All IsShort (durations_in (outcome_of bus event))
+event_short laws bus (Connects client) = All-nil IsShort
+event_short laws bus (Disconnects client) = All-nil IsShort
+event_short laws bus (Receives client byte) = asked_short bus.station client (request_at (client_of bus client) byte)
+event_short laws bus (Elapses micros missed) = passing_short laws bus (nat_le bus.remaining micros)
 event_short laws bus (Turn missed) = turn_short laws bus
 
-pub all_short : TurnsAreBounded → (events : List Event) (bus : SeenBus) → All IsShort (turns_lasting (told_of bus events))
+pub all_short : TurnsAreBounded → (events : List Event) (bus : BusState) → All IsShort (turn_durations (outcomes_of bus events))
 all_short laws [] bus = All-nil IsShort
 all_short laws (event ∷ events) bus =
-    All-append IsShort (lasting (told_by bus event)) (turns_lasting (told_of (after_event bus event) events)) (event_short laws bus event) (all_short laws events (after_event bus event))
+    All-append IsShort (durations_in (outcome_of bus event)) (turn_durations (outcomes_of (after_event bus event) events)) (event_short laws bus event) (all_short laws events (after_event bus event))
 
 -- So a cycle of enough time has enough turns.
 
-enough_turns : TurnsAreBounded → (bus : SeenBus) (cycle : List Event) (slots : ℕ) → IsKept bus
-    → HasPassed bus.left (micros_in bus cycle) (turns_lasting (told_of bus cycle)) (after_events bus cycle).left
+enough_turns : TurnsAreBounded → (bus : BusState) (cycle : List Event) (slots : ℕ) → IsInvariant bus
+    → IsTimeAccount bus.remaining (micros_in bus cycle) (turn_durations (outcomes_of bus cycle)) (after_events bus cycle).remaining
     → 171840 * slots ≤ micros_in bus cycle → 16 * slots ≤ turns_in (calls_in (layout_events bus cycle))
 enough_turns laws bus cycle slots h passed long =
-    let many : 16 * slots ≤ length (turns_lasting (told_of bus cycle)) =
-    enough bus.left (micros_in bus cycle) (after_events bus cycle).left 10740 (turns_lasting (told_of bus cycle)) passed h.longest (all_short laws cycle bus) (16 * slots) (omega (arith, long)) in
+    let many : 16 * slots ≤ length (turn_durations (outcomes_of bus cycle)) =
+    enough bus.remaining (micros_in bus cycle) (after_events bus cycle).remaining 10740 (turn_durations (outcomes_of bus cycle)) passed h.longest (all_short laws cycle bus) (16 * slots) (omega (arith, long)) in
     omega (arith, many, turns_told cycle bus)
 
-full : TurnsAreBounded → (slot a : ℕ) (e : Entry) (known : Known) (bus : SeenBus) (cycle : List Event) → IsKept bus
-    → HasPassed bus.left (micros_in bus cycle) (turns_lasting (told_of bus cycle)) (after_events bus cycle).left
+full : TurnsAreBounded → (slot a : ℕ) (e : Entry) (known : Known) (bus : BusState) (cycle : List Event) → IsInvariant bus
+    → IsTimeAccount bus.remaining (micros_in bus cycle) (turn_durations (outcomes_of bus cycle)) (after_events bus cycle).remaining
     → IsTimedCycleOf slot a e known bus cycle → IsCycleOf slot a e known (calls_in (layout_events bus cycle))
 full laws slot a e known bus cycle h passed timed = record {
   is_slot = timed.is_slot;
@@ -159,15 +159,15 @@ end_legal [] those legal = legal
 end_legal (event ∷ these) those legal = end_legal these those ((and_parts (is_event event) (list_all is_event (these ++ those)) legal).1)
 
 pub runs_in_time : TurnsAreBounded
-    → ((bus : SeenBus) (events later : List Event) → layout_events bus (events ++ later) ≡ layout_events bus events ++ layout_events (after_events bus events) later)
-    → ((bus : SeenBus) (events : List Event) → IsKept bus → AreEvents events → IsKept (after_events bus events))
-    → ((bus : SeenBus) (events : List Event) → IsKept bus → AreEvents events → HasPassed bus.left (micros_in bus events) (turns_lasting (told_of bus events)) (after_events bus events).left)
-    → (start : SeenBus) (events : List Event) (old new : List Node) → IsKept start → AreEvents events
+    → ((bus : BusState) (events later : List Event) → layout_events bus (events ++ later) ≡ layout_events bus events ++ layout_events (after_events bus events) later)
+    → ((bus : BusState) (events : List Event) → IsInvariant bus → AreEvents events → IsInvariant (after_events bus events))
+    → ((bus : BusState) (events : List Event) → IsInvariant bus → AreEvents events → IsTimeAccount bus.remaining (micros_in bus events) (turn_durations (outcomes_of bus events)) (after_events bus events).remaining)
+    → (start : BusState) (events : List Event) (old new : List Node) → IsInvariant start → AreEvents events
     → RunsAsWanted (known_of start.station) (layout_events start events) old new → RunsInTime start events old new
 runs_in_time laws cut keeps passes start events old new h legal runs before cycle i loco none split below stands slot a e between hears timed =
-    let mid : SeenBus = after_events start before in
+    let mid : BusState = after_events start before in
     let both : AreEvents (before ++ cycle) = subst AreEvents split legal in
-    let kept : IsKept mid = keeps start before h (front_legal before cycle both) in
+    let kept : IsInvariant mid = keeps start before h (front_legal before cycle both) in
     runs (layout_events start before) (layout_events mid cycle) i loco none
     (ap (layout_events start) split ∙ cut start before cycle) below stands slot a e between (quiet i before start) hears
     (full laws slot a e (known_after_all (known_of start.station) (calls_in (layout_events start before))) mid cycle kept (passes mid cycle kept (end_legal before cycle both)) timed)

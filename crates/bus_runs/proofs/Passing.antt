@@ -3,18 +3,18 @@ use Rattle.std.proofs.Common.{◌≡◌, ℕ, zero, suc, ◌+◌, ◌-◌, ◌<�
 use Rattle.std.specs.Prelude.{IsTrue}
 use Rattle.std.specs.List.{list_all, slice_index_or}
 use Rattle.std.proofs.lemmas.Bool.{and_parts, leb-true, leb-false}
-use Rattle.over_tcp.specs.declared.ask.Ask.{Ask}
-use Rattle.over_tcp.specs.declared.ask.Ask.TheVariants.{Send, Refused}
+use Rattle.loconet_tcp.specs.declared.request.Request.{Request}
+use Rattle.loconet_tcp.specs.declared.request.Request.TheVariants.{Send, Invalid}
 use Rattle.station_core.specs.Moved.{packet_of_turn}
 use Rattle.station_core.specs.Seen.{Seen}
 use Rattle.bus.specs.declared.event.Event.{Event}
-use Rattle.bus.specs.declared.event.Event.TheVariants.{Joins, Hears, Leaves, Passes, Turn}
-use Rattle.over_tcp.specs.declared.told.Told.TheVariants.{Nothing, Turned}
+use Rattle.bus.specs.declared.event.Event.TheVariants.{Connects, Receives, Disconnects, Elapses, Turn}
+use Rattle.loconet_tcp.specs.declared.outcome.Outcome.TheVariants.{Nothing, TurnBegan}
 use Rattle.bus.specs.Below.{TurnsAreBounded}
-use Rattle.bus.specs.Bus.{AreEvents, SeenBus, after_event, after_events, ask_at, client_of, is_event, lasts, told_asked, told_by, told_of, turned}
-use Rattle.bus.specs.Course.{lasting, micros_in, micros_of, turns_lasting}
-use Rattle.bus.specs.Kept.{IsKept}
-use Rattle.bus_runs.specs.Time.{HasPassed}
+use Rattle.bus.specs.Bus.{AreEvents, BusState, after_event, after_events, request_at, client_of, is_event, duration, outcome_of_request, outcome_of, outcomes_of, after_turn_boundary}
+use Rattle.bus.specs.Course.{durations_in, micros_in, micros_of, turn_durations}
+use Rattle.bus.specs.Invariant.{IsInvariant}
+use Rattle.bus_runs.specs.Time.{IsTimeAccount}
 use Rattle.bus_runs.proofs.Account.{adds_up, begins, nothing, passes}
 
 -- Each of the events is one of the bus.
@@ -35,40 +35,40 @@ one_legal event legal = rw legal refl
 
 -- One event.
 
-asked_lasting : (station : Seen) (client : ℕ) (ask : Option Ask) → lasting (told_asked station client ask) ≡ []
+asked_lasting : (station : Seen) (client : ℕ) (request : Option Request) → durations_in (outcome_of_request station client request) ≡ []
 asked_lasting station client None = refl
-asked_lasting station client (Some (Refused reason)) = refl
+asked_lasting station client (Some (Invalid reason)) = refl
 asked_lasting station client (Some (Send message)) = refl
 
-no_time : (left : ℕ) (turns : List ℕ) → 0 < left → turns ≡ [] → HasPassed left 0 turns left
-no_time left turns some none = subst (λ (t : List ℕ). HasPassed left 0 t left) (sym none) (nothing left some)
+no_time : (remaining : ℕ) (turns : List ℕ) → 0 < remaining → turns ≡ [] → IsTimeAccount remaining 0 turns remaining
+no_time remaining turns some none = subst (λ (t : List ℕ). IsTimeAccount remaining 0 t remaining) (sym none) (nothing remaining some)
 
-turn_passed : TurnsAreBounded → (bus : SeenBus) (micros : ℕ) → bus.left ≤ micros → micros ≤ bus.left + 5795 → HasPassed bus.left micros (lasts (packet_of_turn bus.station) ∷ []) (turned bus micros).left
-turn_passed laws bus micros ends soon = begins bus.left micros (lasts (packet_of_turn bus.station)) ends (omega (arith, laws.shortest bus.station, soon))
+turn_passed : TurnsAreBounded → (bus : BusState) (micros : ℕ) → bus.remaining ≤ micros → micros ≤ bus.remaining + 5795 → IsTimeAccount bus.remaining micros (duration (packet_of_turn bus.station) ∷ []) (after_turn_boundary bus micros).remaining
+turn_passed laws bus micros ends soon = begins bus.remaining micros (duration (packet_of_turn bus.station)) ends (omega (arith, laws.shortest bus.station, soon))
 
-micros_passed : TurnsAreBounded → (bus : SeenBus) (micros : ℕ) (ends : Bool) → nat_le bus.left micros ≡ ends → micros ≤ 5796 → 0 < bus.left
-    → HasPassed bus.left micros (lasting (if ends then Turned (packet_of_turn bus.station) else Nothing)) (if ends then turned bus micros else record bus { left = bus.left - micros }).left
-micros_passed laws bus micros true e short some = turn_passed laws bus micros (leb-true bus.left micros e) (omega (arith, short, some))
-micros_passed laws bus micros false e short some = passes bus.left micros (leb-false bus.left micros e)
+micros_passed : TurnsAreBounded → (bus : BusState) (micros : ℕ) (ends : Bool) → nat_le bus.remaining micros ≡ ends → micros ≤ 5796 → 0 < bus.remaining
+    → IsTimeAccount bus.remaining micros (durations_in (if ends then TurnBegan (packet_of_turn bus.station) else Nothing)) (if ends then after_turn_boundary bus micros else record bus { remaining = bus.remaining - micros }).remaining
+micros_passed laws bus micros true e short some = turn_passed laws bus micros (leb-true bus.remaining micros e) (omega (arith, short, some))
+micros_passed laws bus micros false e short some = passes bus.remaining micros (leb-false bus.remaining micros e)
 
-passed_by : TurnsAreBounded → (bus : SeenBus) (event : Event) → IsKept bus → is_event event ≡ true
-    → HasPassed bus.left (micros_of bus event) (lasting (told_by bus event)) (after_event bus event).left
-passed_by laws bus (Joins client) h legal = nothing bus.left h.under_way
-passed_by laws bus (Leaves client) h legal = nothing bus.left h.under_way
-passed_by laws bus (Hears client byte) h legal = no_time bus.left _ h.under_way (asked_lasting bus.station client (ask_at (client_of bus client) byte))
-passed_by laws bus (Turn missed) h legal = turn_passed laws bus bus.left (omega arith) (omega arith)
-passed_by laws bus (Passes micros missed) h legal = micros_passed laws bus micros (nat_le bus.left micros) refl (leb-true micros 5796 legal) h.under_way
+passed_by : TurnsAreBounded → (bus : BusState) (event : Event) → IsInvariant bus → is_event event ≡ true
+    → IsTimeAccount bus.remaining (micros_of bus event) (durations_in (outcome_of bus event)) (after_event bus event).remaining
+passed_by laws bus (Connects client) h legal = nothing bus.remaining h.under_way
+passed_by laws bus (Disconnects client) h legal = nothing bus.remaining h.under_way
+passed_by laws bus (Receives client byte) h legal = no_time bus.remaining _ h.under_way (asked_lasting bus.station client (request_at (client_of bus client) byte))
+passed_by laws bus (Turn missed) h legal = turn_passed laws bus bus.remaining (omega arith) (omega arith)
+passed_by laws bus (Elapses micros missed) h legal = micros_passed laws bus micros (nat_le bus.remaining micros) refl (leb-true micros 5796 legal) h.under_way
 
 -- All of them.
 
-pub all_passed : TurnsAreBounded → ((bus : SeenBus) (events : List Event) → IsKept bus → AreEvents events → IsKept (after_events bus events))
-    → (events : List Event) (bus : SeenBus) → IsKept bus → AreEvents events
-    → HasPassed bus.left (micros_in bus events) (turns_lasting (told_of bus events)) (after_events bus events).left
-all_passed laws keeps [] bus h legal = nothing bus.left h.under_way
+pub all_passed : TurnsAreBounded → ((bus : BusState) (events : List Event) → IsInvariant bus → AreEvents events → IsInvariant (after_events bus events))
+    → (events : List Event) (bus : BusState) → IsInvariant bus → AreEvents events
+    → IsTimeAccount bus.remaining (micros_in bus events) (turn_durations (outcomes_of bus events)) (after_events bus events).remaining
+all_passed laws keeps [] bus h legal = nothing bus.remaining h.under_way
 all_passed laws keeps (event ∷ events) bus h legal =
-    let later : SeenBus = after_event bus event in
+    let later : BusState = after_event bus event in
     let here : is_event event ≡ true = first_legal event events legal in
-    adds_up bus.left (micros_of bus event) later.left (micros_in later events) (after_events later events).left
-    (lasting (told_by bus event)) (turns_lasting (told_of later events))
+    adds_up bus.remaining (micros_of bus event) later.remaining (micros_in later events) (after_events later events).remaining
+    (durations_in (outcome_of bus event)) (turn_durations (outcomes_of later events))
     (passed_by laws bus event h here)
     (all_passed laws keeps events later (keeps bus (event ∷ []) h (one_legal event here)) (rest_legal event events legal))

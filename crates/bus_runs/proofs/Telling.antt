@@ -6,17 +6,17 @@ use Rattle.std.specs.Option.{option_to_list}
 use Rattle.std.proofs.lemmas.Bool.{and_parts}
 use Rattle.std.proofs.lemmas.Grind.{flat_map-append}
 use Rattle.std.proofs.lemmas.List.Folds.{list_all-append}
-use Rattle.over_tcp.specs.declared.ask.Reason.{Reason}
-use Rattle.over_tcp.specs.Told.{receive_text, sent_error_text, sent_ok_text, version_text}
-use Rattle.over_tcp.specs.declared.told.Told.{Told}
-use Rattle.over_tcp.specs.declared.told.Told.TheVariants.{Nothing, Joined, Left, Refused, Sent, Turned}
-use Rattle.over_tcp.specs.Texts.{messages_in, reply_text, text_for}
-use Rattle.bus_runs.specs.Since.{asks_to_send, heard_since, is_joining, is_leaving, is_quiet, is_some_told, is_there, moves, since_joined, stays, traffic}
+use Rattle.loconet_tcp.specs.declared.request.Reason.{Reason}
+use Rattle.loconet_tcp.specs.ClientLines.{receive_text, sent_error_text, sent_ok_text, version_text}
+use Rattle.loconet_tcp.specs.declared.outcome.Outcome.{Outcome}
+use Rattle.loconet_tcp.specs.declared.outcome.Outcome.TheVariants.{Nothing, Connected, Disconnected, Rejected, Sent, TurnBegan}
+use Rattle.loconet_tcp.specs.Texts.{messages_in, reply_text, text_for}
+use Rattle.bus_runs.specs.Since.{makes_request, text_since, is_connecting, is_disconnecting, requests_nothing, is_nonempty, has_connected, changes_connection, since_connected, stays_connected, traffic}
 
 -- ---- one more event
 
-stays_more : (i : ℕ) (tolds : List Told) (told : Told) → stays i (tolds ++ told ∷ []) ≡ (stays i tolds && (not (moves i told) && true))
-stays_more i tolds told = list_all-append (λ t. not (moves i t)) tolds (told ∷ [])
+stays_more : (i : ℕ) (outcomes : List Outcome) (outcome : Outcome) → stays_connected i (outcomes ++ outcome ∷ []) ≡ (stays_connected i outcomes && (not (changes_connection i outcome) && true))
+stays_more i outcomes outcome = list_all-append (λ t. not (changes_connection i t)) outcomes (outcome ∷ [])
 
 and_false : (a : Bool) → (a && (false && true)) ≡ false
 and_false true = refl
@@ -26,93 +26,93 @@ and_true : (a : Bool) → (a && (true && true)) ≡ a
 and_true true = refl
 and_true false = refl
 
-moved : (i : ℕ) (tolds : List Told) (told : Told) → moves i told ≡ true → stays i (tolds ++ told ∷ []) ≡ false
-moved i tolds told m = stays_more i tolds told ∙ ap (λ (b : Bool). stays i tolds && (not b && true)) m ∙ and_false (stays i tolds)
+moved : (i : ℕ) (outcomes : List Outcome) (outcome : Outcome) → changes_connection i outcome ≡ true → stays_connected i (outcomes ++ outcome ∷ []) ≡ false
+moved i outcomes outcome m = stays_more i outcomes outcome ∙ ap (λ (b : Bool). stays_connected i outcomes && (not b && true)) m ∙ and_false (stays_connected i outcomes)
 
-not_moved : (i : ℕ) (tolds : List Told) (told : Told) → moves i told ≡ false → stays i (tolds ++ told ∷ []) ≡ stays i tolds
-not_moved i tolds told m = stays_more i tolds told ∙ ap (λ (b : Bool). stays i tolds && (not b && true)) m ∙ and_true (stays i tolds)
+not_moved : (i : ℕ) (outcomes : List Outcome) (outcome : Outcome) → changes_connection i outcome ≡ false → stays_connected i (outcomes ++ outcome ∷ []) ≡ stays_connected i outcomes
+not_moved i outcomes outcome m = stays_more i outcomes outcome ∙ ap (λ (b : Bool). stays_connected i outcomes && (not b && true)) m ∙ and_true (stays_connected i outcomes)
 
 -- one who joins or leaves does so at the end
 
-not_since : (joins : Bool) (these those : List Told) → (if joins && false then these else those) ≡ those
+not_since : (joins : Bool) (these those : List Outcome) → (if joins && false then these else those) ≡ those
 not_since true these those = refl
 not_since false these those = refl
 
-since_moved : (i : ℕ) (tolds : List Told) (told : Told) → moves i told ≡ true → since_joined i (tolds ++ told ∷ []) ≡ since_joined i (told ∷ [])
-since_moved i [] told m = refl
-since_moved i (first ∷ rest) told m =
-    let all : List Told = first ∷ (rest ++ told ∷ []) in
-    let later : List Told = since_joined i (rest ++ told ∷ []) in
-    ap (λ (b : Bool). if is_joining i first && b then all else later) (moved i rest told m)
-    ∙ not_since (is_joining i first) all later
-    ∙ since_moved i rest told m
+since_moved : (i : ℕ) (outcomes : List Outcome) (outcome : Outcome) → changes_connection i outcome ≡ true → since_connected i (outcomes ++ outcome ∷ []) ≡ since_connected i (outcome ∷ [])
+since_moved i [] outcome m = refl
+since_moved i (first ∷ rest) outcome m =
+    let all : List Outcome = first ∷ (rest ++ outcome ∷ []) in
+    let later : List Outcome = since_connected i (rest ++ outcome ∷ []) in
+    ap (λ (b : Bool). if is_connecting i first && b then all else later) (moved i rest outcome m)
+    ∙ not_since (is_connecting i first) all later
+    ∙ since_moved i rest outcome m
 
 same : (i : ℕ) → (i == i) ≡ true
 same i = eq-eqb i i refl
 
-since_joining : (i : ℕ) (tolds : List Told) → since_joined i (tolds ++ Joined i ∷ []) ≡ Joined i ∷ []
-since_joining i tolds =
-    since_moved i tolds (Joined i) (ap (λ (b : Bool). b || false) (same i))
-    ∙ ap (λ (b : Bool). if b && true then Joined i ∷ [] else []) (same i)
+since_joining : (i : ℕ) (outcomes : List Outcome) → since_connected i (outcomes ++ Connected i ∷ []) ≡ Connected i ∷ []
+since_joining i outcomes =
+    since_moved i outcomes (Connected i) (ap (λ (b : Bool). b || false) (same i))
+    ∙ ap (λ (b : Bool). if b && true then Connected i ∷ [] else []) (same i)
 
-since_leaving : (i : ℕ) (tolds : List Told) → since_joined i (tolds ++ Left i ∷ []) ≡ []
-since_leaving i tolds = since_moved i tolds (Left i) (same i)
+since_leaving : (i : ℕ) (outcomes : List Outcome) → since_connected i (outcomes ++ Disconnected i ∷ []) ≡ []
+since_leaving i outcomes = since_moved i outcomes (Disconnected i) (same i)
 
 -- of all others what happens is behind what happened
 
-goes_when : (here : Bool) (first told : Told) (rest now later : List Told) → later ≡ (if is_some_told now then now ++ told ∷ [] else [])
-    → (if here then first ∷ (rest ++ told ∷ []) else later)
-    ≡ (if is_some_told (if here then first ∷ rest else now) then (if here then first ∷ rest else now) ++ told ∷ [] else [])
-goes_when true first told rest now later e = refl
-goes_when false first told rest now later e = e
+goes_when : (here : Bool) (first outcome : Outcome) (rest now later : List Outcome) → later ≡ (if is_nonempty now then now ++ outcome ∷ [] else [])
+    → (if here then first ∷ (rest ++ outcome ∷ []) else later)
+    ≡ (if is_nonempty (if here then first ∷ rest else now) then (if here then first ∷ rest else now) ++ outcome ∷ [] else [])
+goes_when true first outcome rest now later e = refl
+goes_when false first outcome rest now later e = e
 
-not_joining : (joins leaves : Bool) (told : Told) → (joins || leaves) ≡ false → (if joins && true then told ∷ [] else []) ≡ []
-not_joining true leaves told m = cc
-not_joining false leaves told m = refl
+not_joining : (joins leaves : Bool) (outcome : Outcome) → (joins || leaves) ≡ false → (if joins && true then outcome ∷ [] else []) ≡ []
+not_joining true leaves outcome m = cc
+not_joining false leaves outcome m = refl
 
-since_others : (i : ℕ) (tolds : List Told) (told : Told) → moves i told ≡ false
-    → since_joined i (tolds ++ told ∷ []) ≡ (if is_there i tolds then since_joined i tolds ++ told ∷ [] else [])
-since_others i [] told m = not_joining (is_joining i told) (is_leaving i told) told m
-since_others i (first ∷ rest) told m =
-    ap (λ (b : Bool). if is_joining i first && b then first ∷ (rest ++ told ∷ []) else since_joined i (rest ++ told ∷ [])) (not_moved i rest told m)
-    ∙ goes_when (is_joining i first && stays i rest) first told rest (since_joined i rest) (since_joined i (rest ++ told ∷ [])) (since_others i rest told m)
+since_others : (i : ℕ) (outcomes : List Outcome) (outcome : Outcome) → changes_connection i outcome ≡ false
+    → since_connected i (outcomes ++ outcome ∷ []) ≡ (if has_connected i outcomes then since_connected i outcomes ++ outcome ∷ [] else [])
+since_others i [] outcome m = not_joining (is_connecting i outcome) (is_disconnecting i outcome) outcome m
+since_others i (first ∷ rest) outcome m =
+    ap (λ (b : Bool). if is_connecting i first && b then first ∷ (rest ++ outcome ∷ []) else since_connected i (rest ++ outcome ∷ [])) (not_moved i rest outcome m)
+    ∙ goes_when (is_connecting i first && stays_connected i rest) first outcome rest (since_connected i rest) (since_connected i (rest ++ outcome ∷ [])) (since_others i rest outcome m)
 
 -- ---- what was told
 
-pub joins : (i : ℕ) (tolds : List Told) → heard_since i (tolds ++ Joined i ∷ []) ≡ version_text
-joins i tolds =
-    ap (flat_map (text_for i)) (since_joining i tolds)
+pub joins : (i : ℕ) (outcomes : List Outcome) → text_since i (outcomes ++ Connected i ∷ []) ≡ version_text
+joins i outcomes =
+    ap (flat_map (text_for i)) (since_joining i outcomes)
     ∙ ap (λ (b : Bool). (if b then version_text else []) ++ []) (same i)
     ∙ append-nil version_text
 
-pub leaves : (i : ℕ) (tolds : List Told) → heard_since i (tolds ++ Left i ∷ []) ≡ []
-leaves i tolds = ap (flat_map (text_for i)) (since_leaving i tolds)
+pub leaves : (i : ℕ) (outcomes : List Outcome) → text_since i (outcomes ++ Disconnected i ∷ []) ≡ []
+leaves i outcomes = ap (flat_map (text_for i)) (since_leaving i outcomes)
 
-told_when : (there : Bool) (i : ℕ) (told : Told) (since : List Told)
-    → flat_map (text_for i) (if there then since ++ told ∷ [] else []) ≡ (if there then flat_map (text_for i) since ++ text_for i told else [])
-told_when true i told since =
-    flat_map-append (text_for i) since (told ∷ [])
-    ∙ ap (λ (text : List ℕ). flat_map (text_for i) since ++ text) (append-nil (text_for i told))
-told_when false i told since = refl
+told_when : (there : Bool) (i : ℕ) (outcome : Outcome) (since : List Outcome)
+    → flat_map (text_for i) (if there then since ++ outcome ∷ [] else []) ≡ (if there then flat_map (text_for i) since ++ text_for i outcome else [])
+told_when true i outcome since =
+    flat_map-append (text_for i) since (outcome ∷ [])
+    ∙ ap (λ (text : List ℕ). flat_map (text_for i) since ++ text) (append-nil (text_for i outcome))
+told_when false i outcome since = refl
 
-pub goes_on : (i : ℕ) (tolds : List Told) (told : Told) → moves i told ≡ false
-    → heard_since i (tolds ++ told ∷ []) ≡ (if is_there i tolds then heard_since i tolds ++ text_for i told else [])
-goes_on i tolds told m = ap (flat_map (text_for i)) (since_others i tolds told m) ∙ told_when (is_there i tolds) i told (since_joined i tolds)
+pub goes_on : (i : ℕ) (outcomes : List Outcome) (outcome : Outcome) → changes_connection i outcome ≡ false
+    → text_since i (outcomes ++ outcome ∷ []) ≡ (if has_connected i outcomes then text_since i outcomes ++ text_for i outcome else [])
+goes_on i outcomes outcome m = ap (flat_map (text_for i)) (since_others i outcomes outcome m) ∙ told_when (has_connected i outcomes) i outcome (since_connected i outcomes)
 
 -- ---- who is there
 
-pub came : (i : ℕ) (tolds : List Told) → is_there i (tolds ++ Joined i ∷ []) ≡ true
-came i tolds = ap is_some_told (since_joining i tolds)
+pub came : (i : ℕ) (outcomes : List Outcome) → has_connected i (outcomes ++ Connected i ∷ []) ≡ true
+came i outcomes = ap is_nonempty (since_joining i outcomes)
 
-pub gone : (i : ℕ) (tolds : List Told) → is_there i (tolds ++ Left i ∷ []) ≡ false
-gone i tolds = ap is_some_told (since_leaving i tolds)
+pub gone : (i : ℕ) (outcomes : List Outcome) → has_connected i (outcomes ++ Disconnected i ∷ []) ≡ false
+gone i outcomes = ap is_nonempty (since_leaving i outcomes)
 
-some_when : (told : Told) (since : List Told) → is_some_told (if is_some_told since then since ++ told ∷ [] else []) ≡ is_some_told since
-some_when told [] = refl
-some_when told (first ∷ rest) = refl
+some_when : (outcome : Outcome) (since : List Outcome) → is_nonempty (if is_nonempty since then since ++ outcome ∷ [] else []) ≡ is_nonempty since
+some_when outcome [] = refl
+some_when outcome (first ∷ rest) = refl
 
-pub stayed : (i : ℕ) (tolds : List Told) (told : Told) → moves i told ≡ false → is_there i (tolds ++ told ∷ []) ≡ is_there i tolds
-stayed i tolds told m = ap is_some_told (since_others i tolds told m) ∙ some_when told (since_joined i tolds)
+pub stayed : (i : ℕ) (outcomes : List Outcome) (outcome : Outcome) → changes_connection i outcome ≡ false → has_connected i (outcomes ++ outcome ∷ []) ≡ has_connected i outcomes
+stayed i outcomes outcome m = ap is_nonempty (since_others i outcomes outcome m) ∙ some_when outcome (since_connected i outcomes)
 
 -- ---- one who only listens
 
@@ -133,18 +133,18 @@ no_ok : (own : Bool) (message : List ℕ) (reply : Option (List ℕ)) → not ow
 no_ok true message reply q = cc
 no_ok false message reply q = ap₂ (λ (these those : List ℕ). these ++ those) (append-nil (receive_text message)) (reply_heard reply)
 
-listens : (i : ℕ) (told : Told) → not (moves i told) ≡ true → not (asks_to_send i told) ≡ true → text_for i told ≡ flat_map receive_text (messages_in told)
+listens : (i : ℕ) (outcome : Outcome) → not (changes_connection i outcome) ≡ true → not (makes_request i outcome) ≡ true → text_for i outcome ≡ flat_map receive_text (messages_in outcome)
 listens i Nothing m q = refl
-listens i (Joined client) m q = no_version (client == i) m
-listens i (Left client) m q = refl
-listens i (Refused client reason) m q = no_error (client == i) reason q
+listens i (Connected client) m q = no_version (client == i) m
+listens i (Disconnected client) m q = refl
+listens i (Rejected client reason) m q = no_error (client == i) reason q
 listens i (Sent client message reply) m q = no_ok (client == i) message reply q
-listens i (Turned packet) m q = refl
+listens i (TurnBegan packet) m q = refl
 
-pub bystander : (i : ℕ) (tolds : List Told) → stays i tolds ≡ true → is_quiet i tolds ≡ true → flat_map (text_for i) tolds ≡ flat_map receive_text (traffic tolds)
+pub bystander : (i : ℕ) (outcomes : List Outcome) → stays_connected i outcomes ≡ true → requests_nothing i outcomes ≡ true → flat_map (text_for i) outcomes ≡ flat_map receive_text (traffic outcomes)
 bystander i [] stay quiet = refl
-bystander i (told ∷ rest) stay quiet =
-    let m = and_parts (not (moves i told)) (stays i rest) stay in
-    let q = and_parts (not (asks_to_send i told)) (is_quiet i rest) quiet in
-    ap₂ (λ (these those : List ℕ). these ++ those) (listens i told m.0 q.0) (bystander i rest m.1 q.1)
-    ∙ sym (flat_map-append receive_text (messages_in told) (traffic rest))
+bystander i (outcome ∷ rest) stay quiet =
+    let m = and_parts (not (changes_connection i outcome)) (stays_connected i rest) stay in
+    let q = and_parts (not (makes_request i outcome)) (requests_nothing i rest) quiet in
+    ap₂ (λ (these those : List ℕ). these ++ those) (listens i outcome m.0 q.0) (bystander i rest m.1 q.1)
+    ∙ sym (flat_map-append receive_text (messages_in outcome) (traffic rest))

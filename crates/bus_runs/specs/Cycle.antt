@@ -11,14 +11,14 @@ use Rattle.layout_core.specs.Events.{calls_in}
 use Rattle.layout_core.specs.Nodes.{running_of}
 use Rattle.layout_core.specs.Wanted.{wanted}
 use Rattle.bus.specs.declared.event.Event.{Event}
-use Rattle.bus.specs.Bus.{SeenBus, after_events}
+use Rattle.bus.specs.Bus.{BusState, after_events}
 use Rattle.bus.specs.Course.{micros_in}
 use Rattle.bus.specs.Layout.{layout_events}
 
 -- A full refresh cycle of an address, told by time: power runs, the slot is refreshed, and it stands for the same address
 -- and the same entry at every moment; and of track time there are 171,840 microseconds for each slot that is refreshed at
 -- some moment, in which 16 of the longest packets of 10,740 microseconds have room.
-pub record IsTimedCycleOf (slot a : ℕ) (e : Entry) (known : Known) (bus : SeenBus) (cycle : List Event) : Type 0 where
+pub record IsTimedCycleOf (slot a : ℕ) (e : Entry) (known : Known) (bus : BusState) (cycle : List Event) : Type 0 where
   pub is_slot : IsSlot slot
   pub live : AtEveryMoment (IsLive slot) known (calls_in (layout_events bus cycle))
   pub stands : AtEveryMoment (StandsIn slot a e) known (calls_in (layout_events bus cycle))
@@ -26,7 +26,7 @@ pub record IsTimedCycleOf (slot a : ℕ) (e : Entry) (known : Known) (bus : Seen
 
 -- The headline in time. Where no packet was under way at the start, the locomotive, node i, that answers to the address,
 -- agrees in steps and misses no turn of the cycle runs as the entry wants it after the cycle, whatever came before.
-abbrev pub RunsInTime : SeenBus → List Event → (old new : List Node) → Type 0
+abbrev pub RunsInTime : BusState → List Event → (old new : List Node) → Type 0
 RunsInTime start = ForEachLoco (λ before cycle i loco node.
     (slot a : ℕ) (e : Entry)
     → IsBetweenPackets loco

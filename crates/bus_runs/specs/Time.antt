@@ -8,7 +8,7 @@ last_or one (next ∷ more) = last_or next more
 
 -- A time passes in which turns of these durations begin, each where the one before it ends: what was left of the turn under
 -- way and the turns are the time and what is left of the turn that is under way now, the last one.
-pub record HasPassed (left micros : ℕ) (turns : List ℕ) (left' : ℕ) : Type 0 where
-  pub whole : left + sum turns ≡ micros + left'
-  pub under_way : 0 < left'
-  pub last : left' ≤ last_or left turns
+pub record IsTimeAccount (remaining micros : ℕ) (turns : List ℕ) (remaining' : ℕ) : Type 0 where
+  pub whole : remaining + sum turns ≡ micros + remaining'
+  pub under_way : 0 < remaining'
+  pub last : remaining' ≤ last_or remaining turns

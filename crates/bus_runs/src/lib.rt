@@ -6,5 +6,5 @@ pub mod laws;
 
 pub use course::run;
 pub use laws::{
-    headline, however_cut, own_lines, time_adds_up, told_since_joining, turns_of_the_time,
+    headline, however_cut, own_lines, text_since_connecting, time_adds_up, turns_of_the_time,
 };

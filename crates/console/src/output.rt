@@ -24,6 +24,7 @@ pub fn print<O: Sink>(output: &mut O, line: &Line) -> Result<(), Unwritten>
     ensures failed { O.failed output.new ≡ failed_after result (O.failed output.old) }
     ensures same { O.loan output.new ≡ O.loan output.old }
 {
+    input_text::laws::fronts();
     print_all(output, line.as_str().as_bytes())?;
     print_all(output, b"\n")
 }

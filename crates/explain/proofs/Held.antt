@@ -3,7 +3,7 @@ use Rattle.std.proofs.Common.{◌≡◌, ℕ, ◌+◌, ◌<◌, Bool, true, fals
 use Rattle.std.specs.Prelude.{flat_map}
 use Rattle.std.proofs.lemmas.Bool.{lt-ltb}
 use Rattle.ascii_words.specs.Words.{words_of}
-use Rattle.over_tcp.specs.Asked.{are_pairs, bytes_of, leading}
+use Rattle.loconet_tcp.specs.Requests.{are_pairs, bytes_of, leading_bytes}
 use Rattle.explain.specs.Explained.{explained, shown}
 use Rattle.explain.specs.Lines.{body_of, end_of, is_open, lines_of, onto_line}
 use Rattle.explain.specs.Subjects.{message_in, note_of}
@@ -79,7 +79,7 @@ unfolding explained
 explained-ended xs more h = ap (flat_map shown) (lines-ended xs more h)
 
 explained-none : explained [] ≡ shown []
-unfolding explained message_in words_of bytes_of are_pairs leading
+unfolding explained message_in words_of bytes_of are_pairs leading_bytes
 explained-none = refl
 
 explained-last : (xs : List ℕ) → is_open xs ≡ true → explained (xs ++ []) ≡ shown xs

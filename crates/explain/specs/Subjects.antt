@@ -3,7 +3,7 @@ use Rattle.std.specs.Prelude.{ℕ, Bool, if◌then◌else◌, nat_lt, List, [], 
 use Rattle.std.specs.List.{before_first, after_first}
 use Rattle.std.specs.Str.{bytes_eq}
 use Rattle.ascii_words.specs.Words.{is_blank, words_of}
-use Rattle.over_tcp.specs.Asked.{bytes_of, leading}
+use Rattle.loconet_tcp.specs.Requests.{bytes_of, leading_bytes}
 use Rattle.plain_words.specs.Messages.{message_words}
 use Rattle.plain_words.specs.Packets.{packet_words}
 
@@ -23,7 +23,7 @@ turn_in text = if bytes_eq text (codes "off") then codes "no power, nothing is s
 
 -- a message, and behind it words that tell it another way, none of which begins with a pair
 unfoldable pub monitored_in : List ℕ → List ℕ
-monitored_in text = said_by message_words (Some (leading (words_of text)))
+monitored_in text = said_by message_words (Some (leading_bytes (words_of text)))
 
 -- what stands behind the first word
 abbrev pub behind : List ℕ → List ℕ

@@ -1,7 +1,7 @@
 //! Laws of what is explained. They have no code: a call hands the law to its caller's proof.
 ghost use Rattle.std.specs.Prelude.{◌≡◌, ℕ, ◌<◌, List, ◌++◌, slice_index, codes};
 ghost use Rattle.ln_frame.specs.Message.{IsWhole};
-ghost use Rattle.over_tcp.specs.Told.{hex_words};
+ghost use Rattle.loconet_tcp.specs.ClientLines.{hex_words};
 ghost use Rattle.plain_words.specs.Messages.{message_words};
 ghost use Rattle.explain.specs.Subjects.{words_about};
 
@@ -12,5 +12,5 @@ pub fn told_is_explained()
     ensures sent { (message : List ℕ) → IsWhole message → ((i : ℕ) → slice_index message i < 256)
         → words_about (codes "SEND" ++ hex_words message) ≡ message_words message }
 {
-    over_tcp::laws::told_is_asked();
+    loconet_tcp::laws::received_is_sendable();
 }

@@ -2,11 +2,11 @@
 ghost use Rattle.std.specs.Prelude.{◌≡◌, ◌≤◌, length, Option, Some, None, MatchOption};
 ghost use Rattle.ascii_words.specs.Words.{words_of};
 ghost use Rattle.plain_words.specs.Messages.{message_words};
-ghost use Rattle.over_tcp.specs.Asked.{leading};
+ghost use Rattle.loconet_tcp.specs.Requests.{leading_bytes};
 ghost use Rattle.explain.specs.Subjects.{message_in, monitored_in, said_by, turn_in, words_about};
 
 use ascii_words::cut_piece;
-use over_tcp::{Bytes, bytes_of, leading};
+use loconet_tcp::{Bytes, bytes_of, leading_bytes};
 use plain_words::{Words, tell_message, tell_packet};
 
 /// What the words of a text say, a message and nothing else.
@@ -62,7 +62,7 @@ fn tell_monitored_in(text: &[u8], words: &mut Words)
     requires { length text.now ≤ 400 }
     ensures { words.new.items ≡ monitored_in text.now }
 {
-    tell_some(&leading(text), words);
+    tell_some(&leading_bytes(text), words);
 }
 
 /// What a line of at most 400 characters says, by its first word; nothing, if it is about neither a message nor a packet.

@@ -3,6 +3,7 @@ use Rattle.std.proofs.Common.{◌≡◌, ◌<◌, ℕ, suc, ◌+◌, ◌-◌, Li
 use Rattle.std.specs.Prelude.{Result, Ok, Err, OnErr}
 use Rattle.std.specs.Io.KnownBytes.{Appends, Keeps}
 use Rattle.std.proofs.KnownBytes.{Appends-kept, Appends-nil, Appends-trans}
+use Rattle.std.proofs.Math.Seq.{take-append-add, take-append_seam}
 use Rattle.std.proofs.lemmas.List.{take-append-drop, take-append-le, take_rest}
 use Rattle.input_text.specs.Write.{AppendsFront}
 
@@ -24,10 +25,6 @@ pub written_all : (o p : Option (List ℕ)) (text rest : List ℕ) → HasWritte
 written_all o p text [] so_far none = subst (λ (bs : List ℕ). Appends o p bs) (sym (so_far.2 ∙ append-nil so_far.0)) so_far.1
 written_all o p text (b ∷ rest) so_far none = absurd (omega (arith, none))
 
-take_front : (front back : List ℕ) → take (length front) (front ++ back) ≡ front
-take_front [] back = refl
-take_front (b ∷ front) back = ap (λ (bs : List ℕ). b ∷ bs) (take_front front back)
-
 -- a front of a text, of which this is not written
 pub front_of : (o p q : Option (List ℕ)) (text rest : List ℕ) → HasWritten o p text rest → 0 < length rest → Keeps p q → AppendsFront o q text
 front_of o p q text rest so_far some kept =
@@ -35,7 +32,7 @@ front_of o p q text rest so_far some kept =
     let sum : length text ≡ length front + length rest = ap length so_far.2 ∙ length-append front rest in (
       length front,
       omega (arith, sum, some),
-      subst (λ (bs : List ℕ). Appends o q bs) (sym (ap (take (length front)) so_far.2 ∙ take_front front rest)) (Appends-kept o p q front so_far.1 kept),
+      subst (λ (bs : List ℕ). Appends o q bs) (sym (ap (take (length front)) so_far.2 ∙ take-append_seam front rest)) (Appends-kept o p q front so_far.1 kept),
     )
 
 take_within : (n : ℕ) (front back : List ℕ) → n < length front → take n (front ++ back) ≡ take n front
@@ -48,12 +45,6 @@ front_before o p text more front =
     let sum : length (text ++ more) ≡ length text + length more = length-append text more in
     (n, omega (arith, front.1, sum), subst (λ (bs : List ℕ). Appends o p bs) (sym (take_within n text more front.1)) front.2)
 
-take_behind : (front : List ℕ) (n : ℕ) (back : List ℕ) → take (length front + n) (front ++ back) ≡ front ++ take n back
-take_behind [] n back = let same : 0 + n ≡ n = omega arith in ap (λ (m : ℕ). take m back) same
-take_behind (b ∷ front) n back =
-    let same : length (b ∷ front) + n ≡ suc (length front + n) = omega arith in
-    ap (λ (m : ℕ). take m ((b ∷ front) ++ back)) same ∙ ap (λ (bs : List ℕ). b ∷ bs) (take_behind front n back)
-
 -- and so is all of the first part with a front of the second
 pub front_behind : (o p q : Option (List ℕ)) (text more : List ℕ) → Appends o p text → AppendsFront p q more → AppendsFront o q (text ++ more)
 front_behind o p q text more whole front =
@@ -61,14 +52,9 @@ front_behind o p q text more whole front =
     let sum : length (text ++ more) ≡ length text + length more = length-append text more in (
       length text + n,
       omega (arith, front.1, sum),
-      subst (λ (bs : List ℕ). Appends o q bs) (sym (take_behind text n more)) (Appends-trans o p q text (take n more) whole front.2),
+      subst (λ (bs : List ℕ). Appends o q bs) (sym (take-append-add text more n)) (Appends-trans o p q text (take n more) whole front.2),
     )
 
 pub on_err : {A E : Type 0} (r : Result A E) (P : Type 0) → P → OnErr r P
 on_err (Ok a) P holds = tt
 on_err (Err e) P holds = holds
-
--- where only the second part failed
-pub second_failed : {A E : Type 0} (r : Result A E) (o p q : Option (List ℕ)) (text more : List ℕ) → Appends o p text → OnErr r (AppendsFront p q more) → OnErr r (AppendsFront o q (text ++ more))
-second_failed (Ok a) o p q text more whole front = tt
-second_failed (Err e) o p q text more whole front = front_behind o p q text more whole front

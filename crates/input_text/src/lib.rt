@@ -3,6 +3,7 @@
 #![tactic(auto)]
 
 mod input;
+pub mod laws;
 mod noting;
 mod output;
 mod reading;

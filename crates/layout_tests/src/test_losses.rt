@@ -1,6 +1,6 @@
 //! What no clause says: what is drawn, and shares over many turns.
 
-use losses::Losses;
+use bus_server::Losses;
 
 /// Shares, and which of two decoders miss the first turn. The first two words of seed 0 end in 07 and 27: the table of
 /// upstream's `rand_pcg` has them as one number, 18195738587432868099, the first word below.

@@ -1,43 +1,101 @@
 //! The clients of the bus on their sockets, and what each page of them was told of the decoders.
-use bus_lines::Boards;
+ghost use Rattle.std.specs.Prelude.{None};
+
+use crate::standard_output::{STANDARD_OUTPUT, StandardOutput};
+use bus_log::{LogQueue, PageStates, Printer};
+use bus_server::{AfterRound, IoOutcome, Transport};
+use console::Unwritten;
+use layout_core::World;
 use mio::Poll;
 use mio::net::TcpListener;
-use sockets::Sockets;
+use sockets::{Sockets, Stopwatch};
 use std::alloc::AllocGlobal;
 use std::io;
+use std::io::Write;
 use std::net::{Net, SocketAddr};
+use std::time::Clock;
 
-/// The sockets, and what the page at each place was told of the decoders.
+/// The sockets, what the page at each place was told of the decoders, and the clock by which those who ask for a page are
+/// waited for.
 #[derive(Drop)]
-pub(crate) struct Clients {
+pub(crate) struct Clients<'a, R> {
     pub(crate) sockets: Sockets,
-    pub(crate) boards: Boards,
+    pub(crate) page_states: PageStates,
+    pub(crate) clock: &'a R,
+    pub(crate) watch: Stopwatch,
 }
 
-impl Clients {
+impl<'a, R: Net + AllocGlobal + Clock> Clients<'a, R> {
     /// Listens on an address and a port. It takes all its memory at once.
-    pub(crate) fn bind<R: Net + AllocGlobal>(rt: &R, address: SocketAddr) -> io::Result<Clients> {
+    pub(crate) fn bind(rt: &'a R, address: SocketAddr) -> io::Result<Clients<'a, R>> {
         let poll = Poll::new(rt)?;
         let listener = TcpListener::bind(rt, address)?;
+        let watch = Stopwatch::new(rt)?;
+        let sockets = Sockets::new(rt.alloc(), poll, listener)?;
+        sockets.wake_on(&STANDARD_OUTPUT);
         Ok(Clients {
-            sockets: Sockets::new(rt.alloc(), poll, listener)?,
-            boards: Boards::new(),
+            sockets,
+            page_states: PageStates::new(),
+            clock: rt,
+            watch,
         })
     }
 
     /// Serves this page on an address and a port.
-    pub(crate) fn bind_page<R: Net + AllocGlobal>(
-        &mut self,
-        rt: &R,
-        address: SocketAddr,
-        page: &[u8],
-    ) -> io::Result<()> {
-        let listener = TcpListener::bind(rt, address)?;
-        self.sockets.open_doors(rt.alloc(), listener, page)
+    pub(crate) fn bind_page(&mut self, address: SocketAddr, page: &[u8]) -> io::Result<()> {
+        let listener = TcpListener::bind(self.clock, address)?;
+        self.sockets.serve_page(self.clock.alloc(), listener, page)
     }
 
     /// Closes all connections and the ports.
     pub(crate) fn close_all(self) {
         self.sockets.close_all();
+    }
+}
+
+impl<R: Clock> Transport for Clients<'_, R> {
+    type Fault = io::Error;
+
+    ghost log = { λ _. None };
+
+    fn wait(&mut self, longest: Option<u32>) -> io::Result<()> {
+        self.sockets
+            .poll(self.clock, &self.watch, longest.map(u64::from))
+    }
+
+    fn accept(&mut self, client: u8) -> bool {
+        self.sockets.accept(client)
+    }
+
+    fn reject(&mut self) -> bool {
+        self.sockets.reject()
+    }
+
+    fn read(&mut self, client: u8, room: &mut [u8]) -> IoOutcome {
+        self.sockets.read(client, room)
+    }
+
+    fn write(&mut self, client: u8, bytes: &[u8]) -> IoOutcome {
+        self.sockets.write(client, bytes)
+    }
+
+    fn close(&mut self, client: u8) {
+        self.sockets.close(client);
+    }
+}
+
+/// Between two rounds pages receive the decoder states, and the queued lines of the log are written.
+impl<'o, 'w, 'p, R: Clock, O: Write> AfterRound<Clients<'w, R>, Printer<'p, LogQueue>>
+    for StandardOutput<'o, O> {
+    fn after_round(
+        &mut self,
+        transport: &mut Clients<'w, R>,
+        printer: &mut Printer<'p, LogQueue>,
+        world: &World,
+    ) -> Result<(), Unwritten> {
+        transport
+            .page_states
+            .send_all(&mut transport.sockets, printer, world);
+        printer.write_queued(self)
     }
 }

@@ -1,31 +1,35 @@
 //! The program on its words, its port and its clock.
-ghost use Rattle.std.specs.Prelude.{◌≡◌, ◌≤◌};
-ghost use Rattle.bus_lines.specs.Decoders.{entries_of, specs_of};
-ghost use Rattle.hub.specs.Hubs.{Watches};
+ghost use Rattle.std.specs.Prelude.{◌≡◌, ◌≤◌, OnOk, map};
+ghost use Rattle.bus_log.specs.Decoders.{entries_of, specs_of};
+ghost use Rattle.bus_server.specs.Progress.{ObservesLayout, state_of};
+ghost use Rattle.command_line.specs.declared.words.ServerOrder.{ServerOrder as OrderValue};
+ghost use Rattle.console.specs.Files.{IsRosterOf};
+ghost use Rattle.lbserver.specs.Serving.{IsNewServer, ServesOrder, ServesWords, clients_of, entries_in};
 
 use crate::clients::Clients;
-use bus_lines::{Printer, decoders, print_listening};
+use crate::standard_output::StandardOutput;
+use bus_log::{LogQueue, Printer, decoders, print_listening, write_queued};
+use bus_server::{Losses, Server, Stop};
 use command_line::{FileName, ServerOrder, server_order};
-use console::{RunFault, Unwritten, read_roster, read_whole, tell_as};
-use hub::Server;
-use losses::Losses;
+use console::{RunFault, read_roster, read_whole, tell_as};
+use mio::Poll;
 use roster::Roster;
-use sockets::{Sockets, Stopwatch};
-use std::io::{BufWriter, ErrorKind, Write};
+use sockets::{Sockets, Stopwatch, Ticking};
+use std::io::{ErrorKind, Write};
 use std::net::SocketAddr;
 use std::time::Duration;
 
 /// What the program is called where it tells a fault.
 pub(crate) const NAME: &'static str = "lbserver";
 
-/// The most time that one round lets pass, in microseconds. What the machine slept through beyond it is left out.
-const MOST_MICROS: u64 = 1_000_000;
-
 /// The page that is served where none is named.
 const PAGE_FILE: &'static str = "pages/throttle.html";
 
 /// The longest page, in bytes.
 const LONGEST_PAGE: usize = 1_048_576;
+
+/// How long the last lines wait for a reader that takes none, in milliseconds.
+const LAST_WAIT_MILLIS: u64 = 1_000;
 
 /// Runs the program on the words behind its name, and answers its exit status, 0 to 6.
 ///
@@ -37,6 +41,8 @@ pub(crate) fn execute<O: Write, E: Write>(
     faults: &mut E,
 ) -> u8
     ensures most { result ≤ 6 }
+    // Status 0 comes only behind a whole run of what the words ask for.
+    ensures serves { result ≡ 0 → ServesWords (map (λ word. word.now) words.entry.now) }
 {
     match obey(rt, words, output) {
         Ok(()) => 0,
@@ -48,7 +54,9 @@ pub(crate) fn execute<O: Write, E: Write>(
 ///
 /// It goes on from function to function, each of which makes one thing and lends it, since one that may return early with
 /// something to let go is dear to prove.
-fn obey<O: Write>(rt: &HostRuntime, words: &[&str], output: &mut O) -> Result<(), RunFault> {
+fn obey<O: Write>(rt: &HostRuntime, words: &[&str], output: &mut O) -> Result<(), RunFault>
+    ensures serves { OnOk result (ServesWords (map (λ word. word.now) words.entry.now)) }
+{
     let mut order = server_order(rt.alloc(), words)?;
     with_roster(rt, &mut order, output)
 }
@@ -58,7 +66,9 @@ fn with_roster<O: Write>(
     rt: &HostRuntime,
     order: &mut ServerOrder,
     output: &mut O,
-) -> Result<(), RunFault> {
+) -> Result<(), RunFault>
+    ensures serves { OnOk result ((roster : _) × IsRosterOf order.old.roster roster × ServesOrder order.old (entries_in roster)) }
+{
     let roster = read_roster(rt, order.roster.take())?;
     with_server(rt, order, roster.as_ref(), output)
 }
@@ -69,7 +79,9 @@ fn with_server<O: Write>(
     order: &mut ServerOrder,
     roster: Option<&Roster>,
     output: &mut O,
-) -> Result<(), RunFault> {
+) -> Result<(), RunFault>
+    ensures serves { OnOk result (ServesOrder order.old (entries_of roster.entry)) }
+{
     let losses = Losses::new(order.lose, u64::from(order.seed));
     let mut server = Server::new(rt.alloc(), decoders(roster), order.turns, losses)?;
     with_sockets(rt, order, roster, &mut server, output)
@@ -83,7 +95,9 @@ fn with_sockets<O: Write>(
     server: &mut Server,
     output: &mut O,
 ) -> Result<(), RunFault>
-    requires { Watches (specs_of (entries_of roster)) server.old.hub }
+    requires observes { ObservesLayout (specs_of (entries_of roster)) server.old.hub }
+    requires new { IsNewServer order.old (entries_of roster) (state_of server.old.hub) }
+    ensures serves { OnOk result (ServesOrder order.old (entries_of roster.entry)) }
 {
     let address = SocketAddr::from((order.address, order.port));
     let Ok(mut clients) = Clients::bind(rt, address) else {
@@ -100,10 +114,12 @@ fn with_page<O: Write>(
     order: &mut ServerOrder,
     roster: Option<&Roster>,
     server: &mut Server,
-    clients: &mut Clients,
+    clients: &mut Clients<'_, HostRuntime>,
     output: &mut O,
 ) -> Result<(), RunFault>
-    requires { Watches (specs_of (entries_of roster)) server.old.hub }
+    requires observes { ObservesLayout (specs_of (entries_of roster)) server.old.hub }
+    requires new { IsNewServer order.old (entries_of roster) (state_of server.old.hub) }
+    ensures serves { OnOk result (ServesOrder order.old (entries_of roster.entry)) }
 {
     if let Some(page) = order.page {
         let address = SocketAddr::from((order.address, page));
@@ -112,34 +128,62 @@ fn with_page<O: Write>(
     with_printer(rt, order, roster, server, clients, output)
 }
 
-/// Serves, with a printer for what happens.
+/// Serves, with a log of what happens on standard output.
 fn with_printer<O: Write>(
     rt: &HostRuntime,
     order: &ServerOrder,
     roster: Option<&Roster>,
     server: &mut Server,
-    clients: &mut Clients,
+    clients: &mut Clients<'_, HostRuntime>,
     output: &mut O,
 ) -> Result<(), RunFault>
-    requires { Watches (specs_of (entries_of roster)) server.old.hub }
+    requires observes { ObservesLayout (specs_of (entries_of roster)) server.old.hub }
+    requires new { IsNewServer order.now (entries_of roster) (state_of server.old.hub) }
+    ensures serves { OnOk result (ServesOrder order.now (entries_of roster.entry)) }
 {
-    let Ok(mut lines) = BufWriter::new(rt.alloc(), output) else {
+    let Ok(poll) = Poll::new(rt) else {
+        return Err(RunFault::Network);
+    };
+    let Ok(mut output) = StandardOutput::new(rt.alloc(), poll, output) else {
         return Err(RunFault::NoMemory);
     };
-    tell_addresses(&clients.sockets, &mut lines)?;
-    let mut printer = Printer::new(lines, roster, order.track, server.world());
-    serve(rt, server, clients, &mut printer, order.clients)
+    with_log(rt, order, roster, server, clients, &mut output)
+}
+
+/// Serves, with a queue for the lines of the log. At the end the rest of them is written.
+fn with_log<O: Write>(
+    rt: &HostRuntime,
+    order: &ServerOrder,
+    roster: Option<&Roster>,
+    server: &mut Server,
+    clients: &mut Clients<'_, HostRuntime>,
+    output: &mut StandardOutput<'_, O>,
+) -> Result<(), RunFault>
+    requires observes { ObservesLayout (specs_of (entries_of roster)) server.old.hub }
+    requires new { IsNewServer order.now (entries_of roster) (state_of server.old.hub) }
+    ensures serves { OnOk result (ServesOrder order.now (entries_of roster.entry)) }
+{
+    let mut log = LogQueue::new(rt.alloc())?;
+    tell_addresses(&clients.sockets, &mut log)?;
+    write_queued(&mut log, output)?;
+    let mut printer = Printer::new(log, roster, order.track, server.world());
+    let served = serve(rt, order, server, clients, &mut printer, output);
+    // A reader that takes nothing for so long is not waited for.
+    output.longest = Duration::from_millis(LAST_WAIT_MILLIS);
+    let written = printer.write_queued(output);
+    served?;
+    Ok(written?)
 }
 
 /// Reads a page, and serves it.
 fn bind_page(
     rt: &HostRuntime,
-    clients: &mut Clients,
+    clients: &mut Clients<'_, HostRuntime>,
     address: SocketAddr,
     file: Option<FileName>,
 ) -> Result<(), RunFault> {
     let page = read_page(rt, file)?;
-    match clients.bind_page(rt, address, page.as_slice()) {
+    match clients.bind_page(address, page.as_slice()) {
         Ok(()) => Ok(()),
         Err(error) if error.kind() == ErrorKind::OutOfMemory => Err(RunFault::NoMemory),
         Err(_) => Err(RunFault::Network),
@@ -160,94 +204,41 @@ fn tell_addresses<O: Write>(sockets: &Sockets, output: &mut O) -> Result<(), Run
     let Ok((bus, page)) = sockets.addresses() else {
         return Err(RunFault::Network);
     };
-    print_listening(output, bus, page)?;
-    if output.flush().is_err() {
-        return Err(RunFault::Output);
-    }
-    Ok(())
+    Ok(print_listening(output, bus, page)?)
 }
 
-/// Serves until so many clients have come and gone, at `most`, or for ever: 2 ^ 64 rounds.
+/// Serves an order until as many clients as it says have disconnected; without a number for ever, which is 2 ^ 64 rounds.
 fn serve<O: Write>(
     rt: &HostRuntime,
+    order: &ServerOrder,
     server: &mut Server,
-    clients: &mut Clients,
-    printer: &mut Printer<'_, O>,
-    most: Option<u32>,
+    clients: &mut Clients<'_, HostRuntime>,
+    printer: &mut Printer<'_, LogQueue>,
+    output: &mut StandardOutput<'_, O>,
 ) -> Result<(), RunFault>
-    requires { Watches (specs_of (entries_of printer.old.roster)) server.old.hub }
+    requires observes { ObservesLayout (specs_of (entries_of printer.old.roster)) server.old.hub }
+    requires new { IsNewServer order.now (entries_of printer.old.roster) (state_of server.old.hub) }
+    requires track { printer.old.track ≡ order.now.track }
+    ensures serves { OnOk result (ServesOrder order.now (entries_of printer.old.roster)) }
 {
-    let Ok(mut watch) = Stopwatch::new(rt) else {
+    let Ok(watch) = Stopwatch::new(rt) else {
         return Err(RunFault::Network);
     };
-    let most = match most {
-        Some(most) => u64::from(most),
+    let mut clock = Ticking { clock: rt, watch };
+    let most = most_clients(order.clients);
+    match server.run(clients, &mut clock, printer, output, most) {
+        Ok(()) => Ok(()),
+        Err(Stop::Transport(_)) | Err(Stop::Clock(_)) => Err(RunFault::Network),
+        Err(Stop::Observer(fault)) => Err(RunFault::from(fault)),
+    }
+}
+
+/// How many clients have to disconnect until the server ends.
+fn most_clients(clients: Option<u32>) -> u64
+    ensures { result ≡ clients_of clients }
+{
+    match clients {
+        Some(clients) => u64::from(clients),
         None => u64::MAX,
-    };
-    for _round in 0..u64::MAX {
-        if printer.gone() >= most {
-            break;
-        }
-        go_round(rt, server, clients, printer, &mut watch)?;
     }
-    Ok(())
-}
-
-/// Waits until there is something to do, and does it.
-fn go_round<O: Write>(
-    rt: &HostRuntime,
-    server: &mut Server,
-    clients: &mut Clients,
-    printer: &mut Printer<'_, O>,
-    watch: &mut Stopwatch,
-) -> Result<(), RunFault>
-    requires { Watches (specs_of (entries_of printer.old.roster)) server.old.hub }
-    ensures { Watches (specs_of (entries_of printer.new.roster)) server.new.hub }
-{
-    if clients
-        .sockets
-        .attend(rt, watch, longest_wait(server))
-        .is_err()
-    {
-        return Err(RunFault::Network);
-    }
-    server.round(&mut clients.sockets, printer)?;
-    if server.turns().is_none() {
-        let Ok(micros) = watch.passed(rt) else {
-            return Err(RunFault::Network);
-        };
-        pass(server, printer, micros)?;
-    }
-    clients
-        .boards
-        .tell_all(&mut clients.sockets, printer, server.world());
-    Ok(printer.flush()?)
-}
-
-/// How long a round may wait: not where somebody may have more to say, in real time until the turn under way ends, and
-/// else until something comes.
-fn longest_wait(server: &Server) -> Option<Duration> {
-    if server.is_behind() {
-        return Some(Duration::ZERO);
-    }
-    match server.turns() {
-        Some(_) => None,
-        None => Some(Duration::from_micros(u64::from(server.left()))),
-    }
-}
-
-/// Lets the microseconds pass that went by.
-fn pass<O: Write>(
-    server: &mut Server,
-    printer: &mut Printer<'_, O>,
-    micros: u64,
-) -> Result<(), Unwritten>
-    requires { Watches (specs_of (entries_of printer.old.roster)) server.old.hub }
-    ensures { Watches (specs_of (entries_of printer.new.roster)) server.new.hub }
-{
-    let slept = micros.saturating_sub(MOST_MICROS);
-    if slept > 0 {
-        printer.print_slept(slept / 1000)?;
-    }
-    server.pass(micros.min(MOST_MICROS) as u32, printer)
 }

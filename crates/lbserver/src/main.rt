@@ -3,6 +3,7 @@
 
 mod clients;
 mod executing;
+mod standard_output;
 
 use command_line::no_server_text;
 use console::{RunFault, read_words, tell_as, texts};

@@ -21,7 +21,7 @@ mod test_ln_frame;
 #[cfg(test)]
 mod test_ln_ops;
 #[cfg(test)]
-mod test_over_tcp;
+mod test_loconet_tcp;
 #[cfg(test)]
 mod test_plain_words;
 #[cfg(test)]

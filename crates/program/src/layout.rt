@@ -74,6 +74,7 @@ fn print_decoders<O: Sink>(world: &World, roster: &Roster, output: &mut O) -> Re
     ensures failed { O.failed output.new ≡ failed_after result (O.failed output.old) }
     ensures loan { O.loan output.new ≡ O.loan output.old }
 {
+    input_text::laws::fronts();
     for (i, spec) in roster.nodes().as_slice().iter().enumerate() {
         let line = world.standing(i).line(roster.name(i), spec);
         print(output, &line)?;

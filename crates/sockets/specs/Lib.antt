@@ -1,1 +1,2 @@
-pub mod Visitors
+pub mod Connections
+pub mod Waits

@@ -16,17 +16,17 @@ pub(crate) enum Client {
     /// A program, by LocoNet over TCP.
     Program(TcpStream),
     /// A page, by the same text over a WebSocket.
-    Page(Guest),
+    Page(PageClient),
 }
 
 impl Client {
-    /// Reads what the client sent, as `Read` does. Where it may have sent more than was looked at, `is_behind` is set.
-    pub(crate) fn read(&mut self, room: &mut [u8], is_behind: &mut bool) -> io::Result<usize>
+    /// Reads what the client sent, as `Read` does. Where it may have sent more than was looked at, `has_backlog` is set.
+    pub(crate) fn read(&mut self, room: &mut [u8], has_backlog: &mut bool) -> io::Result<usize>
         ensures { ReadsAtMost result room.new }
     {
         match self {
             Client::Program(stream) => stream.read(room),
-            Client::Page(guest) => guest.read(room, is_behind),
+            Client::Page(page_client) => page_client.read(room, has_backlog),
         }
     }
 
@@ -36,58 +36,58 @@ impl Client {
     {
         match self {
             Client::Program(stream) => stream.write(bytes),
-            Client::Page(guest) => guest.write(bytes),
+            Client::Page(page_client) => page_client.write(bytes),
         }
     }
 }
 
 /// A page that is a client of the bus.
 #[derive(Drop)]
-pub(crate) struct Guest {
+pub(crate) struct PageClient {
     page: Page<TcpStream>,
     /// Nobody has asked yet whether it is.
-    is_new: bool,
+    is_just_opened: bool,
     /// Text of the bus was told: the first is the version, before which nothing is told.
-    is_greeted: bool,
+    has_version: bool,
 }
 
-impl Guest {
+impl PageClient {
     /// A page that was told nothing yet.
-    pub(crate) fn new(page: Page<TcpStream>) -> Guest
-        ensures { result.is_new ≡ true }
+    pub(crate) fn new(page: Page<TcpStream>) -> PageClient
+        ensures { result.is_just_opened ≡ true }
     {
-        Guest {
+        PageClient {
             page,
-            is_new: true,
-            is_greeted: false,
+            is_just_opened: true,
+            has_version: false,
         }
     }
 
     /// Whether it is new at its place, so that whoever keeps what the page there was told begins anew: from then on it is not.
-    pub(crate) fn take_new(&mut self) -> bool
-        ensures first { result ≡ self.old.is_new }
-        ensures once { self.new.is_new ≡ false }
+    pub(crate) fn take_just_opened(&mut self) -> bool
+        ensures first { result ≡ self.old.is_just_opened }
+        ensures once { self.new.is_just_opened ≡ false }
     {
-        let is_new = self.is_new;
-        self.is_new = false;
-        is_new
+        let is_just_opened = self.is_just_opened;
+        self.is_just_opened = false;
+        is_just_opened
     }
 
     /// Whether it can be told something beside the lines: text of the bus was told before. What waits goes out first, as far
     /// as it is taken now.
-    pub(crate) fn is_ready(&mut self) -> bool {
+    pub(crate) fn is_writable(&mut self) -> bool {
         // Whoever has gone is let go at its next read.
         let _ = self.page.flush();
-        self.is_greeted
+        self.has_version
     }
 
     /// Tells it one message beside the lines, whole or not at all. False where it was not told.
-    pub(crate) fn tell(&mut self, message: &str) -> bool {
+    pub(crate) fn send(&mut self, message: &str) -> bool {
         self.page.tell(message).is_ok()
     }
 
-    /// Reads what the page sent, as `Read` does. Where it may have sent more, and none of it was text, `is_behind` is set.
-    fn read(&mut self, room: &mut [u8], is_behind: &mut bool) -> io::Result<usize>
+    /// Reads what the page sent, as `Read` does. Where it may have sent more, and none of it was text, `has_backlog` is set.
+    fn read(&mut self, room: &mut [u8], has_backlog: &mut bool) -> io::Result<usize>
         ensures { ReadsAtMost result room.new }
     {
         for _try in 0..MOST_TRIES {
@@ -96,7 +96,7 @@ impl Guest {
                 heard => return heard,
             }
         }
-        *is_behind = true;
+        *has_backlog = true;
         Err(io::Error::from(ErrorKind::WouldBlock))
     }
 
@@ -104,7 +104,7 @@ impl Guest {
     fn write(&mut self, bytes: &[u8]) -> io::Result<usize>
         ensures { WritesAtMost result bytes.now }
     {
-        self.is_greeted = true;
+        self.has_version = true;
         self.page.tell_lines(bytes)
     }
 }

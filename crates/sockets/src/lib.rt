@@ -5,12 +5,16 @@
 #![tactic(auto)]
 
 mod client;
-mod doors;
-mod places;
+mod http_connection;
+mod http_server;
+mod sockets;
 mod stopwatch;
-mod visitor;
+mod ticking;
+mod waits;
 
-pub use doors::page_reply;
-pub use places::Sockets;
+pub use http_connection::{HttpConnection, Progress, Stream, is_retryable};
+pub use http_server::page_reply;
+pub use sockets::Sockets;
 pub use stopwatch::Stopwatch;
-pub use visitor::{Next, Stream, Visitor, is_only_late};
+pub use ticking::Ticking;
+pub use waits::{duration_of, micros_between, micros_of, sooner};

@@ -1,6 +1,7 @@
 //! The time since the start.
-ghost use Rattle.std.specs.Prelude.{◌≡◌, ◌+◌, IfErr, IfOk};
+ghost use Rattle.std.specs.Prelude.{◌≡◌, ◌+◌, ◌-◌, IfErr, IfOk};
 
+use crate::waits::micros_between;
 use std::io;
 use std::time::{Clock, Instant};
 
@@ -8,33 +9,42 @@ use std::time::{Clock, Instant};
 #[derive(Drop)]
 pub struct Stopwatch {
     start: Instant,
-    told: u64,
+    reported: u64,
 }
 
 impl Stopwatch {
     /// One that starts now.
     pub fn new<C: Clock>(clock: &C) -> io::Result<Stopwatch>
-        ensures { IfOk result (λ watch. watch.told ≡ 0) }
+        ensures { IfOk result (λ watch. watch.reported ≡ 0) }
     {
         Ok(Stopwatch {
             start: Instant::now(clock)?,
-            told: 0,
+            reported: 0,
         })
     }
 
     /// The microseconds since the start.
     pub fn now<C: Clock>(&self, clock: &C) -> io::Result<u64> {
-        let elapsed = self.start.elapsed(clock)?;
-        Ok(u64::try_from(elapsed.as_micros()).unwrap_or(u64::MAX))
+        Ok(micros_between(self.start, Instant::now(clock)?))
     }
 
     /// The microseconds since this was last asked, or since the start.
-    pub fn passed<C: Clock>(&mut self, clock: &C) -> io::Result<u64>
-        ensures adds_up { IfOk result (λ micros. self.new.told ≡ self.old.told + micros) }
+    pub fn elapsed<C: Clock>(&mut self, clock: &C) -> io::Result<u64>
+        ensures adds_up { IfOk result (λ micros. self.new.reported ≡ self.old.reported + micros) }
         ensures kept { IfErr result (λ _. self.new ≡ self.old) }
     {
-        let passed = self.now(clock)?.saturating_sub(self.told);
-        self.told += passed;
-        Ok(passed)
+        let now = self.now(clock)?;
+        Ok(self.report(now))
+    }
+
+    /// Returns the microseconds since the last report, and records them as reported.
+    fn report(&mut self, now: u64) -> u64
+        ensures elapsed { result ≡ now - self.old.reported }
+        ensures reported { self.new.reported ≡ self.old.reported + result }
+        ensures start { self.new.start ≡ self.old.start }
+    {
+        let elapsed = now.saturating_sub(self.reported);
+        self.reported += elapsed;
+        elapsed
     }
 }

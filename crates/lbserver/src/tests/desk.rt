@@ -1,12 +1,12 @@
 //! A server, and those who are connected to it over loopback, in one thread with it.
-ghost use Rattle.bus_lines.specs.Decoders.{entries_of, specs_of};
-ghost use Rattle.hub.specs.Hubs.{Watches};
+ghost use Rattle.bus_log.specs.Decoders.{entries_of, specs_of};
+ghost use Rattle.bus_server.specs.Progress.{ObservesLayout};
 
-use crate::clients::Clients;
-use bus_lines::{Printer, decoders};
-use hub::Server;
-use losses::Losses;
+use bus_log::{PageStates, Printer, decoders};
+use bus_server::{Losses, Server};
+use mio::Poll;
 use roster::Roster;
+use sockets::Sockets;
 use std::io::{Read, Write};
 use std::net::{Ipv4Addr, Net, Shutdown, SocketAddr, TcpListener, TcpStream};
 use std::process::Abort;
@@ -97,12 +97,13 @@ impl Streams {
 #[derive(Drop)]
 pub(crate) struct Desk<'a> {
     pub(crate) server: Server,
-    pub(crate) clients: Clients,
+    pub(crate) sockets: Sockets,
+    pub(crate) page_states: PageStates,
     pub(crate) printer: Printer<'a, Vec<u8>>,
     pub(crate) streams: Streams,
     /// The microseconds since the start.
     now: u64,
-    ghost watched: { Watches (specs_of (entries_of printer.roster)) server.hub },
+    ghost watched: { ObservesLayout (specs_of (entries_of printer.roster)) server.hub },
 }
 
 impl<'a> Desk<'a> {
@@ -113,11 +114,12 @@ impl<'a> Desk<'a> {
         roster: Option<&'a Roster>,
     ) -> Result<Desk<'a>, Fail> {
         let server = Server::new(rt.alloc(), decoders(roster), Some(turns), Losses::new(0, 0))?;
-        let clients = bound(rt)?;
+        let sockets = bound(rt)?;
         let printer = Printer::new(Vec::new(rt.alloc()), roster, true, server.world());
         Ok(Desk {
             server,
-            clients,
+            sockets,
+            page_states: PageStates::new(),
             printer,
             streams: Streams::new(),
             now: 0,
@@ -127,14 +129,10 @@ impl<'a> Desk<'a> {
     /// So many rounds.
     pub(crate) fn rounds(&mut self, count: u32) -> Result<(), Fail> {
         for _round in 0..count {
-            self.clients.sockets.answer(self.now);
-            self.server
-                .round(&mut self.clients.sockets, &mut self.printer)?;
-            self.clients.boards.tell_all(
-                &mut self.clients.sockets,
-                &self.printer,
-                self.server.world(),
-            );
+            self.sockets.serve_http(self.now);
+            self.server.round(&mut self.sockets, &mut self.printer)?;
+            self.page_states
+                .send_all(&mut self.sockets, &self.printer, self.server.world());
         }
         Ok(())
     }
@@ -150,11 +148,11 @@ impl<'a> Desk<'a> {
     fn step<R: Place>(&mut self, rt: &R, step: &Step) -> Result<(), Fail> {
         match step {
             Step::Connects(who) => {
-                let (address, _) = self.clients.sockets.addresses()?;
+                let (address, _) = self.sockets.addresses()?;
                 self.connect(rt, *who, address)
             }
             Step::Browses(who) => {
-                let (_, page) = self.clients.sockets.addresses()?;
+                let (_, page) = self.sockets.addresses()?;
                 let address = page.ok_or("no page")?;
                 self.connect(rt, *who, address)
             }
@@ -230,10 +228,13 @@ pub(crate) fn play_cuts<R: Place>(
 }
 
 /// Ports for programs and for browsers.
-fn bound<R: Place>(rt: &R) -> Result<Clients, Fail> {
-    let mut clients = Clients::bind(rt, loopback())?;
-    clients.bind_page(rt, loopback(), PAGE.as_bytes())?;
-    Ok(clients)
+fn bound<R: Place>(rt: &R) -> Result<Sockets, Fail> {
+    let poll = Poll::new(rt)?;
+    let listener = mio::net::TcpListener::bind(rt, loopback())?;
+    let mut sockets = Sockets::new(rt.alloc(), poll, listener)?;
+    let listener = mio::net::TcpListener::bind(rt, loopback())?;
+    sockets.serve_page(rt.alloc(), listener, PAGE.as_bytes())?;
+    Ok(sockets)
 }
 
 /// A port of its own on this machine.

@@ -146,11 +146,11 @@ fn drive_on<R: Place>(rt: &R, desk: &mut Desk<'_>) -> Result<(), Fail> {
             told.as_slice().starts_with(b"RECEIVE E5 7F")
                 && told.as_slice().ends_with(b"SENT OK\r\n")
         );
-        if !desk.server.has(1) {
+        if !desk.server.is_connected(1) {
             break;
         }
     }
-    assert!(rt; !desk.server.has(1) && desk.server.has(0));
+    assert!(rt; !desk.server.is_connected(1) && desk.server.is_connected(0));
     Ok(())
 }
 

@@ -11,10 +11,10 @@ use Rattle.bus.proofs.sending.send.Goals as goal
 whole : (c : goal.After-loop-byte) → IsWhole c.args.message.now
 whole c = subst IsWhole c.bytes-byte-items.ensures.value c.bytes-byte-items.ensures.whole
 
-abbrev left : goal.After-loop-byte → List Event
-left c = bytes_on c.args.line (drop c.loop-byte.byte-index c.bytes-byte-items.result.now)
+abbrev remaining : goal.After-loop-byte → List Event
+remaining c = bytes_on c.args.line (drop c.loop-byte.byte-index c.bytes-byte-items.result.now)
 
-none_left : (c : goal.After-loop-byte) → [] ≡ left c
+none_left : (c : goal.After-loop-byte) → [] ≡ remaining c
 none_left c = ap (bytes_on c.args.line) (sym (drop_of_length-le c.bytes-byte-items.result.now c.loop-byte-test.false))
 
 pub returns-clause-station : goal.returns-clause-station

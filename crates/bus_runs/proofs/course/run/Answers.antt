@@ -5,29 +5,29 @@ use Rattle.station_core.specs.Seen.{Seen}
 use Rattle.layout_core.specs.declared.node.Node.{Node}
 use Rattle.layout_core.specs.World.{HaveHeard}
 use Rattle.bus.specs.declared.event.Event.{Event}
-use Rattle.bus.specs.declared.event.Event.TheVariants.{Joins}
-use Rattle.over_tcp.specs.declared.told.Told.{Told}
-use Rattle.bus.specs.Bus.{SeenBus, after_event, after_events, is_event, told_by, told_of}
-use Rattle.bus.specs.Kept.{IsKept}
+use Rattle.bus.specs.declared.event.Event.TheVariants.{Connects}
+use Rattle.loconet_tcp.specs.declared.outcome.Outcome.{Outcome}
+use Rattle.bus.specs.Bus.{BusState, after_event, after_events, is_event, outcome_of, outcomes_of}
+use Rattle.bus.specs.Invariant.{IsInvariant}
 use Rattle.bus.specs.Layout.{layout_event, layout_events}
-use Rattle.bus.specs.Seen.{seen_of}
+use Rattle.bus.specs.State.{bus_state}
 use Rattle.bus_runs.proofs.Passing.{legal_at, one_legal}
 use Rattle.bus_runs.proofs.course.run.Goals as goal
 
 abbrev event_at : goal.After-step → Event
-event_at c = slice_index_or c.args.events.now c.loop-i.i (Joins 0)
+event_at c = slice_index_or c.args.events.now c.loop-i.i (Connects 0)
 
 abbrev later : goal.After-step → List Event
 later c = drop (c.loop-i.i + 1) c.args.events.now
 
-abbrev before : goal.After-step → SeenBus
-before c = seen_of c.loop-i.bus
+abbrev before : goal.After-step → BusState
+before c = bus_state c.loop-i.bus
 
-abbrev after : goal.After-step → SeenBus
-after c = seen_of c.step.new.self
+abbrev after : goal.After-step → BusState
+after c = bus_state c.step.new.self
 
 here_legal : (c : goal.After-step) → is_event (event_at c) ≡ true
-here_legal c = legal_at c.args.events.now c.loop-i.i (Joins 0) c.loop-i-test.true c.requires.events
+here_legal c = legal_at c.args.events.now c.loop-i.i (Connects 0) c.loop-i-test.true c.requires.events
 
 -- what the step and the rest are to the layout, together
 next_heard : (c : goal.After-step) (new : List Node) → HaveHeard (after c).station (layout_events (after c) (later c)) c.step.new.self.world.nodes new
@@ -37,27 +37,27 @@ next_heard c new rest =
     c.loop-i.bus.world.nodes c.step.new.self.world.nodes new c.step.ensures.nodes
     (subst (λ (seen : Seen). HaveHeard seen (layout_events (after_event (before c) (event_at c)) (later c)) c.step.new.self.world.nodes new)
     (sym (c.events_are_the_layout.ensures.one (before c) (event_at c) c.loop-i.invariant.kept (here_legal c)))
-    (subst (λ (bus : SeenBus). HaveHeard bus.station (layout_events bus (later c)) c.step.new.self.world.nodes new) c.step.ensures.bus rest))
+    (subst (λ (bus : BusState). HaveHeard bus.station (layout_events bus (later c)) c.step.new.self.world.nodes new) c.step.ensures.bus rest))
 
 pub loop-i-preserved : goal.loop-i-preserved
 loop-i-preserved c =
-    let more : drop c.loop-i.i c.args.events.now ≡ event_at c ∷ later c = drop_more c.args.events.now c.loop-i.i (Joins 0) c.loop-i-test.true in
+    let more : drop c.loop-i.i c.args.events.now ≡ event_at c ∷ later c = drop_more c.args.events.now c.loop-i.i (Connects 0) c.loop-i-test.true in
     record {
       rest =
-          ap (λ (bus : SeenBus). after_events bus (later c)) c.step.ensures.bus
-          ∙ subst (λ (events : List Event). after_events (before c) events ≡ after_events (seen_of c.args.bus.now) c.args.events.now) more c.loop-i.invariant.rest;
+          ap (λ (bus : BusState). after_events bus (later c)) c.step.ensures.bus
+          ∙ subst (λ (events : List Event). after_events (before c) events ≡ after_events (bus_state c.args.bus.now) c.args.events.now) more c.loop-i.invariant.rest;
       written =
-          ap (λ (told : List Told). told ++ told_of (after c) (later c)) (take_more_set c.loop-i.told c.loop-i.i c.step.result (omega (arith, c.loop-i-test.true, c.loop-i.invariant.same_length)))
-          ∙ append_assoc (take c.loop-i.i c.loop-i.told) (c.step.result ∷ []) (told_of (after c) (later c))
-          ∙ ap (λ (told : Told). take c.loop-i.i c.loop-i.told ++ told ∷ told_of (after c) (later c)) c.step.ensures.told
-          ∙ ap (λ (bus : SeenBus). take c.loop-i.i c.loop-i.told ++ told_by (before c) (event_at c) ∷ told_of bus (later c)) c.step.ensures.bus
-          ∙ subst (λ (events : List Event). take c.loop-i.i c.loop-i.told ++ told_of (before c) events ≡ told_of (seen_of c.args.bus.now) c.args.events.now) more c.loop-i.invariant.written;
-      same_length = length-set c.loop-i.told c.loop-i.i c.step.result ∙ c.loop-i.invariant.same_length;
+          ap (λ (outcome : List Outcome). outcome ++ outcomes_of (after c) (later c)) (take_more_set c.loop-i.outcome c.loop-i.i c.step.result (omega (arith, c.loop-i-test.true, c.loop-i.invariant.same_length)))
+          ∙ append_assoc (take c.loop-i.i c.loop-i.outcome) (c.step.result ∷ []) (outcomes_of (after c) (later c))
+          ∙ ap (λ (outcome : Outcome). take c.loop-i.i c.loop-i.outcome ++ outcome ∷ outcomes_of (after c) (later c)) c.step.ensures.outcome
+          ∙ ap (λ (bus : BusState). take c.loop-i.i c.loop-i.outcome ++ outcome_of (before c) (event_at c) ∷ outcomes_of bus (later c)) c.step.ensures.bus
+          ∙ subst (λ (events : List Event). take c.loop-i.i c.loop-i.outcome ++ outcomes_of (before c) events ≡ outcomes_of (bus_state c.args.bus.now) c.args.events.now) more c.loop-i.invariant.written;
+      same_length = length-set c.loop-i.outcome c.loop-i.i c.step.result ∙ c.loop-i.invariant.same_length;
       heard = λ new rest.
           c.loop-i.invariant.heard new
           (subst (λ (events : List Event). HaveHeard (before c).station (layout_events (before c) events) c.loop-i.bus.world.nodes new) (sym more) (next_heard c new rest));
       kept =
-          subst IsKept (sym c.step.ensures.bus)
+          subst IsInvariant (sym c.step.ensures.bus)
           (c.events_are_the_layout.ensures.kept (before c) (event_at c ∷ []) c.loop-i.invariant.kept (one_legal (event_at c) (here_legal c)));
       same = record {
         lines = c.step.ensures.same.lines ∙ c.loop-i.invariant.same.lines;
@@ -66,25 +66,25 @@ loop-i-preserved c =
       };
     }
 
-abbrev seen_first : goal.After-loop-i → SeenBus
-seen_first c = seen_of c.args.bus.now
+abbrev seen_first : goal.After-loop-i → BusState
+seen_first c = bus_state c.args.bus.now
 
 heard_all : (c : goal.After-loop-i) → HaveHeard (seen_first c).station (layout_events (seen_first c) c.args.events.now) c.args.bus.now.world.nodes c.loop-i.bus.world.nodes
 heard_all c =
     c.loop-i.invariant.heard c.loop-i.bus.world.nodes
-    (subst (λ (events : List Event). HaveHeard c.loop-i.bus.world.station (layout_events (seen_of c.loop-i.bus) events) c.loop-i.bus.world.nodes c.loop-i.bus.world.nodes)
+    (subst (λ (events : List Event). HaveHeard c.loop-i.bus.world.station (layout_events (bus_state c.loop-i.bus) events) c.loop-i.bus.world.nodes c.loop-i.bus.world.nodes)
     (sym (drop_of_length-le c.args.events.now c.loop-i-test.false)) (c.events_add_up.ensures.none c.loop-i.bus.world.station c.loop-i.bus.world.nodes))
 
 none_left : (c : goal.After-loop-i) → drop c.loop-i.i c.args.events.now ≡ []
 none_left c = drop_of_length-le c.args.events.now c.loop-i-test.false
 
 pub returns-clause-bus : goal.returns-clause-bus
-returns-clause-bus c = subst (λ (events : List Event). after_events (seen_of c.loop-i.bus) events ≡ after_events (seen_first c) c.args.events.now) (none_left c) c.loop-i.invariant.rest
+returns-clause-bus c = subst (λ (events : List Event). after_events (bus_state c.loop-i.bus) events ≡ after_events (seen_first c) c.args.events.now) (none_left c) c.loop-i.invariant.rest
 
-pub returns-clause-told : goal.returns-clause-told
-returns-clause-told c =
-    sym (append-nil (take c.loop-i.i c.loop-i.told) ∙ take_all c.loop-i.i c.loop-i.told (omega (arith, c.loop-i-test.false, c.loop-i.invariant.same_length)))
-    ∙ subst (λ (events : List Event). take c.loop-i.i c.loop-i.told ++ told_of (seen_of c.loop-i.bus) events ≡ told_of (seen_first c) c.args.events.now) (none_left c) c.loop-i.invariant.written
+pub returns-clause-outcome : goal.returns-clause-outcome
+returns-clause-outcome c =
+    sym (append-nil (take c.loop-i.i c.loop-i.outcome) ∙ take_all c.loop-i.i c.loop-i.outcome (omega (arith, c.loop-i-test.false, c.loop-i.invariant.same_length)))
+    ∙ subst (λ (events : List Event). take c.loop-i.i c.loop-i.outcome ++ outcomes_of (bus_state c.loop-i.bus) events ≡ outcomes_of (seen_first c) c.args.events.now) (none_left c) c.loop-i.invariant.written
 
 pub returns-clause-nodes : goal.returns-clause-nodes
 returns-clause-nodes c = heard_all c
@@ -94,13 +94,13 @@ returns-clause-same c = c.loop-i.invariant.same
 
 pub returns-clause-layout : goal.returns-clause-layout
 returns-clause-layout c =
-    ap (λ (bus : SeenBus). bus.station) (returns-clause-bus c)
-    ∙ sym (c.events_are_the_layout.ensures.station (seen_first c) c.args.events.now c.always_kept.ensures.kept c.requires.events)
+    ap (λ (bus : BusState). bus.station) (returns-clause-bus c)
+    ∙ sym (c.events_are_the_layout.ensures.station (seen_first c) c.args.events.now c.invariant_holds.ensures.kept c.requires.events)
 
 pub returns-clause-headline : goal.returns-clause-headline
 returns-clause-headline c =
-    c.headline.ensures.headline (seen_first c) c.args.events.now c.args.bus.now.world.nodes c.loop-i.bus.world.nodes c.always_kept.ensures.desk (heard_all c)
+    c.headline.ensures.headline (seen_first c) c.args.events.now c.args.bus.now.world.nodes c.loop-i.bus.world.nodes c.invariant_holds.ensures.desk (heard_all c)
 
 pub returns-clause-in_time : goal.returns-clause-in_time
 returns-clause-in_time c =
-    c.headline.ensures.in_time (seen_first c) c.args.events.now c.args.bus.now.world.nodes c.loop-i.bus.world.nodes c.always_kept.ensures.kept c.requires.events c.always_kept.ensures.desk (heard_all c)
+    c.headline.ensures.in_time (seen_first c) c.args.events.now c.args.bus.now.world.nodes c.loop-i.bus.world.nodes c.invariant_holds.ensures.kept c.requires.events c.invariant_holds.ensures.desk (heard_all c)

@@ -1,16 +1,16 @@
-use Rattle.std.proofs.Common.{arith, ◌≡◌, ◌≤◌, ◌∙◌, length, List, ℕ, map, ap, sym, subst}
+use Rattle.std.proofs.Common.{arith, ◌≡◌, ◌≤◌, ◌+◌, ◌++◌, ◌∙◌, drop, length, take, List, ℕ, map, ap, sym, subst}
 use Rattle.std.proofs.lemmas.List.{length-map, take_all}
 use Rattle.std.specs.Io.KnownBytes.{Appends}
 use Rattle.decoder_node.specs.declared.node.NodeSpec.{NodeSpec}
 use Rattle.layout_core.specs.Nodes.{spec_of}
 use Rattle.roster.specs.Entry.{spec_of as spec_of_entry}
-use Rattle.console.specs.Printed.{lines_text}
+use Rattle.input_text.specs.Write.{AppendsFront}
+use Rattle.console.specs.Printed.{ended, lines_text}
 use Rattle.layout_core.specs.Standings.{standing_of}
 use Rattle.show_text.specs.Nodes.{IsToldOf}
 use Rattle.std.specs.List.{slice_index_or}
 use Rattle.program.specs.Printed.{decoder_lines}
-use Rattle.program.proofs.Printing.{front_of_line, one_line_more}
-use Rattle.input_text.proofs.Fronts.{on_err}
+use Rattle.program.proofs.Printing.{lines_around, on_err, one_line_more}
 use Rattle.program.proofs.Told.{length-decoder_lines, told_there}
 use Rattle.program.proofs.layout.print_decoders.Goals as goal
 
@@ -37,9 +37,13 @@ returns-in_err-print-clause-front g c =
     let lines = decoder_lines c.args.roster.now (map standing_of c.args.world.now.nodes) in
     let told = told_there c.args.roster.now c.args.world.now.nodes c.as_slice-spec-items.result.now c.loop-i.i c.name.result.now c.spec-item.result c.standing.result c.line-line.result.bytes
     (c.as_slice-spec-items.ensures.value ∙ c.nodes.ensures.nodes) c.requires c.loop-i-test.true c.spec-item.is c.name.ensures.value c.standing.ensures.standing c.line-line.ensures in
+    let held = g.O.Sink.held in
+    let before = c.loop-i.output in
+    let behind = lines_text (drop (c.loop-i.i + 1) lines) in
     on_err c.from_residual.result _
-    (front_of_line lines c.loop-i.i c.line-line.result.bytes (g.O.Sink.held c.args.output.now) (g.O.Sink.held c.loop-i.output) (g.O.Sink.held c.print.new.output)
-    told.0 told.1 c.loop-i.invariant.printed c.in_err-print.ensures.front)
+    (subst (λ (text : List ℕ). AppendsFront (held c.args.output.now) (held c.print.new.output) text) (sym (lines_around lines c.loop-i.i c.line-line.result.bytes told.0 told.1))
+    (c.fronts.ensures.behind (held c.args.output.now) (held before) (held c.print.new.output) (lines_text (take c.loop-i.i lines)) (ended c.line-line.result.bytes ++ behind) c.loop-i.invariant.printed
+    (c.fronts.ensures.before (held before) (held c.print.new.output) (ended c.line-line.result.bytes) behind c.in_err-print.ensures.front)))
 
 pub returns : goal.returns
 returns g c =

@@ -1,0 +1,6 @@
+-- A bus, as contracts see it but for its decoders.
+use Rattle.bus.specs.declared.bus.Bus.{Bus}
+use Rattle.bus.specs.Bus.{BusState}
+
+abbrev pub bus_state : Bus → BusState
+bus_state bus = record { station = bus.world.station; clients = bus.clients; remaining = bus.remaining }

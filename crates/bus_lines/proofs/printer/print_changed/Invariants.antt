@@ -1,8 +1,0 @@
-use Rattle.std.proofs.Common.{map}
-use Rattle.layout_core.specs.Standings.{standing_of}
-use Rattle.bus_lines.proofs.Changed.{Rest}
-use Rattle.bus_lines.proofs.printer.print_changed.Given as goal
-
--- what is printed of the rest makes up the whole
-abbrev pub invariant-loop-i : goal.invariant-loop-i
-invariant-loop-i g l = Rest l.roster l.before (map standing_of l.world.nodes) l.i (g.O.Write.contents l.fn.output) (g.O.Write.contents l.output)

@@ -1,0 +1,4 @@
+pub mod Changed
+pub mod Logging
+pub mod Sending
+pub mod Telling

@@ -1,0 +1,37 @@
+-- Lines that are queued to be printed, as far as there is room for them.
+use Rattle.std.specs.Prelude.{ℕ, ◌+◌, ◌==◌, ◌&&◌, Bool, if◌then◌else◌, nat_le, nat_lt, List, [], ◌∷◌, ◌++◌, length}
+use Rattle.bus_log.specs.Lines.{saturating_successor}
+
+-- the bytes of whole lines that are queued, what is held of the line that has begun, and the lines that were left out since
+pub record LogState : Type 0 where
+  pub queued : List ℕ
+  pub line : List ℕ
+  pub left_out : ℕ
+
+-- what is held of a line behind its next byte: its first 1,025 bytes
+abbrev pub held_after : List ℕ → ℕ → List ℕ
+held_after line byte = if nat_lt (length line) 1025 then line ++ byte ∷ [] else line
+
+-- A line is queued whole if it has at most 1,024 bytes and there is room; not while lines before it are left out.
+abbrev pub has_room : LogState → Bool
+has_room log = log.left_out == 0 && nat_le (length log.line) 1024 && nat_le (length log.queued + length log.line) 65536
+
+-- a line is at its end: it is queued, or left out and counted
+abbrev pub ended : LogState → LogState
+ended log =
+    if has_room log then record { queued = log.queued ++ log.line; line = []; left_out = log.left_out }
+    else record { queued = log.queued; line = []; left_out = saturating_successor log.left_out }
+
+-- a byte is printed
+abbrev pub after_byte : LogState → ℕ → LogState
+after_byte log byte =
+    if byte == 10 then ended (record log { line = held_after log.line byte }) else record log { line = held_after log.line byte }
+
+-- a text is
+unfoldable pub after_text : LogState → List ℕ → LogState
+after_text log [] = log
+after_text log (byte ∷ text) = after_text (after_byte log byte) text
+
+-- lines that were left out are reported once half of the room is free
+abbrev pub is_reported : LogState → Bool
+is_reported log = nat_lt 0 log.left_out && nat_le (length log.queued) 32768

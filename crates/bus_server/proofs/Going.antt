@@ -1,0 +1,195 @@
+-- How a hub, its transport and its witness go on, one thing after another.
+use Rattle.std.proofs.Common.{◌≡◌, ℕ, zero, suc, ◌+◌, ◌<◌, ◌≤◌, Bool, true, false, List, [], ◌∷◌, ◌++◌, length, map, take, drop, Option, Some, None, Result, Ok, Err, refl, ap, ap₂, sym, subst, ◌∙◌, arith, append_assoc, append-nil}
+use Rattle.std.specs.Prelude.{◌==◌, is_some, not, OnOk, replicate}
+use Rattle.std.specs.List.{flat_map, list_all}
+use Rattle.std.proofs.lemmas.Bool.{and_parts, and_from}
+use Rattle.std.proofs.lemmas.List.{length-take, map-append, take-append-drop, take-take}
+use Rattle.std.proofs.lemmas.List.Concat.{flat_map-append}
+use Rattle.bus.specs.declared.event.Event.{Event}
+use Rattle.bus.specs.declared.event.Event.TheVariants.{Connects, Receives, Disconnects, Elapses, Turn}
+use Rattle.bus.specs.Bus.{BusState, after_event}
+use Rattle.bus.specs.Course.{is_time, micros_in}
+use Rattle.bus.specs.Observations.{Observed, Observation}
+use Rattle.layout_core.specs.declared.world.World.{World}
+use Rattle.loconet_tcp.specs.declared.outcome.Outcome.{Outcome}
+use Rattle.bus.specs.Log.{Extends}
+use Rattle.bus_server.specs.declared.losses.Losses.{Losses}
+use Rattle.bus_server.specs.Progress.{Progresses, ProgressesWithoutInput, Snapshot, IsObserved}
+use Rattle.bus_server.specs.Rounds.{IsUnread, PreservesRound}
+use Rattle.bus_server.specs.Applied.{Handled, AreTurns, Applies, LoggedEvent, RunsEvent, RunsFor, RunsEvents, IsDrawn, AppliesAll, ServerState, events_of, overflow_notice, transport_events, observations_in, observations_of}
+use Rattle.bus_server.specs.Queues.{queued}
+use Rattle.bus_server.specs.TransportEvents.{NonePending, TransportEvent, Refused}
+use Rattle.bus_server.proofs.Keeping.{keeps_more, keeps_same}
+
+-- Logs.
+
+pub grows_none : {A : Type 0} (log : Option (List A)) → Extends log log []
+grows_none None = tt
+grows_none (Some all) = sym (append-nil all)
+
+pub grows_more : {A : Type 0} (a b c : Option (List A)) (first second : List A) → Extends a b first → Extends b c second → Extends a c (first ++ second)
+grows_more None None None first second h k = tt
+grows_more None None (Some zs) first second h k = absurd k
+grows_more None (Some ys) c first second h k = absurd h
+grows_more (Some xs) None c first second h k = absurd h
+grows_more (Some xs) (Some ys) None first second h k = absurd k
+grows_more {A = A} (Some xs) (Some ys) (Some zs) first second h k = k ∙ ap (λ (all : List A). all ++ second) h ∙ append_assoc xs first second
+
+pub log-append : (first second : List Handled) → transport_events (first ++ second) ≡ transport_events first ++ transport_events second
+log-append first second = map-append (λ (one_handled : Handled). one_handled.log) first second
+
+pub observed-append : (first second : List Handled) → observations_in (first ++ second) ≡ observations_in first ++ observations_in second
+observed-append first second = flat_map-append (λ (one_handled : Handled). overflow_notice one_handled.log ++ observations_of one_handled.applied) first second
+
+-- all that passed on the transport and was shown, one after another
+pub wire_more : (a b c : Option (List TransportEvent)) (first second : List Handled) → Extends a b (transport_events first) → Extends b c (transport_events second) → Extends a c (transport_events (first ++ second))
+wire_more a b c first second h k =
+    subst (λ (more : List TransportEvent). Extends a c more) (sym (log-append first second)) (grows_more a b c (transport_events first) (transport_events second) h k)
+
+pub acts_more : (a b c : Option (List Observation)) (first second : List Handled) → Extends a b (observations_in first) → Extends b c (observations_in second) → Extends a c (observations_in (first ++ second))
+acts_more a b c first second h k =
+    subst (λ (more : List Observation). Extends a c more) (sym (observed-append first second)) (grows_more a b c (observations_in first) (observations_in second) h k)
+
+pub shown_more : (a b c : Option (List Observation)) (first second : List LoggedEvent) → Extends a b (observations_of first) → Extends b c (observations_of second) → Extends a c (observations_of (first ++ second))
+shown_more a b c first second h k =
+    subst (λ (more : List Observation). Extends a c more) (sym (map-append (λ (one : LoggedEvent). one.observed) first second)) (grows_more a b c (observations_of first) (observations_of second) h k)
+
+-- what was shown of a layout that is this one
+pub seen_world : (a b : Option (List Observation)) (outcome : Outcome) (seen world : World) → seen ≡ world → Extends a b (Observed outcome seen.nodes ∷ []) → Extends a b (Observed outcome world.nodes ∷ [])
+seen_world a b outcome seen world same = subst (λ (w : World). Extends a b (Observed outcome w.nodes ∷ [])) same
+
+-- What is served.
+
+pub serves_more : (first second : List Handled) (old mid new : ServerState) → AppliesAll first old mid → AppliesAll second mid new → AppliesAll (first ++ second) old new
+serves_more [] second old mid new same rest = subst (λ (s : ServerState). AppliesAll second s new) same rest
+serves_more (one_handled ∷ first) second old mid new h rest = (h.0, h.1, serves_more first second h.0 mid new h.2 rest)
+
+-- What is claimed of what passed, and of where it leads.
+abbrev pub Claim : Type 1
+Claim = List TransportEvent → ServerState → Type 0
+
+pub goes_nowhere : (Holds : Claim) (now : Snapshot) → Holds [] now.state → Progresses Holds now now
+goes_nowhere Holds now holds = ([], grows_none now.log, grows_none now.observed, refl, holds)
+
+pub calm_nowhere : (Holds : Claim) (now : Snapshot) → Holds [] now.state → ProgressesWithoutInput Holds now now
+calm_nowhere Holds now holds = goes_nowhere (λ more all. PreservesRound more now.state all × Holds more all) now (keeps_same [] now.state refl, holds)
+
+-- one thing on the transport, and what it brought
+pub goes_one : (Holds : Claim) (log : TransportEvent) (applied : List LoggedEvent) (old new : Snapshot) → Extends old.log new.log (log ∷ []) → Extends old.observed new.observed (overflow_notice log ++ observations_of applied)
+    → Applies log applied old.state new.state → Holds (log ∷ []) new.state → Progresses Holds old new
+goes_one Holds log applied old new grows observed does holds = (
+  record { log = log; applied = applied } ∷ [],
+  grows,
+  subst (λ (more : List Observation). Extends old.observed new.observed more) (sym (append-nil (overflow_notice log ++ observations_of applied))) observed,
+  (new.state, does, refl),
+  holds,
+)
+
+pub goes_then : (P Q R : Claim) (old mid new : Snapshot) → ((first second : List TransportEvent) → P first mid.state → Q second new.state → R (first ++ second) new.state)
+    → Progresses P old mid → Progresses Q mid new → Progresses R old new
+goes_then P Q R old mid new both first second = (
+  first.0 ++ second.0,
+  wire_more old.log mid.log new.log first.0 second.0 first.1 second.1,
+  acts_more old.observed mid.observed new.observed first.0 second.0 first.2 second.2,
+  serves_more first.0 second.0 old.state mid.state new.state first.3 second.3,
+  subst (λ (more : List TransportEvent). R more new.state) (sym (log-append first.0 second.0)) (both (transport_events first.0) (transport_events second.0) first.4 second.4),
+)
+
+pub calm_then : (P Q R : Claim) (old mid new : Snapshot)
+    → ((first second : List TransportEvent) → PreservesRound second mid.state new.state → P first mid.state → Q second new.state → R (first ++ second) new.state)
+    → ProgressesWithoutInput P old mid → ProgressesWithoutInput Q mid new → ProgressesWithoutInput R old new
+calm_then P Q R old mid new both =
+    goes_then (λ more all. PreservesRound more old.state all × P more all) (λ more all. PreservesRound more mid.state all × Q more all) (λ more all. PreservesRound more old.state all × R more all)
+    old mid new (λ these those p q. (keeps_more these those old.state mid.state new.state p.0 q.0, both these those q.0 p.1 q.1))
+
+-- something on the transport that changes nothing
+pub same_on_wire : (Holds : Claim) (handled : List Handled) (more : List TransportEvent) (old new : Snapshot) → transport_events handled ≡ more → observations_in handled ≡ [] → Extends old.log new.log more → Extends old.observed new.observed []
+    → AppliesAll handled old.state old.state → new.state ≡ old.state → IsUnread more → Holds more old.state → ProgressesWithoutInput Holds old new
+same_on_wire Holds handled more old new are none grows observed serves same unread holds = (
+  handled,
+  subst (λ (all : List TransportEvent). Extends old.log new.log all) (sym are) grows,
+  subst (λ (all : List Observation). Extends old.observed new.observed all) (sym none) observed,
+  subst (λ (all : ServerState). AppliesAll handled old.state all) (sym same) serves,
+  subst (λ (all : ServerState). PreservesRound (transport_events handled) old.state all × Holds (transport_events handled) all) (sym same)
+      (keeps_same (transport_events handled) old.state (subst IsUnread (sym are) unread), subst (λ (all : List TransportEvent). Holds all old.state) (sym are) holds),
+)
+
+-- What happened.
+
+pub happened_more : (first second : List LoggedEvent) (old mid new : ServerState) → RunsEvents first old mid → RunsEvents second mid new → RunsEvents (first ++ second) old new
+happened_more [] second old mid new same rest = subst (λ (s : ServerState). RunsEvents second s new) same rest
+happened_more (one ∷ first) second old mid new h rest = (h.0, h.1, happened_more first second h.0 mid new h.2 rest)
+
+pub happened_then : (event : Event) (observed : Observation) (first : List LoggedEvent) (old mid new : ServerState) → RunsEvents first old mid → RunsEvent event observed mid new → RunsEvents (first ++ record { event = event; observed = observed } ∷ []) old new
+happened_then event observed first old mid new h one = happened_more first (record { event = event; observed = observed } ∷ []) old mid new h (new, one, refl)
+
+-- what comes of a client draws nothing
+pub none_drawn : (event : Event) (bus : BusState) (nodes : ℕ) (losses : Losses) → is_time event ≡ false → IsDrawn event bus nodes losses losses
+none_drawn (Connects client) bus nodes losses h = refl
+none_drawn (Receives client byte) bus nodes losses h = refl
+none_drawn (Disconnects client) bus nodes losses h = refl
+none_drawn (Elapses micros missed) bus nodes losses h = cc
+none_drawn (Turn missed) bus nodes losses h = cc
+
+-- Turns behind a message.
+
+one_more : (count missed : ℕ) (turns : List Event) → AreTurns count turns → AreTurns (suc count) (turns ++ Turn missed ∷ [])
+one_more zero missed [] are = tt
+one_more zero missed (event ∷ turns) are = absurd are
+one_more (suc n) missed [] are = absurd are
+one_more (suc n) missed (Connects client ∷ turns) are = absurd are
+one_more (suc n) missed (Receives client byte ∷ turns) are = absurd are
+one_more (suc n) missed (Disconnects client ∷ turns) are = absurd are
+one_more (suc n) missed (Elapses micros disconnected ∷ turns) are = absurd are
+one_more (suc n) missed (Turn disconnected ∷ turns) are = one_more n missed turns are
+
+pub turns_more : (count missed : ℕ) (observed : Observation) (turns : List LoggedEvent) → AreTurns count (events_of turns) → AreTurns (count + 1) (events_of (turns ++ record { event = Turn missed; observed = observed } ∷ []))
+turns_more count missed observed turns are =
+    subst (λ (events : List Event). AreTurns (count + 1) events) (sym (map-append (λ (one : LoggedEvent). one.event) turns (record { event = Turn missed; observed = observed } ∷ [])))
+    (subst (λ (n : ℕ). AreTurns n (events_of turns ++ Turn missed ∷ [])) {x = suc count} {y = count + 1} (omega arith) (one_more count missed (events_of turns) are))
+
+-- Small things.
+
+pub whatever : {T E P : Type 0} (r : Result T E) → P → OnOk r P
+whatever (Ok value) p = p
+whatever (Err fault) p = tt
+
+pub none_of : {A : Type 0} (o : Option A) → not (is_some o) ≡ true → o ≡ None
+none_of None h = refl
+none_of (Some a) h = cc
+
+pub some_of : (n : ℕ) → false ≡ (n == 0) → 0 < n
+some_of zero h = cc
+some_of (suc n) h = omega arith
+
+-- the front of what waits, and the rest of it
+pub piece_of : (send_queue : Option (List ℕ)) (piece : List ℕ) (count : ℕ) → piece ≡ take (length piece) (queued send_queue) → 0 < length piece → count ≤ length piece
+    → send_queue ≡ Some (take count piece ++ drop count (queued send_queue))
+piece_of None piece count front some within = absurd (omega (arith, some, ap length front, length-take {A = ℕ} (length piece) []))
+piece_of (Some bytes) piece count front some within =
+    ap Some (sym (ap (λ (xs : List ℕ). xs ++ drop count bytes) (ap (take count) front ∙ take-take count (length piece) bytes within) ∙ take-append-drop count bytes))
+
+-- Time that passes.
+
+micros_more : (micros missed : ℕ) (events : List Event) (bus : BusState) → micros_in bus (events ++ Elapses micros missed ∷ []) ≡ micros_in bus events + micros
+micros_more micros missed [] bus = omega arith
+micros_more micros missed (event ∷ events) bus = omega (arith, micros_more micros missed events (after_event bus event))
+
+time_more : (micros missed : ℕ) (events : List Event) → list_all is_time events ≡ true → list_all is_time (events ++ Elapses micros missed ∷ []) ≡ true
+time_more micros missed [] h = refl
+time_more micros missed (event ∷ events) h =
+    let p = and_parts (is_time event) (list_all is_time events) h in
+    and_from (is_time event) (list_all is_time (events ++ Elapses micros missed ∷ [])) p.0 (time_more micros missed events p.1)
+
+pub no_time : (all : ServerState) → RunsFor 0 [] all all
+no_time all = (refl, refl, refl)
+
+pub more_time : (first micros missed : ℕ) (observed : Observation) (applied : List LoggedEvent) (old mid new : ServerState) → RunsFor first applied old mid → RunsEvent (Elapses micros missed) observed mid new
+    → RunsFor (first + micros) (applied ++ record { event = Elapses micros missed; observed = observed } ∷ []) old new
+more_time first micros missed observed applied old mid new so_far now =
+    let events : events_of (applied ++ record { event = Elapses micros missed; observed = observed } ∷ []) ≡ events_of applied ++ Elapses micros missed ∷ [] =
+    map-append (λ (one : LoggedEvent). one.event) applied (record { event = Elapses micros missed; observed = observed } ∷ []) in (
+      ap (list_all is_time) events ∙ time_more micros missed (events_of applied) so_far.0,
+      ap (micros_in old.bus) events ∙ micros_more micros missed (events_of applied) old.bus ∙ ap (λ (n : ℕ). n + micros) so_far.1,
+      happened_then (Elapses micros missed) observed applied old mid new so_far.2 now,
+    )

@@ -1,0 +1,10 @@
+pub mod Accounts
+pub mod Courses
+pub mod Going
+pub mod Keeping
+pub mod Missed
+pub mod Missing
+pub mod Placing
+pub mod Rounding
+pub mod Times
+pub mod WholeRuns

@@ -1,0 +1,54 @@
+-- Where no share is to be lost, no decoder misses a turn.
+use Rattle.std.proofs.Common.{◌≡◌, ℕ, Bool, true, false, if◌then◌else◌, nat_le, List, [], ◌∷◌, ◌++◌, Option, Some, None, refl, ap, sym, subst, ◌∙◌, eq-eqb}
+use Rattle.std.specs.Prelude.{◌&&◌, ◌==◌, MatchBool, map}
+use Rattle.std.specs.List.{list_all}
+use Rattle.std.proofs.lemmas.Bool.{and_from}
+use Rattle.std.proofs.lemmas.List.Folds.{list_all-append}
+use Rattle.layout_core.specs.declared.event.Event.{Event as LayoutEvent}
+use Rattle.layout_core.specs.declared.event.Event.TheVariants as layout
+use Rattle.loconet_tcp.specs.declared.request.Request.{Request}
+use Rattle.loconet_tcp.specs.declared.request.Request.TheVariants.{Send, Invalid}
+use Rattle.bus.specs.declared.event.Event.{Event}
+use Rattle.bus.specs.declared.event.Event.TheVariants.{Connects, Receives, Disconnects, Elapses, Turn}
+use Rattle.bus.specs.Bus.{BusState, after_event, client_of, request_at}
+use Rattle.bus.specs.Layout.{bytes_on, layout_event, layout_events, request_events, turn_of}
+use Rattle.bus_server.specs.declared.losses.Losses.{Losses}
+use Rattle.bus_server.specs.Applied.{IsDrawn}
+use Rattle.bus_server.specs.Draws.{IsDraw}
+use Rattle.bus_server.specs.Runs.{AreDrawn, is_missed_by_none}
+
+bytes_heard : (line : ℕ) (bytes : List ℕ) → list_all is_missed_by_none (bytes_on line bytes) ≡ true
+bytes_heard line [] = refl
+bytes_heard line (byte ∷ bytes) = bytes_heard line bytes
+
+request_heard : (client : ℕ) (request : Option Request) → list_all is_missed_by_none (request_events client request) ≡ true
+request_heard client None = refl
+request_heard client (Some (Invalid reason)) = refl
+request_heard client (Some (Send message)) = bytes_heard client message
+
+-- a turn that is heard by all, and the share stays
+record Heard (events : List LayoutEvent) (new : Losses) : Type 0 where
+  all : list_all is_missed_by_none events ≡ true
+  share : new.lose ≡ 0
+
+turn_heard : (nodes missed : ℕ) (old new : Losses) → IsDraw nodes missed old new → old.lose ≡ 0 → Heard (turn_of missed) new
+turn_heard nodes missed old new h lose = record { all = and_from (missed == 0) true (eq-eqb missed 0 (h.none lose)) refl; share = h.share ∙ lose }
+
+elapsed_heard : (begins : Bool) (nodes missed : ℕ) (old new : Losses) → MatchBool begins (IsDraw nodes missed old new) (new ≡ old) → old.lose ≡ 0 → Heard (if begins then turn_of missed else []) new
+elapsed_heard true nodes missed old new h lose = turn_heard nodes missed old new h lose
+elapsed_heard false nodes missed old new h lose = record { all = refl; share = ap (λ (l : Losses). l.lose) h ∙ lose }
+
+event_heard : (event : Event) (bus : BusState) (nodes : ℕ) (old new : Losses) → IsDrawn event bus nodes old new → old.lose ≡ 0 → Heard (layout_event bus event) new
+event_heard (Connects client) bus nodes old new h lose = record { all = refl; share = ap (λ (l : Losses). l.lose) h ∙ lose }
+event_heard (Disconnects client) bus nodes old new h lose = record { all = refl; share = ap (λ (l : Losses). l.lose) h ∙ lose }
+event_heard (Receives client byte) bus nodes old new h lose = record { all = request_heard client (request_at (client_of bus client) byte); share = ap (λ (l : Losses). l.lose) h ∙ lose }
+event_heard (Elapses micros missed) bus nodes old new h lose = elapsed_heard (nat_le bus.remaining micros) nodes missed old new h lose
+event_heard (Turn missed) bus nodes old new h lose = turn_heard nodes missed old new h lose
+
+pub all_heard : (events : List Event) (bus : BusState) (nodes : ℕ) (old new : Losses) → AreDrawn events bus nodes old new → old.lose ≡ 0 → list_all is_missed_by_none (layout_events bus events) ≡ true
+all_heard [] bus nodes old new h lose = refl
+all_heard (event ∷ events) bus nodes old new h lose =
+    let one = event_heard event bus nodes old h.0 h.1 lose in
+    list_all-append is_missed_by_none (layout_event bus event) (layout_events (after_event bus event) events)
+    ∙ and_from (list_all is_missed_by_none (layout_event bus event)) (list_all is_missed_by_none (layout_events (after_event bus event) events)) one.all
+    (all_heard events (after_event bus event) nodes h.0 new h.2 one.share)

@@ -1,0 +1,74 @@
+-- What is told is told of one of the places, and there are as many places then.
+use Rattle.std.proofs.Common.{◌≡◌, ℕ, ◌+◌, ◌-◌, Bool, true, false, List, [], ◌∷◌, ◌++◌, length, drop, Option, Some, None, refl, ap, suc, ◌∙◌, if◌then◌else◌, nat_le, arith}
+use Rattle.std.specs.Prelude.{slice_set}
+use Rattle.std.specs.List.{list_all}
+use Rattle.std.proofs.lemmas.Bool.{and_from}
+use Rattle.std.proofs.lemmas.Bool.Decides.{nat_tests}
+use Rattle.std.proofs.lemmas.List.{length-append, length-drop, length-set}
+use Rattle.loconet_tcp.specs.declared.request.Request.{Request}
+use Rattle.loconet_tcp.specs.declared.request.Request.TheVariants.{Send, Invalid}
+use Rattle.station_core.specs.Moved.{packet_of_turn}
+use Rattle.station_core.specs.Seen.{Seen}
+use Rattle.bus.specs.declared.event.Event.{Event}
+use Rattle.bus.specs.declared.event.Event.TheVariants.{Connects, Receives, Disconnects, Elapses, Turn}
+use Rattle.loconet_tcp.specs.declared.outcome.Outcome.{Outcome}
+use Rattle.loconet_tcp.specs.declared.outcome.Outcome.TheVariants.{Nothing, Connected, Disconnected, Rejected, Sent, TurnBegan}
+use Rattle.bus.specs.Bus.{BusState, request_at, client_of, is_event, outcome_of_request, outcome_of}
+use Rattle.loconet_tcp.specs.Texts.{text_for}
+use Rattle.bus_server.specs.Queues.{is_within_capacity, enqueued, queued}
+use Rattle.bus_server.specs.ClientQueues.{SendQueues, names_client, enqueued_from, queues_after}
+use Rattle.bus_server.proofs.Keeping.{room_set}
+
+asked_placed : (station : Seen) (client : ℕ) (request : Option Request) → is_event (Connects client) ≡ true → names_client (outcome_of_request station client request) ≡ true
+asked_placed station client None below = refl
+asked_placed station client (Some (Invalid reason)) below = below
+asked_placed station client (Some (Send message)) below = below
+
+passing_placed : (packet : Option (List ℕ)) (ends : Bool) → names_client (if ends then TurnBegan packet else Nothing) ≡ true
+passing_placed packet true = refl
+passing_placed packet false = refl
+
+pub placed_by : (bus : BusState) (event : Event) → is_event event ≡ true → names_client (outcome_of bus event) ≡ true
+placed_by bus (Connects client) legal = legal
+placed_by bus (Disconnects client) legal = legal
+placed_by bus (Receives client byte) legal = asked_placed bus.station client (request_at (client_of bus client) byte) legal
+placed_by bus (Elapses micros missed) legal = passing_placed (packet_of_turn bus.station) (nat_le bus.remaining micros)
+placed_by bus (Turn missed) legal = refl
+
+length-outcome : (place : ℕ) (outcome : Outcome) (queues : SendQueues) → length (enqueued_from place outcome queues) ≡ length queues
+length-outcome place outcome [] = refl
+length-outcome place outcome (send_queue ∷ queues) = ap suc (length-outcome (place + 1) outcome queues)
+
+pub length-after : (outcome : Outcome) (queues : SendQueues) → length (queues_after outcome queues) ≡ length queues
+length-after Nothing queues = refl
+length-after (TurnBegan packet) queues = refl
+length-after (Disconnected client) queues = length-set queues client None
+length-after (Connected client) queues = length-outcome 0 (Connected client) (slice_set queues client (Some [])) ∙ length-set queues client (Some [])
+length-after (Rejected client reason) queues = length-outcome 0 (Rejected client reason) queues
+length-after (Sent client message reply) queues = length-outcome 0 (Sent client message reply) queues
+
+-- What waits has room.
+
+told_if : (bytes text : List ℕ) (fits : Bool) → nat_le (length bytes + length text) 65536 ≡ fits → is_within_capacity (if fits then Some (bytes ++ text) else None) ≡ true
+told_if bytes text true h = ap (λ (n : ℕ). nat_le n 65536) (length-append bytes text) ∙ h
+told_if bytes text false h = refl
+
+within_capacity-enqueued : (text : List ℕ) (send_queue : Option (List ℕ)) → is_within_capacity (enqueued text send_queue) ≡ true
+within_capacity-enqueued text None = refl
+within_capacity-enqueued text (Some bytes) = told_if bytes text (nat_le (length bytes + length text) 65536) refl
+
+within_capacity-outcome : (place : ℕ) (outcome : Outcome) (queues : SendQueues) → list_all is_within_capacity (enqueued_from place outcome queues) ≡ true
+within_capacity-outcome place outcome [] = refl
+within_capacity-outcome place outcome (send_queue ∷ queues) =
+    and_from (is_within_capacity (enqueued (text_for place outcome) send_queue)) (list_all is_within_capacity (enqueued_from (place + 1) outcome queues)) (within_capacity-enqueued (text_for place outcome) send_queue) (within_capacity-outcome (place + 1) outcome queues)
+
+pub within_capacity-after : (outcome : Outcome) (queues : SendQueues) → list_all is_within_capacity queues ≡ true → list_all is_within_capacity (queues_after outcome queues) ≡ true
+within_capacity-after Nothing queues within_capacity = within_capacity
+within_capacity-after (TurnBegan packet) queues within_capacity = within_capacity
+within_capacity-after (Disconnected client) queues within_capacity = room_set queues client None within_capacity refl
+within_capacity-after (Connected client) queues within_capacity = within_capacity-outcome 0 (Connected client) (slice_set queues client (Some []))
+within_capacity-after (Rejected client reason) queues within_capacity = within_capacity-outcome 0 (Rejected client reason) queues
+within_capacity-after (Sent client message reply) queues within_capacity = within_capacity-outcome 0 (Sent client message reply) queues
+
+pub within_capacity-dropped : (count : ℕ) (send_queue : Option (List ℕ)) → is_within_capacity send_queue ≡ true → is_within_capacity (Some (drop count (queued send_queue))) ≡ true
+within_capacity-dropped count send_queue within_capacity = let less : length (drop count (queued send_queue)) ≡ length (queued send_queue) - count = length-drop count (queued send_queue) in grind (arith, nat_tests, less, within_capacity)

@@ -1,0 +1,173 @@
+-- A round, client by client.
+use Rattle.std.proofs.Common.{◌≡◌, ℕ, zero, suc, ◌+◌, ◌<◌, ◌≤◌, inl, inr, Bool, true, false, if◌then◌else◌, List, [], ◌∷◌, ◌++◌, length, refl, ap, ap₂, sym, subst, ◌∙◌, arith, append_assoc, append-nil, eqb-true, replicate}
+use Rattle.std.specs.Prelude.{◌==◌}
+use Rattle.std.specs.List.{filter, list_any}
+use Rattle.std.proofs.lemmas.Bool.{cases_eq}
+use Rattle.std.proofs.lemmas.List.Folds.{list_any-append}
+use Rattle.bus.specs.declared.event.Event.TheVariants.{Disconnects}
+use Rattle.bus.specs.Observations.{Observation}
+use Rattle.bus.specs.Log.{Extends}
+use Rattle.bus_server.specs.Progress.{ProgressesWithoutInput, Snapshot, WritesFront}
+use Rattle.bus_server.specs.Rounds.{AllWrittenTo, HasMoreClients, ServesClients, IsRead, IsRound, IsUnread, IsWrittenTo, is_reading, PreservesRound, AcceptsPending, backlog_after, refusals, is_write}
+use Rattle.bus_server.specs.Applied.{Handled, RunsEventWithTurns, Applies, LoggedEvent, AppliesAll, ServerState, is_connected, has_overflowed, transport_events, observations_in, observations_of}
+use Rattle.bus_server.specs.declared.transport.IoOutcome.TheVariants.{WouldBlock}
+use Rattle.bus_server.specs.TransportEvents.{WriteBlocked, PeerClosed, NonePending, TransportEvent, Written, Refused}
+use Rattle.bus_server.proofs.Going.{Claim, calm_then, goes_one, log-append, same_on_wire, serves_more, observed-append}
+use Rattle.bus_server.proofs.Keeping.{count-append, heard_now, left_keeps, left_waits, only_leaves, put_keeps, put_more, keeps_refused, none_of_both, one_refused, turned_away_all, turned_passed, turned_shown, written_behind}
+
+-- Who is written to.
+
+abbrev pub AllAndOne : (client : ℕ) → List TransportEvent → ServerState → Type 0
+AllAndOne client more all = AllWrittenTo client more all × IsWrittenTo client more all
+
+pub one_written : (client : ℕ) (first second : List TransportEvent) (mid new : ServerState) → PreservesRound second mid new → AllWrittenTo client first mid → IsWrittenTo client second new → AllAndOne client (first ++ second) new
+one_written client first second mid new kept all one = (
+  λ other within. (kept.written other first (all other within).0, kept.on_time other (all other within).1),
+  written_behind client first second new one,
+)
+
+pub one_on_time : (client : ℕ) (first second : List TransportEvent) (mid new : ServerState) → PreservesRound second mid new → AllAndOne client first mid → has_overflowed new client ≡ false → AllWrittenTo (client + 1) (first ++ second) new
+one_on_time client first second mid new kept done overflowed other within = elim (cases_eq other client) [
+  | inl same ↦ subst (λ (i : ℕ). IsWrittenTo i (first ++ second) new × (has_overflowed new i ≡ false)) (sym same) (kept.written client first done.1, overflowed)
+  | inr differs ↦
+      let before : other < client = omega (arith, within, differs) in
+      (kept.written other first (done.0 other before).0, kept.on_time other (done.0 other before).1)
+]
+
+-- so many pieces were written to a client
+abbrev pub HasPut : (client count : ℕ) → List TransportEvent → ServerState → Type 0
+HasPut client count more all = count ≤ length (filter (is_write client) more)
+
+-- What one write comes to.
+
+pub wrote_one : (client : ℕ) (bytes : List ℕ) (old new : Snapshot) → Extends old.log new.log (Written client bytes ∷ []) → Extends old.observed new.observed [] → Applies (Written client bytes) [] old.state new.state
+    → ProgressesWithoutInput (HasPut client 1) old new
+wrote_one client bytes old new grows observed does =
+    let none : 0 ≤ length (filter (is_write client) []) = omega arith in
+    goes_one (λ more all. PreservesRound more old.state all × HasPut client 1 more all) (Written client bytes) [] old new grows observed does
+    (put_keeps client bytes (Written client bytes ∷ []) old.state new.state refl does, put_more client bytes [] 0 none)
+
+pub wrote_later : (client : ℕ) (old new : Snapshot) → WritesFront client WouldBlock old.log new.log old.state new.state → Extends old.observed new.observed [] → ProgressesWithoutInput (IsWrittenTo client) old new
+wrote_later client old new wrote observed = elim wrote.0 [
+  | inl nothing ↦ same_on_wire (IsWrittenTo client) [] [] old new refl refl nothing.0 observed refl wrote.1 refl (inl nothing.1)
+  | inr full ↦
+      same_on_wire (IsWrittenTo client) (record { log = WriteBlocked client; applied = [] } ∷ []) (WriteBlocked client ∷ []) old new refl refl full observed
+      (old.state, (refl, refl), refl) wrote.1 refl (inr (inl (heard_now client)))
+]
+
+pub wrote_to_none : (client : ℕ) (applied : List LoggedEvent) (old new : Snapshot) → Extends old.log new.log (PeerClosed client ∷ []) → Extends old.observed new.observed (observations_of applied) → RunsEventWithTurns (Disconnects client) applied old.state new.state
+    → ProgressesWithoutInput (IsWrittenTo client) old new
+wrote_to_none client applied old new grows observed does =
+    let remaining = only_leaves client applied old.state new.state does in
+    goes_one (λ more all. PreservesRound more old.state all × IsWrittenTo client more all) (PeerClosed client) applied old new grows observed does
+    (left_keeps client remaining.0 (PeerClosed client ∷ []) old.state new.state refl remaining.1, inl (left_waits client remaining.0 old.state new.state remaining.1))
+
+pub more_pieces : (client n : ℕ) (first second : List TransportEvent) → n ≤ length (filter (is_write client) first) → 1 ≤ length (filter (is_write client) second) → n + 1 ≤ length (filter (is_write client) (first ++ second))
+more_pieces client n first second h k = omega (arith, h, k, count-append (is_write client) first second)
+
+pub calm_weaker : (P Q : Claim) (old new : Snapshot) → ((more : List TransportEvent) → P more new.state → Q more new.state) → ProgressesWithoutInput P old new → ProgressesWithoutInput Q old new
+calm_weaker P Q old new weaker goes = (goes.0, goes.1, goes.2, goes.3, (goes.4.0, weaker (transport_events goes.0) goes.4.1))
+
+-- behind some pieces, a write by which the client is written to
+pub put_then : (client count : ℕ) (old mid new : Snapshot) → ProgressesWithoutInput (HasPut client count) old mid → ProgressesWithoutInput (IsWrittenTo client) mid new → ProgressesWithoutInput (IsWrittenTo client) old new
+put_then client count old mid new =
+    calm_then (HasPut client count) (IsWrittenTo client) (IsWrittenTo client) old mid new (λ these those kept before done. written_behind client these those new.state done)
+
+-- The turns of a round.
+
+pub next_turn : (client : ℕ) (first heard written : List Handled) (old before mid new : ServerState) → ServesClients client first old before → AppliesAll heard before mid → IsRead client (transport_events heard)
+    → AppliesAll written mid new → IsUnread (transport_events written) → AllWrittenTo 8 (transport_events written) new → ServesClients (client + 1) (first ++ (heard ++ written)) old new
+next_turn client first heard written old before mid new had serves is_read writes unread all =
+    subst (λ (n : ℕ). ServesClients n (first ++ (heard ++ written)) old new) {x = suc client} {y = client + 1} (omega arith)
+    (first, heard ++ written, before, refl, had, (heard, written, mid, refl, serves, is_read, writes, unread, all))
+
+turns_serve : (count : ℕ) (handled : List Handled) (old new : ServerState) → ServesClients count handled old new → AppliesAll handled old new
+turns_serve zero handled old new h = subst (λ (all : List Handled). AppliesAll all old new) (sym h.0) h.1
+turns_serve (suc n) handled old new h =
+    let turn = h.5 in
+    subst (λ (all : List Handled). AppliesAll all old new) (sym h.3)
+    (serves_more h.0 h.1 old h.2 new (turns_serve n h.0 old h.2 h.4)
+    (subst (λ (all : List Handled). AppliesAll all h.2 new) (sym turn.3) (serves_more turn.0 turn.1 h.2 turn.2 new turn.4 turn.6)))
+
+pub round_serves : (handled : List Handled) (old new : ServerState) → IsRound handled old new → AppliesAll handled old new
+round_serves handled old new round = subst (λ (all : List Handled). AppliesAll all old new) (sym round.3) (serves_more round.0 round.1 old round.2 new (turns_serve 8 round.0 old round.2 round.4) round.5)
+
+pub lets_in_behind : (first second : List TransportEvent) → AcceptsPending second → AcceptsPending (first ++ second)
+lets_in_behind first second last = (
+  first ++ last.0,
+  elim last.1 [
+    | inl nobody ↦ inl (ap (λ (all : List TransportEvent). first ++ all) nobody ∙ sym (append_assoc first last.0 (NonePending ∷ [])))
+    | inr eight ↦ inr (ap (λ (all : List TransportEvent). first ++ all) eight ∙ sym (append_assoc first last.0 (replicate 8 Refused)))
+  ],
+)
+
+-- Who waits.
+
+-- the places before this one are taken
+abbrev pub AreTaken : (below : ℕ) → List TransportEvent → ServerState → Type 0
+AreTaken below more all = (client : ℕ) → client < below → is_connected all client ≡ true
+
+pub more_taken : (below : ℕ) (mid new : ServerState) → ((client : ℕ) → client < below → is_connected mid client ≡ true) → HasMoreClients below mid new → (client : ℕ) → client < below + 1 → is_connected new client ≡ true
+more_taken below mid new taken more client within = elim (cases_eq client below) [
+  | inl same ↦ subst (λ (i : ℕ). is_connected new i ≡ true) (sym same) more.takes
+  | inr differs ↦ let before : client < below = omega (arith, within, differs) in more.keeps client (taken client before)
+]
+
+pub nobody_waits : (old new : Snapshot) → Extends old.log new.log (NonePending ∷ []) → Extends old.observed new.observed [] → new.state ≡ old.state → ProgressesWithoutInput (λ more _. AcceptsPending more) old new
+nobody_waits old new grows observed same =
+    same_on_wire (λ more _. AcceptsPending more) (record { log = NonePending; applied = [] } ∷ []) (NonePending ∷ []) old new refl refl grows observed (old.state, (refl, refl), refl) same refl ([], inl refl)
+
+-- so many are refused: eight, or fewer and then none is pending
+abbrev none_pending : Handled
+none_pending = record { log = NonePending; applied = [] }
+
+abbrev refused_one_by_one : (count : ℕ) (eight : Bool) → List Handled
+refused_one_by_one count eight = replicate count one_refused ++ (if eight then [] else none_pending ∷ [])
+
+none_pending_last : (eight : Bool) → transport_events (if eight then [] else none_pending ∷ []) ≡ (if eight then [] else NonePending ∷ [])
+none_pending_last true = refl
+none_pending_last false = refl
+
+nothing_seen : (eight : Bool) → observations_in (if eight then [] else none_pending ∷ []) ≡ []
+nothing_seen true = refl
+nothing_seen false = refl
+
+none_pending_applies : (eight : Bool) (all : ServerState) → AppliesAll (if eight then [] else none_pending ∷ []) all all
+none_pending_applies true all = refl
+none_pending_applies false all = (all, (refl, refl), refl)
+
+all_refused : (count : ℕ) (eight : Bool) → (count == 8) ≡ eight → AcceptsPending (replicate count Refused ++ (if eight then [] else NonePending ∷ []))
+all_refused count true is = ([], inr (append-nil (replicate count Refused) ∙ ap (λ (n : ℕ). replicate n Refused) (eqb-true count 8 is)))
+all_refused count false is = (replicate count Refused, inl refl)
+
+none_read : (count : ℕ) → IsUnread (replicate count Refused)
+none_read zero = refl
+none_read (suc count) = none_read count
+
+last_unread : (eight : Bool) → IsUnread (if eight then [] else NonePending ∷ [])
+last_unread true = refl
+last_unread false = refl
+
+refusals_unread : (count : ℕ) (eight : Bool) → IsUnread (replicate count Refused ++ (if eight then [] else NonePending ∷ []))
+refusals_unread count eight =
+    list_any-append is_reading (replicate count Refused) (if eight then [] else NonePending ∷ [])
+    ∙ none_of_both (list_any is_reading (replicate count Refused)) (list_any is_reading (if eight then [] else NonePending ∷ [])) (none_read count) (last_unread eight)
+
+pub turns_others_away : (count : ℕ) (old new : Snapshot) → ((client : ℕ) → client < 8 → is_connected old.state client ≡ true) → Extends old.log new.log (refusals count) → Extends old.observed new.observed []
+    → new.state ≡ backlog_after count old.state → ProgressesWithoutInput (λ more _. AcceptsPending more) old new
+turns_others_away count old new taken grows observed same =
+    let eight = count == 8 in
+    let handled = refused_one_by_one count eight in
+    let are : transport_events handled ≡ refusals count =
+    log-append (replicate count one_refused) (if eight then [] else none_pending ∷ []) ∙ ap₂ (λ (a b : List TransportEvent). a ++ b) (turned_passed count) (none_pending_last eight) in
+    let none : observations_in handled ≡ [] =
+    observed-append (replicate count one_refused) (if eight then [] else none_pending ∷ []) ∙ ap₂ (λ (a b : List Observation). a ++ b) (turned_shown count) (nothing_seen eight) in (
+      handled,
+      subst (λ (all : List TransportEvent). Extends old.log new.log all) (sym are) grows,
+      subst (λ (all : List Observation). Extends old.observed new.observed all) (sym none) observed,
+      subst (λ (all : ServerState). AppliesAll handled old.state all) (sym same)
+          (serves_more (replicate count one_refused) (if eight then [] else none_pending ∷ []) old.state (backlog_after count old.state) (backlog_after count old.state)
+          (turned_away_all count old.state taken) (none_pending_applies eight (backlog_after count old.state))),
+      subst (λ (all : ServerState). PreservesRound (transport_events handled) old.state all × AcceptsPending (transport_events handled)) (sym same)
+          (keeps_refused count (transport_events handled) old.state (subst IsUnread (sym are) (refusals_unread count eight)), subst (λ (all : List TransportEvent). AcceptsPending all) (sym are) (all_refused count eight refl)),
+    )

@@ -1,0 +1,34 @@
+use Rattle.std.proofs.Common.{ℕ, ◌∙◌, ap, length, refl, sym, subst}
+use Rattle.std.specs.List.{list_all}
+use Rattle.loconet_tcp.specs.declared.outcome.Outcome.{Outcome}
+use Rattle.bus.specs.State.{bus_state}
+use Rattle.bus.specs.Observations.{Observed}
+use Rattle.bus_server.specs.Queues.{is_within_capacity}
+use Rattle.bus_server.specs.Counts.{disconnected_after}
+use Rattle.bus_server.specs.ClientQueues.{names_client, queues_after}
+use Rattle.bus_server.proofs.Placing.{length-after, placed_by, within_capacity-after}
+use Rattle.bus_server.proofs.hub.Hub.step.Goals as goal
+
+pub enqueue-requires : goal.enqueue-requires
+enqueue-requires c = ap names_client c.step-outcome.ensures.outcome ∙ placed_by (bus_state c.args.self.now.bus) c.args.event c.requires
+
+pub invariant_of-self : goal.invariant_of-self
+invariant_of-self c = record {
+  eight = ap length c.enqueue.ensures ∙ length-after c.step-outcome.result c.args.self.now.queues ∙ c.args.self.now.eight;
+  within_capacity = ap (list_all is_within_capacity) c.enqueue.ensures ∙ within_capacity-after c.step-outcome.result c.args.self.now.queues c.args.self.now.within_capacity;
+}
+
+pub returns-clause-happens : goal.returns-clause-happens
+returns-clause-happens c before drawn =
+    let outcome = c.step-outcome.ensures.outcome in
+    record {
+      legal = c.requires;
+      bus = c.step-outcome.ensures.bus;
+      nodes = c.step-outcome.ensures.nodes;
+      queues = c.enqueue.ensures ∙ ap (λ (outcome : Outcome). queues_after outcome c.args.self.now.queues) outcome;
+      losses = drawn;
+      turns = refl;
+      has_backlog = refl;
+      disconnected = c.disconnected_after-self.ensures ∙ ap (λ (outcome : Outcome). disconnected_after outcome c.args.self.now.disconnected) outcome;
+      saw = ap (λ (outcome : Outcome). Observed outcome c.step-outcome.new.self.world.nodes) outcome;
+    }

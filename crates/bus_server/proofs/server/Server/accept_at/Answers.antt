@@ -1,0 +1,27 @@
+use Rattle.std.proofs.Common.{◌<◌, ◌∷◌, [], length, sym, ◌∙◌, arith}
+use Rattle.bus_server.specs.Progress.{snapshot, state_of}
+use Rattle.bus_server.specs.Rounds.{HasMoreClients, PreservesRound}
+use Rattle.bus_server.specs.TransportEvents.{Accepted}
+use Rattle.bus_server.proofs.Going.{calm_nowhere, goes_one}
+use Rattle.bus_server.specs.Applied.{with_backlog}
+use Rattle.bus_server.proofs.Keeping.{keeps_backlog, more_backlog, joined_keeps, joined_places, only_joins}
+use Rattle.bus_server.proofs.server.Server.accept_at.Goals as goal
+
+pub returns-then-is_connected-clause-seats : goal.returns-then-is_connected-clause-seats
+returns-then-is_connected-clause-seats g c =
+    let all = state_of c.args.self.now.hub in
+    calm_nowhere (λ _ new. HasMoreClients c.args.client all new) (snapshot (g.W.Transport.log c.args.transport.now) (g.P.Observer.observed c.args.observer.now) c.args.self.now.hub)
+    (record { takes = sym c.is_connected.ensures ∙ c.if-is_connected.true; keeps = λ other placed. placed })
+
+pub returns-clause-seats : goal.returns-clause-seats
+returns-clause-seats g c =
+    let client = c.args.client in
+    let old = state_of c.args.self.now.hub in
+    let new = state_of c.apply.new.self.hub in
+    let does = c.in_ok-apply.ensures.happened in
+    let joined = only_joins client does.0 (with_backlog old) new does.2 in
+    let place : client < length old.queues = omega (arith, c.args.self.now.hub.eight, c.requires.client) in
+    let line : client < length old.bus.clients = omega (arith, c.invariant_holds.ensures.kept.client_count, c.requires.client) in
+    goes_one (λ more all. PreservesRound more old all × HasMoreClients client old all) (Accepted client) does.0
+    (snapshot (g.W.Transport.log c.args.transport.now) (g.P.Observer.observed c.args.observer.now) c.args.self.now.hub) (snapshot (g.W.Transport.log c.accept.new.self) (g.P.Observer.observed c.apply.new.observer) c.apply.new.self.hub) c.if-not-accept.ensures does.1 does.2
+    (keeps_backlog (Accepted client ∷ []) old new (joined_keeps client joined.0 (with_backlog old) new place c.args.self.now.hub.within_capacity joined.1), more_backlog client old new (joined_places client joined.0 (with_backlog old) new line joined.1))

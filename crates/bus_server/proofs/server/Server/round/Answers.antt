@@ -1,0 +1,59 @@
+use Rattle.std.proofs.Common.{◌≡◌, ◌++◌, [], ℕ, List, arith, refl, subst}
+use Rattle.std.proofs.lemmas.Result.{on_ok_weaker}
+use Rattle.bus_server.specs.Progress.{state_of}
+use Rattle.bus_server.specs.Rounds.{ServesClients}
+use Rattle.bus_server.proofs.Going.{acts_more, grows_none, wire_more}
+use Rattle.bus_server.proofs.Rounding.{next_turn}
+use Rattle.bus_server.proofs.server.Server.round.Goals as goal
+
+pub loop-client-init : goal.loop-client-init
+loop-client-init g c = record {
+  observes = c.requires.observes;
+  served = ([], grows_none (g.W.Transport.log c.args.transport.now), grows_none (g.P.Observer.observed c.args.observer.now), (refl, refl));
+}
+
+pub loop-client-preserved : goal.loop-client-preserved
+loop-client-preserved g c =
+    let log = g.W.Transport.log in
+    let observed = g.P.Observer.observed in
+    let first = c.loop-client in
+    let so_far = first.invariant.served in
+    let heard = c.in_ok-receive.ensures.served in
+    let written = c.in_ok-write_all.ensures.served in
+    record {
+      observes = c.write_all.ensures.observes;
+      served = (
+        so_far.0 ++ (heard.0 ++ written.0),
+        wire_more (log c.args.transport.now) (log first.transport) (log c.write_all.new.transport) so_far.0 (heard.0 ++ written.0) so_far.1
+            (wire_more (log first.transport) (log c.receive.new.transport) (log c.write_all.new.transport) heard.0 written.0 heard.1 written.1),
+        acts_more (observed c.args.observer.now) (observed first.observer) (observed c.write_all.new.observer) so_far.0 (heard.0 ++ written.0) so_far.2
+            (acts_more (observed first.observer) (observed c.receive.new.observer) (observed c.write_all.new.observer) heard.0 written.0 heard.2 written.2),
+        next_turn first.client so_far.0 heard.0 written.0 (state_of c.args.self.now.hub) (state_of first.self.hub) (state_of c.receive.new.self.hub) (state_of c.write_all.new.self.hub)
+            so_far.3 heard.3 heard.4 written.3 written.4.0.unread written.4.1,
+      );
+    }
+
+pub returns-clause-served : goal.returns-clause-served
+returns-clause-served g c =
+    let log = g.W.Transport.log in
+    let observed = g.P.Observer.observed in
+    let first = c.loop-client in
+    let so_far = first.invariant.served in
+    let eight : first.client ≡ 8 = omega (arith, first.auto.client-end, c.loop-client-test.false) in
+    on_ok_weaker c.accept_pending.result
+    (λ last. (
+      so_far.0 ++ last.0,
+      wire_more (log c.args.transport.now) (log first.transport) (log c.accept_pending.new.transport) so_far.0 last.0 so_far.1 last.1,
+      acts_more (observed c.args.observer.now) (observed first.observer) (observed c.accept_pending.new.observer) so_far.0 last.0 so_far.2 last.2,
+      (
+        so_far.0,
+        last.0,
+        state_of first.self.hub,
+        refl,
+        subst (λ (n : ℕ). ServesClients n so_far.0 (state_of c.args.self.now.hub) (state_of first.self.hub)) eight so_far.3,
+        last.3,
+        last.4.0.unread,
+        last.4.1,
+      ),
+    ))
+    c.accept_pending.ensures.served

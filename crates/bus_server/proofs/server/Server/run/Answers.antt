@@ -1,0 +1,34 @@
+use Rattle.std.proofs.Common.{◌≡◌, ◌-◌, ◌^◌, [], ◌∷◌, ◌++◌, arith, inl, inr, length, length-append, refl}
+use Rattle.bus_server.specs.Runs.{run_snapshot}
+use Rattle.bus_server.proofs.Courses.{Laws}
+use Rattle.bus_server.proofs.WholeRuns.{run_ends, runs_none, runs_then}
+use Rattle.bus_server.proofs.server.Server.run.Goals as goal
+
+pub loop-round-init : goal.loop-round-init
+loop-round-init g c = record { observes = c.requires.observes; rounds = ([], refl, runs_none c.args.most (run_snapshot (g.W.Transport.log c.args.transport.now) (g.C.TimeSource.readings c.args.clock.now) (g.P.Observer.observed c.args.observer.now) c.args.self.now.hub)) }
+
+pub loop-round-preserved : goal.loop-round-preserved
+loop-round-preserved g c =
+    let so_far = c.loop-round.invariant.rounds in
+    let one = c.in_ok-run_round.ensures.round in
+    record {
+      observes = c.run_round.ensures.observes;
+      rounds = (
+        so_far.0 ++ one.0 ∷ [],
+        omega (arith, length-append so_far.0 (one.0 ∷ []), so_far.1),
+        runs_then c.args.most so_far.0 (one.0 ∷ []) (run_snapshot (g.W.Transport.log c.args.transport.now) (g.C.TimeSource.readings c.args.clock.now) (g.P.Observer.observed c.args.observer.now) c.args.self.now.hub) (run_snapshot (g.W.Transport.log c.loop-round.transport) (g.C.TimeSource.readings c.loop-round.clock) (g.P.Observer.observed c.loop-round.observer) c.loop-round.self.hub) (run_snapshot (g.W.Transport.log c.run_round.new.transport) (g.C.TimeSource.readings c.run_round.new.clock) (g.P.Observer.observed c.run_round.new.observer) c.run_round.new.self.hub) so_far.2 one.1,
+      );
+    }
+
+pub returns-then-self-most-clause-run : goal.returns-then-self-most-clause-run
+returns-then-self-most-clause-run g c =
+    let laws : Laws = record { kept = c.events_are_the_layout.ensures.kept; more = c.events_are_the_layout.ensures.more; none = c.events_add_up.ensures.none } in
+    let so_far = c.loop-round.invariant.rounds in
+    run_ends laws c.headline.ensures.in_time c.args.most so_far.0 (run_snapshot (g.W.Transport.log c.args.transport.now) (g.C.TimeSource.readings c.args.clock.now) (g.P.Observer.observed c.args.observer.now) c.args.self.now.hub) (run_snapshot (g.W.Transport.log c.loop-round.transport) (g.C.TimeSource.readings c.loop-round.clock) (g.P.Observer.observed c.loop-round.observer) c.loop-round.self.hub) c.invariant_holds.ensures.kept c.invariant_holds.ensures.desk so_far.2 (inl c.if-self-most.true)
+
+pub returns-clause-run : goal.returns-clause-run
+returns-clause-run g c =
+    let laws : Laws = record { kept = c.events_are_the_layout.ensures.kept; more = c.events_are_the_layout.ensures.more; none = c.events_add_up.ensures.none } in
+    let so_far = c.loop-round.invariant.rounds in
+    let all : length so_far.0 ≡ 2 ^ 64 - 1 = omega (arith, so_far.1, c.loop-round.auto._round-end, c.loop-round-test.false) in
+    run_ends laws c.headline.ensures.in_time c.args.most so_far.0 (run_snapshot (g.W.Transport.log c.args.transport.now) (g.C.TimeSource.readings c.args.clock.now) (g.P.Observer.observed c.args.observer.now) c.args.self.now.hub) (run_snapshot (g.W.Transport.log c.loop-round.transport) (g.C.TimeSource.readings c.loop-round.clock) (g.P.Observer.observed c.loop-round.observer) c.loop-round.self.hub) c.invariant_holds.ensures.kept c.invariant_holds.ensures.desk so_far.2 (inr all)

@@ -1,0 +1,55 @@
+use Rattle.std.proofs.Common.{◌+◌, ◌∙◌, ap, inr, map, subst, arith}
+use Rattle.layout_core.specs.Nodes.{spec_of}
+use Rattle.bus.specs.declared.bus.Bus.{Bus}
+use Rattle.bus.specs.declared.event.Event.TheVariants.{Disconnects}
+use Rattle.std.proofs.lemmas.Result.{on_ok_weaker}
+use Rattle.bus_server.specs.Progress.{snapshot, state_of}
+use Rattle.bus_server.specs.Rounds.{IsWrittenTo}
+use Rattle.bus_server.specs.Applied.{RunsEventWithTurns, ServerState}
+use Rattle.bus_server.proofs.Going.{calm_nowhere, calm_then, grows_none}
+use Rattle.bus_server.proofs.Rounding.{HasPut, calm_weaker, more_pieces, put_then, wrote_later, wrote_one, wrote_to_none}
+use Rattle.bus_server.proofs.server.Server.write.Goals as goal
+
+pub loop-piece-init : goal.loop-piece-init
+loop-piece-init g c = record { observes = c.requires.observes; served = calm_nowhere (HasPut c.args.client 0) (snapshot (g.W.Transport.log c.args.transport.now) (g.P.Observer.observed c.args.observer.now) c.args.self.now.hub) (omega arith) }
+
+pub loop-piece-preserved : goal.loop-piece-preserved
+loop-piece-preserved g c =
+    let client = c.args.client in
+    let first = c.loop-piece in
+    let before = snapshot (g.W.Transport.log first.transport) (g.P.Observer.observed first.observer) first.self.hub in
+    let after = snapshot (g.W.Transport.log c.write.new.transport) (g.P.Observer.observed first.observer) c.write.new.self in
+    let wrote = c.in-Bytes.ensures.wrote in
+    record {
+      observes = ap (λ (bus : Bus). map spec_of bus.world.nodes) c.in-Bytes.ensures.bus ∙ first.invariant.observes;
+      served =
+          calm_then (HasPut client first._piece) (HasPut client 1) (HasPut client (first._piece + 1)) (snapshot (g.W.Transport.log c.args.transport.now) (g.P.Observer.observed c.args.observer.now) c.args.self.now.hub) before after
+          (λ these those kept before one. more_pieces client first._piece these those before one)
+          first.invariant.served (wrote_one client wrote.0 before after wrote.1 (grows_none (g.P.Observer.observed first.observer)) wrote.2);
+    }
+
+pub returns-in-WouldBlock-clause-served : goal.returns-in-WouldBlock-clause-served
+returns-in-WouldBlock-clause-served g c =
+    let first = c.loop-piece in
+    let before = snapshot (g.W.Transport.log first.transport) (g.P.Observer.observed first.observer) first.self.hub in
+    let after = snapshot (g.W.Transport.log c.write.new.transport) (g.P.Observer.observed first.observer) c.write.new.self in
+    put_then c.args.client first._piece (snapshot (g.W.Transport.log c.args.transport.now) (g.P.Observer.observed c.args.observer.now) c.args.self.now.hub) before after first.invariant.served (wrote_later c.args.client before after c.in-WouldBlock.ensures.wrote (grows_none (g.P.Observer.observed first.observer)))
+
+pub returns-in-Closed-clause-served : goal.returns-in-Closed-clause-served
+returns-in-Closed-clause-served g c =
+    let first = c.loop-piece in
+    let client = c.args.client in
+    let wrote = c.in-Closed.ensures.wrote in
+    let before = snapshot (g.W.Transport.log first.transport) (g.P.Observer.observed first.observer) first.self.hub in
+    let after = snapshot (g.W.Transport.log c.write.new.transport) (g.P.Observer.observed c.apply.new.observer) c.apply.new.self.hub in
+    on_ok_weaker c.apply.result
+    (λ does. put_then client first._piece (snapshot (g.W.Transport.log c.args.transport.now) (g.P.Observer.observed c.args.observer.now) c.args.self.now.hub) before after first.invariant.served
+    (wrote_to_none client does.0 before after wrote.0 does.1 (subst (λ (old : ServerState). RunsEventWithTurns (Disconnects client) does.0 old (state_of c.apply.new.self.hub)) wrote.1 does.2)))
+    c.apply.ensures.happened
+
+pub returns-clause-served : goal.returns-clause-served
+returns-clause-served g c =
+    let first = c.loop-piece in
+    calm_weaker (HasPut c.args.client first._piece) (IsWrittenTo c.args.client) (snapshot (g.W.Transport.log c.args.transport.now) (g.P.Observer.observed c.args.observer.now) c.args.self.now.hub) (snapshot (g.W.Transport.log first.transport) (g.P.Observer.observed first.observer) first.self.hub)
+    (λ more count. inr (inr (omega (arith, count, c.loop-piece-test.false))))
+    first.invariant.served

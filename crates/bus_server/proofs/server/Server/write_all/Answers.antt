@@ -1,0 +1,27 @@
+use Rattle.std.proofs.Common.{◌+◌, false, ◌≡◌, arith}
+use Rattle.bus_server.specs.Progress.{snapshot, state_of}
+use Rattle.bus_server.specs.Rounds.{AllWrittenTo, IsWrittenTo}
+use Rattle.bus_server.specs.Applied.{has_overflowed}
+use Rattle.bus_server.proofs.Going.{calm_nowhere, calm_then}
+use Rattle.bus_server.proofs.Rounding.{AllAndOne, one_on_time, one_written}
+use Rattle.bus_server.proofs.server.Server.write_all.Goals as goal
+
+pub loop-client-init : goal.loop-client-init
+loop-client-init g c = record { observes = c.requires.observes; served = calm_nowhere (AllWrittenTo 0) (snapshot (g.W.Transport.log c.args.transport.now) (g.P.Observer.observed c.args.observer.now) c.args.self.now.hub) (λ client within. absurd (omega (arith, within))) }
+
+pub loop-client-preserved : goal.loop-client-preserved
+loop-client-preserved g c =
+    let first = c.loop-client in
+    let start = snapshot (g.W.Transport.log c.args.transport.now) (g.P.Observer.observed c.args.observer.now) c.args.self.now.hub in
+    let before = snapshot (g.W.Transport.log first.transport) (g.P.Observer.observed first.observer) first.self.hub in
+    let after_round = snapshot (g.W.Transport.log c.write.new.transport) (g.P.Observer.observed c.write.new.observer) c.write.new.self.hub in
+    record {
+      observes = c.disconnect.ensures.observes;
+      served =
+          calm_then (AllAndOne first.client) (λ _ all. has_overflowed all first.client ≡ false) (AllWrittenTo (first.client + 1)) start after_round (snapshot (g.W.Transport.log c.disconnect.new.transport) (g.P.Observer.observed c.disconnect.new.observer) c.disconnect.new.self.hub)
+          (λ these those kept done overflowed. one_on_time first.client these those (state_of c.write.new.self.hub) (state_of c.disconnect.new.self.hub) kept done overflowed)
+          (calm_then (AllWrittenTo first.client) (IsWrittenTo first.client) (AllAndOne first.client) start before after_round
+          (λ these those kept all one. one_written first.client these those (state_of first.self.hub) (state_of c.write.new.self.hub) kept all one)
+          first.invariant.served c.in_ok-write.ensures.served)
+          c.in_ok-disconnect.ensures.served;
+    }

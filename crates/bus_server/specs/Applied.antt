@@ -1,0 +1,156 @@
+-- What events of the transport, and time, make of a server.
+use Rattle.std.specs.Prelude.{ℕ, zero, suc, ◌≡◌, ◌<◌, Bool, true, false, if◌then◌else◌, ◌&&◌, nat_le, not, is_some, length, List, [], ◌∷◌, ◌++◌, map, replicate, MatchBool, Option, Some, None, slice_set}
+use Rattle.decoder_node.specs.declared.node.NodeSpec.{NodeSpec}
+use Rattle.std.specs.List.{flat_map, list_all, slice_index_or}
+use Rattle.layout_core.specs.declared.node.Node.{Node}
+use Rattle.layout_core.specs.Nodes.{node_of}
+use Rattle.layout_core.specs.World.{HaveHeard}
+use Rattle.bus_server.specs.declared.losses.Losses.{Losses}
+use Rattle.bus_server.specs.Draws.{IsDraw}
+use Rattle.bus.specs.declared.event.Event.{Event}
+use Rattle.bus.specs.declared.event.Event.TheVariants.{Receives, Connects, Disconnects, Elapses, Turn}
+use Rattle.loconet_tcp.specs.declared.outcome.Outcome.{Outcome}
+use Rattle.loconet_tcp.specs.declared.outcome.Outcome.TheVariants.{Sent}
+use Rattle.bus.specs.Bus.{BusState, after_event, client_of, first_bus, is_event, outcome_of}
+use Rattle.bus.specs.Course.{is_time, micros_in}
+use Rattle.bus.specs.Layout.{layout_event}
+use Rattle.bus.specs.Observations.{Observed, Observation, Overflowed}
+use Rattle.bus_server.specs.Counts.{disconnected_after}
+use Rattle.bus_server.specs.ClientQueues.{SendQueues, queues_after}
+use Rattle.bus_server.specs.TransportEvents.{Polled, ServerClosed, Accepted, PeerClosed, TransportEvent, Written, Received, Refused}
+
+-- A server: its bus, the decoders, the queue of each client, the generator of losses, the turns that follow each message
+-- (or None, where turns follow time), how many clients have disconnected, and whether there may be more input than was read.
+pub record ServerState : Type 0 where
+  pub bus : BusState
+  pub nodes : List Node
+  pub queues : SendQueues
+  pub losses : Losses
+  pub turns : Option ℕ
+  pub disconnected : ℕ
+  pub has_backlog : Bool
+
+-- a new server: new decoders, and no clients
+abbrev pub initial_state : List NodeSpec → Option ℕ → Losses → ServerState
+initial_state nodes turns losses = record { bus = first_bus; nodes = map node_of nodes; queues = replicate 8 None; losses = losses; turns = turns; disconnected = 0; has_backlog = false }
+
+-- what the decoders miss of a turn is drawn as it begins; if none begins, nothing is drawn
+abbrev pub IsDrawn : Event → BusState → (nodes : ℕ) → (old new : Losses) → Type 0
+IsDrawn (Elapses micros missed) bus nodes old new = MatchBool (nat_le bus.remaining micros) (IsDraw nodes missed old new) (new ≡ old)
+IsDrawn (Turn missed) bus nodes old new = IsDraw nodes missed old new
+IsDrawn other bus nodes old new = new ≡ old
+
+-- One event of the bus: the decoders heard what it is to the layout, the text of its outcome was enqueued, and the outcome
+-- was observed with the decoders as they stand then.
+pub record RunsEvent (event : Event) (observed : Observation) (old new : ServerState) : Type 0 where
+  pub legal : is_event event ≡ true
+  pub bus : new.bus ≡ after_event old.bus event
+  pub nodes : HaveHeard old.bus.station (layout_event old.bus event) old.nodes new.nodes
+  pub queues : new.queues ≡ queues_after (outcome_of old.bus event) old.queues
+  pub losses : IsDrawn event old.bus (length old.nodes) old.losses new.losses
+  pub turns : new.turns ≡ old.turns
+  pub has_backlog : new.has_backlog ≡ old.has_backlog
+  pub disconnected : new.disconnected ≡ disconnected_after (outcome_of old.bus event) old.disconnected
+  pub saw : observed ≡ Observed (outcome_of old.bus event) new.nodes
+
+-- an event of the bus, and its observation
+pub record LoggedEvent : Type 0 where
+  pub event : Event
+  pub observed : Observation
+
+abbrev pub events_of : List LoggedEvent → List Event
+events_of happened = map (λ one. one.event) happened
+
+abbrev pub observations_of : List LoggedEvent → List Observation
+observations_of happened = map (λ one. one.observed) happened
+
+-- one after another
+abbrev pub RunsEvents : List LoggedEvent → ServerState → ServerState → Type 0
+RunsEvents [] old new = new ≡ old
+RunsEvents (one ∷ more) old new = (mid : ServerState) × RunsEvent one.event one.observed old mid × RunsEvents more mid new
+
+-- the track runs for so many microseconds, however they are cut, and nothing else happens
+abbrev pub RunsFor : (micros : ℕ) → List LoggedEvent → ServerState → ServerState → Type 0
+RunsFor micros applied old new =
+    (list_all is_time (events_of applied) ≡ true) × (micros_in old.bus (events_of applied) ≡ micros) × RunsEvents applied old new
+
+-- how many turns follow an outcome: those after a message, if turns follow messages
+abbrev pub turns_after : Option ℕ → Outcome → ℕ
+turns_after (Some turns) (Sent client message reply) = turns
+turns_after turns other = 0
+
+-- so many turns
+abbrev pub AreTurns : ℕ → List Event → Type 0
+AreTurns zero [] = Unit {0}
+AreTurns (suc n) (Turn missed ∷ events) = AreTurns n events
+AreTurns n other = ⊥
+
+-- a client is connected
+abbrev pub is_connected : ServerState → (client : ℕ) → Bool
+is_connected state client = is_some (client_of state.bus client)
+
+-- a client connects at a free index
+abbrev pub is_accepted : ServerState → Event → Bool
+is_accepted state (Connects client) = not (is_connected state client)
+is_accepted state other = true
+
+-- a client is connected, but its text had no room in its queue, which is closed
+abbrev pub has_overflowed : ServerState → (client : ℕ) → Bool
+has_overflowed state client = is_connected state client && not (is_some (slice_index_or state.queues client None))
+
+-- this event, and so many turns after it
+abbrev pub IsWithTurns : Event → ℕ → List Event → Type 0
+IsWithTurns event turns [] = ⊥
+IsWithTurns event turns (first ∷ behind) = (first ≡ event) × AreTurns turns behind
+
+-- An event of a client is run, and after a message its turns; a client connects at a free index.
+abbrev pub RunsEventWithTurns : Event → List LoggedEvent → ServerState → ServerState → Type 0
+RunsEventWithTurns event applied old new =
+    (is_accepted old event ≡ true) × IsWithTurns event (turns_after old.turns (outcome_of old.bus event)) (events_of applied) × RunsEvents applied old new
+
+-- an event of the transport, and the events of the bus that it caused
+pub record Handled : Type 0 where
+  pub log : TransportEvent
+  pub applied : List LoggedEvent
+
+-- How long a server waits for input, in microseconds: not while there may be more of it; else until the turn under way ends;
+-- where turns follow messages, without end.
+abbrev pub longest_wait : ServerState → Option ℕ
+longest_wait state = if state.has_backlog then Some 0 else if is_some state.turns then None else Some state.bus.remaining
+
+-- there may be more input; and none was found since the last wait
+abbrev pub with_backlog : ServerState → ServerState
+with_backlog state = record state { has_backlog = true }
+
+abbrev pub without_backlog : ServerState → ServerState
+without_backlog state = record state { has_backlog = false }
+
+-- What each event of the transport does, behind a wait. A client that is accepted or closes, and each byte, is an event of the bus. What is
+-- written is the front of the client's queue. The server closes a client only if its queue has overflowed, and refuses one only
+-- while all eight are connected. After what was read, accepted or refused there may be more.
+abbrev pub Applies : TransportEvent → List LoggedEvent → ServerState → ServerState → Type 0
+Applies (Polled longest) applied old new = ⊥
+Applies (Accepted client) applied old new = RunsEventWithTurns (Connects client) applied (with_backlog old) new
+Applies (Received client byte) applied old new = RunsEventWithTurns (Receives client byte) applied (with_backlog old) new
+Applies (PeerClosed client) applied old new = RunsEventWithTurns (Disconnects client) applied old new
+Applies (ServerClosed client) applied old new = (has_overflowed old client ≡ true) × RunsEventWithTurns (Disconnects client) applied old new
+Applies (Written client bytes) applied old new =
+    (applied ≡ []) × (rest : List ℕ) × (slice_index_or old.queues client None ≡ Some (bytes ++ rest)) × (new ≡ record old { queues = slice_set old.queues client (Some rest) })
+Applies Refused applied old new = (applied ≡ []) × ((client : ℕ) → client < 8 → is_connected old client ≡ true) × (new ≡ with_backlog old)
+Applies other applied old new = (applied ≡ []) × (new ≡ old)
+
+-- one after another
+abbrev pub AppliesAll : List Handled → ServerState → ServerState → Type 0
+AppliesAll [] old new = new ≡ old
+AppliesAll (one_handled ∷ handled) old new = (mid : ServerState) × Applies one_handled.log one_handled.applied old mid × AppliesAll handled mid new
+
+abbrev pub transport_events : List Handled → List TransportEvent
+transport_events handled = map (λ one_handled. one_handled.log) handled
+
+-- what is observed of them: that a queue has overflowed, and then each outcome
+abbrev pub overflow_notice : TransportEvent → List Observation
+overflow_notice (ServerClosed client) = Overflowed client ∷ []
+overflow_notice other = []
+
+abbrev pub observations_in : List Handled → List Observation
+observations_in handled = flat_map (λ one_handled. overflow_notice one_handled.log ++ observations_of one_handled.applied) handled

@@ -1,0 +1,36 @@
+-- The queues of the clients of a bus, and what an outcome adds to them.
+use Rattle.std.specs.Prelude.{ℕ, ◌+◌, Bool, true, nat_lt, List, [], ◌∷◌, Option, Some, None, slice_set}
+use Rattle.bus_server.specs.Queues.{enqueued}
+use Rattle.loconet_tcp.specs.declared.outcome.Outcome.{Outcome}
+use Rattle.loconet_tcp.specs.declared.outcome.Outcome.TheVariants.{Nothing, Connected, Disconnected, Rejected, Sent, TurnBegan}
+use Rattle.loconet_tcp.specs.Texts.{text_for}
+
+-- the queue of each client; None where it is closed
+abbrev pub SendQueues : Type 0
+SendQueues = List (Option (List ℕ))
+
+-- for each client from this index on its own text is enqueued
+abbrev pub enqueued_from : (place : ℕ) → Outcome → SendQueues → SendQueues
+enqueued_from place outcome [] = []
+enqueued_from place outcome (send_queue ∷ queues) = enqueued (text_for place outcome) send_queue ∷ enqueued_from (place + 1) outcome queues
+
+abbrev pub enqueued_all : Outcome → SendQueues → SendQueues
+enqueued_all outcome queues = enqueued_from 0 outcome queues
+
+-- The queues after an outcome: a client that connects begins with an empty queue, and that of one that disconnects is closed.
+abbrev pub queues_after : Outcome → SendQueues → SendQueues
+queues_after Nothing queues = queues
+queues_after (TurnBegan packet) queues = queues
+queues_after (Disconnected client) queues = slice_set queues client None
+queues_after (Connected client) queues = enqueued_all (Connected client) (slice_set queues client (Some []))
+queues_after (Rejected client reason) queues = enqueued_all (Rejected client reason) queues
+queues_after (Sent client message reply) queues = enqueued_all (Sent client message reply) queues
+
+-- it names one of the eight clients
+abbrev pub names_client : Outcome → Bool
+names_client Nothing = true
+names_client (TurnBegan packet) = true
+names_client (Disconnected client) = nat_lt client 8
+names_client (Connected client) = nat_lt client 8
+names_client (Rejected client reason) = nat_lt client 8
+names_client (Sent client message reply) = nat_lt client 8

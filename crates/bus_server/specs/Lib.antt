@@ -1,0 +1,12 @@
+pub mod Applied
+pub mod ClientQueues
+pub mod Counts
+pub mod Drawn
+pub mod Draws
+pub mod Fronts
+pub mod PageEvents
+pub mod Progress
+pub mod Queues
+pub mod Rounds
+pub mod Runs
+pub mod TransportEvents

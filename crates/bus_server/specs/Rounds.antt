@@ -1,0 +1,93 @@
+-- A round of a server: all clients are read and written to, and pending clients are accepted.
+use Rattle.std.specs.Prelude.{ℕ, zero, suc, ◌≡◌, ◌⊎◌, ◌<◌, ◌≤◌, ◌==◌, Bool, true, false, if◌then◌else◌, List, [], ◌∷◌, ◌++◌, length, replicate, Option, None}
+use Rattle.std.specs.List.{filter, list_all, list_any, slice_index_or}
+use Rattle.bus_server.specs.Applied.{Handled, AppliesAll, ServerState, is_connected, has_overflowed, transport_events, with_backlog}
+use Rattle.bus_server.specs.Queues.{queued}
+use Rattle.bus.specs.Log.{Extends}
+use Rattle.bus_server.specs.TransportEvents.{Accepted, WriteBlocked, PeerClosed, NonePending, TransportEvent, Written, ReadBlocked, Received, Refused}
+
+-- a client is read: bytes, nothing, or its end
+abbrev pub is_read : (client : ℕ) → TransportEvent → Bool
+is_read i (Received client byte) = client == i
+is_read i (PeerClosed client) = client == i
+is_read i (ReadBlocked client) = client == i
+is_read i other = false
+
+-- a piece of its queue is written to a client
+abbrev pub is_write : (client : ℕ) → TransportEvent → Bool
+is_write i (Written client bytes) = client == i
+is_write i other = false
+
+-- a client takes no more, or has only just been accepted
+abbrev pub is_write_blocked : (client : ℕ) → TransportEvent → Bool
+is_write_blocked i (Accepted client) = client == i
+is_write_blocked i (WriteBlocked client) = client == i
+is_write_blocked i other = false
+
+-- a client's queue is empty or closed
+abbrev pub HasEmptyQueue : (client : ℕ) → ServerState → Type 0
+HasEmptyQueue client state = queued (slice_index_or state.queues client None) ≡ []
+
+-- A client is written to: its queue is empty, or it took no more, or four pieces were written to it. One that has only just been
+-- accepted is written to in the next round.
+abbrev pub IsWrittenTo : (client : ℕ) → List TransportEvent → ServerState → Type 0
+IsWrittenTo client more state = HasEmptyQueue client state ⊎ (list_any (is_write_blocked client) more ≡ true) ⊎ (4 ≤ length (filter (is_write client) more))
+
+-- Pending clients are accepted or refused, until none is pending or eight were refused.
+abbrev pub AcceptsPending : List TransportEvent → Type 0
+AcceptsPending more = (before : List TransportEvent) × ((more ≡ before ++ NonePending ∷ []) ⊎ (more ≡ before ++ replicate 8 Refused))
+
+-- all are written to, and none stays whose queue has overflowed
+abbrev pub AllWrittenTo : (below : ℕ) → List TransportEvent → ServerState → Type 0
+AllWrittenTo below more state = (client : ℕ) → client < below → IsWrittenTo client more state × (has_overflowed state client ≡ false)
+
+-- a client is read, 512 bytes at most, and nothing else happens
+abbrev pub IsRead : (client : ℕ) → List TransportEvent → Type 0
+IsRead client more = (0 < length more) × (length more ≤ 512) × (list_all (is_read client) more ≡ true)
+
+-- a read of any client
+abbrev pub is_reading : TransportEvent → Bool
+is_reading (Received client byte) = true
+is_reading (ReadBlocked client) = true
+is_reading other = false
+
+-- no client is read
+abbrev pub IsUnread : List TransportEvent → Type 0
+IsUnread more = list_any is_reading more ≡ false
+
+-- A client is served: it is read, and then all are written to, and nobody is read.
+abbrev pub ServesClient : (client : ℕ) → List Handled → ServerState → ServerState → Type 0
+ServesClient client handled old new =
+    (heard written : List Handled) × (mid : ServerState) × (handled ≡ heard ++ written) × AppliesAll heard old mid × IsRead client (transport_events heard)
+    × AppliesAll written mid new × IsUnread (transport_events written) × AllWrittenTo 8 (transport_events written) new
+
+-- so many are served, one after another
+abbrev pub ServesClients : (count : ℕ) → List Handled → ServerState → ServerState → Type 0
+ServesClients zero handled old new = (handled ≡ []) × (new ≡ old)
+ServesClients (suc n) handled old new = (before handled' : List Handled) × (mid : ServerState) × (handled ≡ before ++ handled') × ServesClients n before old mid × ServesClient n handled' mid new
+
+-- A round: all eight are served, and then pending clients are accepted.
+abbrev pub IsRound : List Handled → ServerState → ServerState → Type 0
+IsRound handled old new = (turns last : List Handled) × (mid : ServerState) × (handled ≡ turns ++ last) × ServesClients 8 turns old mid × AppliesAll last mid new × IsUnread (transport_events last) × AcceptsPending (transport_events last)
+
+-- What the parts of a round promise one another.
+
+-- so many pending clients are refused: eight, or fewer until none is pending
+abbrev pub refusals : (count : ℕ) → List TransportEvent
+refusals count = replicate count Refused ++ (if count == 8 then [] else NonePending ∷ [])
+
+-- and then there may be more input, if any was refused
+abbrev pub backlog_after : (refused : ℕ) → ServerState → ServerState
+backlog_after zero state = state
+backlog_after (suc n) state = with_backlog state
+
+-- a client that was written to still is, no queue overflows, and nobody is read
+pub record PreservesRound (more : List TransportEvent) (old new : ServerState) : Type 0 where
+  pub written : (client : ℕ) (before : List TransportEvent) → IsWrittenTo client before old → IsWrittenTo client (before ++ more) new
+  pub on_time : (client : ℕ) → has_overflowed old client ≡ false → has_overflowed new client ≡ false
+  pub unread : IsUnread more
+
+-- this client is connected now, and so are all that were
+pub record HasMoreClients (client : ℕ) (old new : ServerState) : Type 0 where
+  pub takes : is_connected new client ≡ true
+  pub keeps : (other : ℕ) → is_connected old other ≡ true → is_connected new other ≡ true

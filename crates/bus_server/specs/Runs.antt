@@ -1,0 +1,113 @@
+-- A whole run of a server: round after round, each with the time that it took.
+use Rattle.std.specs.Prelude.{ℕ, Bool, true, ◌==◌, ◌≡◌, ◌⊎◌, ◌+◌, ◌-◌, ◌^◌, ◌<◌, ◌≤◌, if◌then◌else◌, length, min, nat_lt, List, [], ◌∷◌, ◌++◌, Option, Some, None}
+use Rattle.std.specs.List.{flat_map, list_all}
+use Rattle.layout_core.specs.declared.event.Event.{Event as LayoutEvent}
+use Rattle.layout_core.specs.declared.event.Event.TheVariants as layout
+use Rattle.layout_core.specs.World.{HaveHeard}
+use Rattle.bus.specs.Log.{Extends}
+use Rattle.bus.specs.declared.event.Event.{Event}
+use Rattle.bus.specs.Bus.{AreEvents, BusState, after_event, after_events}
+use Rattle.bus.specs.Course.{micros_in}
+use Rattle.bus.specs.Layout.{layout_events}
+use Rattle.bus.specs.Observations.{Observation, Skipped}
+use Rattle.bus_runs.specs.Cycle.{RunsInTime}
+use Rattle.bus_server.specs.declared.hub.Hub.{Hub}
+use Rattle.bus_server.specs.declared.losses.Losses.{Losses}
+use Rattle.bus_server.specs.Progress.{state_of}
+use Rattle.bus_server.specs.Rounds.{IsRound}
+use Rattle.bus_server.specs.Applied.{Handled, IsDrawn, longest_wait, LoggedEvent, RunsFor, ServerState, events_of, transport_events, observations_in, observations_of, without_backlog}
+use Rattle.bus_server.specs.TransportEvents.{Polled, TransportEvent}
+
+-- one round: how long it waited at most, what was handled, the clock's reading, and the events of that time
+pub record Round : Type 0 where
+  pub longest : Option ℕ
+  pub handled : List Handled
+  pub readings : List ℕ
+  pub elapsing : List LoggedEvent
+
+-- what is beyond a second is skipped, and observed
+abbrev pub skipped : (micros : ℕ) → List Observation
+skipped micros = if nat_lt 1000000 micros then Skipped (micros - 1000000) ∷ [] else []
+
+-- What follows a round: nothing, and no reading, if turns follow messages. Else the clock is read once, and the track runs for
+-- that time, a second at most.
+abbrev pub RunsByClock : (turns : Option ℕ) → (readings : List ℕ) → List LoggedEvent → ServerState → ServerState → Type 0
+RunsByClock (Some turns) readings elapsing old new = (readings ≡ []) × (elapsing ≡ []) × (new ≡ old)
+RunsByClock None readings elapsing old new = (micros : ℕ) × (readings ≡ micros ∷ []) × RunsFor (min micros 1000000) elapsing old new
+
+abbrev pub RunsRound : Round → ServerState → ServerState → Type 0
+RunsRound round old new =
+    (round.longest ≡ longest_wait old) × (mid : ServerState) × IsRound round.handled (without_backlog old) mid × RunsByClock mid.turns round.readings round.elapsing mid new
+
+-- one after another, each begun while fewer clients than these had disconnected
+abbrev pub RunsRounds : (most : ℕ) → List Round → ServerState → ServerState → Type 0
+RunsRounds most [] old new = new ≡ old
+RunsRounds most (round ∷ rounds) old new = (old.disconnected < most) × (mid : ServerState) × RunsRound round old mid × RunsRounds most rounds mid new
+
+-- the log of the transport, of the clock and of the observer, and the events of the bus, each in order
+abbrev pub transport_log : List Round → List TransportEvent
+transport_log rounds = flat_map (λ round. Polled round.longest ∷ transport_events round.handled) rounds
+
+abbrev pub readings_of : List Round → List ℕ
+readings_of rounds = flat_map (λ round. round.readings) rounds
+
+abbrev pub observation_log : List Round → List Observation
+observation_log rounds = flat_map (λ round. observations_in round.handled ++ (flat_map skipped round.readings ++ observations_of round.elapsing)) rounds
+
+abbrev pub logged_in : List Round → List LoggedEvent
+logged_in rounds = flat_map (λ round. flat_map (λ one_handled. one_handled.applied) round.handled ++ round.elapsing) rounds
+
+-- what the decoders miss of each turn is what the generator draws, turn after turn
+abbrev pub AreDrawn : List Event → BusState → (nodes : ℕ) → (old new : Losses) → Type 0
+AreDrawn [] bus nodes old new = new ≡ old
+AreDrawn (event ∷ events) bus nodes old new = (mid : Losses) × IsDrawn event bus nodes old mid × AreDrawn events (after_event bus event) nodes mid new
+
+-- The bus is what these events make of it, the decoders heard what they are to the layout, and nothing else, and what the
+-- decoders missed was drawn.
+pub record IsEventRun (events : List Event) (old new : ServerState) : Type 0 where
+  pub legal : AreEvents events
+  pub bus : new.bus ≡ after_events old.bus events
+  pub nodes : HaveHeard old.bus.station (layout_events old.bus events) old.nodes new.nodes
+  pub losses : AreDrawn events old.bus (length old.nodes) old.losses new.losses
+
+-- one moment of a run: the three logs, and the server
+pub record RunSnapshot : Type 0 where
+  pub log : Option (List TransportEvent)
+  pub readings : Option (List ℕ)
+  pub observed : Option (List Observation)
+  pub state : ServerState
+
+abbrev pub run_snapshot : Option (List TransportEvent) → Option (List ℕ) → Option (List Observation) → Hub → RunSnapshot
+run_snapshot log readings observed hub = record { log = log; readings = readings; observed = observed; state = state_of hub }
+
+abbrev pub RunsLogged : (most : ℕ) → List Round → (old new : RunSnapshot) → Type 0
+RunsLogged most rounds old new =
+    Extends old.log new.log (transport_log rounds) × Extends old.readings new.readings (readings_of rounds) × Extends old.observed new.observed (observation_log rounds) × RunsRounds most rounds old.state new.state
+
+-- A run, until so many clients have disconnected. The three logs grew by its rounds; their events, in order, are what the bus
+-- ran; and the headline in time holds of these events.
+abbrev pub IsRun : (most : ℕ) → (old new : RunSnapshot) → Type 0
+IsRun most old new =
+    (rounds : List Round) × RunsLogged most rounds old new × ((most ≤ new.state.disconnected) ⊎ (length rounds ≡ 2 ^ 64 - 1))
+    × IsEventRun (events_of (logged_in rounds)) old.state new.state
+    × RunsInTime old.state.bus (events_of (logged_in rounds)) old.state.nodes new.state.nodes
+
+-- no decoder misses this
+abbrev pub is_missed_by_none : LayoutEvent → Bool
+is_missed_by_none (layout.Turn missed) = missed == 0
+is_missed_by_none other = true
+
+-- Where no share is to be lost, no decoder misses a turn.
+abbrev pub NobodyMisses : Type 0
+NobodyMisses = (events : List Event) (old new : ServerState) → IsEventRun events old new → old.losses.lose ≡ 0
+    → list_all is_missed_by_none (layout_events old.bus events) ≡ true
+
+-- the sum of the clock's readings, each a second at most
+abbrev pub time_read : List ℕ → ℕ
+time_read [] = 0
+time_read (micros ∷ readings) = min micros 1000000 + time_read readings
+
+-- If turns follow time, the track time of a run is what the clock told, and no other.
+abbrev pub TimeIsRead : Type 0
+TimeIsRead = (most : ℕ) (rounds : List Round) (old new : ServerState) → old.turns ≡ None → RunsRounds most rounds old new
+    → micros_in old.bus (events_of (logged_in rounds)) ≡ time_read (readings_of rounds)

@@ -1,0 +1,23 @@
+//! What a program does between two rounds, as sending decoder states to pages.
+ghost use Rattle.std.specs.Prelude.{◌≡◌, [], map};
+ghost use Rattle.layout_core.specs.Nodes.{spec_of};
+ghost use Rattle.bus.specs.Log.{Extends};
+
+use crate::transport::Transport;
+use bus::Observer;
+use layout_core::World;
+
+/// What a program does between two rounds.
+pub trait AfterRound<W: Transport, P: Observer> {
+    /// Does it. Nothing is read or written for the bus, and nothing is observed.
+    fn after_round(
+        &mut self,
+        transport: &mut W,
+        observer: &mut P,
+        world: &World,
+    ) -> Result<(), P::Fault>
+        requires observes { map spec_of world.now.nodes ≡ P.decoder_specs observer.old }
+        ensures decoder_specs { P.decoder_specs observer.new ≡ P.decoder_specs observer.old }
+        ensures log { Extends (W.log transport.old) (W.log transport.new) [] }
+        ensures observed { Extends (P.observed observer.old) (P.observed observer.new) [] };
+}

@@ -1,0 +1,218 @@
+//! The bus, with a send queue for each client.
+ghost use Rattle.std.specs.Prelude.{◌≡◌, ◌<◌, ◌≤◌, ◌&&◌, ◌∷◌, [], IfOk, IsTrue, is_some, length, not, slice_index_or, slice_set, drop, take, map, None, Some, true};
+ghost use Rattle.std.specs.List.{list_all};
+ghost use Rattle.bus_server.specs.Queues.{is_within_capacity, queued};
+ghost use Rattle.bus_server.specs.ClientQueues.{names_client, enqueued_all, queues_after};
+ghost use Rattle.bus_server.specs.Counts.{disconnected_after};
+
+use crate::losses::Losses;
+use crate::send_queues::{SendQueues, empty_queues};
+use crate::transport::{IoOutcome, Transport};
+use bus::{Bus, Event, Outcome};
+use layout_core::NodeList;
+use loconet_tcp::Text;
+use std::alloc::{AllocError, Global};
+
+/// The bus, with a send queue for each client.
+#[derive(Drop)]
+pub(crate) struct Hub {
+    pub(crate) bus: Bus,
+    pub(crate) queues: SendQueues,
+    /// Draws the packets that decoders miss.
+    pub(crate) losses: Losses,
+    /// The turns that follow each message; `None`: turns follow time.
+    pub(crate) turns: Option<u8>,
+    /// How many clients have disconnected.
+    pub(crate) disconnected: u64,
+    /// Something was read, accepted or refused since the last wait, so there may be more.
+    pub(crate) has_backlog: bool,
+    ghost eight: { length queues ≡ 8 },
+    ghost within_capacity: { list_all is_within_capacity queues ≡ true },
+}
+
+impl Hub {
+    ghost use Rattle.std.specs.Prelude.{ℕ};
+    ghost use Rattle.layout_core.specs.Nodes.{node_of, spec_of};
+    ghost use Rattle.bus_server.specs.Draws.{IsDraw};
+    ghost use Rattle.bus_server.specs.declared.losses.Losses.{Losses as LossesValue};
+    ghost use Rattle.bus.specs.Bus.{client_of, is_event, outcome_of};
+    ghost use Rattle.bus.specs.State.{bus_state};
+    ghost use Rattle.bus.specs.Observations.{Observed};
+    ghost use Rattle.bus.specs.declared.event.Event.TheVariants.{Elapses, Turn};
+    ghost use Rattle.bus_server.specs.Rounds.{backlog_after};
+    ghost use Rattle.bus_server.specs.Progress.{WritesFront, state_of};
+    ghost use Rattle.bus_server.specs.Applied.{RunsEvent, IsDrawn, initial_state, has_overflowed};
+
+    /// A new layout with these decoders and no clients. It takes all its memory here.
+    ///
+    /// # Errors
+    ///
+    /// Out of memory.
+    pub(crate) fn new(
+        alloc: Global,
+        nodes: NodeList,
+        turns: Option<u8>,
+        losses: Losses,
+    ) -> Result<Hub, AllocError>
+        ensures hub { IfOk result (λ hub. state_of hub ≡ initial_state nodes.items turns losses) }
+        ensures specs { IfOk result (λ hub. map spec_of hub.bus.world.nodes ≡ nodes.items) }
+    {
+        let bus = match Bus::new(alloc, nodes) {
+            Ok(bus) => bus,
+            Err(_) => return Err(AllocError),
+        };
+        let queues = empty_queues(alloc)?;
+        Ok(Hub {
+            bus,
+            queues,
+            losses,
+            turns,
+            disconnected: 0,
+            has_backlog: false,
+        })
+    }
+
+    /// Runs one event, and enqueues its text for each client. What decoders miss of it is drawn already.
+    pub(crate) fn step(&mut self, event: Event) -> Outcome
+        requires { IsTrue (is_event event) }
+        ensures outcome { result ≡ outcome_of (bus_state self.old.bus) event }
+        ensures specs { map spec_of self.new.bus.world.nodes ≡ map spec_of self.old.bus.world.nodes }
+        ensures happens { (before : LossesValue) → IsDrawn event (bus_state self.old.bus) (length self.old.bus.world.nodes) before self.old.losses → RunsEvent event (Observed result self.new.bus.world.nodes) (record (state_of self.old) { losses = before }) (state_of self.new) }
+    {
+        let outcome = self.bus.step(event);
+        enqueue(&mut self.queues, &outcome);
+        self.disconnected = disconnected_after(&outcome, self.disconnected);
+        outcome
+    }
+
+    /// Runs the track for `micros` microseconds.
+    pub(crate) fn elapse(&mut self, micros: u16) -> Outcome
+        requires { micros ≤ 5796 }
+        ensures specs { map spec_of self.new.bus.world.nodes ≡ map spec_of self.old.bus.world.nodes }
+        ensures happens { (missed : ℕ) × RunsEvent (Elapses micros missed) (Observed result self.new.bus.world.nodes) (state_of self.old) (state_of self.new) }
+    {
+        let missed = self.draw_within(micros);
+        self.step(Event::Elapses { micros, missed })
+    }
+
+    /// Begins the next turn.
+    pub(crate) fn turn(&mut self) -> Outcome
+        ensures specs { map spec_of self.new.bus.world.nodes ≡ map spec_of self.old.bus.world.nodes }
+        ensures happens { (missed : ℕ) × RunsEvent (Turn missed) (Observed result self.new.bus.world.nodes) (state_of self.old) (state_of self.new) }
+    {
+        let missed = self.draw();
+        self.step(Event::Turn { missed })
+    }
+
+    /// Draws the decoders that miss the turn that begins within `micros` microseconds; draws nothing if none begins.
+    fn draw_within(&mut self, micros: u16) -> u64
+        ensures kept { state_of self.new ≡ record (state_of self.old) { losses = self.new.losses } }
+        ensures drawn { IsDrawn (Elapses micros result) (bus_state self.old.bus) (length self.old.bus.world.nodes) self.old.losses self.new.losses }
+    {
+        if self.bus.remaining() <= u32::from(micros) {
+            self.draw()
+        } else {
+            0
+        }
+    }
+
+    /// Draws the decoders that miss the turn that begins.
+    fn draw(&mut self) -> u64
+        ensures kept { state_of self.new ≡ record (state_of self.old) { losses = self.new.losses } }
+        ensures drawn { IsDraw (length self.old.bus.world.nodes) result self.old.losses self.new.losses }
+    {
+        let nodes = self.bus.world().nodes();
+        self.losses.draw(nodes)
+    }
+
+    /// Notes that `refused` pending clients were refused: after any, there may be more.
+    pub(crate) fn note_refused(&mut self, refused: u8)
+        ensures state { state_of self.new ≡ backlog_after refused (state_of self.old) }
+        ensures specs { map spec_of self.new.bus.world.nodes ≡ map spec_of self.old.bus.world.nodes }
+    {
+        if refused > 0 {
+            self.has_backlog = true;
+        }
+    }
+
+    /// Writes the front of a client's queue, unless it is empty.
+    pub(crate) fn write<W: Transport>(&mut self, client: u8, transport: &mut W) -> IoOutcome
+        requires { client < 8 }
+        ensures wrote { WritesFront client result (W.log transport.old) (W.log transport.new) (state_of self.old) (state_of self.new) }
+        ensures bus { self.new.bus ≡ self.old.bus }
+    {
+        let piece = front(&self.queues, client);
+        if piece.is_empty() {
+            return IoOutcome::WouldBlock;
+        }
+        let wrote = transport.write(client, piece);
+        if let IoOutcome::Bytes(count) = wrote {
+            consume(&mut self.queues, client, count);
+        }
+        wrote
+    }
+
+    /// Whether a client, 0 to 7, is connected and its queue has overflowed.
+    pub(crate) fn has_overflowed(&self, client: u8) -> bool
+        requires { client < 8 }
+        ensures { result ≡ has_overflowed (state_of self.now) client }
+    {
+        self.bus.is_connected(client) && !self.queues[usize::from(client)].is_open()
+    }
+}
+
+/// The first bytes of a client's queue: some unless it is empty.
+fn front(queues: &SendQueues, client: u8) -> &[u8]
+    requires { client < 8 }
+    ensures front { result.now ≡ take (length result.now) (queued (slice_index_or queues.now client None)) }
+    ensures some { 0 < length (queued (slice_index_or queues.now client None)) → 0 < length result.now }
+{
+    queues[usize::from(client)].front()
+}
+
+/// Removes `count` bytes from the front of a client's queue.
+fn consume(queues: &mut SendQueues, client: u8, count: usize)
+    requires client { client < 8 }
+    requires open { is_some (slice_index_or queues.old client None) ≡ true }
+    requires some { count ≤ length (queued (slice_index_or queues.old client None)) }
+    ensures { queues.new ≡ slice_set queues.old client (Some (drop count (queued (slice_index_or queues.old client None)))) }
+{
+    queues[usize::from(client)].consume(count);
+}
+
+/// How many clients have disconnected after this outcome.
+fn disconnected_after(outcome: &Outcome, disconnected: u64) -> u64
+    ensures { result ≡ disconnected_after outcome.now disconnected }
+{
+    match outcome {
+        Outcome::Disconnected { .. } => disconnected.saturating_add(1),
+        _ => disconnected,
+    }
+}
+
+/// Opens and closes queues as clients connect and disconnect, and enqueues the text of an outcome.
+fn enqueue(queues: &mut SendQueues, outcome: &Outcome)
+    requires { IsTrue (names_client outcome.now) }
+    ensures { queues.new ≡ queues_after outcome.now queues.old }
+{
+    match outcome {
+        Outcome::Nothing | Outcome::TurnBegan { .. } => {}
+        Outcome::Disconnected { client } => queues[usize::from(*client)].close(),
+        Outcome::Connected { client } => {
+            queues[usize::from(*client)].open();
+            enqueue_all(queues, outcome);
+        }
+        Outcome::Rejected { .. } | Outcome::Sent { .. } => enqueue_all(queues, outcome),
+    }
+}
+
+/// Enqueues for each client its own text of an outcome.
+fn enqueue_all(queues: &mut SendQueues, outcome: &Outcome)
+    ensures { queues.new ≡ enqueued_all outcome.now queues.old }
+{
+    for place in 0..8u8 {
+        let mut text = Text::new();
+        outcome.push_text_for(place, &mut text);
+        queues[usize::from(place)].enqueue(text.as_slice());
+    }
+}

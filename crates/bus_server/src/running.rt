@@ -1,0 +1,144 @@
+//! A whole run of a server.
+ghost use Rattle.std.specs.Prelude.{◌≡◌, ◌<◌, ◌∷◌, [], ◌++◌, List, OnOk, min, ℕ};
+ghost use Rattle.std.specs.List.{flat_map};
+ghost use Rattle.bus.specs.Log.{Extends};
+ghost use Rattle.bus_server.specs.Progress.{ObservesLayout, state_of};
+ghost use Rattle.bus_server.specs.Applied.{LoggedEvent, longest_wait, RunsFor, observations_of};
+ghost use Rattle.bus_server.specs.Runs.{RunsByClock, IsRun, Round, RunsLogged, RunSnapshot, skipped, run_snapshot};
+
+use crate::after_round::AfterRound;
+use crate::server::Server;
+use crate::time_source::TimeSource;
+use crate::transport::Transport;
+use bus::Observer;
+
+/// The longest time of one round, in microseconds: what is beyond it is skipped.
+const LONGEST_STEP: u64 = 1_000_000;
+
+/// Why a run stopped. Each fault was made by a device, so that device has failed.
+#[derive(Clone, Copy, Debug, PartialEq, Eq, Drop)]
+pub enum Stop<T, C, O> {
+    /// The transport cannot wait.
+    Transport(T),
+    /// The clock cannot be read.
+    Clock(C),
+    /// The observer cannot go on.
+    Observer(O),
+}
+
+impl Server {
+    /// Serves until `most` clients have disconnected since the server was new, or for 2 ^ 64 - 1 rounds.
+    ///
+    /// # Errors
+    ///
+    /// The fault of the device that has failed. The run ends at once.
+    pub fn run<W: Transport, C: TimeSource, P: Observer, A: AfterRound<W, P>>(
+        &mut self,
+        transport: &mut W,
+        clock: &mut C,
+        observer: &mut P,
+        after_round: &mut A,
+        most: u64,
+    ) -> Result<(), Stop<W::Fault, C::Fault, P::Fault>>
+        requires observes { ObservesLayout (P.decoder_specs observer.old) self.old.hub }
+        ensures observes { ObservesLayout (P.decoder_specs observer.new) self.new.hub }
+        ensures run { OnOk result (IsRun most (run_snapshot (W.log transport.old) (C.readings clock.old) (P.observed observer.old) self.old.hub) (run_snapshot (W.log transport.new) (C.readings clock.new) (P.observed observer.new) self.new.hub)) }
+    {
+        bus::laws::events_are_the_layout();
+        layout_core::laws::events_add_up();
+        bus_runs::laws::headline();
+        self.hub.bus.invariant_holds();
+        for _round in 0..u64::MAX {
+            if self.hub.disconnected >= most {
+                return Ok(());
+            }
+            self.run_round(transport, clock, observer, after_round, most)?;
+        }
+        Ok(())
+    }
+
+    /// Waits for input, and serves one round.
+    fn run_round<W: Transport, C: TimeSource, P: Observer, A: AfterRound<W, P>>(
+        &mut self,
+        transport: &mut W,
+        clock: &mut C,
+        observer: &mut P,
+        after_round: &mut A,
+        most: u64,
+    ) -> Result<(), Stop<W::Fault, C::Fault, P::Fault>>
+        requires observes { ObservesLayout (P.decoder_specs observer.old) self.old.hub }
+        requires fewer { self.old.hub.disconnected < most }
+        ensures observes { ObservesLayout (P.decoder_specs observer.new) self.new.hub }
+        ensures round { OnOk result ((round : Round) × RunsLogged most (round ∷ []) (run_snapshot (W.log transport.old) (C.readings clock.old) (P.observed observer.old) self.old.hub) (run_snapshot (W.log transport.new) (C.readings clock.new) (P.observed observer.new) self.new.hub)) }
+    {
+        if let Err(fault) = transport.wait(self.longest_wait()) {
+            return Err(Stop::Transport(fault));
+        }
+        self.hub.has_backlog = false;
+        if let Err(fault) = self.round(transport, observer) {
+            return Err(Stop::Observer(fault));
+        }
+        self.elapse::<W, C, P>(clock, observer)?;
+        match after_round.after_round(transport, observer, self.world()) {
+            Ok(()) => Ok(()),
+            Err(fault) => Err(Stop::Observer(fault)),
+        }
+    }
+
+    /// How long to wait for input, in microseconds; `None`: without end.
+    fn longest_wait(&self) -> Option<u32>
+        ensures { result ≡ longest_wait (state_of self.now.hub) }
+    {
+        if self.has_backlog() {
+            return Some(0);
+        }
+        match self.turns() {
+            Some(_) => None,
+            None => Some(self.remaining()),
+        }
+    }
+
+    /// Runs the track for the time since the last round, if turns follow time.
+    fn elapse<W: Transport, C: TimeSource, P: Observer>(
+        &mut self,
+        clock: &mut C,
+        observer: &mut P,
+    ) -> Result<(), Stop<W::Fault, C::Fault, P::Fault>>
+        requires observes { ObservesLayout (P.decoder_specs observer.old) self.old.hub }
+        ensures observes { ObservesLayout (P.decoder_specs observer.new) self.new.hub }
+        ensures elapses { OnOk result ((readings : List ℕ) × (elapsing : List LoggedEvent) × Extends (C.readings clock.old) (C.readings clock.new) readings × Extends (P.observed observer.old) (P.observed observer.new) (flat_map skipped readings ++ observations_of elapsing) × RunsByClock self.old.hub.turns readings elapsing (state_of self.old.hub) (state_of self.new.hub)) }
+    {
+        if self.hub.turns.is_some() {
+            return Ok(());
+        }
+        let micros = match clock.elapsed() {
+            Ok(micros) => micros,
+            Err(fault) => return Err(Stop::Clock(fault)),
+        };
+        match self.run_capped(micros, observer) {
+            Ok(()) => Ok(()),
+            Err(fault) => Err(Stop::Observer(fault)),
+        }
+    }
+
+    /// Runs the track for `micros` microseconds, a second at most, and reports the rest as skipped.
+    fn run_capped<P: Observer>(&mut self, micros: u64, observer: &mut P) -> Result<(), P::Fault>
+        requires observes { ObservesLayout (P.decoder_specs observer.old) self.old.hub }
+        ensures observes { ObservesLayout (P.decoder_specs observer.new) self.new.hub }
+        ensures log { OnOk result ((elapsing : List LoggedEvent) × Extends (P.observed observer.old) (P.observed observer.new) (skipped micros ++ observations_of elapsing) × RunsFor (min micros 1000000) elapsing (state_of self.old.hub) (state_of self.new.hub)) }
+    {
+        observe_skipped(micros, observer)?;
+        self.run_for(micros.min(LONGEST_STEP) as u32, observer)
+    }
+}
+
+/// Reports what is beyond a second as skipped.
+fn observe_skipped<P: Observer>(micros: u64, observer: &mut P) -> Result<(), P::Fault>
+    ensures decoder_specs { P.decoder_specs observer.new ≡ P.decoder_specs observer.old }
+    ensures observed { OnOk result (Extends (P.observed observer.old) (P.observed observer.new) (skipped micros)) }
+{
+    if micros <= LONGEST_STEP {
+        return Ok(());
+    }
+    observer.skipped(micros - LONGEST_STEP)
+}

@@ -1,0 +1,337 @@
+//! A server and its rounds.
+ghost use Rattle.std.specs.Prelude.{◌≡◌, ◌<◌, ◌≤◌, IfOk, IsTrue, List, OnOk, false, is_some, map, true};
+ghost use Rattle.decoder_node.specs.declared.node.NodeSpec.{NodeSpec};
+ghost use Rattle.layout_core.specs.Nodes.{spec_of};
+ghost use Rattle.bus.specs.Log.{Extends};
+ghost use Rattle.bus.specs.Bus.{client_of, is_event};
+ghost use Rattle.bus.specs.Course.{is_time};
+ghost use Rattle.bus.specs.State.{bus_state};
+ghost use Rattle.bus_server.specs.TransportEvents.{TransportEvent, Received};
+ghost use Rattle.bus_server.specs.Applied.{Handled, AreTurns, RunsEventWithTurns, RunsFor, RunsEvents, AppliesAll, events_of, is_accepted, initial_state, has_overflowed, transport_events, observations_in, turns_after};
+ghost use Rattle.bus_server.specs.Progress.{ProgressesBy, Progresses, ProgressesWithoutInput, Snapshot, AcceptsAt, IsObserved, ObservesLayout, snapshot, state_of};
+ghost use Rattle.bus_server.specs.Rounds.{AllWrittenTo, IsRead, IsRound, IsWrittenTo, AcceptsPending, refusals};
+
+use crate::hub::Hub;
+use crate::losses::Losses;
+use crate::transport::{IoOutcome, Transport};
+use bus::{Event, Observer, Outcome};
+use layout_core::{NodeList, World};
+use std::alloc::{AllocError, Global};
+
+/// The most bytes that are read from a client before all clients are written to.
+///
+/// Their text fits into an empty queue: a line of 11 bytes, as `SEND BB ..`, brings at most 75.
+const MAX_READ: usize = 512;
+
+/// The most writes to a client before the next client is served. A queue lies in two pieces at most.
+const MAX_WRITES: u8 = 4;
+
+/// The shortest turn in microseconds: at most one begins in such a time.
+const SHORTEST_TURN: u32 = 5_796;
+
+/// A bus with a send queue for each client, and how its track runs.
+#[derive(Drop)]
+pub struct Server {
+    pub(crate) hub: Hub,
+}
+
+impl Server {
+    /// A new layout with these decoders and no clients. It takes all its memory here.
+    ///
+    /// `turns`: how many turns of the track follow each message; with `None`, turns follow time.
+    ///
+    /// # Errors
+    ///
+    /// Out of memory.
+    pub fn new(
+        alloc: Global,
+        nodes: NodeList,
+        turns: Option<u8>,
+        losses: Losses,
+    ) -> Result<Server, AllocError>
+        ensures hub { IfOk result (λ server. state_of server.hub ≡ initial_state nodes.items turns losses) }
+        ensures specs { IfOk result (λ server. map spec_of server.hub.bus.world.nodes ≡ nodes.items) }
+    {
+        Ok(Server {
+            hub: Hub::new(alloc, nodes, turns, losses)?,
+        })
+    }
+
+    /// The layout.
+    pub fn world(&self) -> &World
+        ensures { result.now ≡ self.now.hub.bus.world }
+    {
+        self.hub.bus.world()
+    }
+
+    /// Whether a client, 0 to 7, is connected.
+    pub fn is_connected(&self, client: u8) -> bool
+        requires { client < 8 }
+        ensures { result ≡ is_some (client_of (bus_state self.now.hub.bus) client) }
+    {
+        self.hub.bus.is_connected(client)
+    }
+
+    /// The turns that follow each message; `None`: turns follow time.
+    pub fn turns(&self) -> Option<u8>
+        ensures { result ≡ self.now.hub.turns }
+    {
+        self.hub.turns
+    }
+
+    /// The microseconds that remain of the turn under way, 1 to 10,740.
+    pub fn remaining(&self) -> u32
+        ensures remaining { result ≡ (bus_state self.now.hub.bus).remaining }
+        ensures under_way { 0 < result }
+        ensures longest { result ≤ 10740 }
+    {
+        self.hub.bus.remaining()
+    }
+
+    /// Whether there may be more input: something was read, accepted or refused since the last wait.
+    pub fn has_backlog(&self) -> bool
+        ensures { result ≡ self.now.hub.has_backlog }
+    {
+        self.hub.has_backlog
+    }
+
+    /// Serves one round: reads each client, writing to all after each, and then accepts pending clients.
+    ///
+    /// # Errors
+    ///
+    /// That of the observer. The round ends at once.
+    pub fn round<W: Transport, P: Observer>(
+        &mut self,
+        transport: &mut W,
+        observer: &mut P,
+    ) -> Result<(), P::Fault>
+        requires observes { ObservesLayout (P.decoder_specs observer.old) self.old.hub }
+        ensures observes { ObservesLayout (P.decoder_specs observer.new) self.new.hub }
+        ensures served { OnOk result (ProgressesBy IsRound (snapshot (W.log transport.old) (P.observed observer.old) self.old.hub) (snapshot (W.log transport.new) (P.observed observer.new) self.new.hub)) }
+    {
+        for client in 0..8u8 {
+            self.receive(client, transport, observer)?;
+            self.write_all(transport, observer)?;
+        }
+        // Last, so that the index of a client that has disconnected meanwhile is free.
+        self.accept_pending(transport, observer)
+    }
+
+    /// Accepts pending clients at free indexes, and rejects others.
+    fn accept_pending<W: Transport, P: Observer>(
+        &mut self,
+        transport: &mut W,
+        observer: &mut P,
+    ) -> Result<(), P::Fault>
+        requires observes { ObservesLayout (P.decoder_specs observer.old) self.old.hub }
+        ensures observes { ObservesLayout (P.decoder_specs observer.new) self.new.hub }
+        ensures served { OnOk result (ProgressesWithoutInput (λ more _. AcceptsPending more) (snapshot (W.log transport.old) (P.observed observer.old) self.old.hub) (snapshot (W.log transport.new) (P.observed observer.new) self.new.hub)) }
+    {
+        for client in 0..8u8 {
+            if !self.accept_at(client, transport, observer)? {
+                return Ok(());
+            }
+        }
+        let refused = reject_pending(transport);
+        self.hub.note_refused(refused);
+        Ok(())
+    }
+
+    /// Accepts a pending client at this index, unless one is connected there. Returns false if none is pending.
+    fn accept_at<W: Transport, P: Observer>(
+        &mut self,
+        client: u8,
+        transport: &mut W,
+        observer: &mut P,
+    ) -> Result<bool, P::Fault>
+        requires client { client < 8 }
+        requires observes { ObservesLayout (P.decoder_specs observer.old) self.old.hub }
+        ensures observes { ObservesLayout (P.decoder_specs observer.new) self.new.hub }
+        ensures seats { IfOk result (λ is_taken. AcceptsAt client is_taken (snapshot (W.log transport.old) (P.observed observer.old) self.old.hub) (snapshot (W.log transport.new) (P.observed observer.new) self.new.hub)) }
+    {
+        self.hub.bus.invariant_holds();
+        if self.hub.bus.is_connected(client) {
+            return Ok(true);
+        }
+        if !transport.accept(client) {
+            return Ok(false);
+        }
+        self.hub.has_backlog = true;
+        self.apply(Event::Connects { client }, observer)?;
+        Ok(true)
+    }
+
+    /// Disconnects a client whose queue has overflowed.
+    fn disconnect<W: Transport, P: Observer>(
+        &mut self,
+        client: u8,
+        transport: &mut W,
+        observer: &mut P,
+    ) -> Result<(), P::Fault>
+        requires client { client < 8 }
+        requires observes { ObservesLayout (P.decoder_specs observer.old) self.old.hub }
+        ensures observes { ObservesLayout (P.decoder_specs observer.new) self.new.hub }
+        ensures served { OnOk result (ProgressesWithoutInput (λ _ all. has_overflowed all client ≡ false) (snapshot (W.log transport.old) (P.observed observer.old) self.old.hub) (snapshot (W.log transport.new) (P.observed observer.new) self.new.hub)) }
+    {
+        if !self.hub.has_overflowed(client) {
+            return Ok(());
+        }
+        transport.close(client);
+        observer.overflowed(client)?;
+        self.apply(Event::Disconnects { client }, observer)
+    }
+
+    /// Reads what a client sent, and applies it.
+    fn receive<W: Transport, P: Observer>(
+        &mut self,
+        client: u8,
+        transport: &mut W,
+        observer: &mut P,
+    ) -> Result<(), P::Fault>
+        requires client { client < 8 }
+        requires observes { ObservesLayout (P.decoder_specs observer.old) self.old.hub }
+        ensures observes { ObservesLayout (P.decoder_specs observer.new) self.new.hub }
+        ensures served { OnOk result (Progresses (λ more _. IsRead client more) (snapshot (W.log transport.old) (P.observed observer.old) self.old.hub) (snapshot (W.log transport.new) (P.observed observer.new) self.new.hub)) }
+    {
+        let mut buf = [0; MAX_READ];
+        match transport.read(client, &mut buf) {
+            IoOutcome::Bytes(count) => { self.receive_all(client, &buf[..count], observer) }
+            IoOutcome::WouldBlock => Ok(()),
+            IoOutcome::Closed => self.apply(Event::Disconnects { client }, observer),
+        }
+    }
+
+    /// Applies bytes of a client.
+    fn receive_all<P: Observer>(
+        &mut self,
+        client: u8,
+        bytes: &[u8],
+        observer: &mut P,
+    ) -> Result<(), P::Fault>
+        requires client { client < 8 }
+        requires observes { ObservesLayout (P.decoder_specs observer.old) self.old.hub }
+        ensures observes { ObservesLayout (P.decoder_specs observer.new) self.new.hub }
+        ensures served { OnOk result ((handled : List Handled) × (transport_events handled ≡ map (λ byte. Received client byte) bytes.now) × Extends (P.observed observer.old) (P.observed observer.new) (observations_in handled) × AppliesAll handled (state_of self.old.hub) (state_of self.new.hub)) }
+    {
+        for byte in bytes {
+            self.hub.has_backlog = true;
+            self.apply(
+                Event::Receives {
+                    client,
+                    byte: *byte,
+                },
+                observer,
+            )?;
+        }
+        Ok(())
+    }
+
+    /// Writes to each client, and disconnects those whose queue has overflowed.
+    fn write_all<W: Transport, P: Observer>(
+        &mut self,
+        transport: &mut W,
+        observer: &mut P,
+    ) -> Result<(), P::Fault>
+        requires observes { ObservesLayout (P.decoder_specs observer.old) self.old.hub }
+        ensures observes { ObservesLayout (P.decoder_specs observer.new) self.new.hub }
+        ensures served { OnOk result (ProgressesWithoutInput (AllWrittenTo 8) (snapshot (W.log transport.old) (P.observed observer.old) self.old.hub) (snapshot (W.log transport.new) (P.observed observer.new) self.new.hub)) }
+    {
+        for client in 0..8u8 {
+            self.write(client, transport, observer)?;
+            self.disconnect(client, transport, observer)?;
+        }
+        Ok(())
+    }
+
+    /// Writes a client's queue, as much as it takes, in four writes at most.
+    fn write<W: Transport, P: Observer>(
+        &mut self,
+        client: u8,
+        transport: &mut W,
+        observer: &mut P,
+    ) -> Result<(), P::Fault>
+        requires client { client < 8 }
+        requires observes { ObservesLayout (P.decoder_specs observer.old) self.old.hub }
+        ensures observes { ObservesLayout (P.decoder_specs observer.new) self.new.hub }
+        ensures served { OnOk result (ProgressesWithoutInput (IsWrittenTo client) (snapshot (W.log transport.old) (P.observed observer.old) self.old.hub) (snapshot (W.log transport.new) (P.observed observer.new) self.new.hub)) }
+    {
+        for _piece in 0..MAX_WRITES {
+            match self.hub.write(client, transport) {
+                IoOutcome::Bytes(_) => {}
+                IoOutcome::WouldBlock => return Ok(()),
+                IoOutcome::Closed => return self.apply(Event::Disconnects { client }, observer),
+            }
+        }
+        Ok(())
+    }
+
+    /// Runs the track for `micros` microseconds.
+    ///
+    /// # Errors
+    ///
+    /// That of the observer.
+    pub fn run_for<P: Observer>(&mut self, micros: u32, observer: &mut P) -> Result<(), P::Fault>
+        requires observes { ObservesLayout (P.decoder_specs observer.old) self.old.hub }
+        ensures observes { ObservesLayout (P.decoder_specs observer.new) self.new.hub }
+        ensures log { OnOk result (IsObserved (λ applied. RunsFor micros applied (state_of self.old.hub) (state_of self.new.hub)) (P.observed observer.old) (P.observed observer.new)) }
+    {
+        let mut rest = micros;
+        while rest > 0 {
+            let piece = rest.min(SHORTEST_TURN);
+            rest -= piece;
+            let outcome = self.hub.elapse(piece as u16);
+            observer.observe(&outcome, self.hub.bus.world())?;
+        }
+        Ok(())
+    }
+
+    /// Applies an event of a client, with the turns that follow it.
+    fn apply<P: Observer>(&mut self, event: Event, observer: &mut P) -> Result<(), P::Fault>
+        requires event { IsTrue (is_event event) }
+        requires clients { is_time event ≡ false }
+        requires place { IsTrue (is_accepted (state_of self.old.hub) event) }
+        requires observes { ObservesLayout (P.decoder_specs observer.old) self.old.hub }
+        ensures observes { ObservesLayout (P.decoder_specs observer.new) self.new.hub }
+        ensures happened { OnOk result (IsObserved (λ applied. RunsEventWithTurns event applied (state_of self.old.hub) (state_of self.new.hub)) (P.observed observer.old) (P.observed observer.new)) }
+    {
+        let outcome = self.hub.step(event);
+        observer.observe(&outcome, self.hub.bus.world())?;
+        let turns = turns_after(self.hub.turns, &outcome);
+        self.run_turns(turns, observer)
+    }
+
+    /// Runs `turns` turns.
+    fn run_turns<P: Observer>(&mut self, turns: u8, observer: &mut P) -> Result<(), P::Fault>
+        requires observes { ObservesLayout (P.decoder_specs observer.old) self.old.hub }
+        ensures observes { ObservesLayout (P.decoder_specs observer.new) self.new.hub }
+        ensures happened { OnOk result (IsObserved (λ applied. AreTurns turns (events_of applied) × RunsEvents applied (state_of self.old.hub) (state_of self.new.hub)) (P.observed observer.old) (P.observed observer.new)) }
+    {
+        for _turn in 0..turns {
+            let outcome = self.hub.turn();
+            observer.observe(&outcome, self.hub.bus.world())?;
+        }
+        Ok(())
+    }
+}
+
+/// How many turns follow an outcome: those after a message, if turns follow messages.
+fn turns_after(turns: Option<u8>, outcome: &Outcome) -> u8
+    ensures { result ≡ turns_after turns outcome.now }
+{
+    match (outcome, turns) {
+        (Outcome::Sent { .. }, Some(turns)) => turns,
+        _ => 0,
+    }
+}
+
+/// Rejects pending clients, eight at most, so that the others are served on. Returns how many.
+fn reject_pending<W: Transport>(transport: &mut W) -> u8
+    ensures { Extends (W.log transport.old) (W.log transport.new) (refusals result) }
+{
+    for refused in 0..8u8 {
+        if !transport.reject() {
+            return refused;
+        }
+    }
+    8
+}

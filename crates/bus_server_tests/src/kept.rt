@@ -1,0 +1,30 @@
+//! What the logs of a run hold.
+use loconet_tcp::Reason;
+
+/// One call of a transport, and what it returned: what `TransportEvent` is in contracts, but a read is one entry.
+#[derive(Debug, Drop, PartialEq, Eq)]
+pub enum Entry {
+    Polled(Option<u32>),
+    Accepted(u8),
+    Received(u8, Vec<u8>),
+    PeerClosed(u8),
+    Written(u8, Vec<u8>),
+    ServerClosed(u8),
+    ReadBlocked(u8),
+    WriteBlocked(u8),
+    NonePending,
+    Refused,
+}
+
+/// One observation of a layout without decoders.
+#[derive(Debug, Drop, PartialEq, Eq)]
+pub enum Seen {
+    Nothing,
+    Connected(u8),
+    Disconnected(u8),
+    Rejected(u8, Reason),
+    Sent(u8, Vec<u8>, Option<Vec<u8>>),
+    TurnBegan(Option<Vec<u8>>),
+    Overflowed(u8),
+    Skipped(u64),
+}

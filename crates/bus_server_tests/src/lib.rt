@@ -1,0 +1,10 @@
+//! Runs of a server over a transport, a clock and an observer in memory, each of which keeps a log.
+#![tactic(auto)]
+
+pub mod kept;
+#[cfg(test)]
+mod memory;
+#[cfg(test)]
+mod script_run;
+#[cfg(test)]
+mod tests;

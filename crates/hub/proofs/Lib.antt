@@ -1,4 +1,0 @@
-pub mod Keeping
-pub mod Placing
-pub mod Going
-pub mod Rounding

@@ -1,4 +1,0 @@
-pub mod Hubs
-pub mod Places
-pub mod Rounds
-pub mod Served

@@ -1,0 +1,40 @@
+-- What `lbserver` does for the words behind its name: it serves, with what they ask for.
+use Rattle.std.specs.Prelude.{ℕ, ◌≡◌, ◌-◌, ◌^◌, List, [], Option, Some, None}
+use Rattle.command_line.specs.declared.words.ServerOrder.{ServerOrder}
+use Rattle.command_line.specs.ServerLine.{IsServerOrderOf}
+use Rattle.console.specs.Files.{IsRosterOf}
+use Rattle.roster.specs.Entry.{Entry}
+use Rattle.bus_log.specs.Decoders.{specs_of}
+use Rattle.bus_server.specs.declared.losses.Losses.{Losses}
+use Rattle.bus_server.specs.Applied.{ServerState, initial_state}
+use Rattle.bus_server.specs.Draws.{IsSeeded}
+use Rattle.bus_server.specs.Runs.{IsRun, RunSnapshot}
+
+-- how many clients have to disconnect until the server ends; without a number, as many as can be counted
+abbrev pub clients_of : Option ℕ → ℕ
+clients_of None = 2 ^ 64 - 1
+clients_of (Some clients) = clients
+
+-- the decoders of a roster; none without one
+abbrev pub entries_in : Option (List Entry) → List Entry
+entries_in None = []
+entries_in (Some entries) = entries
+
+-- a new server for an order: the decoders of its roster, its turns, and losses of its share, drawn from its seed
+abbrev pub IsNewServer : ServerOrder → List Entry → ServerState → Type 0
+IsNewServer order entries start =
+    (losses : Losses) × IsSeeded order.lose order.seed losses × (start ≡ initial_state (specs_of entries) order.turns losses)
+
+-- sockets, the system's clock and standard output keep no logs
+abbrev pub unlogged : ServerState → RunSnapshot
+unlogged state = record { log = None; readings = None; observed = None; state = state }
+
+-- A run of a new server for this order, until as many clients as it says have disconnected.
+abbrev pub ServesOrder : ServerOrder → List Entry → Type 0
+ServesOrder order entries =
+    (start end : ServerState) × IsNewServer order entries start × IsRun (clients_of order.clients) (unlogged start) (unlogged end)
+
+-- The words are those of an order, and it is served, with its roster.
+abbrev pub ServesWords : List (List ℕ) → Type 0
+ServesWords words =
+    (order : ServerOrder) × (roster : Option (List Entry)) × IsServerOrderOf words order × IsRosterOf order.roster roster × ServesOrder order (entries_in roster)

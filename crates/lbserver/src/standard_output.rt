@@ -1,0 +1,85 @@
+//! Standard output, written to only when it takes bytes.
+ghost use Rattle.std.specs.Prelude.{◌≤◌, IfOk, length};
+
+use bus_log::LogOutput;
+use console::Unwritten;
+use mio::unix::SourceFd;
+use mio::{Events, Interest, Poll, Token};
+use std::alloc::Global;
+use std::io;
+use std::io::{ErrorKind, Write};
+use std::os::fd::RawFd;
+use std::time::Duration;
+
+/// The file descriptor of standard output.
+pub(crate) const STANDARD_OUTPUT: RawFd = 1;
+
+/// An output behind standard output's file descriptor: it is written to only when that takes bytes.
+///
+/// A pipe or a terminal is registered for readiness. A file cannot be, and always takes bytes.
+#[derive(Drop)]
+pub(crate) struct StandardOutput<'a, O> {
+    output: &'a mut O,
+    poll: Poll,
+    events: Events,
+    is_pollable: bool,
+    /// How long to wait for readiness.
+    pub(crate) longest: Duration,
+}
+
+impl<'a, O: Write> StandardOutput<'a, O> {
+    /// The output, which is not waited for.
+    ///
+    /// # Errors
+    ///
+    /// Out of memory.
+    pub(crate) fn new(alloc: Global, poll: Poll, output: &'a mut O) -> io::Result<Self> {
+        let events = Events::with_capacity(alloc, 1)?;
+        let mut source = SourceFd(&STANDARD_OUTPUT);
+        let registered = poll
+            .registry()
+            .register(&mut source, Token(0), Interest::WRITABLE);
+        Ok(StandardOutput {
+            output,
+            poll,
+            events,
+            is_pollable: registered.is_ok(),
+            longest: Duration::ZERO,
+        })
+    }
+
+    /// Returns whether standard output takes bytes now.
+    fn is_ready(&mut self) -> bool {
+        if !self.is_pollable {
+            return true;
+        }
+        // Registering anew reports what is ready already.
+        let mut source = SourceFd(&STANDARD_OUTPUT);
+        let _ = self
+            .poll
+            .registry()
+            .reregister(&mut source, Token(0), Interest::WRITABLE);
+        match self.poll.poll(&mut self.events, Some(self.longest)) {
+            Ok(()) => self.events.iter().next().is_some(),
+            Err(_) => false,
+        }
+    }
+}
+
+impl<O: Write> LogOutput for StandardOutput<'_, O> {
+    fn write_ready(&mut self, bytes: &[u8]) -> Result<usize, Unwritten> {
+        if !self.is_ready() {
+            return Ok(0);
+        }
+        match self.output.write(bytes) {
+            Ok(count) => Ok(count),
+            Err(error) if is_later(&error) => Ok(0),
+            Err(_) => Err(Unwritten),
+        }
+    }
+}
+
+/// Whether a write only has to be tried again later.
+fn is_later(error: &io::Error) -> bool {
+    matches!(error.kind(), ErrorKind::WouldBlock | ErrorKind::Interrupted)
+}

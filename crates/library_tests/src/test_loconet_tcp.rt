@@ -1,0 +1,141 @@
+//! LocoNet over TCP: the requests in clients' lines, and the lines that clients get.
+
+use ln_frame::Msg;
+use loconet_tcp::*;
+use std::process::Abort;
+use std::test::Fail;
+
+const POWER_ON: [u8; 2] = [0x83, 0x7C];
+
+// Lines that send, each with its message.
+const SENT: [(&[u8], &[u8]); 5] = [
+    (b"SEND 83 7C\r\n", &POWER_ON),
+    (b"SEND bf 00 03 43\n", &[0xBF, 0x00, 0x03, 0x43]),
+    (b"SEND  83\t7c \r", &POWER_ON),
+    (b"SEND\t83 7C\n\r", &POWER_ON),
+    // Another line before it, and an empty one.
+    (
+        b"HELLO 83 7C\n\r\nSEND A0 01 40 1E\n",
+        &[0xA0, 0x01, 0x40, 0x1E],
+    ),
+];
+
+// Lines whose bytes cannot be sent, each with the reason.
+const INVALID: [(&[u8], Reason); 10] = [
+    (b"SEND\r\n", Reason::NoMessage),
+    (b"SEND \t\n", Reason::NoMessage),
+    (b"SEND 83\n", Reason::NoMessage),
+    (b"SEND 83 7C 00\n", Reason::NoMessage),
+    (b"SEND 83 7D\n", Reason::WrongCheck),
+    (b"SEND 8\n", Reason::NotHex),
+    (b"SEND 837C\n", Reason::NotHex),
+    (b"SEND 83 7C x\n", Reason::NotHex),
+    (b"SEND 8G 7C\n", Reason::NotHex),
+    (b"SEND 83,7C\n", Reason::NotHex),
+];
+
+// Texts without a request. The line of the last has not ended.
+const IDLE: [&[u8]; 8] = [
+    b"SENDX 83 7C\n",
+    b"SEND83 7C\n",
+    b"send 83 7C\n",
+    b" SEND 83 7C\n",
+    b"SEN\nD 83 7C\n",
+    b"RECEIVE 83 7C\r\n",
+    b"\r\n\n\r",
+    b"SEND 83 7C",
+];
+
+// The request in a text, byte by byte, which has one at most.
+fn request_in(rt: &impl Abort, reader: &mut RequestReader, text: &[u8]) -> Option<Request> {
+    let mut found = None;
+    for byte in text {
+        if let Some(request) = reader.push(*byte) {
+            assert!(rt; found.is_none(), "twice in {text:?}");
+            found = Some(request);
+        }
+    }
+    found
+}
+
+#[test]
+fn reads_lines(rt: HostRuntime) -> Result<(), Fail> {
+    for (text, bytes) in SENT {
+        let message = Msg::whole(bytes).ok_or("a message")?;
+        assert_eq!(rt;
+            request_in(&rt, &mut RequestReader::default(), text),
+            Some(Request::Send(message)),
+            "{text:?}"
+        );
+    }
+    for (text, reason) in INVALID {
+        assert_eq!(rt;
+            request_in(&rt, &mut RequestReader::default(), text),
+            Some(Request::Invalid(reason)),
+            "{text:?}"
+        );
+    }
+    for text in IDLE {
+        assert_eq!(rt;
+            request_in(&rt, &mut RequestReader::default(), text),
+            None,
+            "{text:?}"
+        );
+    }
+    Ok(())
+}
+
+// The request of `SEND`, so many blanks and `83 7C`, which are nine characters more.
+fn request_behind(rt: &impl Abort, reader: &mut RequestReader, blanks: u32) -> Option<Request> {
+    assert_eq!(rt; request_in(rt, reader, b"SEND"), None);
+    for _ in 0..blanks {
+        assert_eq!(rt; reader.push(b' '), None);
+    }
+    request_in(rt, reader, b"83 7C\n")
+}
+
+#[test]
+fn refuses_long_lines(rt: HostRuntime) -> Result<(), Fail> {
+    let mut reader = RequestReader::new();
+    let rows = [(391, true), (392, false), (99_991, false), (1, true)];
+    for (blanks, sends) in rows {
+        let wanted = if sends {
+            Request::Send(Msg::whole(&POWER_ON).ok_or("a message")?)
+        } else {
+            Request::Invalid(Reason::TooLong)
+        };
+        assert_eq!(rt;
+            request_behind(&rt, &mut reader, blanks),
+            Some(wanted),
+            "{blanks}"
+        );
+    }
+    // A long line that is none to send.
+    for _ in 0..500 {
+        assert_eq!(rt; reader.push(b'S'), None);
+    }
+    assert_eq!(rt; reader.push(b'\n'), None);
+    Ok(())
+}
+
+#[test]
+fn writes_exact_lines(rt: HostRuntime) -> Result<(), Fail> {
+    let mut text = Text::new();
+    push_receive(
+        &mut text,
+        &Msg::whole(&[0xBF, 0x00, 0x03, 0x43]).ok_or("a message")?,
+    );
+    assert_eq!(rt; text.as_slice(), b"RECEIVE BF 00 03 43\r\n".as_slice());
+    let mut text = Text::new();
+    push_version(&mut text);
+    push_server_full(&mut text);
+    push_sent_ok(&mut text);
+    push_sent_error(&mut text, Reason::TooLong);
+    push_sent_error(&mut text, Reason::NotHex);
+    push_sent_error(&mut text, Reason::NoMessage);
+    push_sent_error(&mut text, Reason::WrongCheck);
+    let wanted =
+        b"VERSION lbserver station\r\nERROR no place\r\nSENT OK\r\nSENT ERROR line too long\r\nSENT ERROR no pairs of hexadecimal digits\r\nSENT ERROR no whole message\r\nSENT ERROR wrong check byte\r\n";
+    assert_eq!(rt; text.as_slice(), wanted.as_slice());
+    Ok(())
+}

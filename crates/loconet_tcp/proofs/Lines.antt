@@ -1,0 +1,169 @@
+-- What one more byte does to what a text asks.
+use Rattle.std.proofs.Common.{◌≡◌, ℕ, ◌+◌, ◌<◌, ◌≤◌, Bool, true, false, List, [], ◌∷◌, ◌++◌, suc, length, take, Option, Some, None, refl, ap, ap₂, sym, ◌∙◌, inl, inr, arith, if◌then◌else◌, nat_eq, ◌&&◌, not, length-append}
+use Rattle.std.specs.Prelude.{codes}
+use Rattle.std.specs.Str.{bytes_eq}
+use Rattle.std.specs.List.{before_first, after_first, position_or_len}
+use Rattle.std.specs.Option.{option_to_list}
+use Rattle.std.proofs.lemmas.Bool.{and_parts, not-true, lt-ltb, le-ltb, cases_lt, cases_Bool}
+use Rattle.std.proofs.lemmas.List.{append-nil, append_assoc}
+use Rattle.loconet_tcp.specs.declared.request.Request.{Request}
+use Rattle.loconet_tcp.specs.declared.request.Request.TheVariants.{Invalid}
+use Rattle.loconet_tcp.specs.declared.request.Reason.TheVariants.{TooLong}
+use Rattle.loconet_tcp.specs.Text.{is_end, is_open, onto_line, lines_of}
+use Rattle.ascii_words.specs.Words.{words_of, is_blank}
+use Rattle.loconet_tcp.specs.Requests.{request_of, parse_send, bytes_of, is_send}
+use Rattle.loconet_tcp.specs.Reading.{requests_in, requests_of, request_of_byte, kept_after, requests_along}
+
+-- bytes before the first line; before no line, nothing
+abbrev all_onto : List ℕ → List (List ℕ) → List (List ℕ)
+all_onto xs [] = []
+all_onto xs (line ∷ lines) = (xs ++ line) ∷ lines
+
+none-onto : (lines : List (List ℕ)) → lines ≡ all_onto [] lines
+none-onto [] = refl
+none-onto (line ∷ lines) = refl
+
+one-onto : (x : ℕ) (xs : List ℕ) (lines : List (List ℕ)) → onto_line x (all_onto xs lines) ≡ all_onto (x ∷ xs) lines
+one-onto x xs [] = refl
+one-onto x xs (line ∷ lines) = refl
+
+lines-in : (x : ℕ) (xs : List ℕ) → is_end x ≡ false → lines_of (x ∷ xs) ≡ onto_line x (lines_of xs)
+lines-in x xs h = rw h refl
+
+lines-end : (x : ℕ) (xs : List ℕ) → is_end x ≡ true → lines_of (x ∷ xs) ≡ [] ∷ lines_of xs
+lines-end x xs h = rw h refl
+
+-- bytes that end no line stand before the first line behind them
+lines-open : (xs ys : List ℕ) → is_open xs ≡ true → lines_of (xs ++ ys) ≡ all_onto xs (lines_of ys)
+lines-open [] ys h = none-onto (lines_of ys)
+lines-open (x ∷ xs) ys h =
+    let p = and_parts (not (is_end x)) (is_open xs) h in
+    lines-in x (xs ++ ys) (not-true (is_end x) p.0) ∙ ap (onto_line x) (lines-open xs ys p.1) ∙ one-onto x xs (lines_of ys)
+
+-- A long line asks what its first bytes ask.
+
+take-cons : (k b : ℕ) (line : List ℕ) → take (1 + k) (b ∷ line) ≡ b ∷ take k line
+take-cons k b line = let e : 1 + k ≡ suc k = omega arith in ap (λ n. take n (b ∷ line)) e
+
+before-cons : (b : ℕ) (line : List ℕ) → before_first is_blank (b ∷ line) ≡ (if is_blank b then [] else b ∷ before_first is_blank line)
+before-cons b line = elim (cases_Bool (is_blank b)) [ inl blank ↦ rw blank refl | inr other ↦ rw other (take-cons (position_or_len is_blank line) b line) ]
+
+stops : (blank : Bool) (b : ℕ) (front line : List ℕ) → bytes_eq (if blank then [] else b ∷ front) [] ≡ bytes_eq (if blank then [] else b ∷ line) []
+stops true b front line = refl
+stops false b front line = refl
+
+goes_on : (blank : Bool) (b w : ℕ) (front line word : List ℕ) → bytes_eq front word ≡ bytes_eq line word → bytes_eq (if blank then [] else b ∷ front) (w ∷ word) ≡ bytes_eq (if blank then [] else b ∷ line) (w ∷ word)
+goes_on true b w front line word e = refl
+goes_on false b w front line word e = ap (λ (same : Bool). nat_eq b w && same) e
+
+-- whether a line begins with a word is known by one byte more than the word has
+first-front : (xs ys word : List ℕ) → length word < length xs → bytes_eq (before_first is_blank (xs ++ ys)) word ≡ bytes_eq (before_first is_blank xs) word
+first-front [] ys word h = absurd (omega arith)
+first-front (x ∷ xs) ys [] h =
+    ap (λ (line : List ℕ). bytes_eq line []) (before-cons x (xs ++ ys))
+    ∙ stops (is_blank x) x (before_first is_blank (xs ++ ys)) (before_first is_blank xs)
+    ∙ sym (ap (λ (line : List ℕ). bytes_eq line []) (before-cons x xs))
+first-front (x ∷ xs) ys (w ∷ word) h =
+    ap (λ (line : List ℕ). bytes_eq line (w ∷ word)) (before-cons x (xs ++ ys))
+    ∙ goes_on (is_blank x) x w (before_first is_blank (xs ++ ys)) (before_first is_blank xs) word (first-front xs ys word (omega arith))
+    ∙ sym (ap (λ (line : List ℕ). bytes_eq line (w ∷ word)) (before-cons x xs))
+
+-- what a line asks, by whether it is to send and whether it is too long
+abbrev asked_when : Bool → Bool → Request → Option Request
+asked_when send long request = if send then Some (if long then Invalid TooLong else request) else None
+
+request-too_long : (line : List ℕ) → 400 < length line → request_of line ≡ asked_when (is_send line) true (Invalid TooLong)
+request-too_long line h =
+    ap (λ (long : Bool). asked_when (is_send line) long (parse_send (bytes_of (words_of (after_first is_blank line))))) (lt-ltb 400 (length line) h)
+
+request-long : (xs ys : List ℕ) → length xs ≡ 401 → request_of (xs ++ ys) ≡ request_of xs
+request-long xs ys h =
+    request-too_long (xs ++ ys) (omega (arith, length-append xs ys))
+    ∙ ap (λ (send : Bool). asked_when send true (Invalid TooLong)) (first-front xs ys (codes "SEND") (omega arith))
+    ∙ sym (request-too_long xs (omega arith))
+
+-- What each kind of byte does.
+
+further-end : (xs : List ℕ) (b : ℕ) (z : List ℕ) → is_open xs ≡ true → is_end b ≡ true → requests_of (xs ++ b ∷ z) ≡ option_to_list (request_of xs) ++ requests_of z
+further-end xs b z h e =
+    ap requests_in (lines-open xs (b ∷ z) h ∙ ap (all_onto xs) (lines-end b z e))
+    ∙ ap (λ (line : List ℕ). option_to_list (request_of line) ++ requests_of z) (append-nil xs)
+
+full-lines : (xs : List ℕ) (b : ℕ) (lines : List (List ℕ)) → length xs ≡ 401 → requests_in (all_onto xs (onto_line b lines)) ≡ requests_in (all_onto xs lines)
+full-lines xs b [] h = refl
+full-lines xs b (line ∷ lines) h =
+    ap (λ (request : Option Request). option_to_list request ++ requests_in lines) (request-long xs (b ∷ line) h ∙ sym (request-long xs line h))
+
+further-full : (xs : List ℕ) (b : ℕ) (z : List ℕ) → is_open xs ≡ true → is_end b ≡ false → length xs ≡ 401 → requests_of (xs ++ b ∷ z) ≡ requests_of (xs ++ z)
+further-full xs b z h e full =
+    ap requests_in (lines-open xs (b ∷ z) h ∙ ap (all_onto xs) (lines-in b z e))
+    ∙ full-lines xs b (lines_of z) full
+    ∙ ap requests_in (sym (lines-open xs z h))
+
+kept-end : (kept : List ℕ) (b : ℕ) → is_end b ≡ true → kept_after kept b ≡ []
+kept-end kept b e = rw e refl
+
+kept-more : (kept : List ℕ) (b : ℕ) → is_end b ≡ false → length kept < 401 → kept_after kept b ≡ kept ++ b ∷ []
+kept-more kept b e h = rw (e, lt-ltb (length kept) 401 h) refl
+
+kept-full : (kept : List ℕ) (b : ℕ) → is_end b ≡ false → 401 ≤ length kept → kept_after kept b ≡ kept
+kept-full kept b e h = rw (e, le-ltb (length kept) 401 h) refl
+
+request-end : (kept : List ℕ) (b : ℕ) → is_end b ≡ true → request_of_byte kept b ≡ request_of kept
+request-end kept b e = rw e refl
+
+request-in : (kept : List ℕ) (b : ℕ) → is_end b ≡ false → request_of_byte kept b ≡ None
+request-in kept b e = rw e refl
+
+-- both sides of the law, from what is asked and what is kept
+joined : (kept : List ℕ) (b : ℕ) (z : List ℕ) (request : Option Request) (left : List ℕ) → request_of_byte kept b ≡ request → kept_after kept b ≡ left
+    → requests_of (kept ++ b ∷ z) ≡ option_to_list request ++ requests_of (left ++ z)
+    → requests_of (kept ++ b ∷ z) ≡ option_to_list (request_of_byte kept b) ++ requests_of (kept_after kept b ++ z)
+joined kept b z request left given keeps e =
+    e ∙ ap₂ (λ (o : Option Request) (w : List ℕ). option_to_list o ++ requests_of (w ++ z)) (sym given) (sym keeps)
+
+pub further : (kept : List ℕ) (b : ℕ) (z : List ℕ) → is_open kept ≡ true → length kept ≤ 401 → requests_of (kept ++ b ∷ z) ≡ option_to_list (request_of_byte kept b) ++ requests_of (kept_after kept b ++ z)
+further kept b z h l = elim (cases_Bool (is_end b)) [
+  | inl e ↦ joined kept b z (request_of kept) [] (request-end kept b e) (kept-end kept b e) (further-end kept b z h e)
+  | inr e ↦ elim (cases_lt (length kept) 401) [
+    | inl less ↦ joined kept b z None (kept ++ b ∷ []) (request-in kept b e) (kept-more kept b e less) (ap requests_of (sym (append_assoc kept (b ∷ []) z)))
+    | inr full ↦ joined kept b z None kept (request-in kept b e) (kept-full kept b e full) (further-full kept b z h e (omega arith))
+  ]
+]
+
+-- what is kept of an open line asks nothing yet
+pub requests-open : (kept : List ℕ) → is_open kept ≡ true → requests_of kept ≡ []
+requests-open kept h = ap requests_of (sym (append-nil kept)) ∙ ap requests_in (lines-open kept [] h)
+
+-- it stays open, and of no more bytes
+
+open-more : (xs : List ℕ) (b : ℕ) → is_open xs ≡ true → is_end b ≡ false → is_open (xs ++ b ∷ []) ≡ true
+open-more [] b h e = rw e refl
+open-more (x ∷ xs) b h e =
+    let p = and_parts (not (is_end x)) (is_open xs) h in
+    rw (p.0) (open-more xs b p.1 e)
+
+pub open-after : (kept : List ℕ) (b : ℕ) → is_open kept ≡ true → is_open (kept_after kept b) ≡ true
+open-after kept b h = elim (cases_Bool (is_end b)) [
+  | inl e ↦ ap is_open (kept-end kept b e)
+  | inr e ↦ elim (cases_lt (length kept) 401) [
+    | inl less ↦ ap is_open (kept-more kept b e less) ∙ open-more kept b h e
+    | inr full ↦ ap is_open (kept-full kept b e full) ∙ h
+  ]
+]
+
+pub length-after : (kept : List ℕ) (b : ℕ) → length kept ≤ 401 → length (kept_after kept b) ≤ 401
+length-after kept b h = elim (cases_Bool (is_end b)) [
+  | inl e ↦ omega (arith, ap length (kept-end kept b e))
+  | inr e ↦ elim (cases_lt (length kept) 401) [
+    | inl less ↦ omega (arith, ap length (kept-more kept b e less), length-append kept (b ∷ []))
+    | inr full ↦ omega (arith, ap length (kept-full kept b e full))
+  ]
+]
+
+-- one byte after another
+pub along : (text kept : List ℕ) → is_open kept ≡ true → length kept ≤ 401 → requests_along kept text ≡ requests_of (kept ++ text)
+along [] kept h l = sym (ap requests_of (append-nil kept) ∙ requests-open kept h)
+along (b ∷ text) kept h l =
+    ap (λ (requests : List Request). option_to_list (request_of_byte kept b) ++ requests) (along text (kept_after kept b) (open-after kept b h) (length-after kept b l))
+    ∙ sym (further kept b text h l)

@@ -1,0 +1,96 @@
+-- What a message is told as asks to send it.
+use Rattle.std.proofs.Common.{◌≡◌, ℕ, ◌*◌, ◌/◌, ◌%◌, ◌<◌, ◌≤◌, Bool, true, false, List, [], ◌∷◌, ◌++◌, suc, length, get_or, map, filter, ◌&&◌, Option, Some, refl, ap, ap₂, ◌∙◌, arith, if◌then◌else◌}
+use Rattle.std.specs.Prelude.{codes}
+use Rattle.std.specs.List.{slice_split, onto_first}
+use Rattle.std.specs.Option.{is_some}
+use Rattle.std.proofs.lemmas.Bool.{and_parts, le-ltb}
+use Rattle.std.proofs.lemmas.Bool.Decides.{nat_tests}
+use Rattle.std.proofs.lemmas.List.Splits.{slice_split-cons_no}
+use Rattle.ln_frame.specs.Message.{message_len, are_data, is_len, has_form, IsWhole}
+use Rattle.loconet_tcp.specs.declared.request.Request.{Request}
+use Rattle.loconet_tcp.specs.declared.request.Request.TheVariants.{Send, Invalid}
+use Rattle.loconet_tcp.specs.declared.request.Reason.TheVariants.{TooLong}
+use Rattle.ascii_words.specs.Words.{is_blank, is_word, words_of, digit_of}
+use Rattle.ascii_words.proofs.Pairs.{pair-back}
+use Rattle.loconet_tcp.specs.Requests.{led_by, leading_bytes, are_pairs, bytes_of, parse_send, request_of}
+use Rattle.loconet_tcp.specs.ClientLines.{hex_char, hex_words}
+
+-- A digit is read as what it was written for, and is no blank.
+
+digit-back : (d : ℕ) → d < 16 → digit_of (hex_char d) ≡ Some d
+digit-back d h = grind (arith, nat_tests)
+
+digit-not_blank : (d : ℕ) → d < 16 → is_blank (hex_char d) ≡ false
+digit-not_blank d h = grind (arith, nat_tests)
+
+abbrev two : ℕ → List ℕ
+two b = hex_char (b / 16) ∷ hex_char (b % 16) ∷ []
+
+leading_bytes-back : (bytes : List ℕ) → ((i : ℕ) → get_or bytes i 0 < 256) → leading_bytes (map two bytes) ≡ bytes
+unfolding leading_bytes
+leading_bytes-back [] h = refl
+leading_bytes-back (b ∷ bytes) h = ap₂ led_by (pair-back hex_char digit-back b (h 0)) (leading_bytes-back bytes (λ i. h (suc i)))
+
+pairs-back : (bytes : List ℕ) → ((i : ℕ) → get_or bytes i 0 < 256) → are_pairs (map two bytes) ≡ true
+unfolding are_pairs
+pairs-back [] h = refl
+pairs-back (b ∷ bytes) h = ap (λ (pair : Option ℕ). is_some pair && are_pairs (map two bytes)) (pair-back hex_char digit-back b (h 0)) ∙ pairs-back bytes (λ i. h (suc i))
+
+bytes-back : (bytes : List ℕ) → ((i : ℕ) → get_or bytes i 0 < 256) → bytes_of (map two bytes) ≡ Some bytes
+unfolding bytes_of
+bytes-back bytes h = rw (pairs-back bytes h) (ap Some (leading_bytes-back bytes h))
+
+-- The words of what is written are its pairs.
+
+part : (b : ℕ) (rest : List ℕ) (parts : List (List ℕ)) → b < 256 → slice_split is_blank rest ≡ [] ∷ parts → slice_split is_blank (hex_char (b / 16) ∷ hex_char (b % 16) ∷ rest) ≡ two b ∷ parts
+part b rest parts h e =
+    let high : b / 16 < 16 = omega arith in
+    let low : b % 16 < 16 = omega arith in
+    slice_split-cons_no is_blank (hex_char (b / 16)) (hex_char (b % 16) ∷ rest) (digit-not_blank (b / 16) high)
+    ∙ ap (onto_first (hex_char (b / 16))) (slice_split-cons_no is_blank (hex_char (b % 16)) rest (digit-not_blank (b % 16) low) ∙ ap (onto_first (hex_char (b % 16))) e)
+
+parts-of_words : (bytes : List ℕ) → ((i : ℕ) → get_or bytes i 0 < 256) → slice_split is_blank (hex_words bytes) ≡ [] ∷ map two bytes
+parts-of_words [] h = refl
+parts-of_words (b ∷ bytes) h = ap (λ (parts : List (List ℕ)). [] ∷ parts) (part b (hex_words bytes) (map two bytes) (h 0) (parts-of_words bytes (λ i. h (suc i))))
+
+all_words : (bytes : List ℕ) → filter is_word (map two bytes) ≡ map two bytes
+all_words [] = refl
+all_words (b ∷ bytes) = ap (λ (words : List (List ℕ)). two b ∷ words) (all_words bytes)
+
+words-back : (b : ℕ) (bytes : List ℕ) → ((i : ℕ) → get_or (b ∷ bytes) i 0 < 256) → words_of (hex_char (b / 16) ∷ hex_char (b % 16) ∷ hex_words bytes) ≡ map two (b ∷ bytes)
+unfolding words_of
+words-back b bytes h =
+    ap (filter is_word) (part b (hex_words bytes) (map two bytes) (h 0) (parts-of_words bytes (λ i. h (suc i)))) ∙ all_words (b ∷ bytes)
+
+-- It is short enough.
+
+length-hex_words : (bytes : List ℕ) → length (hex_words bytes) ≡ 3 * length bytes
+length-hex_words [] = refl
+length-hex_words (b ∷ bytes) = let more = length-hex_words bytes in omega arith
+
+most : (op s n : ℕ) → is_len (message_len op s) n ≡ true → n ≤ 127
+most op s n h = grind (arith, nat_tests)
+
+length-whole : (message : List ℕ) → IsWhole message → length message ≤ 127
+length-whole [] w = cc
+length-whole (op ∷ []) w = cc
+length-whole (op ∷ s ∷ m) w =
+    let form = and_parts (has_form (op ∷ s ∷ m)) _ w in
+    most op s (length (op ∷ s ∷ m)) (and_parts (is_len (message_len op s) (length (op ∷ s ∷ m))) (are_data (s ∷ m)) form.0).0
+
+sends : (message : List ℕ) → IsWhole message → parse_send (Some message) ≡ Send message
+sends message w = rw w refl
+
+abbrev asked_when : Bool → Request → Option Request
+asked_when long request = Some (if long then Invalid TooLong else request)
+
+pub request-back : (message : List ℕ) → IsWhole message → ((i : ℕ) → get_or message i 0 < 256) → request_of (codes "SEND" ++ hex_words message) ≡ Some (Send message)
+request-back [] w h = cc
+request-back (b ∷ bytes) w h =
+    let line = codes "SEND" ++ hex_words (b ∷ bytes) in
+    let text = hex_char (b / 16) ∷ hex_char (b % 16) ∷ hex_words bytes in
+    let size : length (codes "SEND" ++ hex_words (b ∷ bytes)) ≤ 400 = omega (arith, length-hex_words (b ∷ bytes), length-whole (b ∷ bytes) w) in
+    ap (λ (long : Bool). asked_when long (parse_send (bytes_of (words_of text)))) (le-ltb 400 (length line) size)
+    ∙ ap (λ (words : List (List ℕ)). Some (parse_send (bytes_of words))) (words-back b bytes h)
+    ∙ ap (λ (written : Option (List ℕ)). Some (parse_send written)) (bytes-back (b ∷ bytes) h)
+    ∙ ap Some (sends (b ∷ bytes) w)

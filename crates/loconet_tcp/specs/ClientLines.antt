@@ -1,0 +1,46 @@
+-- The lines that a client is told, in LocoNet over TCP. The words behind SENT ERROR, VERSION and ERROR are the project's own.
+use Rattle.std.specs.Prelude.{ℕ, ◌+◌, ◌/◌, ◌%◌, if◌then◌else◌, nat_lt, List, [], ◌∷◌, ◌++◌, codes}
+use Rattle.std.specs.List.{flat_map}
+use Rattle.loconet_tcp.specs.declared.request.Reason.{Reason}
+use Rattle.loconet_tcp.specs.declared.request.Reason.TheVariants.{TooLong, NotHex, NoMessage, WrongCheck}
+
+-- the digit of a number below 16
+abbrev pub hex_char : ℕ → ℕ
+hex_char digit = if nat_lt digit 10 then 48 + digit else 55 + digit
+
+-- a space and two digits
+abbrev pub hex_word : ℕ → List ℕ
+hex_word byte = 32 ∷ hex_char (byte / 16) ∷ hex_char (byte % 16) ∷ []
+
+abbrev pub hex_words : List ℕ → List ℕ
+hex_words bytes = flat_map hex_word bytes
+
+-- a carriage return and a line feed
+abbrev pub line_end : List ℕ
+line_end = 13 ∷ 10 ∷ []
+
+-- a message was on the line
+abbrev pub receive_text : List ℕ → List ℕ
+receive_text message = codes "RECEIVE" ++ hex_words message ++ line_end
+
+-- what the client asked for was sent
+abbrev pub sent_ok_text : List ℕ
+sent_ok_text = codes "SENT OK" ++ line_end
+
+abbrev pub reason_text : Reason → List ℕ
+reason_text TooLong = codes "line too long"
+reason_text NotHex = codes "no pairs of hexadecimal digits"
+reason_text NoMessage = codes "no whole message"
+reason_text WrongCheck = codes "wrong check byte"
+
+-- it was not sent, for this reason
+abbrev pub sent_error_text : Reason → List ℕ
+sent_error_text reason = codes "SENT ERROR " ++ reason_text reason ++ line_end
+
+-- who speaks
+abbrev pub version_text : List ℕ
+version_text = codes "VERSION lbserver station" ++ line_end
+
+-- there are as many clients as can be
+abbrev pub server_full_text : List ℕ
+server_full_text = codes "ERROR no place" ++ line_end

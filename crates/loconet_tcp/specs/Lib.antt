@@ -1,0 +1,5 @@
+pub mod Requests
+pub mod Reading
+pub mod Text
+pub mod Texts
+pub mod ClientLines

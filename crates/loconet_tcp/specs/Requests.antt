@@ -1,0 +1,48 @@
+-- What a line of a client asks, in LocoNet over TCP. What the protocol leaves open is the project's own rule: the
+-- longest line, the case of the digits, the tab as a blank, and what is answered to what cannot be sent.
+use Rattle.std.specs.Prelude.{ℕ, Bool, if◌then◌else◌, nat_lt, List, [], ◌∷◌, length, Option, Some, None, codes}
+use Rattle.std.specs.List.{list_all, before_first, after_first}
+use Rattle.std.specs.Option.{is_some}
+use Rattle.std.specs.Str.{bytes_eq}
+use Rattle.ascii_words.specs.Words.{is_blank, words_of, pair_of}
+use Rattle.ln_frame.specs.Message.{has_form, is_whole}
+use Rattle.loconet_tcp.specs.declared.request.Request.{Request}
+use Rattle.loconet_tcp.specs.declared.request.Request.TheVariants.{Send, Invalid}
+use Rattle.loconet_tcp.specs.declared.request.Reason.TheVariants.{TooLong, NotHex, NoMessage, WrongCheck}
+
+-- a pair of hexadecimal digits
+abbrev pub is_pair : List ℕ → Bool
+is_pair word = is_some (pair_of word)
+
+unfoldable pub are_pairs : List (List ℕ) → Bool
+are_pairs words = list_all is_pair words
+
+abbrev pub led_by : Option ℕ → List ℕ → List ℕ
+led_by None bytes = []
+led_by (Some byte) bytes = byte ∷ bytes
+
+-- the bytes of the words up to the first that is no pair
+unfoldable pub leading_bytes : List (List ℕ) → List ℕ
+leading_bytes [] = []
+leading_bytes (word ∷ words) = led_by (pair_of word) (leading_bytes words)
+
+-- the bytes that words write, a pair of digits each; none where a word is no such pair
+unfoldable pub bytes_of : List (List ℕ) → Option (List ℕ)
+bytes_of words = if are_pairs words then Some (leading_bytes words) else None
+
+-- to send the bytes, if they are a whole message
+abbrev pub parse_send : Option (List ℕ) → Request
+parse_send None = Invalid NotHex
+parse_send (Some bytes) =
+    if is_whole bytes then Send bytes else if has_form bytes then Invalid WrongCheck else Invalid NoMessage
+
+-- what stands before the first blank of the line, or the whole line, is these four letters
+abbrev pub is_send : List ℕ → Bool
+is_send line = bytes_eq (before_first is_blank line) (codes "SEND")
+
+-- A line that begins with the word SEND asks to send what the words behind it write, if the line has at most 400
+-- characters. Every other line asks nothing.
+abbrev pub request_of : List ℕ → Option Request
+request_of line =
+    if is_send line then Some (if nat_lt 400 (length line) then Invalid TooLong
+    else parse_send (bytes_of (words_of (after_first is_blank line)))) else None

@@ -1,0 +1,117 @@
+//! The lines that a client is told. Each ends with a carriage return and a line feed.
+ghost use Rattle.std.specs.Prelude.{◌≡◌, ◌+◌, ◌*◌, ◌<◌, ◌≤◌, ◌++◌, length};
+ghost use Rattle.arrayvec.specs.ArrayVec.{array_vec_len};
+ghost use Rattle.loconet_tcp.specs.ClientLines.{hex_char, hex_word, hex_words, line_end, receive_text, sent_ok_text, reason_text, sent_error_text, version_text, server_full_text};
+
+use crate::request::Reason;
+use arrayvec::ArrayVec;
+use ln_frame::Msg;
+
+/// Lines for a client, of at most 800 bytes together.
+pub type Text = ArrayVec<u8, 800>;
+
+/// Appends `RECEIVE` and the bytes of a message that was on the line, at most 390 bytes in all.
+pub fn push_receive(text: &mut Text, message: &Msg)
+    requires { array_vec_len text.old + 390 ≤ 800 }
+    ensures text { text.new.items ≡ text.old.items ++ receive_text message.now }
+    ensures len { array_vec_len text.new ≡ array_vec_len text.old + 9 + 3 * length message.now }
+    ensures most { array_vec_len text.new ≤ array_vec_len text.old + 390 }
+{
+    push_all(text, b"RECEIVE");
+    push_words(text, message.bytes());
+    push_all(text, b"\r\n");
+}
+
+/// Appends `SENT OK`: the message that a client asked to send was sent.
+pub fn push_sent_ok(text: &mut Text)
+    requires { array_vec_len text.old + 9 ≤ 800 }
+    ensures text { text.new.items ≡ text.old.items ++ sent_ok_text }
+    ensures len { array_vec_len text.new ≡ array_vec_len text.old + 9 }
+{
+    push_all(text, b"SENT OK\r\n");
+}
+
+/// Appends `SENT ERROR` and the reason in plain words, at most 43 bytes in all: nothing was sent.
+pub fn push_sent_error(text: &mut Text, reason: Reason)
+    requires { array_vec_len text.old + 43 ≤ 800 }
+    ensures text { text.new.items ≡ text.old.items ++ sent_error_text reason }
+    ensures len { array_vec_len text.new ≡ array_vec_len text.old + length (sent_error_text reason) }
+    ensures most { array_vec_len text.new ≤ array_vec_len text.old + 43 }
+{
+    push_all(text, b"SENT ERROR ");
+    push_all(text, words_of(reason));
+    push_all(text, b"\r\n");
+}
+
+/// Appends the line that greets a client: `VERSION` and who speaks.
+pub fn push_version(text: &mut Text)
+    requires { array_vec_len text.old + 26 ≤ 800 }
+    ensures text { text.new.items ≡ text.old.items ++ version_text }
+    ensures len { array_vec_len text.new ≡ array_vec_len text.old + 26 }
+{
+    push_all(text, b"VERSION lbserver station\r\n");
+}
+
+/// Appends `ERROR no place`: there are as many clients as can be.
+pub fn push_server_full(text: &mut Text)
+    requires { array_vec_len text.old + 16 ≤ 800 }
+    ensures text { text.new.items ≡ text.old.items ++ server_full_text }
+    ensures len { array_vec_len text.new ≡ array_vec_len text.old + 16 }
+{
+    push_all(text, b"ERROR no place\r\n");
+}
+
+/// The reason in plain words, at most 30 bytes.
+fn words_of(reason: Reason) -> &'static [u8]
+    ensures words { result.now ≡ reason_text reason }
+    ensures most { length result.now ≤ 30 }
+{
+    match reason {
+        Reason::TooLong => b"line too long",
+        Reason::NotHex => b"no pairs of hexadecimal digits",
+        Reason::NoMessage => b"no whole message",
+        Reason::WrongCheck => b"wrong check byte",
+    }
+}
+
+fn push_all(text: &mut Text, bytes: &[u8])
+    requires { array_vec_len text.old + length bytes.now ≤ 800 }
+    ensures text { text.new.items ≡ text.old.items ++ bytes.now }
+    ensures len { array_vec_len text.new ≡ array_vec_len text.old + length bytes.now }
+{
+    for byte in bytes {
+        text.push(*byte);
+    }
+}
+
+/// Appends each byte as a space and two digits.
+fn push_words(text: &mut Text, bytes: &[u8])
+    requires { array_vec_len text.old + 3 * length bytes.now ≤ 800 }
+    ensures text { text.new.items ≡ text.old.items ++ hex_words bytes.now }
+    ensures len { array_vec_len text.new ≡ array_vec_len text.old + 3 * length bytes.now }
+{
+    for byte in bytes {
+        push_word(text, *byte);
+    }
+}
+
+fn push_word(text: &mut Text, byte: u8)
+    requires { array_vec_len text.old + 3 ≤ 800 }
+    ensures text { text.new.items ≡ text.old.items ++ hex_word byte }
+    ensures len { array_vec_len text.new ≡ array_vec_len text.old + 3 }
+{
+    text.push(b' ');
+    text.push(hex_char(byte / 16));
+    text.push(hex_char(byte % 16));
+}
+
+fn hex_char(digit: u8) -> u8
+    requires { digit < 16 }
+    ensures { result ≡ hex_char digit }
+{
+    if digit < 10 {
+        b'0' + digit
+    } else {
+        b'A' + (digit - 10)
+    }
+}

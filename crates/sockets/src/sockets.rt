@@ -1,0 +1,300 @@
+//! The ports of a server, and the streams of up to eight clients.
+ghost use Rattle.std.specs.Prelude.{◌≡◌, ◌<◌, None};
+ghost use Rattle.bus_server.specs.declared.transport.IoOutcome.TheVariants.{Closed};
+
+use crate::client::{Client, PageClient};
+use crate::http_connection::is_retryable;
+use crate::http_server::{HttpServer, MAX_EXCHANGES, page_reply};
+use crate::stopwatch::Stopwatch;
+use crate::waits::{duration_of, sooner};
+use bus_server::{IoOutcome, MAX_CLIENTS, PageClients, Transport};
+use loconet_tcp::{Text, push_server_full};
+use mio::net::{TcpListener, TcpStream};
+use mio::unix::SourceFd;
+use mio::{Events, Interest, Poll, Registry, Token};
+use pages::Page;
+use std::alloc::Global;
+use std::io;
+use std::io::{ErrorKind, Write};
+use std::net::SocketAddr;
+use std::os::fd::RawFd;
+use std::time::Clock;
+
+/// The ports, and the streams of the clients that were let in, each at its place, 0 to 7.
+///
+/// What sockets deliver no contract can say, so of this wire nothing is known.
+#[derive(Drop)]
+pub struct Sockets {
+    poll: Poll,
+    events: Events,
+    listener: TcpListener,
+    clients: [Option<Client>; MAX_CLIENTS],
+    http: Option<HttpServer>,
+    /// A page has sent something, and may have sent more.
+    has_backlog: bool,
+}
+
+impl Sockets {
+    /// Sockets for those who come to this listener. They take all their memory at once.
+    ///
+    /// # Errors
+    ///
+    /// Want of memory, and where the listener cannot be registered.
+    pub fn new(alloc: Global, poll: Poll, listener: TcpListener) -> io::Result<Sockets> {
+        let mut listener = listener;
+        register_listener(&mut listener, poll.registry(), MAX_CLIENTS)?;
+        Ok(Sockets {
+            poll,
+            events: Events::with_capacity(alloc, MAX_CLIENTS + MAX_EXCHANGES + 2)?,
+            listener,
+            clients: [None, None, None, None, None, None, None, None],
+            http: None,
+            has_backlog: false,
+        })
+    }
+
+    /// Serves a page to browsers that come to this listener, and lets them in. It takes all its memory at once.
+    ///
+    /// # Errors
+    ///
+    /// Want of memory, and where the listener cannot be registered.
+    pub fn serve_page(
+        &mut self,
+        alloc: Global,
+        listener: TcpListener,
+        page: &[u8],
+    ) -> io::Result<()> {
+        let reply = page_reply(alloc, page)?;
+        let mut listener = listener;
+        register_listener(&mut listener, self.poll.registry(), MAX_CLIENTS + 1)?;
+        self.http = Some(HttpServer::new(alloc, listener, reply));
+        Ok(())
+    }
+
+    /// Has the wait end when a file descriptor begins to take bytes. One that cannot be registered always does.
+    pub fn wake_on(&self, descriptor: &RawFd) {
+        let mut source = SourceFd(descriptor);
+        let _ = self
+            .poll
+            .registry()
+            .register(&mut source, Token(MAX_CLIENTS + 3), Interest::WRITABLE);
+    }
+
+    /// The address and the port where programs come, and those of the page, where one is served.
+    ///
+    /// # Errors
+    ///
+    /// Where the system does not tell them.
+    pub fn addresses(&self) -> io::Result<(SocketAddr, Option<SocketAddr>)> {
+        let page = match &self.http {
+            Some(http) => Some(http.listener().local_addr()?),
+            None => None,
+        };
+        Ok((self.listener.local_addr()?, page))
+    }
+
+    /// Waits for readiness, at most so many microseconds, and serves the HTTP connections. `None` is without end.
+    ///
+    /// # Errors
+    ///
+    /// Where the clock cannot be read, and where the system does not wait.
+    pub fn poll<C: Clock>(
+        &mut self,
+        clock: &C,
+        watch: &Stopwatch,
+        longest: Option<u64>,
+    ) -> io::Result<()> {
+        self.wait(longest, watch.now(clock)?)?;
+        self.serve_http(watch.now(clock)?);
+        Ok(())
+    }
+
+    /// Waits until something may be there, or so long. `now`: microseconds since the start.
+    ///
+    /// An event only ends the wait: each round goes over all places, so none is looked up, and a stale one does no harm.
+    fn wait(&mut self, longest: Option<u64>, now: u64) -> io::Result<()> {
+        let longest = sooner(longest, self.time_left(now));
+        match self.poll.poll(&mut self.events, longest.map(duration_of)) {
+            Err(error) if error.kind() != ErrorKind::Interrupted => Err(error),
+            _ => Ok(()),
+        }
+    }
+
+    /// How long those who ask for a page, and pages, can be let wait, in microseconds.
+    fn time_left(&self, now: u64) -> Option<u64> {
+        match &self.http {
+            Some(_) if self.has_backlog => Some(0),
+            Some(http) => http.time_left(now),
+            None => None,
+        }
+    }
+
+    /// Goes on with those who ask for a page. `now`: microseconds since the start.
+    pub fn serve_http(&mut self, now: u64) {
+        self.has_backlog = false;
+        if let Some(http) = &mut self.http {
+            http.round(self.poll.registry(), Token(MAX_CLIENTS + 2), now);
+        }
+    }
+
+    /// The page at a place, if it is one that has it.
+    fn page_client(&mut self, place: usize) -> Option<&mut PageClient>
+        requires { place < 8 }
+    {
+        match &mut self.clients[place] {
+            Some(Client::Page(page_client)) => Some(page_client),
+            _ => None,
+        }
+    }
+
+    /// Closes all connections and the ports.
+    ///
+    /// Who holds the sockets lets them go by this, so that what that takes is proved here alone.
+    pub fn close_all(self) {}
+
+    /// Closes the connection of a client that has gone.
+    fn disconnect(&mut self, client: u8) -> IoOutcome
+        requires { client < 8 }
+        ensures { result ≡ Closed }
+    {
+        self.clients[usize::from(client)] = None;
+        IoOutcome::Closed
+    }
+
+    /// A page that has joined, and has no place yet.
+    fn upgraded(&mut self) -> Option<Page<TcpStream>> {
+        match &mut self.http {
+            Some(http) => http.take_upgraded(),
+            None => None,
+        }
+    }
+
+    /// A program that waits at the port.
+    fn accept_program(&mut self, place: usize) -> Option<TcpStream> {
+        let (mut stream, _) = self.listener.accept().ok()?;
+        self.prepare(&mut stream, place).ok()?;
+        Some(stream)
+    }
+
+    /// Makes a stream ready to be served at a place.
+    fn prepare(&self, stream: &mut TcpStream, place: usize) -> io::Result<()> {
+        // Else a second write waits some 40 ms for the client to acknowledge the first.
+        stream.set_nodelay(true)?;
+        // Both ways from the start, since a change is reported once.
+        self.poll.registry().register(
+            stream,
+            Token(place),
+            Interest::READABLE | Interest::WRITABLE,
+        )
+    }
+
+    /// Tells a program that waits at the port that no place is free. False where nobody waits.
+    fn reject_program(&mut self, text: &[u8]) -> bool {
+        let Ok((mut stream, _)) = self.listener.accept() else {
+            return false;
+        };
+        let _ = stream.write(text);
+        true
+    }
+}
+
+impl Transport for Sockets {
+    type Fault = io::Error;
+
+    ghost log = { λ _. None };
+
+    /// It does not wait: who waits attends to it.
+    fn wait(&mut self, _longest: Option<u32>) -> io::Result<()> {
+        Ok(())
+    }
+
+    /// A page that has joined is let in first, and else a program.
+    fn accept(&mut self, client: u8) -> bool {
+        let place = usize::from(client);
+        let client = match self.upgraded() {
+            Some(page) => Some(Client::Page(PageClient::new(page))),
+            None => self.accept_program(place).map(Client::Program),
+        };
+        let is_there = client.is_some();
+        self.clients[place] = client;
+        is_there
+    }
+
+    fn reject(&mut self) -> bool {
+        let mut text = Text::new();
+        push_server_full(&mut text);
+        match self.upgraded() {
+            Some(page) => reject_page(page, text.as_slice()),
+            None => self.reject_program(text.as_slice()),
+        }
+    }
+
+    fn read(&mut self, client: u8, room: &mut [u8]) -> IoOutcome {
+        let Some(stream) = &mut self.clients[usize::from(client)] else {
+            return IoOutcome::WouldBlock;
+        };
+        match stream.read(room, &mut self.has_backlog) {
+            Ok(count) if count > 0 => IoOutcome::Bytes(count),
+            Err(error) if is_retryable(&error) => IoOutcome::WouldBlock,
+            _ => self.disconnect(client),
+        }
+    }
+
+    fn write(&mut self, client: u8, bytes: &[u8]) -> IoOutcome {
+        let Some(stream) = &mut self.clients[usize::from(client)] else {
+            return IoOutcome::WouldBlock;
+        };
+        match stream.write(bytes) {
+            Ok(count) if count > 0 => IoOutcome::Bytes(count),
+            Err(error) if is_retryable(&error) => IoOutcome::WouldBlock,
+            _ => self.disconnect(client),
+        }
+    }
+
+    fn close(&mut self, client: u8) {
+        self.clients[usize::from(client)] = None;
+    }
+}
+
+impl PageClients for Sockets {
+    ghost page_log = { λ _. None };
+
+    fn take_just_opened(&mut self, place: usize) -> bool {
+        match self.page_client(place) {
+            Some(page_client) => page_client.take_just_opened(),
+            None => false,
+        }
+    }
+
+    fn is_writable(&mut self, place: usize) -> bool {
+        match self.page_client(place) {
+            Some(page_client) => page_client.is_writable(),
+            None => false,
+        }
+    }
+
+    fn send(&mut self, place: usize, message: &str) -> bool {
+        match self.page_client(place) {
+            Some(page_client) => page_client.send(message),
+            None => false,
+        }
+    }
+}
+
+/// Tells a page that has joined that no place is free: true.
+fn reject_page(page: Page<TcpStream>, text: &[u8]) -> bool {
+    let mut page = page;
+    // Whoever has gone already need not be told.
+    let _ = page.tell_lines(text);
+    page.close();
+    true
+}
+
+/// Has it noted when somebody comes to a listener.
+fn register_listener(
+    listener: &mut TcpListener,
+    registry: &Registry,
+    token: usize,
+) -> io::Result<()> {
+    registry.register(listener, Token(token), Interest::READABLE)
+}
