@@ -12,7 +12,7 @@ use Rattle.bus.specs.Bus.{AreEvents, BusState}
 use Rattle.bus.specs.Invariant.{IsInvariant}
 use Rattle.bus.specs.Layout.{layout_events}
 use Rattle.bus.specs.Observations.{Observation}
-use Rattle.bus_runs.specs.Cycle.{RunsInTime}
+use Rattle.bus.specs.Cycle.{RunsInTime}
 use Rattle.bus_server.specs.Runs.{RunsByClock, RunsRounds, IsRun, Round, RunsLogged, RunSnapshot, logged_in, transport_log, observation_log, skipped, readings_of}
 use Rattle.bus_server.specs.Applied.{LoggedEvent, ServerState, events_of, transport_events, observations_in, observations_of}
 use Rattle.bus_server.specs.TransportEvents.{Polled, TransportEvent}

@@ -10,7 +10,7 @@ use Rattle.bus.specs.Bus.{AreEvents, BusState, after_event, after_events}
 use Rattle.bus.specs.Course.{micros_in}
 use Rattle.bus.specs.Layout.{layout_events}
 use Rattle.bus.specs.Observations.{Observation, Skipped}
-use Rattle.bus_runs.specs.Cycle.{RunsInTime}
+use Rattle.bus.specs.Cycle.{RunsInTime}
 use Rattle.bus_server.specs.declared.hub.Hub.{Hub}
 use Rattle.bus_server.specs.declared.losses.Losses.{Losses}
 use Rattle.bus_server.specs.Progress.{state_of}

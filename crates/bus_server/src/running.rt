@@ -46,7 +46,7 @@ impl Server {
     {
         bus::laws::events_are_the_layout();
         layout_core::laws::events_add_up();
-        bus_runs::laws::headline();
+        bus::laws::headline();
         self.hub.bus.invariant_holds();
         for _round in 0..u64::MAX {
             if self.hub.disconnected >= most {

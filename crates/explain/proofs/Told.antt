@@ -7,7 +7,7 @@ use Rattle.loconet_tcp.specs.declared.request.Reason.TheVariants.{TooLong, NoMes
 use Rattle.ascii_words.specs.Words.{words_of}
 use Rattle.loconet_tcp.specs.Requests.{are_pairs, parse_send, request_of, bytes_of, leading_bytes}
 use Rattle.loconet_tcp.specs.ClientLines.{hex_char, hex_words}
-use Rattle.plain_words.specs.Messages.{message_words}
+use Rattle.describe.specs.Messages.{message_words}
 use Rattle.explain.specs.Subjects.{message_in, said_by, words_about}
 
 whole_sent : (whole form : Bool) (bytes message : List ℕ) → (if whole then Send bytes else if form then Invalid WrongCheck else Invalid NoMessage) ≡ Send message → bytes ≡ message

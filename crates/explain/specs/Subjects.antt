@@ -1,11 +1,11 @@
--- What a line is about, and what is said of it (own). What the words say is that of `plain_words`.
+-- What a line is about, and what is said of it (own). What the words say is that of `describe`.
 use Rattle.std.specs.Prelude.{ℕ, Bool, if◌then◌else◌, nat_lt, List, [], ◌∷◌, length, Option, Some, None, codes}
 use Rattle.std.specs.List.{before_first, after_first}
 use Rattle.std.specs.Str.{bytes_eq}
 use Rattle.ascii_words.specs.Words.{is_blank, words_of}
 use Rattle.loconet_tcp.specs.Requests.{bytes_of, leading_bytes}
-use Rattle.plain_words.specs.Messages.{message_words}
-use Rattle.plain_words.specs.Packets.{packet_words}
+use Rattle.describe.specs.Messages.{message_words}
+use Rattle.describe.specs.Packets.{packet_words}
 
 -- what some bytes say; nothing is said of none, or where a word is no pair of digits
 abbrev pub said_by : (List ℕ → List ℕ) → Option (List ℕ) → List ℕ

@@ -5,7 +5,7 @@ ghost use Rattle.explain.specs.Unfinished.{to_write};
 
 use crate::lines::{LONGEST, cut_line, push_ended, push_line};
 use arrayvec::ArrayVec;
-use plain_words::Words;
+use describe::Words;
 use std::alloc::AllocError;
 
 /// The most bytes that are held of a line: those of the longest that is explained, and a carriage return.

@@ -2,7 +2,7 @@
 ghost use Rattle.std.specs.Prelude.{◌≡◌, ℕ, ◌<◌, List, ◌++◌, slice_index, codes};
 ghost use Rattle.ln_frame.specs.Message.{IsWhole};
 ghost use Rattle.loconet_tcp.specs.ClientLines.{hex_words};
-ghost use Rattle.plain_words.specs.Messages.{message_words};
+ghost use Rattle.describe.specs.Messages.{message_words};
 ghost use Rattle.explain.specs.Subjects.{words_about};
 
 /// A line that tells a message of LocoNet over TCP, or sends one, says what the message says.

@@ -6,7 +6,7 @@ ghost use Rattle.explain.specs.Subjects.{note_of};
 
 use crate::subjects::tell_line;
 use ascii_words::line_feed_at;
-use plain_words::Words;
+use describe::Words;
 use std::alloc::AllocError;
 
 /// The most characters of a line that is explained.

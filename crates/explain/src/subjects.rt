@@ -1,13 +1,13 @@
 //! What a line is about, and what is said of it.
 ghost use Rattle.std.specs.Prelude.{◌≡◌, ◌≤◌, length, Option, Some, None, MatchOption};
 ghost use Rattle.ascii_words.specs.Words.{words_of};
-ghost use Rattle.plain_words.specs.Messages.{message_words};
+ghost use Rattle.describe.specs.Messages.{message_words};
 ghost use Rattle.loconet_tcp.specs.Requests.{leading_bytes};
 ghost use Rattle.explain.specs.Subjects.{message_in, monitored_in, said_by, turn_in, words_about};
 
 use ascii_words::cut_piece;
 use loconet_tcp::{Bytes, bytes_of, leading_bytes};
-use plain_words::{Words, tell_message, tell_packet};
+use describe::{Words, tell_message, tell_packet};
 
 /// What the words of a text say, a message and nothing else.
 #[tactic(auto, unfolding(crate::specs::Subjects::message_in))]

@@ -5,7 +5,7 @@ mod lines;
 mod memory;
 
 use crate::execute;
-use failing_streams::{Program, Streams};
+use test_support::{Program, Streams};
 use input_text::{Input, Output};
 use std::alloc::Global;
 use std::io::Write;

@@ -9,6 +9,6 @@ mod test_layout_core_serving;
 #[cfg(test)]
 mod test_losses;
 #[cfg(test)]
-mod test_pages;
+mod test_web;
 #[cfg(test)]
 mod test_roster;

@@ -23,7 +23,7 @@ mod test_ln_ops;
 #[cfg(test)]
 mod test_loconet_tcp;
 #[cfg(test)]
-mod test_plain_words;
+mod test_describe;
 #[cfg(test)]
 mod test_refresh_ring;
 #[cfg(test)]

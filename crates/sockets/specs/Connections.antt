@@ -1,6 +1,6 @@
 -- What is said of one who asks by HTTP.
-use Rattle.pages.specs.declared.visit.Stage.{Stage}
-use Rattle.pages.specs.declared.visit.Stage.TheVariants.{Asks, IsTold, OnBus, Leaves}
+use Rattle.web.specs.declared.visit.Stage.{Stage}
+use Rattle.web.specs.declared.visit.Stage.TheVariants.{Asks, IsTold, OnBus, Leaves}
 
 -- the answer is out, and the connection goes on as a WebSocket
 abbrev pub IsUpgraded : Stage → Type 0

@@ -3,7 +3,7 @@ ghost use Rattle.std.specs.Prelude.{◌≡◌, false, true};
 ghost use Rattle.std.specs.Io.{ReadsAtMost, WritesAtMost};
 
 use mio::net::TcpStream;
-use pages::Page;
+use web::Page;
 use std::io;
 use std::io::{ErrorKind, Read, Write};
 

@@ -1,13 +1,13 @@
 //! One who asks by HTTP, and the stream.
 ghost use Rattle.std.specs.Prelude.{◌≡◌, ◌<◌, ◌-◌, ◌↔◌, ◌⊎◌, IfOk, true};
 ghost use Rattle.std.specs.IoError.{error_kind};
-ghost use Rattle.pages.specs.declared.visit.Stage.TheVariants.{Asks};
-ghost use Rattle.pages.specs.Visits.{first_visit, heard_behind};
+ghost use Rattle.web.specs.declared.visit.Stage.TheVariants.{Asks};
+ghost use Rattle.web.specs.Visits.{first_visit, heard_behind};
 ghost use Rattle.sockets.specs.declared.http_connection.Progress.TheVariants.{Upgraded, Blocked};
 ghost use Rattle.sockets.specs.Connections.{IsUpgraded};
 
 use mio::net::TcpStream;
-use pages::{Page, Stage, Visit};
+use web::{Page, Stage, Visit};
 use std::alloc::{AllocError, Global};
 use std::io;
 use std::io::{Error, ErrorKind, Read, Write};

@@ -1,12 +1,12 @@
 //! The door of the page: who asks by HTTP, until the answer is out or until it has become a client.
 ghost use Rattle.std.specs.Prelude.{◌≡◌, ◌<◌, ◌^◌, ◌++◌, IfOk, length};
-ghost use Rattle.pages.specs.Replies.{page_head_text};
+ghost use Rattle.web.specs.Replies.{page_head_text};
 
 use crate::http_connection::{HttpConnection, Progress};
 use crate::waits::sooner;
 use mio::net::{TcpListener, TcpStream};
 use mio::{Interest, Registry, Token};
-use pages::{Head, Page, push_page_head};
+use web::{Head, Page, push_page_head};
 use std::alloc::{AllocError, Global};
 use std::mem;
 

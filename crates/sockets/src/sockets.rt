@@ -12,7 +12,7 @@ use loconet_tcp::{Text, push_server_full};
 use mio::net::{TcpListener, TcpStream};
 use mio::unix::SourceFd;
 use mio::{Events, Interest, Poll, Registry, Token};
-use pages::Page;
+use web::Page;
 use std::alloc::Global;
 use std::io;
 use std::io::{ErrorKind, Write};

@@ -2,12 +2,19 @@
 //! messages, and serves throttles over TCP.
 #![tactic(auto)]
 
+mod executing;
+mod layout;
+mod replay;
+mod serving;
+
 use command_line::no_text;
 pub use command_line::{FileName, Order, OrderFault, order};
+pub use console::{RunFault, tell};
 use console::{read_words, texts};
+pub use executing::execute;
 use input_text::{Noting, TrackedWriter};
-use program::tell;
-pub use program::{RunFault, execute, serve_on};
+pub use layout::new_world;
+pub use serving::{serve_connection, serve_on};
 use std::io;
 use std::process::ExitCode;
 

@@ -4,7 +4,7 @@ use crate::{
     Answer, Decoder, EventFields, Layout, Motion, station_byte, station_free, station_new,
     station_outputs, station_read, station_run, station_running, station_turn,
 };
-use failing_streams::take_all_but;
+use test_support::take_all_but;
 use std::alloc::Global;
 use std::mem::size_of;
 use std::test::Fail;

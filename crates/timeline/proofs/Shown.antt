@@ -1,6 +1,6 @@
 -- What a line tells, and nothing else.
 use Rattle.std.proofs.Common.{◌≡◌, ℕ, List, Option, Some, None, true, false, Result, Ok, ap, sym, ◌∙◌}
-use Rattle.station_text.specs.Traffic.{Tells, is_of_turn}
+use Rattle.trace.specs.Traffic.{Tells, is_of_turn}
 use Rattle.timeline.specs.declared.event.Event.{Event}
 use Rattle.timeline.specs.declared.event.Event.TheVariants.{Sent, Off, Shown}
 use Rattle.timeline.specs.Run.{Shows, event_of}

@@ -3,8 +3,8 @@ use Rattle.std.specs.Prelude.{ℕ, ◌+◌, ◌-◌, ◌*◌, ◌/◌, ◌==◌,
 use Rattle.std.specs.Fmt.{decimal}
 use Rattle.std.specs.List.{fold}
 use Rattle.dcc_packet.specs.declared.address.Address.TheVariants.{Short, Long}
-use Rattle.station_text.specs.declared.standing.Standing.{Standing}
-use Rattle.station_text.specs.declared.standing.Standing.TheVariants as stands
+use Rattle.trace.specs.declared.standing.Standing.{Standing}
+use Rattle.trace.specs.declared.standing.Standing.TheVariants as stands
 use Rattle.timeline.specs.declared.event.Event.{Event}
 use Rattle.timeline.specs.declared.event.Event.TheVariants.{Sent, Off, Shown}
 use Rattle.timeline.specs.declared.mark.Mark.{Mark}

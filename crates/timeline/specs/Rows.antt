@@ -9,10 +9,10 @@ use Rattle.dcc_packet.specs.declared.instr.Instr.{Instr}
 use Rattle.dcc_packet.specs.declared.instr.Instr.TheVariants as says
 use Rattle.dcc_packet.specs.declared.steps.Motion.{Motion}
 use Rattle.dcc_packet.specs.declared.steps.Motion.TheVariants.{Stop, Emergency, Step}
-use Rattle.station_text.specs.Node.{is_on, last_of}
-use Rattle.station_text.specs.declared.standing.Seen.{Seen}
-use Rattle.station_text.specs.declared.standing.Standing.{Standing}
-use Rattle.station_text.specs.declared.standing.Standing.TheVariants as stands
+use Rattle.trace.specs.Node.{is_on, last_of}
+use Rattle.trace.specs.declared.standing.Seen.{Seen}
+use Rattle.trace.specs.declared.standing.Standing.{Standing}
+use Rattle.trace.specs.declared.standing.Standing.TheVariants as stands
 use Rattle.timeline.specs.declared.event.Event.{Event}
 use Rattle.timeline.specs.declared.event.Event.TheVariants.{Sent, Off, Shown}
 use Rattle.timeline.specs.declared.row.Kind.{Kind}

@@ -1,7 +1,7 @@
 -- What the lines of a run tell (own).
 use Rattle.std.specs.Prelude.{ℕ, ◌≡◌, true, false, List, Option, Some, None}
-use Rattle.station_text.specs.Node.{is_of_node, node_of}
-use Rattle.station_text.specs.Traffic.{Tells, is_of_turn}
+use Rattle.trace.specs.Node.{is_of_node, node_of}
+use Rattle.trace.specs.Traffic.{Tells, is_of_turn}
 use Rattle.timeline.specs.declared.event.Event.{Event}
 use Rattle.timeline.specs.declared.event.Event.TheVariants.{Sent, Off, Shown}
 

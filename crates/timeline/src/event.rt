@@ -1,6 +1,6 @@
 //! What a line of `station` tells.
 use dcc_packet::Packet;
-use station_text::Seen;
+use trace::Seen;
 
 /// What a line of `station` tells.
 #[derive(Clone, Debug, Drop, PartialEq, Eq)]

@@ -2,13 +2,13 @@
 ghost use Rattle.std.specs.Prelude.{◌≡◌, ◌≤◌, ◌<◌, Some, IfSome};
 ghost use Rattle.std.specs.Str.{bytes_eq};
 ghost use Rattle.dcc_packet.specs.Reading.{instruction_of};
-ghost use Rattle.station_text.specs.Node.{is_on};
+ghost use Rattle.trace.specs.Node.{is_on};
 ghost use Rattle.timeline.specs.Rows.{counts, height_of, is_address, is_emergency, is_for, is_for_loco, is_for_module, is_in, is_packets, is_part, is_stop, is_switch, lane_height, mark_if, part_of, speed_height, standing_height, switch_height};
 
 use crate::event::Event;
 use crate::row::{Kind, Part, Row};
 use dcc_packet::{Address, Instr, Module, Motion, Packet, read};
-use station_text::{Name, Seen, Standing, Switches, last_of};
+use trace::{Name, Seen, Standing, Switches, last_of};
 
 /// Where a packet goes.
 fn part_of(instr: &Option<Instr>) -> Part

@@ -14,7 +14,7 @@ mod timeline;
 pub use event::Event;
 pub use mark::Mark;
 pub use row::{Kind, Part, Row};
-use run_drawing::draw_standard;
+use trace::draw_standard;
 use std::process::ExitCode;
 pub use timeline::Timeline;
 

@@ -8,7 +8,7 @@ use crate::levels::height_of;
 use crate::mark::Mark;
 use crate::row::{Kind, Part, Row};
 use dcc_packet::Address;
-use station_text::Standing;
+use trace::Standing;
 use std::io;
 use std::io::Write;
 

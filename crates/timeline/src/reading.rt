@@ -1,13 +1,13 @@
 //! What a line of `station` tells.
 ghost use Rattle.std.specs.Prelude.{◌≡◌, Option, Some, true, Ok, IfOk, MatchResult};
 ghost use Rattle.timeline.specs.declared.event.Event.{Event};
-ghost use Rattle.station_text.specs.Traffic.{is_of_turn};
+ghost use Rattle.trace.specs.Traffic.{is_of_turn};
 ghost use Rattle.timeline.specs.Run.{Shows, event_of};
 
 use crate::event::Event;
 use dcc_packet::Packet;
-use run_drawing::BadLine;
-use station_text::{is_of_node, is_of_turn, node_told, packet_told};
+use trace::BadLine;
+use trace::{is_of_node, is_of_turn, node_told, packet_told};
 
 /// What a turn did that sent this packet, or nothing.
 fn event_of(told: Option<Packet>) -> Event

@@ -1,5 +1,5 @@
 //! The rows of a picture.
-use station_text::Seen;
+use trace::Seen;
 
 /// Where a packet goes, or that none was sent.
 #[derive(Clone, Copy, Debug, PartialEq, Eq)]

@@ -1,14 +1,14 @@
 //! The rows of a picture: the strip of packets, and a lane for each decoder.
 ghost use Rattle.std.specs.Prelude.{◌≡◌, ◌≤◌, ◌+◌, ◌*◌, ◌++◌, ◌∷◌, [], IfErr, IfOk, length};
 ghost use Rattle.std.specs.Vec.{vec_len};
-ghost use Rattle.run_drawing.specs.declared.fault.DrawFault.TheVariants.{NoMemory};
+ghost use Rattle.trace.specs.declared.fault.DrawFault.TheVariants.{NoMemory};
 ghost use Rattle.timeline.specs.Rows.{is_known, is_shown, lane_rows, lanes_of, row_if, rows_in, rows_of, strip, with_lane};
 
 use crate::event::Event;
 use crate::levels::{is_named, is_told};
 use crate::row::{Kind, Part, Row};
-use run_drawing::DrawFault;
-use station_text::{Name, Seen};
+use trace::DrawFault;
+use trace::{Name, Seen};
 use std::alloc::Global;
 
 /// The rows that a lane may have.

@@ -5,7 +5,7 @@ mod lines;
 mod memory;
 
 use crate::Timeline;
-use drawing_tests::Drawn;
+use test_support::Drawn;
 
 /// The program, as the tests run it.
 const PROGRAM: Drawn<Timeline> = Drawn {

@@ -8,7 +8,7 @@ use crate::event::Event;
 use crate::reading::event_told;
 use crate::rows::rows_of;
 use input_text::{Output, put_all};
-use run_drawing::{BadLine, DrawFault, Drawing};
+use trace::{BadLine, DrawFault, Drawing};
 use std::alloc::Global;
 
 /// The picture of a run. It is drawn whole before it is written.

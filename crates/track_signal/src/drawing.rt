@@ -2,14 +2,14 @@
 ghost use Rattle.std.specs.Prelude.{ℕ, false, ◌≡◌, ◌+◌, ◌*◌, ◌<◌, ◌≤◌, ◌^◌, ◌⊎◌, Some, true, IfErr, IfOk, OnOk, length, sum};
 ghost use Rattle.std.specs.Io.KnownBytes.{Appends};
 ghost use Rattle.half_bits.specs.Halves.{halves_of};
-ghost use Rattle.run_drawing.specs.Fault.{is_unwritten};
-ghost use Rattle.run_drawing.specs.declared.fault.DrawFault.TheVariants.{NoMemory, Output};
+ghost use Rattle.trace.specs.Fault.{is_unwritten};
+ghost use Rattle.trace.specs.declared.fault.DrawFault.TheVariants.{NoMemory, Output};
 ghost use Rattle.track_signal.specs.Dump.{change_text, changes_from, changes_text, dump_of, halves_in, stamp};
 
 use dcc_packet::Packet;
 use half_bits::halves;
 use input_text::{Output, put_all};
-use run_drawing::DrawFault;
+use trace::DrawFault;
 use std::alloc::Global;
 use std::io;
 use std::io::Write;

@@ -5,7 +5,7 @@
 mod drawing;
 mod signal;
 
-use run_drawing::draw_standard;
+use trace::draw_standard;
 pub use signal::TrackSignal;
 use std::process::ExitCode;
 

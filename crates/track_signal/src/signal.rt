@@ -1,13 +1,13 @@
 //! What the program draws: the dump of the packets.
 ghost use Rattle.std.specs.Prelude.{false};
-ghost use Rattle.station_text.specs.Traffic.{Tells};
+ghost use Rattle.trace.specs.Traffic.{Tells};
 ghost use Rattle.track_signal.specs.Dump.{dump_of};
 
 use crate::drawing::draw_packets;
 use dcc_packet::Packet;
 use input_text::Output;
-use run_drawing::{BadLine, DrawFault, Drawing};
-use station_text::packet_told;
+use trace::{BadLine, DrawFault, Drawing};
+use trace::packet_told;
 use std::alloc::Global;
 
 /// The signal on the rails. It is written packet by packet.

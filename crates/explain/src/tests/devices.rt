@@ -1,7 +1,7 @@
 //! Standard streams that fail, and what is written when.
 
 use super::Explain;
-use failing_streams::{Broken, Rough, Stuck, Uneven, run_from, run_to, run_untold};
+use test_support::{Broken, Rough, Stuck, Uneven, run_from, run_to, run_untold};
 use std::alloc::Global;
 use std::io;
 use std::io::{ErrorKind, Write};

@@ -2,7 +2,7 @@
 //! S-9.2.1. Each text comes at once, in two pieces cut at every place, and byte by byte.
 
 use super::Explain;
-use failing_streams::{Uneven, run_from};
+use test_support::{Uneven, run_from};
 use std::alloc::Global;
 use std::io::Read;
 use std::test::Fail;

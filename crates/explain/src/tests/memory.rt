@@ -4,7 +4,7 @@
 //! This test takes the memory of the process, and so needs the allocator of the C library: `rt test`, and not `rt try`.
 
 use super::Explain;
-use failing_streams::run_as_room_grows;
+use test_support::run_as_room_grows;
 use std::test::Fail;
 
 /// Lines of which much more is written than is read, so that room grows more than once.

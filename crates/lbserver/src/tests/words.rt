@@ -3,7 +3,7 @@
 use crate::executing::execute;
 use command_line::{OrderFault, ServerOrder, no_server_text, server_order};
 use console::{read_words, tell_as};
-use failing_streams::{Given, has_all};
+use test_support::{Given, has_all};
 use std::net::Ipv4Addr;
 use std::test::Fail;
 

@@ -2,7 +2,7 @@
 
 use super::{Ran, look};
 use crate::execute;
-use failing_streams::{Broken, Spaces, Stuck, Uneven};
+use test_support::{Broken, Spaces, Stuck, Uneven};
 use input_text::{Noting, TrackedWriter};
 use std::io::ErrorKind;
 

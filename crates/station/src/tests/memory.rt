@@ -6,7 +6,7 @@
 use super::examples::LAYOUT;
 use crate::{OrderFault, execute, order};
 use decoder_node::NodeList;
-use failing_streams::Scarcity;
+use test_support::Scarcity;
 use input_text::{Noting, TrackedWriter};
 use layout_core::World;
 use refresh_ring::{BitRing, Schedule};

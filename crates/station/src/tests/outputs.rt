@@ -2,7 +2,7 @@
 
 use super::served::serve_to;
 use crate::execute;
-use failing_streams::Rough;
+use test_support::Rough;
 use input_text::{Noting, TrackedWriter};
 use std::fmt::Write;
 use std::fs;

@@ -5,7 +5,7 @@ use crate::serve_on;
 use input_text::TrackedWriter;
 use layout_core::Limits;
 use ln_ops::State;
-use program::new_world;
+use crate::new_world;
 use std::io::{Read, Write};
 use std::net::{Shutdown, TcpListener, TcpStream};
 use std::test::Fail;

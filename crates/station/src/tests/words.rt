@@ -4,8 +4,8 @@ use super::run;
 use crate::{Order, OrderFault, order};
 use command_line::no_text;
 use console::{read_words, texts};
-use failing_streams::{Given, has_all};
-use program::tell;
+use test_support::{Given, has_all};
+use crate::tell;
 use std::alloc::Global;
 use std::test::Fail;
 

@@ -1,7 +1,7 @@
 //! Standard streams that fail, and an input without end.
 
 use super::PROGRAM;
-use drawing_tests::first_not_stood;
+use test_support::first_not_stood;
 use std::test::Fail;
 
 #[test]

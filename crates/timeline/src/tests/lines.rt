@@ -1,7 +1,7 @@
 //! Lines, and what is drawn of them, worked out by hand: a turn is 1,000 pixels divided by all turns, from 170 on.
 
 use super::PROGRAM;
-use failing_streams::run;
+use test_support::run;
 use std::test::Fail;
 
 /// Whether one text stands in another.

@@ -4,7 +4,7 @@
 //! This test takes the memory of the process, and so needs the allocator of the C library: `rt test`, and not `rt try`.
 
 use super::PROGRAM;
-use drawing_tests::run_with_little_memory;
+use test_support::run_with_little_memory;
 use std::test::Fail;
 
 /// A decoder, so that the list of rows grows more than once.

@@ -1,7 +1,7 @@
 //! Lines, and what is drawn of them, worked out by hand from the figures of S-9.1 and S-9.2 and the format of IEEE 1364.
 
 use super::PROGRAM;
-use failing_streams::run;
+use test_support::run;
 use std::alloc::Global;
 use std::io::Write;
 use std::test::Fail;

@@ -1,7 +1,7 @@
 use Rattle.std.proofs.Common.{ℕ, subst, sym}
 use Rattle.std.specs.Prelude.{OnOk}
 use Rattle.std.specs.Io.KnownBytes.{Appends}
-use Rattle.station_text.specs.declared.standing.Standing.{Standing}
+use Rattle.trace.specs.declared.standing.Standing.{Standing}
 use Rattle.timeline.specs.Picture.{address_name, module_name}
 use Rattle.timeline.proofs.pieces.write_address.Goals as goal
 

@@ -1,5 +1,0 @@
-use Rattle.bus_runs.proofs.Account.{adds_up, enough, few, only, same, within}
-use Rattle.bus_runs.proofs.laws.time_adds_up.Goals as goal
-
-pub returns : goal.returns
-returns c = record { adds_up = adds_up; only = only; same = same; within = within; enough = enough; few = few }

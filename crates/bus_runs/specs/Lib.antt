@@ -1,4 +1,0 @@
-pub mod Cycle
-pub mod Own
-pub mod Since
-pub mod Time

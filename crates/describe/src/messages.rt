@@ -1,0 +1,320 @@
+//! What messages of a LocoNet line say.
+ghost use Rattle.std.specs.Prelude.{◌≡◌, ◌≤◌, ◌<◌, ◌+◌, ◌++◌, codes, false, length};
+ghost use Rattle.arrayvec.specs.ArrayVec.{array_vec_len};
+ghost use Rattle.dcc_packet.specs.Form.{with_check};
+ghost use Rattle.dcc_packet.specs.Packet.{xor_of};
+ghost use Rattle.ln_frame.specs.Message.{are_data, is_whole};
+ghost use Rattle.ln_ops.specs.Message.{IsOfData, op_of};
+ghost use Rattle.ln_ops.specs.Slot.{is_slot};
+ghost use Rattle.describe.specs.Messages.{acknowledged_words, dirf_words, dispatch_words, fault_words, imm_words, is_told, message_words, move_words, moved_words, op_words, read_words, sent_words, slot_label, snd_words, speed_words, status_words, table_words, taken_words, use_words, whole_words, written_words};
+
+use crate::fields::light_and_four;
+use crate::message_rows::MESSAGES;
+use crate::packets::{push_direction, push_packet, push_switch};
+use crate::pieces::{Words, push_byte, push_functions, push_halves, push_text};
+use crate::rows::push_row;
+use crate::slots::{is_forward, push_slot, push_slot_data, push_spd, push_stat};
+use arrayvec::ArrayVec;
+use ln_frame::Msg;
+use ln_ops::{Op, SlotFields, read};
+
+/// The slots that stand for locomotives.
+fn is_slot(slot: u8) -> bool
+    ensures { result ≡ is_slot slot }
+{
+    1 <= slot && slot <= 119
+}
+
+/// A slot that is dispatched.
+#[tactic(auto, unfolding(crate::specs::Messages::dispatch_words))]
+fn push_dispatch(words: &mut Words, slot: u8)
+    requires { array_vec_len words.old + 40 ≤ 400 }
+    ensures { words.new.items ≡ words.old.items ++ dispatch_words slot }
+{
+    push_byte(words, "dispatch slot ", slot);
+}
+
+/// A slot that is taken into use.
+#[tactic(auto, unfolding(crate::specs::Messages::use_words))]
+fn push_use(words: &mut Words, slot: u8)
+    requires { array_vec_len words.old + 40 ≤ 400 }
+    ensures { words.new.items ≡ words.old.items ++ use_words slot }
+{
+    push_byte(words, "use slot ", slot);
+}
+
+/// A slot whose locomotive goes to another.
+#[tactic(auto, unfolding(crate::specs::Messages::moved_words))]
+fn push_moved(words: &mut Words, src: u8, dest: u8)
+    requires { array_vec_len words.old + 40 ≤ 400 }
+    ensures { words.new.items ≡ words.old.items ++ moved_words src dest }
+{
+    push_byte(words, "move slot ", src);
+    push_byte(words, " to slot ", dest);
+}
+
+/// What a move of slots asks.
+fn push_move(words: &mut Words, src: u8, dest: u8)
+    requires { array_vec_len words.old + 40 ≤ 400 }
+    ensures { words.new.items ≡ words.old.items ++ move_words src dest }
+{
+    if src == 0 {
+        push_text(words, "take the dispatched slot");
+    } else if dest == 0 {
+        push_dispatch(words, src);
+    } else if src == dest {
+        push_use(words, src);
+    } else {
+        push_moved(words, src, dest);
+    }
+}
+
+/// Which slot is asked for.
+#[tactic(auto, unfolding(crate::specs::Messages::read_words))]
+fn push_read(words: &mut Words, slot: u8)
+    requires { array_vec_len words.old + 40 ≤ 400 }
+    ensures { words.new.items ≡ words.old.items ++ read_words slot }
+{
+    match slot {
+        123 => push_text(words, "read the fast clock"),
+        124 => push_text(words, "read the programmer"),
+        127 => push_text(words, "read the options of the command station"),
+        _ => push_byte(words, "read slot ", slot),
+    }
+}
+
+/// The bytes of a packet, and behind them their check.
+fn checked(body: &[u8]) -> ArrayVec<u8, 6>
+    requires { length body.now ≤ 5 }
+    ensures { result.items ≡ with_check body.now }
+{
+    let mut packet = ArrayVec::new();
+    for byte in body {
+        packet.push(*byte);
+    }
+    packet.push(check_of(body));
+    packet
+}
+
+/// The exclusive or of the bytes.
+fn check_of(bytes: &[u8]) -> u8
+    ensures { result ≡ xor_of bytes.now }
+{
+    bytes.iter().fold(0, |sum, byte| sum ^ byte)
+}
+
+/// The packet that is to be sent, without its check.
+fn push_sent(words: &mut Words, body: &[u8])
+    requires size { length body.now ≤ 5 }
+    requires room { array_vec_len words.old + 330 ≤ 400 }
+    ensures { words.new.items ≡ words.old.items ++ sent_words body.now }
+{
+    let packet = checked(body);
+    push_text(words, "send to the track: ");
+    push_packet(words, packet.as_slice());
+}
+
+/// The first so many of the bytes that a message has for a packet.
+fn push_imm(words: &mut Words, count: u8, bytes: [u8; 5])
+    requires { array_vec_len words.old + 330 ≤ 400 }
+    ensures { words.new.items ≡ words.old.items ++ imm_words count bytes }
+{
+    match count {
+        2..=5 => push_sent(words, &bytes[..usize::from(count)]),
+        _ => push_text(words, "send to the track: wrong length"),
+    }
+}
+
+/// A slot and its direction and F0 to F4.
+#[tactic(auto, unfolding(crate::specs::Messages::dirf_words))]
+fn push_dirf(words: &mut Words, slot: u8, dirf: u8)
+    requires { array_vec_len words.old + 120 ≤ 400 }
+    ensures { words.new.items ≡ words.old.items ++ dirf_words slot dirf }
+{
+    push_slot(words, slot);
+    push_functions(words, ": F0 to F4:", 0, light_and_four(dirf));
+    push_direction(words, is_forward(dirf));
+}
+
+/// A slot and its F5 to F8.
+#[tactic(auto, unfolding(crate::specs::Messages::snd_words))]
+fn push_snd(words: &mut Words, slot: u8, snd: u8)
+    requires { array_vec_len words.old + 120 ≤ 400 }
+    ensures { words.new.items ≡ words.old.items ++ snd_words slot snd }
+{
+    push_slot(words, slot);
+    push_functions(words, ": F5 to F8:", 5, u16::from(snd % 16));
+}
+
+/// `slot N: `, before what is said of the slot.
+fn push_slot_before(words: &mut Words, slot: u8)
+    requires { array_vec_len words.old + 12 ≤ 400 }
+    ensures text { words.new.items ≡ words.old.items ++ slot_label slot ++ codes ": " }
+    ensures len { array_vec_len words.new ≤ array_vec_len words.old + 12 }
+{
+    push_slot(words, slot);
+    push_text(words, ": ");
+}
+
+/// A slot and its speed.
+#[tactic(auto, unfolding(crate::specs::Messages::speed_words))]
+fn push_speed(words: &mut Words, slot: u8, spd: u8)
+    requires { array_vec_len words.old + 40 ≤ 400 }
+    ensures { words.new.items ≡ words.old.items ++ speed_words slot spd }
+{
+    push_slot_before(words, slot);
+    push_spd(words, spd);
+}
+
+/// A slot and its STAT1.
+#[tactic(auto, unfolding(crate::specs::Messages::status_words))]
+fn push_status(words: &mut Words, slot: u8, stat: u8)
+    requires { array_vec_len words.old + 70 ≤ 400 }
+    ensures { words.new.items ≡ words.old.items ++ status_words slot stat }
+{
+    push_slot_before(words, slot);
+    push_stat(words, stat);
+}
+
+/// A switch, and that the message is to be acknowledged.
+#[tactic(auto, unfolding(crate::specs::Messages::acknowledged_words))]
+fn push_acknowledged_switch(words: &mut Words, number: u16, closed: bool, on: bool)
+    requires { array_vec_len words.old + 60 ≤ 400 }
+    ensures { words.new.items ≡ words.old.items ++ acknowledged_words number closed on }
+{
+    push_switch(words, number, closed, on);
+    push_text(words, ", to be acknowledged");
+}
+
+/// Slot data that is to be written.
+#[tactic(auto, unfolding(crate::specs::Messages::written_words))]
+fn push_written(words: &mut Words, fields: &SlotFields)
+    requires { array_vec_len words.old + 300 ≤ 400 }
+    ensures { words.new.items ≡ words.old.items ++ written_words fields.now }
+{
+    push_text(words, "write ");
+    push_slot_data(words, fields);
+}
+
+/// Whether the words below say what an operation is.
+fn is_told(op: &Op) -> bool
+    ensures { result ≡ is_told op.now }
+{
+    match *op {
+        Op::LongAck { .. } | Op::Other => false,
+        Op::SlotData(fields) => is_slot(fields.slot),
+        Op::SlotWrite(fields) => is_slot(fields.slot),
+        _ => true,
+    }
+}
+
+/// What an operation asks or tells.
+fn push_op(words: &mut Words, op: &Op)
+    requires data { IsOfData op.now }
+    requires room { array_vec_len words.old ≤ 0 }
+    ensures { words.new.items ≡ words.old.items ++ op_words op.now }
+{
+    match *op {
+        Op::PowerOff => push_text(words, "track power off"),
+        Op::PowerOn => push_text(words, "track power on"),
+        Op::ForceIdle => push_text(words, "stop all locomotives"),
+        Op::Speed { slot, spd } => push_speed(words, slot, spd),
+        Op::Dirf { slot, dirf } => push_dirf(words, slot, dirf),
+        Op::Snd { slot, snd } => push_snd(words, slot, snd),
+        Op::SwReq { number, closed, on } => push_switch(words, number + 1, closed, on),
+        Op::SwAck { number, closed, on } => push_acknowledged_switch(words, number + 1, closed, on),
+        Op::SlotStat { slot, stat } => push_status(words, slot, stat),
+        Op::Move { src, dest } => push_move(words, src, dest),
+        Op::SlotRead { slot } => push_read(words, slot),
+        Op::LocoAddr { high, low } => push_address(words, high, low),
+        Op::SlotData(fields) => push_slot_data(words, &fields),
+        Op::SlotWrite(fields) => push_written(words, &fields),
+        Op::Imm {
+            count,
+            im1,
+            im2,
+            im3,
+            im4,
+            im5,
+        } => push_imm(words, count, [im1, im2, im3, im4, im5]),
+        _ => {}
+    }
+}
+
+/// The locomotive that is asked for.
+#[tactic(auto, unfolding(crate::specs::Messages::taken_words))]
+fn push_address(words: &mut Words, high: u8, low: u8)
+    requires { array_vec_len words.old + 40 ≤ 400 }
+    ensures { words.new.items ≡ words.old.items ++ taken_words high low }
+{
+    push_halves(words, "take locomotive ", high, low);
+}
+
+/// What a whole message says by the table.
+#[tactic(auto, unfolding(crate::specs::Rows::fits, crate::specs::Rows::most_of, crate::specs::Rows::longest))]
+fn push_by_table(words: &mut Words, bytes: &[u8])
+    requires size { length bytes.now ≤ 127 }
+    requires room { array_vec_len words.old ≤ 0 }
+    ensures text { words.new.items ≡ words.old.items ++ table_words bytes.now }
+    ensures len { array_vec_len words.new ≤ 250 }
+{
+    push_row(words, &MESSAGES, bytes);
+}
+
+/// Why bytes are no whole message.
+fn fault_words(bytes: &[u8]) -> &'static str
+    requires { is_whole bytes.now ≡ false }
+    ensures text { result.now ≡ fault_words bytes.now }
+    ensures len { length result.now ≤ 20 }
+{
+    match bytes {
+        [128..=255, rest @ ..] if !are_data(rest) => "data above 7F",
+        [128..=255, ..] if !Msg::has_form(bytes) => "wrong length",
+        [128..=255, ..] => "wrong check",
+        _ => "no opcode",
+    }
+}
+
+/// Whether each byte is below 128.
+fn are_data(bytes: &[u8]) -> bool
+    ensures { result ≡ are_data bytes.now }
+{
+    bytes.iter().all(|byte| *byte < 128)
+}
+
+/// What the bytes of a LocoNet message say, the check last, in plain words (LocoNet Personal Use Edition 1.0).
+///
+/// Every message of the standard is told, also those that a command station skips. Slots have their own numbers; switches
+/// and sensors count from 1. The packet of OPC_IMM_PACKET is told by [`packet_words`](crate::packet_words). Bytes that are
+/// no whole message say why: `no opcode`, `data above 7F`, `wrong length` or `wrong check`, the first of these that holds.
+pub fn message_words(bytes: &[u8]) -> Words
+    ensures { result.items ≡ message_words bytes.now }
+{
+    let mut words = Words::new();
+    tell_message(&mut words, bytes);
+    words
+}
+
+/// [`message_words`] in a room that is there, in place of what it held: for who tells many messages.
+pub fn tell_message(words: &mut Words, bytes: &[u8])
+    ensures { words.new.items ≡ message_words bytes.now }
+{
+    words.clear();
+    match Msg::whole(bytes) {
+        Some(message) => push_whole(words, &message),
+        None => push_text(words, fault_words(bytes)),
+    }
+}
+
+/// What a whole message says.
+fn push_whole(words: &mut Words, message: &Msg)
+    requires { array_vec_len words.old ≤ 0 }
+    ensures { words.new.items ≡ words.old.items ++ whole_words (op_of message.now) message.now }
+{
+    let op = read(message);
+    if is_told(&op) {
+        push_op(words, &op);
+    } else {
+        push_by_table(words, message.bytes());
+    }
+}

@@ -1,0 +1,283 @@
+//! What packets of the track say.
+ghost use Rattle.std.specs.Prelude.{◌≡◌, ◌≤◌, ◌+◌, ◌++◌, codes, length};
+ghost use Rattle.arrayvec.specs.ArrayVec.{array_vec_len};
+ghost use Rattle.describe.specs.Packets.{accessory_words, address_words, both_words, direction_words, group_words, instr_words, instruction_words, packet_words, all_words, told_words, long_words, step_28_words, step_words, switch_words, unread_words};
+
+use crate::fields::light_and_four;
+use crate::packet_rows::{ACCESSORIES, INSTRUCTIONS};
+use crate::pieces::{Words, push_field, push_functions, push_text};
+use crate::rows::push_row;
+use dcc_packet::{Address, Instr, Packet, read};
+
+/// `locomotive A`.
+fn push_address(words: &mut Words, address: Address)
+    requires { array_vec_len words.old + 40 ≤ 400 }
+    ensures text { words.new.items ≡ words.old.items ++ address_words address }
+    ensures len { array_vec_len words.new ≤ array_vec_len words.old + 40 }
+{
+    match address {
+        Address::Short(number) => push_field(words, "locomotive ", u16::from(number)),
+        Address::Long(number) => {
+            push_field(words, "locomotive ", number);
+            push_text(words, " (long address)");
+        }
+    }
+}
+
+/// `, forward` or `, reverse`.
+pub(crate) fn push_direction(words: &mut Words, forward: bool)
+    requires { array_vec_len words.old + 9 ≤ 400 }
+    ensures text { words.new.items ≡ words.old.items ++ direction_words forward }
+    ensures len { array_vec_len words.new ≤ array_vec_len words.old + 9 }
+{
+    push_text(words, if forward { ", forward" } else { ", reverse" });
+}
+
+/// `stop`, `emergency stop` or `step N of M`.
+fn push_step(words: &mut Words, code: u8, of: u16)
+    requires { array_vec_len words.old + 19 ≤ 400 }
+    ensures text { words.new.items ≡ words.old.items ++ step_words code of }
+    ensures len { array_vec_len words.new ≤ array_vec_len words.old + 19 }
+{
+    match code {
+        0 => push_text(words, "stop"),
+        1 => push_text(words, "emergency stop"),
+        _ => {
+            push_field(words, "step ", u16::from(code - 1));
+            push_field(words, " of ", of);
+        }
+    }
+}
+
+/// The same of 28 steps, by the five bits that the packet has for them.
+fn push_step_28(words: &mut Words, low: u8)
+    requires { array_vec_len words.old + 19 ≤ 400 }
+    ensures text { words.new.items ≡ words.old.items ++ step_28_words low }
+    ensures len { array_vec_len words.new ≤ array_vec_len words.old + 19 }
+{
+    match 2 * (low % 16) + low / 16 % 2 {
+        0..=1 => push_text(words, "stop"),
+        2..=3 => push_text(words, "emergency stop"),
+        number => {
+            push_field(words, "step ", u16::from(number - 3));
+            push_text(words, " of 28");
+        }
+    }
+}
+
+/// A speed of five bits, which the packet alone does not tell to be of 14 or of 28 steps.
+fn push_both(words: &mut Words, low: u8)
+    requires { array_vec_len words.old + 60 ≤ 400 }
+    ensures text { words.new.items ≡ words.old.items ++ both_words low }
+    ensures len { array_vec_len words.new ≤ array_vec_len words.old + 60 }
+{
+    push_step(words, low % 16, 14);
+    if low > 1 {
+        push_text(
+            words,
+            if low / 16 % 2 == 1 {
+                " and F0, or "
+            } else {
+                ", or "
+            },
+        );
+        push_step_28(words, low);
+    }
+}
+
+/// `locomotive A: `, before what it is told.
+fn push_address_before(words: &mut Words, address: Address)
+    requires { array_vec_len words.old + 42 ≤ 400 }
+    ensures text { words.new.items ≡ words.old.items ++ address_words address ++ codes ": " }
+    ensures len { array_vec_len words.new ≤ array_vec_len words.old + 42 }
+{
+    push_address(words, address);
+    push_text(words, ": ");
+}
+
+/// An address and which functions of a group are on, the first in bit 0.
+fn push_group(words: &mut Words, address: Address, label: &str, first: u16, bits: u16)
+    requires label { length label.now ≤ 10 }
+    requires first { first ≤ 255 }
+    requires room { array_vec_len words.old + 140 ≤ 400 }
+    ensures text { words.new.items ≡ words.old.items ++ group_words address label.now first bits }
+    ensures len { array_vec_len words.new ≤ array_vec_len words.old + 140 }
+{
+    push_address_before(words, address);
+    push_functions(words, label, first, bits);
+}
+
+/// `switch N thrown, on`.
+#[tactic(auto, unfolding(crate::specs::Packets::switch_words))]
+pub(crate) fn push_switch(words: &mut Words, number: u16, closed: bool, on: bool)
+    requires { array_vec_len words.old + 40 ≤ 400 }
+    ensures text { words.new.items ≡ words.old.items ++ switch_words number closed on }
+    ensures len { array_vec_len words.new ≤ array_vec_len words.old + 40 }
+{
+    push_field(words, "switch ", number);
+    push_text(words, if closed { " closed" } else { " thrown" });
+    push_text(words, if on { ", on" } else { ", off" });
+}
+
+/// What an instruction says.
+fn push_instr(words: &mut Words, instr: Instr)
+    requires { array_vec_len words.old + 140 ≤ 400 }
+    ensures text { words.new.items ≡ words.old.items ++ instr_words instr }
+    ensures len { array_vec_len words.new ≤ array_vec_len words.old + 140 }
+{
+    match instr {
+        Instr::Idle => push_text(words, "idle"),
+        Instr::Reset => push_text(words, "all decoders: reset"),
+        Instr::StopAll { emergency: true } => push_text(words, "all locomotives: emergency stop"),
+        Instr::StopAll { emergency: false } => push_text(words, "all locomotives: stop"),
+        Instr::Speed { address, d, low } => {
+            push_address_before(words, address);
+            push_both(words, low);
+            push_direction(words, d);
+        }
+        Instr::Speed128 { address, d, s } => {
+            push_address_before(words, address);
+            push_step(words, s, 128);
+            push_direction(words, d);
+        }
+        Instr::GroupOne { address, bits } => {
+            push_group(words, address, "F0 to F4:", 0, light_and_four(bits));
+        }
+        Instr::GroupTwo { address, bits } => {
+            push_group(words, address, "F5 to F8:", 5, u16::from(bits));
+        }
+        Instr::GroupThree { address, bits } => {
+            push_group(words, address, "F9 to F12:", 9, u16::from(bits));
+        }
+        Instr::Accessory {
+            module,
+            pair,
+            closed,
+            on,
+        } => push_switch(
+            words,
+            4 * (module.number() - 1) + u16::from(pair) + 1,
+            closed,
+            on,
+        ),
+    }
+}
+
+/// What a locomotive is told by bytes that no decoder of this project obeys, the check last.
+#[tactic(auto, unfolding(crate::specs::Rows::fits, crate::specs::Rows::most_of, crate::specs::Rows::longest))]
+fn push_instruction(words: &mut Words, bytes: &[u8])
+    requires size { length bytes.now ≤ 6 }
+    requires room { array_vec_len words.old + 250 ≤ 400 }
+    ensures text { words.new.items ≡ words.old.items ++ instruction_words bytes.now }
+    ensures len { array_vec_len words.new ≤ array_vec_len words.old + 250 }
+{
+    push_row(words, &INSTRUCTIONS, bytes);
+}
+
+/// What accessory decoders are told by a packet that none of this project obeys.
+#[tactic(auto, unfolding(crate::specs::Rows::fits, crate::specs::Rows::most_of, crate::specs::Rows::longest))]
+fn push_accessory(words: &mut Words, bytes: &[u8])
+    requires size { length bytes.now ≤ 6 }
+    requires room { array_vec_len words.old + 250 ≤ 400 }
+    ensures text { words.new.items ≡ words.old.items ++ accessory_words bytes.now }
+    ensures len { array_vec_len words.new ≤ array_vec_len words.old + 250 }
+{
+    push_row(words, &ACCESSORIES, bytes);
+}
+
+/// An address and what its decoder is told by bytes that none of this project obeys, the check last.
+fn push_told(words: &mut Words, address: Address, told: &[u8])
+    requires size { length told.now ≤ 6 }
+    requires room { array_vec_len words.old + 300 ≤ 400 }
+    ensures text { words.new.items ≡ words.old.items ++ told_words address told.now }
+    ensures len { array_vec_len words.new ≤ array_vec_len words.old + 300 }
+{
+    push_address_before(words, address);
+    push_instruction(words, told);
+}
+
+/// What the bytes behind the first of an address of two bytes, the check last, say.
+#[tactic(auto, unfolding(crate::specs::Packets::long_words))]
+fn push_long(words: &mut Words, high: u8, told: &[u8])
+    requires low { 192 ≤ high }
+    requires high { high ≤ 231 }
+    requires size { length told.now ≤ 6 }
+    requires room { array_vec_len words.old + 300 ≤ 400 }
+    ensures text { words.new.items ≡ words.old.items ++ long_words high told.now }
+    ensures len { array_vec_len words.new ≤ array_vec_len words.old + 300 }
+{
+    match told {
+        [low, told @ ..] => push_told(
+            words,
+            Address::Long(u16::from(high - 192) * 256 + u16::from(*low)),
+            told,
+        ),
+        [] => push_text(words, "unknown form"),
+    }
+}
+
+/// What all locomotives are told by bytes that no decoder of this project obeys, the check last.
+fn push_all(words: &mut Words, told: &[u8])
+    requires size { length told.now ≤ 6 }
+    requires room { array_vec_len words.old + 300 ≤ 400 }
+    ensures text { words.new.items ≡ words.old.items ++ all_words told.now }
+    ensures len { array_vec_len words.new ≤ array_vec_len words.old + 300 }
+{
+    push_text(words, "all locomotives: ");
+    push_instruction(words, told);
+}
+
+/// What a packet with a right check says that no decoder of this project obeys, by the address partitions (2.1).
+fn push_unread(words: &mut Words, bytes: &[u8])
+    requires size { length bytes.now ≤ 6 }
+    requires room { array_vec_len words.old + 300 ≤ 400 }
+    ensures text { words.new.items ≡ words.old.items ++ unread_words bytes.now }
+    ensures len { array_vec_len words.new ≤ array_vec_len words.old + 300 }
+{
+    match bytes {
+        [0, told @ ..] => push_all(words, told),
+        [number @ 1..=127, told @ ..] => push_told(words, Address::Short(*number), told),
+        [high @ 192..=231, told @ ..] => push_long(words, *high, told),
+        [_, ..] => push_accessory(words, bytes),
+        [] => push_text(words, "unknown form"),
+    }
+}
+
+/// What a packet says.
+pub(crate) fn push_packet(words: &mut Words, bytes: &[u8])
+    requires { array_vec_len words.old + 300 ≤ 400 }
+    ensures text { words.new.items ≡ words.old.items ++ packet_words bytes.now }
+    ensures len { array_vec_len words.new ≤ array_vec_len words.old + 300 }
+{
+    let Some(packet) = Packet::of(bytes) else {
+        return push_text(words, "wrong length");
+    };
+    if !packet.is_checked() {
+        return push_text(words, "wrong check");
+    }
+    match read(&packet) {
+        Some(instr) => push_instr(words, instr),
+        None => push_unread(words, packet.bytes()),
+    }
+}
+
+/// What the bytes of a packet of the track say, the check last, in plain words (S-9.2 and S-9.2.1).
+///
+/// Every form that a receiver may meet is told, also those that no decoder of this project obeys. Functions, steps and
+/// variables have the standard's numbers; switches and signals count from 1, four to a decoder, the first of decoder 1.
+/// Bytes that are fewer than 3 or more than 6, or whose check is wrong, say `wrong length` or `wrong check`.
+pub fn packet_words(bytes: &[u8]) -> Words
+    ensures { result.items ≡ packet_words bytes.now }
+{
+    let mut words = Words::new();
+    push_packet(&mut words, bytes);
+    words
+}
+
+/// [`packet_words`] in a room that is there, in place of what it held: for who tells many packets.
+pub fn tell_packet(words: &mut Words, bytes: &[u8])
+    ensures { words.new.items ≡ packet_words bytes.now }
+{
+    words.clear();
+    push_packet(words, bytes);
+}

@@ -1,0 +1,130 @@
+//! The words of an explanation, and what is appended to them.
+ghost use Rattle.std.specs.Prelude.{◌≡◌, ◌≤◌, ◌<◌, ◌+◌, ◌*◌, ◌/◌, ◌%◌, ◌++◌, length, [], ◌∷◌};
+ghost use Rattle.std.specs.Fmt.{decimal};
+ghost use Rattle.arrayvec.specs.ArrayVec.{array_vec_len};
+ghost use Rattle.ln_ops.specs.Slot.{address_with};
+ghost use Rattle.describe.specs.Pieces.{hex_byte, hex_pair, one_on, four_on, eight_on, functions_words};
+
+use arrayvec::ArrayVec;
+
+/// An explanation: ASCII text without a line feed, at most 400 bytes.
+pub type Words = ArrayVec<u8, 400>;
+
+/// The digits of the numbers below 16.
+const HEX_DIGITS: [u8; 16] = *b"0123456789ABCDEF";
+
+/// Appends a text.
+pub(crate) fn push_text(words: &mut Words, text: &str)
+    requires { array_vec_len words.old + length text.now ≤ 400 }
+    ensures text { words.new.items ≡ words.old.items ++ text.now }
+    ensures len { array_vec_len words.new ≡ array_vec_len words.old + length text.now }
+{
+    let _fits = words.try_extend_from_slice(text.as_bytes());
+}
+
+/// Appends a small number in decimal digits, at most 5.
+pub(crate) fn push_number(words: &mut Words, n: u16)
+    requires { array_vec_len words.old + 5 ≤ 400 }
+    ensures text { words.new.items ≡ words.old.items ++ decimal n }
+    ensures len { array_vec_len words.new ≤ array_vec_len words.old + 5 }
+{
+    let _fits = words.try_extend_from_slice(ascii_words::decimal(u64::from(n)).as_slice());
+}
+
+/// Appends a label and a small number.
+pub(crate) fn push_field(words: &mut Words, label: &str, n: u16)
+    requires { array_vec_len words.old + length label.now + 5 ≤ 400 }
+    ensures text { words.new.items ≡ words.old.items ++ (label.now ++ decimal n) }
+    ensures len { array_vec_len words.new ≤ array_vec_len words.old + length label.now + 5 }
+{
+    push_text(words, label);
+    push_number(words, n);
+}
+
+fn hex_digit(n: u8) -> u8
+    requires { n < 16 }
+    ensures { result ≡ hex_byte n }
+{
+    HEX_DIGITS[n as usize]
+}
+
+/// Appends a label and a byte in decimal digits.
+pub(crate) fn push_byte(words: &mut Words, label: &str, n: u8)
+    requires { array_vec_len words.old + length label.now + 5 ≤ 400 }
+    ensures text { words.new.items ≡ words.old.items ++ (label.now ++ decimal n) }
+    ensures len { array_vec_len words.new ≤ array_vec_len words.old + length label.now + 5 }
+{
+    push_field(words, label, u16::from(n));
+}
+
+/// Appends a label and an address, of which a message has two halves.
+pub(crate) fn push_halves(words: &mut Words, label: &str, high: u8, low: u8)
+    requires { array_vec_len words.old + length label.now + 5 ≤ 400 }
+    ensures text { words.new.items ≡ words.old.items ++ (label.now ++ decimal (address_with high low)) }
+    ensures len { array_vec_len words.new ≤ array_vec_len words.old + length label.now + 5 }
+{
+    push_field(words, label, u16::from(high) * 128 + u16::from(low));
+}
+
+/// Appends a byte as two digits.
+pub(crate) fn push_hex(words: &mut Words, byte: u8)
+    requires { array_vec_len words.old + 2 ≤ 400 }
+    ensures text { words.new.items ≡ words.old.items ++ hex_pair byte }
+    ensures len { array_vec_len words.new ≡ array_vec_len words.old + 2 }
+{
+    words.push(hex_digit(byte / 16));
+    words.push(hex_digit(byte % 16));
+}
+
+/// Appends the name of a function that is on.
+fn push_one_on(words: &mut Words, number: u16, on: bool)
+    requires { array_vec_len words.old + 7 ≤ 400 }
+    ensures text { words.new.items ≡ words.old.items ++ one_on number on }
+    ensures len { array_vec_len words.new ≤ array_vec_len words.old + 7 }
+{
+    if on {
+        push_field(words, " F", number);
+    }
+}
+
+/// Appends the names of those of four functions that are on, the first in bit 0.
+pub(crate) fn push_four_on(words: &mut Words, first: u16, bits: u16)
+    requires room { array_vec_len words.old + 28 ≤ 400 }
+    requires first { first ≤ 300 }
+    ensures text { words.new.items ≡ words.old.items ++ four_on first bits }
+    ensures len { array_vec_len words.new ≤ array_vec_len words.old + 28 }
+{
+    push_one_on(words, first, bits % 2 == 1);
+    push_one_on(words, first + 1, bits / 2 % 2 == 1);
+    push_one_on(words, first + 2, bits / 4 % 2 == 1);
+    push_one_on(words, first + 3, bits / 8 % 2 == 1);
+}
+
+/// Appends the names of those of eight functions that are on, the first in bit 0.
+pub(crate) fn push_eight_on(words: &mut Words, first: u16, bits: u16)
+    requires room { array_vec_len words.old + 56 ≤ 400 }
+    requires first { first ≤ 255 }
+    ensures text { words.new.items ≡ words.old.items ++ eight_on first bits }
+    ensures len { array_vec_len words.new ≤ array_vec_len words.old + 56 }
+{
+    push_four_on(words, first, bits);
+    push_four_on(words, first + 4, bits / 16);
+}
+
+/// Appends the label of a group of functions and those of them that are on, the first in bit 0.
+#[tactic(auto, unfolding(crate::specs::Pieces::functions_words))]
+pub(crate) fn push_functions(words: &mut Words, label: &str, first: u16, bits: u16)
+    requires label { length label.now ≤ 12 }
+    requires first { first ≤ 255 }
+    requires room { array_vec_len words.old + 80 ≤ 400 }
+    ensures text { words.new.items ≡ words.old.items ++ functions_words label.now first bits }
+    ensures len { array_vec_len words.new ≤ array_vec_len words.old + 80 }
+{
+    push_text(words, label);
+    if bits == 0 {
+        push_text(words, " all off");
+    } else {
+        push_eight_on(words, first, bits);
+        push_text(words, " on");
+    }
+}

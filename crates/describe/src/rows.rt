@@ -1,0 +1,112 @@
+//! Tables of what bytes say: the first row that applies, its parts one after another.
+ghost use Rattle.std.specs.Prelude.{◌≡◌, ◌≤◌, ◌<◌, ◌+◌, ◌^◌, ◌++◌, length, IsTrue};
+ghost use Rattle.arrayvec.specs.ArrayVec.{array_vec_len};
+ghost use Rattle.describe.specs.Rows.{applies, choice_text, fits, longest, most_of, part_text, parts_of, parts_text, part_most, row_text};
+
+use crate::fields::{Field, value_of};
+use crate::pieces::{Words, push_eight_on, push_hex, push_number, push_text};
+
+/// How a part of what a row says is made, of the texts beside it.
+#[derive(Clone, Copy)]
+pub(crate) enum Part {
+    /// The first text.
+    Text,
+    /// A field in decimal digits.
+    Number(Field),
+    /// A field in two hexadecimal digits.
+    Hex(Field),
+    /// The text that a field chooses, the first at 0, and nothing behind the last.
+    Choice(Field),
+    /// The names of those of eight functions that are on: the number of the first, and the field that has it in bit 0.
+    On(u8, Field),
+}
+
+/// A field, and the number that it must have.
+pub(crate) type Test = (Field, u16);
+
+/// A part, and its texts.
+pub(crate) type Said = (Part, &'static [&'static str]);
+
+/// A row of a table: what bytes must have for it, and what they say then. Rows are tuples, since clauses see a constant
+/// only where no type of one's own in it holds a reference.
+pub(crate) type Row = (&'static [Test], &'static [Said]);
+
+/// Whether each field has its number.
+fn applies(when: &[Test], bytes: &[u8]) -> bool
+    requires { length bytes.now < 2 ^ 16 }
+    ensures { result ≡ applies when.now bytes.now }
+{
+    when.iter()
+        .all(|(field, number)| value_of(*field, bytes) == *number)
+}
+
+/// What the first row that applies says.
+#[tactic(auto, unfolding(crate::specs::Rows::parts_of, crate::specs::Rows::fits, crate::specs::Rows::most_of))]
+fn parts_of(rows: &[Row], bytes: &[u8]) -> &'static [Said]
+    requires size { length bytes.now < 2 ^ 16 }
+    requires fits { IsTrue (fits rows.now) }
+    ensures value { result.now ≡ parts_of rows.now bytes.now }
+    ensures most { most_of result.now ≤ 250 }
+{
+    for row in rows {
+        let (when, says) = *row;
+        if applies(when, bytes) {
+            return says;
+        }
+    }
+    &[]
+}
+
+/// Appends the text that a number chooses.
+#[tactic(auto, using(crate::proofs::Choices::choice_at, crate::proofs::Choices::choice_past, crate::proofs::Choices::longest_at))]
+fn push_choice(words: &mut Words, texts: &[&str], number: u16)
+    requires { array_vec_len words.old + longest texts.now ≤ 400 }
+    ensures text { words.new.items ≡ words.old.items ++ choice_text texts.now number }
+    ensures len { array_vec_len words.new ≤ array_vec_len words.old + longest texts.now }
+{
+    let at = usize::from(number);
+    if at < texts.len() {
+        push_text(words, texts[at]);
+    }
+}
+
+/// Appends a part.
+fn push_part(words: &mut Words, said: &Said, bytes: &[u8])
+    requires size { length bytes.now < 2 ^ 16 }
+    requires room { array_vec_len words.old + part_most said.now ≤ 400 }
+    ensures text { words.new.items ≡ words.old.items ++ part_text bytes.now said.now }
+    ensures len { array_vec_len words.new ≤ array_vec_len words.old + part_most said.now }
+{
+    let (part, texts) = *said;
+    match part {
+        Part::Text => push_choice(words, texts, 0),
+        Part::Number(field) => push_number(words, value_of(field, bytes)),
+        Part::Hex(field) => push_hex(words, (value_of(field, bytes) % 256) as u8),
+        Part::Choice(field) => push_choice(words, texts, value_of(field, bytes)),
+        Part::On(first, field) => push_eight_on(words, u16::from(first), value_of(field, bytes)),
+    }
+}
+
+/// Appends parts.
+#[tactic(auto, unfolding(crate::specs::Rows::parts_text, crate::specs::Rows::most_of))]
+fn push_parts(words: &mut Words, parts: &[Said], bytes: &[u8])
+    requires size { length bytes.now < 2 ^ 16 }
+    requires room { array_vec_len words.old + most_of parts.now ≤ 400 }
+    ensures text { words.new.items ≡ words.old.items ++ parts_text bytes.now parts.now }
+    ensures len { array_vec_len words.new ≤ array_vec_len words.old + most_of parts.now }
+{
+    for part in parts {
+        push_part(words, part, bytes);
+    }
+}
+
+/// Appends what the first row that applies says.
+pub(crate) fn push_row(words: &mut Words, rows: &[Row], bytes: &[u8])
+    requires size { length bytes.now < 2 ^ 16 }
+    requires fits { IsTrue (fits rows.now) }
+    requires room { array_vec_len words.old + 250 ≤ 400 }
+    ensures text { words.new.items ≡ words.old.items ++ row_text rows.now bytes.now }
+    ensures len { array_vec_len words.new ≤ array_vec_len words.old + 250 }
+{
+    push_parts(words, parts_of(rows, bytes), bytes);
+}

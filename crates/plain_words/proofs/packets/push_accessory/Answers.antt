@@ -1,8 +1,0 @@
-use Rattle.std.proofs.Common.{◌++◌, ap, refl, ◌∙◌}
-use Rattle.plain_words.specs.Packets.{accessory_rows, accessory_words}
-use Rattle.plain_words.proofs.Tables.{alike}
-use Rattle.plain_words.proofs.packets.push_accessory.Goals as goal
-
-pub returns-clause-text : goal.returns-clause-text
-unfolding accessory_words
-returns-clause-text c = c.push_row.ensures.text ∙ ap (λ text. c.args.words.now.items ++ text) (alike _ accessory_rows c.args.bytes.now refl)

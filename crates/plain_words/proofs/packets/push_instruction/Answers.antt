@@ -1,8 +1,0 @@
-use Rattle.std.proofs.Common.{◌++◌, ap, refl, ◌∙◌}
-use Rattle.plain_words.specs.Packets.{instruction_rows, instruction_words}
-use Rattle.plain_words.proofs.Tables.{alike}
-use Rattle.plain_words.proofs.packets.push_instruction.Goals as goal
-
-pub returns-clause-text : goal.returns-clause-text
-unfolding instruction_words
-returns-clause-text c = c.push_row.ensures.text ∙ ap (λ text. c.args.words.now.items ++ text) (alike _ instruction_rows c.args.bytes.now refl)

@@ -1,7 +1,0 @@
-use Rattle.std.proofs.Common.{sym, subst}
-use Rattle.program.specs.Layout.{AreBetween}
-use Rattle.program.proofs.Told.{fresh_between}
-use Rattle.program.proofs.layout.new_world.Goals as goal
-
-pub returns-in-Ok-clause-between : goal.returns-in-Ok-clause-between
-returns-in-Ok-clause-between c = subst AreBetween (sym c.in-Ok.ensures.nodes) (fresh_between _)

@@ -1,0 +1,123 @@
+//! What one line of `station` tells of the rails.
+ghost use Rattle.std.specs.Prelude.{ℕ, ◌≡◌, ◌==◌, ◌<◌, ◌^◌, ◌∷◌, ◌++◌, ◌/◌, ◌%◌, ◌↔◌, List, Option, Some, Ok, IfOk, IfSome, IsTrue, MatchOption, codes, length, position};
+ghost use Rattle.std.specs.Fmt.{decimal};
+ghost use Rattle.dcc_packet.specs.Packet.{IsPacket};
+ghost use Rattle.show_text.specs.Lines.{hex_byte, hex_word, hex_words};
+ghost use Rattle.trace.specs.Traffic.{Tells, is_of_turn};
+
+use arrayvec::ArrayVec;
+use dcc_packet::Packet;
+use show_text::{Line, off_line, track_line};
+use std::str;
+
+/// Of a line that begins as the line of a turn and is none.
+#[derive(Clone, Copy, Debug, PartialEq, Eq)]
+pub struct NoTurn;
+
+/// Whether the line is, by its first word, up to a space, that of a turn.
+pub fn is_of_turn(line: &[u8]) -> bool
+    ensures { result ≡ is_of_turn line.now }
+{
+    line == b"track".as_slice() || line.starts_with(b"track ".as_slice())
+}
+
+/// The number that these decimal digits write.
+fn number_of(digits: &[u8]) -> Option<u64>
+    ensures { (n : ℕ) → n < 2 ^ 64 → digits.now ≡ decimal n → result ≡ Some n }
+{
+    match str::from_utf8(digits) {
+        Ok(text) => text.parse().ok(),
+        Err(_) => None,
+    }
+}
+
+fn space_at(text: &[u8]) -> Option<usize>
+    ensures { result ≡ position (λ b. b == 32) text.now }
+{
+    text.iter().position(|byte| *byte == b' ')
+}
+
+/// The number of a turn, and what stands behind it, from the space on.
+fn cut_turn(line: &[u8]) -> Option<(u64, &[u8])>
+    ensures { (turn : ℕ) (rest : List ℕ) → turn < 2 ^ 64 → line.now ≡ codes "track " ++ decimal turn ++ 32 ∷ rest → MatchOption result ⊥ (λ cut. (cut.0 ≡ turn) × (cut.1.now ≡ 32 ∷ rest)) }
+{
+    let text = line.strip_prefix(b"track ")?;
+    let end = space_at(text)?;
+    let turn = number_of(&text[..end])?;
+    Some((turn, &text[end..]))
+}
+
+/// The number that an upper-case hexadecimal digit writes.
+fn digit_of(byte: u8) -> Option<u8>
+    ensures below { (n : ℕ) → result ≡ Some n → n < 16 }
+    ensures value { (n : ℕ) → n < 16 → byte ≡ hex_byte n → result ≡ Some n }
+{
+    match byte {
+        b'0'..=b'9' => Some(byte - b'0'),
+        b'A'..=b'F' => Some(byte - b'A' + 10),
+        _ => None,
+    }
+}
+
+/// The byte that two upper-case hexadecimal digits write, the high one first.
+fn byte_of(high: u8, low: u8) -> Option<u8>
+    ensures { (byte : ℕ) → byte < 256 → high ≡ hex_byte (byte / 16) → low ≡ hex_byte (byte % 16) → result ≡ Some byte }
+{
+    Some(16 * digit_of(high)? + digit_of(low)?)
+}
+
+/// The byte that the words begin with, a space and two digits, and what follows it.
+fn cut_byte(words: &[u8]) -> Option<(u8, &[u8])>
+    ensures byte { (byte : ℕ) (rest : List ℕ) → byte < 256 → words.now ≡ hex_word byte ++ rest → MatchOption result ⊥ (λ cut. (cut.0 ≡ byte) × (cut.1.now ≡ rest)) }
+    ensures shorter { IfSome result (λ cut. length cut.1.now < length words.now) }
+{
+    match words {
+        [b' ', high, low, rest @ ..] => Some((byte_of(*high, *low)?, rest)),
+        _ => None,
+    }
+}
+
+/// The packet of these words, or of the first six.
+fn packet_of(words: &[u8]) -> Option<Packet>
+    ensures { (packet : List ℕ) → IsPacket packet → words.now ≡ hex_words packet → result ≡ Some packet }
+{
+    let mut bytes: ArrayVec<u8, 6> = ArrayVec::new();
+    let mut rest = words;
+    while !rest.is_empty() && !bytes.is_full() {
+        let (byte, after) = cut_byte(rest)?;
+        bytes.push(byte);
+        rest = after;
+    }
+    Packet::of(bytes.as_slice())
+}
+
+fn is_text(line: &[u8], text: &Line) -> bool
+    ensures { IsTrue result ↔ (line.now ≡ text.now.bytes) }
+{
+    line == text.as_str().as_bytes()
+}
+
+/// The packet that a line tells, or `None` where it tells of none: as it is no line of a turn, or the turn sent nothing.
+///
+/// What is read is printed again and compared, so that a line counts exactly where `station` prints it.
+pub fn packet_told(line: &[u8]) -> Result<Option<Packet>, NoTurn>
+    ensures told { IfOk result (λ told. Tells line.now told) }
+    ensures exact { (told : Option (List ℕ)) → Tells line.now told → result ≡ Ok told }
+{
+    if !is_of_turn(line) {
+        return Ok(None);
+    }
+    let Some((turn, rest)) = cut_turn(line) else {
+        return Err(NoTurn);
+    };
+    if is_text(line, &off_line(turn)) {
+        return Ok(None);
+    }
+    let Some(packet) = packet_of(rest) else {
+        return Err(NoTurn);
+    };
+    if !packet.is_checked() || !is_text(line, &track_line(turn, &packet)) {
+        return Err(NoTurn);
+    }
+    Ok(Some(packet))
+}

@@ -1,0 +1,45 @@
+//! What the lines of a text tell.
+ghost use Rattle.std.specs.Prelude.{ℕ, ◌≡◌, ◌⊎◌, ◌≤◌, List, IfErr, IfOk, MatchResult, length};
+ghost use Rattle.trace.specs.declared.fault.DrawFault.TheVariants.{NoMemory};
+ghost use Rattle.trace.specs.Fault.{Refuses};
+ghost use Rattle.trace.specs.Text.{TextTells};
+
+use crate::drawing::Drawing;
+use crate::fault::DrawFault;
+use trace::{LONGEST_TEXT, cut_line};
+use std::alloc::Global;
+
+/// What the lines of a text tell, in order.
+///
+/// The first fault decides: a text longer than [`LONGEST_TEXT`], and then the first line that has a fault.
+pub(crate) fn read_lines<D: Drawing>(
+    alloc: Global,
+    drawing: &D,
+    text: &[u8],
+) -> Result<Vec<D::Told>, DrawFault>
+    ensures told { IfOk result (λ v. TextTells D.tells text.now v.items) }
+    ensures few { IfOk result (λ v. length v.items ≤ 16777216) }
+    ensures exact { (things : List D.Told) → TextTells D.tells text.now things → MatchResult result (λ v. v.items ≡ things) (λ e. e ≡ NoMemory) }
+    ensures fault { IfErr result (λ e. (e ≡ NoMemory) ⊎ Refuses D.tells text.now e) }
+{
+    if text.len() > LONGEST_TEXT {
+        return Err(DrawFault::TooLong);
+    }
+    let mut things = Vec::new(alloc);
+    let mut number = 0u64;
+    let mut rest = text;
+    while !rest.is_empty() {
+        let (line, after) = cut_line(rest);
+        number += 1;
+        let Ok(told) = drawing.read(line) else {
+            return Err(DrawFault::BadLine(number));
+        };
+        if let Some(thing) = told {
+            if things.push(thing).is_err() {
+                return Err(DrawFault::NoMemory);
+            }
+        }
+        rest = after;
+    }
+    Ok(things)
+}

@@ -1,0 +1,38 @@
+use Rattle.std.proofs.Common.{rules, refl, arith, ◌∙◌, subst}
+use Rattle.web.specs.Telling.{Tells}
+use Rattle.web.proofs.Telling.{end-held, end-tells, nothing-told, step-held, step-messages, tells-nothing}
+use Rattle.web.proofs.page.Page.take.Goals as goal
+use Rattle.web.proofs.page.Page.take.Goals.{then-taken-gt0+else-eq, else-taken-gt0}
+
+pub loop-taken-init : goal.loop-taken-init
+loop-taken-init g c = record { held = refl; told = tells-nothing _ c.args.self.now.socket }
+
+pub loop-taken-preserved-then-byte-ne10 : goal.loop-taken-preserved-then-byte-ne10
+loop-taken-preserved-then-byte-ne10 g c =
+    let start = c.args.self.now.unfinished in
+    let text = c.args.bytes.now in
+    record {
+      held = c.hold.ensures ∙ step-held start c.loop-taken.self.unfinished text c.loop-taken.taken (omega arith) c.if-byte-ne10.true c.loop-taken.invariant.held;
+      told = subst (λ ms. Tells (λ gate. g.S.Write.contents gate.stream) ms c.args.self.now.socket c.loop-taken.self.socket)
+          (step-messages start text c.loop-taken.taken (omega arith) c.if-byte-ne10.true) c.loop-taken.invariant.told;
+    }
+
+pub loop-taken-preserved : goal.loop-taken-preserved
+loop-taken-preserved g c =
+    let start = c.args.self.now.unfinished in
+    let text = c.args.bytes.now in
+    record {
+      held = c.in-Ok.ensures.held ∙ end-held start text c.loop-taken.taken (omega arith) (omega arith);
+      told = end-tells _ start c.loop-taken.self.unfinished text c.loop-taken.taken c.args.self.now.socket c.loop-taken.self.socket c.say_line.new.self.socket
+          (omega arith) (omega arith) c.loop-taken.invariant.held c.loop-taken.invariant.told c.in-Ok.ensures.told;
+    }
+
+pub returns-in-Err-2-clause-full : goal.returns-in-Err-2-clause-full
+returns-in-Err-2-clause-full g c = λ full. elim c.if-taken-gt0.branch [
+  | then-taken-gt0+else-eq w ↦ search rules
+  | else-taken-gt0 w ↦
+      let none = nothing-told _ c.args.self.now.unfinished c.loop-taken.self.unfinished c.args.bytes.now c.loop-taken.taken c.args.self.now.socket c.loop-taken.self.socket
+      (omega (arith, w.if-taken-gt0)) c.loop-taken.invariant.held c.loop-taken.invariant.told in
+      let kept = c.in-Err.ensures.full full in
+      (kept.0 ∙ none.0, kept.1 ∙ none.1)
+]
