@@ -1,4 +1,4 @@
--- A text is cut at the first of its bytes that passes a test.
+-- A text is split at the first byte that passes a test.
 use Rattle.std.proofs.Common.{◌≡◌, ℕ, ◌+◌, ◌<◌, ◌≤◌, ◌==◌, Bool, true, false, List, [], ◌∷◌, length, take, drop, Option, Some, None, position, cond, not, slice_index, refl, ap, sym, arith}
 use Rattle.std.specs.List.{slice_split, onto_first, before_first, after_first, position_or_len}
 use Rattle.std.proofs.lemmas.Bool.Decides.{nat_tests}
@@ -20,7 +20,7 @@ split_whole p [] h = refl
 split_whole p (x ∷ xs) h = elim (p x) as (λ passes. length (x ∷ xs) ≤ cond (not passes) (1 + position_or_len p xs) 0 → cond passes ([] ∷ slice_split p xs) (onto_first x (slice_split p xs)) ≡ (x ∷ xs) ∷ [])
     [ true ↦ λ long. absurd (omega (arith, long)) | false ↦ λ long. ap (onto_first x) (split_whole p xs (omega (arith, long))) ] h
 
--- a list of which nothing passes is one part, and another is cut at the first element that passes
+-- a list where no element passes is one part; any other is split at the first element that passes
 
 pub whole : {X : Type 0} (p : X → Bool) (xs : List X) → position p xs ≡ None → slice_split p xs ≡ xs ∷ []
 whole p xs h = split_whole p xs (no_place p xs h)
@@ -30,7 +30,7 @@ split_first p xs at d h =
     let found = first_place p xs at h in
     rw (← found.0) (slice_split_first p xs d (omega arith))
 
--- A text with no blank is its first piece.
+-- A text with no blank is its own first piece.
 
 pub whole-before : (text : List ℕ) → position is_blank text ≡ None → text ≡ before_first is_blank text
 whole-before text h = sym (take_all (position_or_len is_blank text) text (no_place is_blank text h))
@@ -48,7 +48,7 @@ pub whole-words : (text : List ℕ) → position is_blank text ≡ None → word
 unfolding words_of
 whole-words text h = rw (whole is_blank text h) (kept text [])
 
--- Another is cut at its first blank.
+-- Any other text is split at its first blank.
 
 pub cut-before : (text : List ℕ) (at : ℕ) → position is_blank text ≡ Some at → take at text ≡ before_first is_blank text
 cut-before text at h = ap (λ k. take k text) (sym (first_place is_blank text at h).0)
@@ -62,7 +62,7 @@ cut-words text at h = rw (split_first is_blank text at 0 h) (kept (take at text)
 
 pub ruleset cuts = (whole-before, whole-after, whole-words, cut-before, cut-after, cut-words, take_rest)
 
--- what a search of memory finds
+-- the result of a memory search
 
 pub first_is_position : (text : List ℕ) (found : Option ℕ) → IsFirstByte (is_byte 10) text found → found ≡ position (λ b. b == 10) text
 first_is_position text None nowhere =

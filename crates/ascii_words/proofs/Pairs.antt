@@ -1,4 +1,4 @@
--- Two digits that each are read as what they were written for.
+-- Two hexadecimal digits are read as the byte that they were written for.
 use Rattle.std.proofs.Common.{◌≡◌, ℕ, ◌+◌, ◌*◌, ◌/◌, ◌%◌, ◌<◌, [], ◌∷◌, Some, ap, ap₂, ◌∙◌, arith}
 use Rattle.ascii_words.specs.Words.{digit_of, both, pair_of}
 

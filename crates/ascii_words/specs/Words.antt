@@ -1,6 +1,6 @@
--- The words of a text, and the bytes that they write. The tab as a blank and the digits of either case are the project's own
--- rule.
-use Rattle.std.specs.Prelude.{ℕ, Bool, true, false, ◌&&◌, ◌||◌, ◌==◌, ◌+◌, ◌*◌, ◌-◌, if◌then◌else◌, nat_le, List, [], ◌∷◌, filter, Option, Some, None}
+-- The words of a text, and the bytes that they write. The tab as a blank and digits of either case
+-- are rules of this project.
+use Rattle.std.specs.Prelude.{ℕ, Bool, true, false, ◌&&◌, ◌||◌, ◌==◌, ◌+◌, ◌*◌, ◌-◌, if◌then◌else◌, nat_le, nat_lt, List, [], ◌∷◌, filter, Option, Some, None}
 use Rattle.std.specs.Char.{is_ascii_digit}
 use Rattle.std.specs.List.{slice_split}
 
@@ -8,7 +8,7 @@ use Rattle.std.specs.List.{slice_split}
 abbrev pub is_blank : ℕ → Bool
 is_blank b = b == 32 || b == 9
 
--- an empty piece is no word
+-- an empty piece is not a word
 abbrev pub is_word : List ℕ → Bool
 is_word [] = false
 is_word (b ∷ bs) = true
@@ -17,10 +17,14 @@ is_word (b ∷ bs) = true
 unfoldable pub words_of : List ℕ → List (List ℕ)
 words_of text = filter is_word (slice_split is_blank text)
 
--- a piece, if it is a word, before other words
+-- puts a piece, if it is a word, before other words
 abbrev pub with_piece : List ℕ → List (List ℕ) → List (List ℕ)
 with_piece [] words = words
 with_piece (b ∷ bs) words = (b ∷ bs) ∷ words
+
+-- the hexadecimal digit of a number below 16, in upper case
+abbrev pub hex_char : ℕ → ℕ
+hex_char n = if nat_lt n 10 then 48 + n else 65 + (n - 10)
 
 -- Two hexadecimal digits of either case.
 

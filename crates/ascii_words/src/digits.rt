@@ -5,10 +5,10 @@ ghost use Rattle.arrayvec.specs.ArrayVec.{array_vec_len};
 
 use arrayvec::ArrayVec;
 
-/// The digits of a number: at most 20.
+/// The decimal digits of a number, at most 20.
 pub type Digits = ArrayVec<u8, 20>;
 
-/// A number in decimal digits: at most 5 of a number of 16 bits, and at most 10 of one of 32 bits.
+/// Returns `n` in decimal digits: at most 5 for a 16-bit number, at most 10 for a 32-bit number.
 pub fn decimal(n: u64) -> Digits
     ensures text { result.items ≡ decimal n }
     ensures small { n < 65536 → array_vec_len result ≤ 5 }

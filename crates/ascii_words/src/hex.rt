@@ -1,9 +1,18 @@
-//! Bytes that two hexadecimal digits write.
-ghost use Rattle.std.specs.Prelude.{◌≡◌};
-ghost use Rattle.ascii_words.specs.Words.{digit_of, both, pair_of};
+//! Bytes and their hexadecimal digits.
+ghost use Rattle.std.specs.Prelude.{◌≡◌, ◌<◌};
+ghost use Rattle.ascii_words.specs.Words.{digit_of, both, hex_char, pair_of};
 
-/// The byte that a word of two hexadecimal digits writes, the high digit first. Digits have either case; any other word
-/// writes none.
+/// The hexadecimal digit of a number below 16, in upper case.
+pub fn hex_char(n: u8) -> u8
+    requires { n < 16 }
+    ensures digit { result ≡ hex_char n }
+    ensures ascii { result < 128 }
+{
+    if n < 10 { b'0' + n } else { b'A' + (n - 10) }
+}
+
+/// Returns the byte written by a word of two hexadecimal digits, the high digit first. Digits may
+/// be upper or lower case. Returns `None` for any other word.
 pub fn hex_pair(word: &[u8]) -> Option<u8>
     ensures { result ≡ pair_of word.now }
 {
@@ -13,7 +22,7 @@ pub fn hex_pair(word: &[u8]) -> Option<u8>
     }
 }
 
-/// The byte that two hexadecimal digits of either case write.
+/// The byte written by two hexadecimal digits of either case.
 #[inline]
 pub fn hex_byte(high: u8, low: u8) -> Option<u8>
     ensures { result ≡ both (digit_of high) (digit_of low) }

@@ -1,11 +1,11 @@
-//! Where a text is cut: at its blanks, and at its line feeds.
+//! Searching a text for blanks and line feeds.
 ghost use Rattle.std.specs.Prelude.{◌≡◌, ◌+◌, ◌<◌, ◌≤◌, ◌==◌, length, position};
 ghost use Rattle.std.specs.List.{before_first, after_first};
 ghost use Rattle.ascii_words.specs.Words.{is_blank, words_of, with_piece};
 
 use memchr::memchr;
 
-/// Where the first line feed stands.
+/// Returns the index of the first line feed, or `None` if there is none.
 #[inline]
 #[tactic(auto, using(crate::proofs::Cuts::first_is_position))]
 pub fn line_feed_at(text: &[u8]) -> Option<usize>
@@ -14,8 +14,8 @@ pub fn line_feed_at(text: &[u8]) -> Option<usize>
     memchr(b'\n', text)
 }
 
-/// What stands before the first blank, a space or a tab, and what stands behind that blank. A text without a blank is all
-/// before it.
+/// Splits a text at its first blank, a space or a tab: the bytes before it and the bytes after it.
+/// A text without a blank is returned whole, with an empty rest.
 #[inline]
 #[tactic(auto, using(crate::proofs::Cuts::cuts))]
 pub fn cut_piece(text: &[u8]) -> (&[u8], &[u8])
@@ -38,7 +38,7 @@ fn blank_at(text: &[u8]) -> Option<usize>
     text.iter().position(|byte| is_blank(*byte))
 }
 
-/// Whether it is a space or a tab.
+/// Whether the byte is a space or a tab.
 #[inline]
 pub fn is_blank(byte: u8) -> bool
     ensures { result ≡ is_blank byte }

@@ -1,4 +1,4 @@
--- What is unfinished is all of the bytes before that a byte goes on with.
+-- What is unfinished is all of the earlier bytes that a byte continues.
 use Rattle.std.proofs.Common.{◌≡◌, ℕ, ◌<◌, ◌≤◌, Bool, true, false, List, [], ◌∷◌, ◌++◌, length, Option, Some, None, length-append, refl, ap, sym, ◌∙◌, inl, inr, arith, nat_lt}
 use Rattle.std.proofs.lemmas.Bool.{and_parts, and_from, both_ways, ltb-true, lt-ltb, le-leb, eqb-true, cases_lt, cases_Bool}
 use Rattle.std.proofs.lemmas.List.Folds.{list_all-append}
@@ -58,7 +58,8 @@ unfinished-skip x xs h = rw h refl
 unfinished-here : (x : ℕ) (xs : List ℕ) → is_unfinished (x ∷ xs) ≡ true → unfinished_of (x ∷ xs) ≡ x ∷ xs
 unfinished-here x xs h = rw h refl
 
--- what passes over a byte that begins nothing unfinished looks, with one byte more, at what is unfinished alone
+-- what passes over a byte that begins nothing unfinished looks, with one byte more, at what is
+-- unfinished alone
 rest-by : {X : Type 0} (f : List ℕ → X) (b : ℕ) → ((x : ℕ) (xs : List ℕ) → is_unfinished (x ∷ xs) ≡ false → f (x ∷ (xs ++ b ∷ [])) ≡ f (xs ++ b ∷ []))
     → (xs : List ℕ) → f (xs ++ b ∷ []) ≡ f (unfinished_of xs ++ b ∷ [])
 rest-by f b skip [] = refl

@@ -24,7 +24,7 @@ abbrev pub is_len : Option ℕ → ℕ → Bool
 is_len None n = false
 is_len (Some len) n = len == n
 
--- an opcode and as many bytes of data as it wants
+-- an opcode and as many bytes of data as it requires
 abbrev pub has_form : List ℕ → Bool
 has_form [] = false
 has_form (opcode ∷ []) = false
@@ -42,7 +42,7 @@ is_whole bytes = has_form bytes && (xor_of bytes == 255)
 abbrev pub IsWhole : List ℕ → Type 0
 IsWhole bytes = IsTrue (is_whole bytes)
 
--- with a check byte behind them the bytes have the form of a message
+-- with a check byte after them the bytes have the form of a message
 abbrev pub is_body : List ℕ → Bool
 is_body body = has_form (body ++ 0 ∷ [])
 

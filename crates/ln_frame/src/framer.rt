@@ -77,13 +77,16 @@ impl Default for Framer {
 pub fn any_cut()
     ensures whole { (bytes : List ℕ) → messages_along [] bytes ≡ messages_of bytes }
     // So it does behind what an earlier piece left unfinished.
-    ensures behind { (left bytes : List ℕ) → unfinished_of left ≡ left → messages_along left bytes ≡ messages_of (left ++ bytes) }
+    ensures behind { (left bytes : List ℕ) → unfinished_of left ≡ left
+        → messages_along left bytes ≡ messages_of (left ++ bytes) }
 {}
 
-/// What the bytes of a line leave unfinished is all of them that a further byte goes on with.
+/// What the bytes of a line leave unfinished is all of them that a further byte continues.
 pub fn left_is_enough()
-    ensures message { (bytes : List ℕ) (byte : ℕ) → message_at_end (bytes ++ byte ∷ []) ≡ message_at_end (unfinished_of bytes ++ byte ∷ []) }
-    ensures unfinished { (bytes : List ℕ) (byte : ℕ) → unfinished_of (bytes ++ byte ∷ []) ≡ unfinished_of (unfinished_of bytes ++ byte ∷ []) }
+    ensures message { (bytes : List ℕ) (byte : ℕ)
+        → message_at_end (bytes ++ byte ∷ []) ≡ message_at_end (unfinished_of bytes ++ byte ∷ []) }
+    ensures unfinished { (bytes : List ℕ) (byte : ℕ)
+        → unfinished_of (bytes ++ byte ∷ []) ≡ unfinished_of (unfinished_of bytes ++ byte ∷ []) }
     ensures once { (bytes : List ℕ) → unfinished_of (unfinished_of bytes) ≡ unfinished_of bytes }
 {}
 
@@ -92,11 +95,13 @@ pub fn never_overlap()
     ensures { (bytes : List ℕ) → NeverOverlap bytes }
 {}
 
-/// A whole message ends in itself and leaves nothing unfinished, and each front of it is all unfinished and gives nothing.
+/// A whole message ends in itself and leaves nothing unfinished, and each front of it is all
+/// unfinished and gives nothing.
 pub fn whole_message()
     ensures ends { (message : List ℕ) → IsWhole message → message_at_end message ≡ Some message }
     ensures leaves { (message : List ℕ) → IsWhole message → unfinished_of message ≡ [] }
-    ensures fronts { (front rest : List ℕ) (byte : ℕ) → IsWhole (front ++ byte ∷ rest) → unfinished_of front ≡ front }
+    ensures fronts { (front rest : List ℕ) (byte : ℕ) → IsWhole (front ++ byte ∷ rest)
+        → unfinished_of front ≡ front }
     ensures none { (front rest : List ℕ) (byte next : ℕ) → IsWhole (front ++ byte ∷ next ∷ rest)
         → message_at_end (front ++ byte ∷ []) ≡ None }
 {}

@@ -1,6 +1,6 @@
 //! Messages of a LocoNet line, and the framer that finds them in its bytes.
 //!
-//! Its tests stand in `library_tests/src/test_ln_frame.rt`.
+//! The tests are in `library_tests/src/test_ln_frame.rt`.
 #![tactic(auto)]
 
 mod framer;

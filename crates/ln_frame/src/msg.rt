@@ -38,19 +38,22 @@ impl Msg {
         ensures value { result.now ≡ self.now }
         ensures whole { IsWhole result.now }
         // The first two say how many they are.
-        ensures length { message_len (slice_index result.now 0) (slice_index result.now 1) ≡ Some (length result.now) }
+        ensures length { message_len (slice_index result.now 0) (slice_index result.now 1)
+            ≡ Some (length result.now) }
         ensures shortest { 2 ≤ length result.now }
         ensures longest { length result.now ≤ 127 }
-        // An opcode, and data behind it.
+        // An opcode, followed by data.
         ensures opcode { 128 ≤ slice_index result.now 0 }
         ensures data { (i : ℕ) → 1 ≤ i → slice_index result.now i < 128 }
         // So a reader that knows all bytes but the check knows the message.
-        ensures check { (body : List ℕ) (last : ℕ) → result.now ≡ body ++ last ∷ [] → last ≡ check_of body }
+        ensures check { (body : List ℕ) (last : ℕ) → result.now ≡ body ++ last ∷ []
+            → last ≡ check_of body }
     {
         self.bytes.as_slice()
     }
 
-    /// Whether the bytes are a message but for their check: an opcode, and as many bytes of data behind it as it wants.
+    /// Whether the bytes are a message but for their check: an opcode, followed by as many bytes of
+    /// data as it requires.
     pub fn has_form(bytes: &[u8]) -> bool
         ensures { result ≡ has_form bytes.now }
     {
@@ -62,7 +65,8 @@ impl Msg {
         }
     }
 
-    /// The message that the bytes are, or `None` where they have not its form or where their check is wrong.
+    /// The message that the bytes are, or `None` where they have not its form or where their check
+    /// is wrong.
     pub fn whole(bytes: &[u8]) -> Option<Self>
         ensures { result ≡ (if is_whole bytes.now then Some bytes.now else None) }
     {
@@ -107,7 +111,8 @@ impl Msg {
     /// The message, where the check byte is right. None of the bytes are left.
     pub(crate) fn checked(bytes: &mut ArrayVec<u8, MAX_LEN>) -> Option<Self>
         requires { IsTrue (has_form bytes.old.items) }
-        ensures message { result ≡ (if is_whole bytes.old.items then Some bytes.old.items else None) }
+        ensures message { result
+            ≡ (if is_whole bytes.old.items then Some bytes.old.items else None) }
         ensures after { bytes.new.items ≡ [] }
     {
         if xor_of(bytes.as_slice()) == CHECKED {

@@ -32,12 +32,13 @@ fields_of m = record {
   id2 = slice_index m 12;
 }
 
--- bit 7 of an IM byte stands in DHI, the other seven bits in the byte
+-- bit 7 of an IM byte is in DHI, the other seven bits in the byte
 abbrev pub im_byte : ℕ → ℕ → ℕ
 im_byte top low = top * 128 + low
 
--- OPC_IMM_PACKET, ED 0B 7F REPS DHI IM1 to IM5: bits 6 to 4 of REPS are the number of IM bytes, bits 0 to 4 of DHI are
--- bit 7 of IM1 to IM5. The other bits of REPS and DHI are ignored, and all five bytes are given (own).
+-- OPC_IMM_PACKET, ED 0B 7F REPS DHI IM1 to IM5: bits 6 to 4 of REPS are the number of IM bytes,
+-- bits 0 to 4 of DHI are bit 7 of IM1 to IM5. The other bits of REPS and DHI are ignored, and all
+-- five bytes are given (own).
 abbrev pub imm_of : List ℕ → Op
 imm_of m =
     Imm (slice_index m 3 / 16 % 8)
@@ -47,8 +48,9 @@ imm_of m =
     (im_byte (slice_index m 4 / 8 % 2) (slice_index m 8))
     (im_byte (slice_index m 4 / 16 % 2) (slice_index m 9))
 
--- messages of four bytes, the opcode and two bytes of data: OPC_LOCO_SPD, OPC_LOCO_DIRF, OPC_LOCO_SND, OPC_SW_REQ,
--- OPC_SW_ACK, OPC_LONG_ACK, OPC_SLOT_STAT1, OPC_MOVE_SLOTS, OPC_RQ_SL_DATA and OPC_LOCO_ADR
+-- messages of four bytes, the opcode and two bytes of data: OPC_LOCO_SPD, OPC_LOCO_DIRF,
+-- OPC_LOCO_SND, OPC_SW_REQ, OPC_SW_ACK, OPC_LONG_ACK, OPC_SLOT_STAT1, OPC_MOVE_SLOTS,
+-- OPC_RQ_SL_DATA and OPC_LOCO_ADR
 abbrev pub four_of : ℕ → ℕ → ℕ → Op
 four_of opcode first second =
     if opcode == 0xA0 then Speed first second else
@@ -62,8 +64,9 @@ four_of opcode first second =
     (if opcode == 0xBB then SlotRead first else
     (if opcode == 0xBF then LocoAddr first second else Other)))))))))
 
--- the operation of a whole message: OPC_GPOFF, OPC_GPON, OPC_IDLE, those of four bytes, OPC_SL_RD_DATA and
--- OPC_WR_SL_DATA with count 0E, and OPC_IMM_PACKET with count 0B and 7F behind it. No other message is known (own).
+-- the operation of a whole message: OPC_GPOFF, OPC_GPON, OPC_IDLE, those of four bytes,
+-- OPC_SL_RD_DATA and OPC_WR_SL_DATA with count 0E, and OPC_IMM_PACKET with count 0B, followed by
+-- 7F. No other message is known (own).
 abbrev pub op_of : List ℕ → Op
 op_of m =
     if slice_index m 0 == 0x82 then PowerOff else
@@ -81,8 +84,8 @@ abbrev pub are_bytes : ℕ → ℕ → ℕ → ℕ → ℕ → Bool
 are_bytes im1 im2 im3 im4 im5 =
     nat_lt im1 256 && (nat_lt im2 256 && (nat_lt im3 256 && (nat_lt im4 256 && nat_lt im5 256)))
 
--- what holds of every operation that a whole message is: its bytes are data, a switch has eleven bits, a number of IM
--- bytes three, and an IM byte eight
+-- what holds of every operation that a whole message is: its bytes are data, a switch has eleven
+-- bits, a number of IM bytes three, and an IM byte eight
 abbrev pub is_of_data : Op → Bool
 is_of_data PowerOff = true
 is_of_data PowerOn = true

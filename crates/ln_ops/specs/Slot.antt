@@ -26,7 +26,8 @@ is_held InUse = true
 abbrev pub kind_of : ℕ → ℕ
 kind_of stat = stat % 8
 
--- the types that a slot may have (own): 28, 14 and 128 steps, and 28 and 128 steps with consisting allowed
+-- the types that a slot may have (own): 28, 14 and 128 steps, and 28 and 128 steps with consisting
+-- allowed
 abbrev pub is_kind : ℕ → Bool
 is_kind kind = (kind == 0) || (kind == 2) || (kind == 3) || (kind == 4) || (kind == 7)
 
@@ -46,7 +47,7 @@ address_with high low = high * 128 + low
 abbrev pub is_address : ℕ → Bool
 is_address a = nat_le 1 a && nat_le a 10239
 
--- the slots that a locomotive may stand in (own): 1 to 119
+-- the slots that a locomotive may be in (own): 1 to 119
 abbrev pub is_slot : ℕ → Bool
 is_slot n = nat_le 1 n && nat_le n 119
 

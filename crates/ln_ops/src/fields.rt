@@ -34,9 +34,48 @@ impl Model for SlotFields {
 
     ghost Value = { SlotBytes };
 
-    ghost view = { λ f. record { slot = f.slot; stat = f.stat; adr = f.adr; spd = f.spd; dirf = f.dirf; trk = f.trk; ss2 = f.ss2; adr2 = f.adr2; snd = f.snd; id1 = f.id1; id2 = f.id2 } };
+    ghost view = { λ f.
+        record {
+          slot = f.slot;
+          stat = f.stat;
+          adr = f.adr;
+          spd = f.spd;
+          dirf = f.dirf;
+          trk = f.trk;
+          ss2 = f.ss2;
+          adr2 = f.adr2;
+          snd = f.snd;
+          id1 = f.id1;
+          id2 = f.id2;
+        } };
 
-    ghost invariant = { λ f. AreData (record { slot = f.slot; stat = f.stat; adr = f.adr; spd = f.spd; dirf = f.dirf; trk = f.trk; ss2 = f.ss2; adr2 = f.adr2; snd = f.snd; id1 = f.id1; id2 = f.id2 }) };
+    ghost invariant = { λ f.
+        AreData (record {
+          slot = f.slot;
+          stat = f.stat;
+          adr = f.adr;
+          spd = f.spd;
+          dirf = f.dirf;
+          trk = f.trk;
+          ss2 = f.ss2;
+          adr2 = f.adr2;
+          snd = f.snd;
+          id1 = f.id1;
+          id2 = f.id2;
+        }) };
 
-    ghost inverse = { λ f. record { slot = f.slot; stat = f.stat; adr = f.adr; spd = f.spd; dirf = f.dirf; trk = f.trk; ss2 = f.ss2; adr2 = f.adr2; snd = f.snd; id1 = f.id1; id2 = f.id2 } };
+    ghost inverse = { λ f.
+        record {
+          slot = f.slot;
+          stat = f.stat;
+          adr = f.adr;
+          spd = f.spd;
+          dirf = f.dirf;
+          trk = f.trk;
+          ss2 = f.ss2;
+          adr2 = f.adr2;
+          snd = f.snd;
+          id1 = f.id1;
+          id2 = f.id2;
+        } };
 }

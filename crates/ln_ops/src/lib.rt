@@ -1,6 +1,6 @@
 //! What the messages of a LocoNet line say: operations, the bytes of a slot, and replies.
 //!
-//! Its tests stand in `library_tests/src/test_ln_ops.rt`.
+//! The tests are in `library_tests/src/test_ln_ops.rt`.
 #![tactic(auto)]
 
 mod fields;

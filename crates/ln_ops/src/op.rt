@@ -59,10 +59,11 @@ pub(crate) const SLOT_DATA_COUNT: u8 = 14;
 /// The count of OPC_IMM_PACKET.
 const IMM_COUNT: u8 = 11;
 
-/// What stands behind the count of OPC_IMM_PACKET.
+/// The bytes after the count of OPC_IMM_PACKET.
 const IMM_MARK: u8 = 0x7F;
 
-/// What a message asks or tells, by its opcode. Every byte but an opcode and the IM bytes of a packet is below 128.
+/// What a message asks or tells, by its opcode. Every byte but an opcode and the IM bytes of a
+/// packet is below 128.
 #[derive(Clone, Copy, Debug, PartialEq, Eq)]
 pub enum Op {
     /// OPC_GPOFF, 82.
@@ -126,8 +127,8 @@ pub enum Op {
     SlotData(SlotFields),
     /// OPC_WR_SL_DATA, EF with count 0E.
     SlotWrite(SlotFields),
-    /// OPC_IMM_PACKET, ED with count 0B and 7F behind it: the packet is the first `count` of the IM bytes, 0 to 7. The
-    /// bytes past the count are given too, and no byte is the packet's check.
+    /// OPC_IMM_PACKET, ED with count 0B, followed by 7F: the packet is the first `count` of the IM
+    /// bytes, 0 to 7. The bytes past the count are given too, and no byte is the packet's check.
     Imm {
         count: u8,
         im1: u8,
@@ -140,7 +141,8 @@ pub enum Op {
     Other,
 }
 
-/// What a message asks or tells: every whole message is one operation, `Other` where no opcode of the table fits.
+/// What a message asks or tells: every whole message is one operation, `Other` where no opcode of
+/// the table fits.
 pub fn read(message: &Msg) -> Op
     ensures op { result ≡ op_of message.now }
     ensures data { IsOfData result }
@@ -232,7 +234,7 @@ fn is_on(sw2: u8) -> bool
     sw2 / 16 % 2 == 1
 }
 
-// The packet of OPC_IMM_PACKET: REPS, DHI and IM1 to IM5 stand behind the first three bytes.
+// The packet of OPC_IMM_PACKET: REPS, DHI and IM1 to IM5 follow the first three bytes.
 fn read_imm(bytes: &[u8]) -> Op
     requires size { 11 ≤ length bytes.now }
     requires data { (i : ℕ) → 1 ≤ i → slice_index bytes.now i < 128 }

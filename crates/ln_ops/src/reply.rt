@@ -50,7 +50,8 @@ fn slot_data(fields: &SlotFields) -> Msg
 /// The reply that a message is: `Some` exactly for OPC_SL_RD_DATA with count 0E and for OPC_LONG_ACK.
 pub fn read_reply(message: &Msg) -> Option<Reply>
     ensures found { IfSome result (λ r. IsSendable r × (message.now ≡ reply_bytes r)) }
-    ensures exact { (reply : Reply) → IsSendable reply → message.now ≡ reply_bytes reply → result ≡ Some reply }
+    ensures exact { (reply : Reply) → IsSendable reply → message.now ≡ reply_bytes reply
+        → result ≡ Some reply }
 {
     let bytes = message.bytes();
     match bytes[0] {

@@ -5,7 +5,7 @@
 pub enum State {
     /// 00: the slot stands for no locomotive.
     Free,
-    /// 01: loaded and refreshed, with no throttle of its own.
+    /// 01: loaded and refreshed, owned by no throttle.
     Common,
     /// 10: loaded, and not refreshed.
     Idle,
@@ -13,11 +13,12 @@ pub enum State {
     InUse,
 }
 
-/// What a slot reads as: zeros with the state free where no locomotive stands in it.
+/// What a slot reads as: zeros with the state free where no locomotive is in it.
 #[derive(Clone, Copy, Debug, PartialEq, Eq)]
 pub struct Row {
     pub state: State,
-    /// The decoder type, bits 2 to 0 of STAT1: 0 and 4 are 28 steps, 2 is 14 steps, 3 and 7 are 128 steps.
+    /// The decoder type, bits 2 to 0 of STAT1: 0 and 4 are 28 steps, 2 is 14 steps, 3 and 7 are 128
+    /// steps.
     pub kind: u8,
     /// The locomotive address, 1 to 10239.
     pub address: u16,
