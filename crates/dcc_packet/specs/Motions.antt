@@ -1,4 +1,4 @@
--- The motions that there are.
+-- All motions.
 use Rattle.std.specs.Prelude.{◌&&◌, Bool, true, false, nat_le}
 use Rattle.dcc_packet.specs.declared.steps.Steps.{Steps}
 use Rattle.dcc_packet.specs.declared.steps.Steps.TheVariants.{S14, S28, S128}

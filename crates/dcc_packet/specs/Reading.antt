@@ -1,5 +1,5 @@
--- The instruction of a packet as a function of its bytes, for those who fold over packets. What it means is `Spells`: that
--- the two agree is a law of this crate (`spellings_are_read`).
+-- The instruction of a packet as a function of its bytes, for those who fold over packets. What it
+-- means is `Spells`: that the two agree is a law of this crate (`spellings_are_read`).
 use Rattle.std.specs.Prelude.{ℕ, ◌+◌, ◌-◌, ◌*◌, ◌/◌, ◌%◌, ◌==◌, ◌&&◌, nat_le, Bool, if◌then◌else◌, List, [], ◌∷◌, Option, Some, None}
 use Rattle.dcc_packet.specs.declared.address.Address.{Address}
 use Rattle.dcc_packet.specs.declared.address.Address.TheVariants.{Short, Long}
@@ -45,7 +45,7 @@ unfoldable pub long_addressed_of : ℕ → List ℕ → Option Instr
 long_addressed_of high (low ∷ rest) = addressed_of (Long ((high - 192) * 256 + low)) rest
 long_addressed_of high [] = None
 
--- the bytes behind a first byte that is no locomotive's, the check last
+-- the bytes after a first byte that is no locomotive's, the check last
 unfoldable pub other_of : ℕ → List ℕ → Option Instr
 other_of first (second ∷ check ∷ []) =
     if first == 0 then broadcast_of second else

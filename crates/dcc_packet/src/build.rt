@@ -58,8 +58,8 @@ fn code_28_of(motion: Motion) -> u8
     }
 }
 
-/// The speed and direction packet of an address: a motion, the direction as the track says it, and F0, which the packet
-/// carries with 14 steps alone (S-9.2.1, 2.3.2 and 2.3.3).
+/// The speed and direction packet of an address: a motion, the direction as the track says it, and
+/// F0, which the packet carries with 14 steps alone (S-9.2.1, 2.3.2 and 2.3.3).
 pub fn speed(address: Address, steps: Steps, motion: Motion, forward: bool, f0: bool) -> Packet
     requires legal { IsTrue (is_legal address) }
     requires fits { IsTrue (is_motion steps motion) }
@@ -82,7 +82,8 @@ pub fn speed(address: Address, steps: Steps, motion: Motion, forward: bool, f0: 
     }
 }
 
-/// The function group one packet of an address: F0 to F4, where bit k of `functions` is Fk (S-9.2.1, 2.3.4).
+/// The function group one packet of an address: F0 to F4, where bit k of `functions` is Fk
+/// (S-9.2.1, 2.3.4).
 pub fn group_one(address: Address, functions: u16) -> Packet
     requires { IsTrue (is_legal address) }
     ensures bytes { result ≡ group_one_bytes address functions }
@@ -94,7 +95,8 @@ pub fn group_one(address: Address, functions: u16) -> Packet
     )
 }
 
-/// The function group two packet of an address: F5 to F8, where bit k of `functions` is Fk (S-9.2.1, 2.3.5 with S 1).
+/// The function group two packet of an address: F5 to F8, where bit k of `functions` is Fk
+/// (S-9.2.1, 2.3.5 with S 1).
 pub fn group_two(address: Address, functions: u16) -> Packet
     requires { IsTrue (is_legal address) }
     ensures bytes { result ≡ group_two_bytes address functions }
@@ -103,7 +105,8 @@ pub fn group_two(address: Address, functions: u16) -> Packet
     to_decoder(address, &[176 + (functions / 32 % 16) as u8])
 }
 
-/// The function group three packet of an address: F9 to F12, where bit k of `functions` is Fk (S-9.2.1, 2.3.5 with S 0).
+/// The function group three packet of an address: F9 to F12, where bit k of `functions` is Fk
+/// (S-9.2.1, 2.3.5 with S 0).
 pub fn group_three(address: Address, functions: u16) -> Packet
     requires { IsTrue (is_legal address) }
     ensures bytes { result ≡ group_three_bytes address functions }
@@ -112,8 +115,8 @@ pub fn group_three(address: Address, functions: u16) -> Packet
     to_decoder(address, &[160 + (functions / 512 % 16) as u8])
 }
 
-/// The packet of a switch, 0 to 2039, four to a module: which output of its pair, closed or thrown, goes on or off
-/// (S-9.2.1, 2.4.1).
+/// The packet of a switch, 0 to 2039, four to a module: which output of its pair, closed or thrown,
+/// goes on or off (S-9.2.1, 2.4.1).
 pub fn accessory(number: u16, closed: bool, on: bool) -> Packet
     requires { number ≤ last_switch }
     ensures bytes { result ≡ accessory_bytes number closed on }
@@ -135,7 +138,7 @@ pub fn idle() -> Packet
     Packet::sealed(&[0xFF, 0x00])
 }
 
-/// The broadcast packet at which every locomotive stands at once (S-9.2, baseline packets).
+/// The broadcast packet that stops every locomotive at once (S-9.2, baseline packets).
 pub fn stop_all() -> Packet
     ensures bytes { result ≡ stop_all_bytes }
     ensures spells { Spells result (StopAll true) }

@@ -2,7 +2,7 @@
 use crate::address::Address;
 use crate::module::Module;
 
-/// An instruction of the track (S-9.2 and S-9.2.1), its fields as they stand in the packet.
+/// An instruction of the track (S-9.2 and S-9.2.1), its fields as they are in the packet.
 #[derive(Clone, Copy, Debug, PartialEq, Eq)]
 pub enum Instr {
     /// Nothing, for every decoder.
@@ -13,7 +13,8 @@ pub enum Instr {
     StopAll {
         emergency: bool,
     },
-    /// Speed and direction in one byte: direction bit and the five bits below it, which hold 14 or 28 steps.
+    /// Speed and direction in one byte: direction bit and the five bits below it, which hold 14 or
+    /// 28 steps.
     Speed {
         address: Address,
         d: bool,

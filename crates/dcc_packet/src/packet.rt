@@ -9,8 +9,8 @@ use std::marker::Model;
 /// The most bytes of a packet.
 pub(crate) const MAX_LEN: usize = 6;
 
-/// The bytes of a packet of the track, 3 to 6, the last of them the error detection byte (S-9.2, general packet format),
-/// whether that is right or wrong.
+/// The bytes of a packet of the track, 3 to 6, the last of them the error detection byte (S-9.2,
+/// general packet format), whether that is right or wrong.
 #[derive(Clone, Debug, Drop, PartialEq, Eq)]
 pub struct Packet {
     bytes: ArrayVec<u8, MAX_LEN>,
@@ -27,7 +27,8 @@ impl Model for Packet {
 }
 
 impl Packet {
-    /// The packet of these bytes, the check last, or `None` where they are fewer than 3 or more than 6.
+    /// The packet of these bytes, the check last, or `None` where they are fewer than 3 or more
+    /// than 6.
     #[inline]
     pub fn of(bytes: &[u8]) -> Option<Packet>
         ensures { result ≡ (if has_packet_length bytes.now then Some bytes.now else None) }
@@ -57,7 +58,7 @@ impl Packet {
         Packet::ended(bytes)
     }
 
-    /// The packet of 2 to 5 bytes, behind which their check is put.
+    /// The packet of 2 to 5 bytes, followed by their check.
     pub(crate) fn ended(mut bytes: ArrayVec<u8, MAX_LEN>) -> Packet
         requires some { 2 ≤ length bytes.items }
         requires room { length bytes.items ≤ 5 }

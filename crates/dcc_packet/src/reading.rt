@@ -9,7 +9,8 @@ use crate::instr::Instr;
 use crate::module::Module;
 use crate::packet::Packet;
 
-/// The instruction of a packet, or `None` where its check is wrong or its form is none of those of [`Instr`].
+/// The instruction of a packet, or `None` where its check is wrong or its form is none of those of
+/// [`Instr`].
 #[inline]
 #[tactic(auto, unfolding(crate::specs::Reading::instruction_of))]
 pub fn read(packet: &Packet) -> Option<Instr>
@@ -35,7 +36,7 @@ fn form(bytes: &[u8]) -> Option<Instr>
     }
 }
 
-/// What the bytes behind the first of a two-byte address, the check last, say.
+/// The instruction of the bytes after the first of a two-byte address, the check last.
 #[tactic(auto, unfolding(crate::specs::Reading::long_addressed_of))]
 fn long_addressed(high: u8, behind: &[u8]) -> Option<Instr>
     requires low { 192 ≤ high }
@@ -51,7 +52,7 @@ fn long_addressed(high: u8, behind: &[u8]) -> Option<Instr>
     }
 }
 
-/// What the bytes behind a first byte that is no locomotive's, the check last, say.
+/// The instruction of the bytes after a first byte that is no locomotive's, the check last.
 #[tactic(auto, unfolding(crate::specs::Reading::other_of))]
 fn other(first: u8, behind: &[u8]) -> Option<Instr>
     ensures { result ≡ other_of first behind.now }
@@ -67,7 +68,7 @@ fn other(first: u8, behind: &[u8]) -> Option<Instr>
     }
 }
 
-/// What the byte behind a broadcast address says to every locomotive decoder.
+/// The instruction of the byte after a broadcast address, for every locomotive decoder.
 #[tactic(auto, unfolding(crate::specs::Reading::broadcast_of))]
 fn broadcast(byte: u8) -> Option<Instr>
     ensures { result ≡ broadcast_of byte }

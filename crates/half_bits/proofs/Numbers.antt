@@ -1,4 +1,4 @@
--- The bits of a packet as one number, and what is left of its halves.
+-- The bits of a packet as one number, and its remaining halves.
 use Rattle.std.proofs.Common.{◌≡◌, ℕ, ◌+◌, ◌-◌, ◌*◌, ◌/◌, ◌%◌, ◌^◌, ◌<◌, ◌≤◌, nat_lt, nat_le, ◌≢◌, ◌==◌, Bool, true, false, not, Option, List, [], ◌∷◌, ◌++◌, length, map, get_or, take, min, replicate, inl, inr, suc, zero, Some, refl, ap, ap₂, subst, sym, ◌∙◌, arith, add-one, append-nil, append_assoc}
 use Rattle.std.proofs.lemmas.Bool.{and_parts, cases_lt, leb-true}
 use Rattle.std.proofs.lemmas.List.{length-append, length-map, length-take-le, map-append, take_more}
@@ -27,7 +27,7 @@ halves-bits (suc count) n =
     ap (λ (hs : List ℕ). micros b ∷ micros b ∷ hs) (halves-bits count n)
     ∙ ap (λ (bs : List Bool). map micros (doubled (map not bs))) (sym (low_bits-head count n))
 
--- the first half, and what is left behind it
+-- the first half, and the remaining ones
 pub halves-first : (n bits : ℕ) → bits ≢ 0 → both_halves n bits ≡ micros (not (bit_at n (bits - 1) == 1)) ∷ micros (not (bit_at n (bits - 1) == 1)) ∷ both_halves n (bits - 1)
 halves-first n zero h = absurd (h refl)
 halves-first n (suc bits) h =
@@ -47,7 +47,7 @@ lowered number place h = elim (cases_lt place 63) [
       bit_at_above number 63 place h many ∙ sym (ap (bit_at number) top ∙ bit_at_above number 63 63 h (omega arith))
 ]
 
--- bits behind the bits of a number
+-- bits after the bits of a number
 low_bits-append : (more count n b : ℕ) → b < 2 ^ more → low_bits (more + count) (n * 2 ^ more + b) ≡ low_bits count n ++ low_bits more b
 low_bits-append zero count n b h =
     let same : n * 2 ^ 0 + b ≡ n = omega arith in
@@ -95,7 +95,8 @@ bits_of-append (x ∷ xs) ys = ap (λ (bs : List Bool). (false ∷ low_bits 8 x)
 abbrev ones : List Bool
 ones = replicate 14 true
 
--- the set bits of the number are the zeros of these bytes behind the preamble, of so many bits in all
+-- the set bits of the number are the zeros of these bytes after the preamble, of this number of
+-- bits in all
 pub record Holds (bytes : List ℕ) (zeros left : ℕ) : Type 0 where
   pub count : left ≡ 14 + 9 * length bytes
   pub bound : zeros < 2 ^ (9 * length bytes)

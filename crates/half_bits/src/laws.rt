@@ -10,7 +10,8 @@ use dcc_packet::Packet;
 /// No packet with a right check is shorter than an idle one, and none of at most 5 bytes is longer than 15 ones, those of its
 /// preamble and the one that closes it, and 45 zeros.
 pub fn durations_are_bounded()
-    ensures shortest { (packet : List ℕ) → 3 ≤ length packet → IsTrue (is_checked packet) → 5796 ≤ duration_of packet }
+    ensures shortest { (packet : List ℕ) → 3 ≤ length packet → IsTrue (is_checked packet)
+        → 5796 ≤ duration_of packet }
     ensures shortest_unchecked { (packet : List ℕ) → 3 ≤ length packet → 5124 ≤ duration_of packet }
     ensures longest { (packet : List ℕ) → length packet ≤ 5 → duration_of packet ≤ 10740 }
     ensures idle { duration_of idle_bytes ≡ 5796 }

@@ -47,7 +47,8 @@ impl Model for Halves {
 
     ghost view = { λ halves. remaining halves.zeros halves.bits halves.second };
 
-    ghost invariant = { λ halves. (halves.bits + (if is_some halves.second then 1 else 0) ≤ 69) × (halves.zeros < 2 ^ 63) };
+    ghost invariant = { λ halves. (halves.bits + (if is_some halves.second then 1 else 0) ≤ 69)
+        × (halves.zeros < 2 ^ 63) };
 }
 
 impl Halves {

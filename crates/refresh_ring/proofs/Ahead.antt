@@ -2,7 +2,7 @@
 use Rattle.std.proofs.Common.{◌≡◌, ℕ, ◌+◌, ◌*◌, ◌≤◌, ◌==◌, ◌&&◌, nat_lt, Bool, true, false, not, if◌then◌else◌, List, [], ◌∷◌, ◌++◌, Option, Some, None, option_map, refl, ap, ap₂, arith, inl, inr, ◌⊎◌, eqb-true, eq-eqb}
 use Rattle.std.proofs.lemmas.Bool.{cond_both, and_parts, and_from}
 use Rattle.refresh_ring.specs.Places.{number_of, is_refreshed, slot_of, next_place}
-use Rattle.refresh_ring.specs.Jobs.{is_place, waits, most_requests, requests_in, sends_of, sends_ahead, live_jobs, first_of, after_send}
+use Rattle.refresh_ring.specs.Jobs.{is_place, is_queued, most_requests, requests_in, sends_of, sends_ahead, live_jobs, first_of, after_send}
 use Rattle.refresh_ring.specs.Scheduled.{Scheduled, after_changed, after_switch}
 use Rattle.refresh_ring.specs.Picked.{Picked, picked, live, candidate, sent, idle, is_last, destination_of, address_of, pick_of}
 use Rattle.refresh_ring.specs.Left.{jobs_wait, turns_ahead}
@@ -74,7 +74,7 @@ Waits-live {slot} {kind} {q} slots on (later {job = Place s k} {jobs = jobs} r w
     cond_both (is_refreshed slots s) _ _ (λ js. Waits slot kind js q) (λ h. later r w le) (λ h. Waits-more (Waits-live slots on w) (omega arith))
 Waits-live {slot} {kind} {q} slots on (later {job = Request number closed on' again} {jobs = jobs} r w le) = later r w le
 
--- what comes behind changes nothing ahead
+-- jobs that follow change nothing ahead
 append_by : (n : ℕ) (o p : Option ℕ) (q : ℕ) → ((r : ℕ) → o ≡ Some r → p ≡ Some r) → option_map (λ m. n + m) o ≡ Some q → option_map (λ m. n + m) p ≡ Some q
 append_by n None p q rest h = cc
 append_by n (Some r) p q rest h = rw (rest r refl) h
@@ -114,7 +114,7 @@ wait_ring (Some there) = omega arith
 -- the place still waits, and comes closer
 record Nearer (slot : ℕ) (kind : Kind) (turns : ℕ) (t : Scheduled) : Type 0 where
   ahead : ℕ
-  waits : Waits slot kind t.jobs ahead
+  is_queued : Waits slot kind t.jobs ahead
   falls : 4 * ahead + jobs_wait t.prefers_jobs t.last + 1 ≤ turns
 
 unfoldable Advances : (slot : ℕ) (kind : Kind) (turns : ℕ) → Picked → Type 0
@@ -134,7 +134,7 @@ after_send-is (later {job = Request number closed on false} r w le) = moves_up r
 module _ (slot : ℕ) (kind : Kind) (q : ℕ) (addresses : List ℕ) (s : Scheduled) where
   idle_nearer : Waits slot kind s.jobs q → (there : Destination) → is_last s.last there ≡ true → Advances slot kind (4 * q + jobs_wait s.prefers_jobs s.last) (idle s)
   unfolding Advances
-  idle_nearer w there h = inr (record { ahead = q; waits = w; falls = omega (arith, wait_idle s.prefers_jobs s.last there h) })
+  idle_nearer w there h = inr (record { ahead = q; is_queued = w; falls = omega (arith, wait_idle s.prefers_jobs s.last there h) })
 
   job_nearer : (job : Job) (rest : List Job) → s.jobs ≡ job ∷ rest → Waits slot kind s.jobs q → Advances slot kind (4 * q + jobs_wait s.prefers_jobs s.last) (sent addresses s (Some (FromJobs job)))
   unfolding Advances
@@ -142,14 +142,14 @@ module _ (slot : ℕ) (kind : Kind) (q : ℕ) (addresses : List ℕ) (s : Schedu
       (idle_nearer w (destination_of addresses job))
       (λ h. elim (after_send-is (rw e at w)) [
         | is_it same ↦ inl (ap pick_of same)
-        | moves_up r le w' ↦ inr (record { ahead = r; waits = rw e w'; falls = omega (arith, wait_jobs s.prefers_jobs s.last) })
+        | moves_up r le w' ↦ inr (record { ahead = r; is_queued = rw e w'; falls = omega (arith, wait_jobs s.prefers_jobs s.last) })
       ])
 
   ring_nearer : (place : ℕ) → Waits slot kind s.jobs q → s.prefers_jobs ≡ false → Advances slot kind (4 * q + jobs_wait s.prefers_jobs s.last) (sent addresses s (Some (FromRing place)))
   unfolding Advances
   ring_nearer place w prefers = cond_both (is_last s.last (Loco (address_of addresses (slot_of place)))) _ _ (Advances slot kind (4 * q + jobs_wait s.prefers_jobs s.last))
       (idle_nearer w (Loco (address_of addresses (slot_of place))))
-      (λ h. inr (record { ahead = q; waits = w; falls = rw prefers (omega (arith, wait_ring s.last)) }))
+      (λ h. inr (record { ahead = q; is_queued = w; falls = rw prefers (omega (arith, wait_ring s.last)) }))
 
   candidate_nearer : (jobs : List Job) (o : Option ℕ) (b : Bool) → s.jobs ≡ jobs → s.prefers_jobs ≡ b → Waits slot kind s.jobs q → Advances slot kind (4 * q + jobs_wait s.prefers_jobs s.last) (sent addresses s (candidate b (first_of jobs) o))
   candidate_nearer [] o b e prefers w = elim (rw e at w) [ ]
@@ -164,14 +164,14 @@ advances slot kind q addresses s on w =
 
 -- ---- the law
 
--- what is told of a number that waits
+-- the fact about a number that waits
 waiting_at : (slot : ℕ) (kind : Kind) (s : Scheduled) (n : ℕ) (o : Option ℕ) → option_map (λ m. 4 * m + jobs_wait s.prefers_jobs s.last) o ≡ Some n → (q : ℕ) × (o ≡ Some q) × (4 * q + jobs_wait s.prefers_jobs s.last ≡ n)
 waiting_at slot kind s n None h = cc
 waiting_at slot kind s n (Some q) h = (q, refl, cc)
 
 nearer_at : (slot : ℕ) (kind : Kind) (turns n : ℕ) (t : Scheduled) → turns ≡ n → Nearer slot kind turns t → (m : ℕ) × (turns_ahead slot kind t ≡ Some m) × (m + 1 ≤ n)
 nearer_at slot kind turns n t e nearer =
-    let knows = knows_ahead nearer.waits in
+    let knows = knows_ahead nearer.is_queued in
     (4 * knows.ahead + jobs_wait t.prefers_jobs t.last, rw (knows.known) refl, omega (arith, knows.within, nearer.falls))
 
 pub turns_ahead-falls : (slot : ℕ) (kind : Kind) (addresses : List ℕ) (s : Scheduled) (n : ℕ) → turns_ahead slot kind s ≡ Some n → is_refreshed s.slots slot ≡ true → ((picked addresses s).answer ≡ PlacePick slot kind) ⊎ ((m : ℕ) × (turns_ahead slot kind (picked addresses s).state ≡ Some m) × (m + 1 ≤ n))
@@ -202,7 +202,7 @@ turns_ahead-append slot kind s more n h =
 
 pub turns_ahead-changed : (slot : ℕ) (kind : Kind) (other : ℕ) (other_kind : Kind) (s : Scheduled) (n : ℕ) → turns_ahead slot kind s ≡ Some n → turns_ahead slot kind (after_changed other other_kind s) ≡ Some n
 turns_ahead-changed slot kind other other_kind s n h =
-    cond_both (is_refreshed s.slots other && not (waits other other_kind s.jobs)) (s.jobs ++ Place other other_kind ∷ []) s.jobs (λ js. turns_ahead slot kind (record s { jobs = js }) ≡ Some n)
+    cond_both (is_refreshed s.slots other && not (is_queued other other_kind s.jobs)) (s.jobs ++ Place other other_kind ∷ []) s.jobs (λ js. turns_ahead slot kind (record s { jobs = js }) ≡ Some n)
     (λ _. turns_ahead-append slot kind s (Place other other_kind ∷ []) n h)
     (λ _. h)
 
@@ -214,15 +214,15 @@ turns_ahead-switch slot kind number closed on s n h =
 
 -- ---- what was changed waits
 
-known_by : (slot : ℕ) (kind : Kind) (job : Job) (jobs : List Job) → (waits slot kind jobs ≡ true → (q : ℕ) × (sends_ahead slot kind jobs ≡ Some q)) → waits slot kind (job ∷ jobs) ≡ true → (b : Bool) → is_place slot kind job ≡ b → (q : ℕ) × (sends_ahead slot kind (job ∷ jobs) ≡ Some q)
+known_by : (slot : ℕ) (kind : Kind) (job : Job) (jobs : List Job) → (is_queued slot kind jobs ≡ true → (q : ℕ) × (sends_ahead slot kind jobs ≡ Some q)) → is_queued slot kind (job ∷ jobs) ≡ true → (b : Bool) → is_place slot kind job ≡ b → (q : ℕ) × (sends_ahead slot kind (job ∷ jobs) ≡ Some q)
 known_by slot kind job jobs known h true same = (0, rw same refl)
 known_by slot kind job jobs known h false other =
     let rest = known (rw other at h) in
     (sends_of job + rest.0, rw (other, rest.1) refl)
 
-waits-known : (slot : ℕ) (kind : Kind) (jobs : List Job) → waits slot kind jobs ≡ true → (q : ℕ) × (sends_ahead slot kind jobs ≡ Some q)
-waits-known slot kind [] h = cc
-waits-known slot kind (job ∷ jobs) h = known_by slot kind job jobs (λ later'. waits-known slot kind jobs later') h (is_place slot kind job) refl
+is_queued-known : (slot : ℕ) (kind : Kind) (jobs : List Job) → is_queued slot kind jobs ≡ true → (q : ℕ) × (sends_ahead slot kind jobs ≡ Some q)
+is_queued-known slot kind [] h = cc
+is_queued-known slot kind (job ∷ jobs) h = known_by slot kind job jobs (λ later'. is_queued-known slot kind jobs later') h (is_place slot kind job) refl
 
 knows_last : (slot : ℕ) (kind : Kind) (jobs : List Job) → (q : ℕ) × Waits slot kind (jobs ++ Place slot kind ∷ []) q
 knows_last slot kind [] = (0, here)
@@ -230,12 +230,12 @@ knows_last slot kind (job ∷ jobs) =
     let rest = knows_last slot kind jobs in
     (sends_of job + rest.0, later rest.0 rest.1 (omega arith))
 
-changed-by : (slot : ℕ) (kind : Kind) (jobs : List Job) (b : Bool) → waits slot kind jobs ≡ b → (q : ℕ) × (sends_ahead slot kind (if not b then jobs ++ Place slot kind ∷ [] else jobs) ≡ Some q)
-changed-by slot kind jobs true h = waits-known slot kind jobs h
+changed-by : (slot : ℕ) (kind : Kind) (jobs : List Job) (b : Bool) → is_queued slot kind jobs ≡ b → (q : ℕ) × (sends_ahead slot kind (if not b then jobs ++ Place slot kind ∷ [] else jobs) ≡ Some q)
+changed-by slot kind jobs true h = is_queued-known slot kind jobs h
 changed-by slot kind jobs false h =
     let last = knows_last slot kind jobs in
     let knows = knows_ahead last.1 in
     (knows.ahead, knows.known)
 
-pub changed-waits : (slot : ℕ) (kind : Kind) (s : Scheduled) → is_refreshed s.slots slot ≡ true → (q : ℕ) × (sends_ahead slot kind (after_changed slot kind s).jobs ≡ Some q)
-changed-waits slot kind s on = rw on (changed-by slot kind s.jobs (waits slot kind s.jobs) refl)
+pub changed-is_queued : (slot : ℕ) (kind : Kind) (s : Scheduled) → is_refreshed s.slots slot ≡ true → (q : ℕ) × (sends_ahead slot kind (after_changed slot kind s).jobs ≡ Some q)
+changed-is_queued slot kind s on = rw on (changed-by slot kind s.jobs (is_queued slot kind s.jobs) refl)

@@ -1,8 +1,8 @@
 pub mod Masks
 pub mod Numbers
 pub mod Spread
-pub mod Told
-pub mod Waiting
+pub mod SlotsAfter
+pub mod Queued
 pub mod Marks
 pub mod Firsts
 pub mod Idling

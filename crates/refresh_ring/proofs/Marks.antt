@@ -5,14 +5,14 @@ use Rattle.std.proofs.lemmas.Bool.{and_parts, both_ways, cond_both}
 use Rattle.std.proofs.lemmas.Map.Keys.{IsDistinct-head}
 use Rattle.std.proofs.lemmas.List.Folds.{list_any-append}
 use Rattle.refresh_ring.specs.Places.{IsSlot, place_of, number_of}
-use Rattle.refresh_ring.specs.Jobs.{is_place, waits, places_in, requests_in, IsQueue}
+use Rattle.refresh_ring.specs.Jobs.{is_place, is_queued, places_in, requests_in, IsQueue}
 use Rattle.refresh_ring.specs.Marked.{IsMarked}
 use Rattle.refresh_ring.specs.declared.kind.Kind.{Kind}
 use Rattle.refresh_ring.specs.declared.job.Job.{Job}
 use Rattle.refresh_ring.specs.declared.job.Job.TheVariants.{Place, Request}
 use Rattle.refresh_ring.specs.Words.{word_count, is_in}
 use Rattle.refresh_ring.proofs.Spread.{empty-out}
-use Rattle.refresh_ring.proofs.Waiting.{place_of-other, requests_in-append}
+use Rattle.refresh_ring.proofs.Queued.{place_of-other, requests_in-append}
 
 -- the same slot and kind make the same place
 same_place : (slot : ℕ) (kind : Kind) (other : ℕ) (other_kind : Kind) → is_place slot kind (Place other other_kind) ≡ true → place_of other other_kind ≡ place_of slot kind
@@ -47,7 +47,7 @@ pub marked-place : (old new : List ℕ) (jobs : List Job) (place slot : ℕ) (ki
 marked-place old new jobs place slot kind at is was set other other_kind in_range =
     set (place_of other other_kind)
     ∙ ap (λ b. if b then true else is_in old (place_of other other_kind)) (one_place place slot kind other other_kind at is in_range)
-    ∙ or_last (is_place other other_kind (Place slot kind)) (is_in old (place_of other other_kind)) (waits other other_kind jobs) (was other other_kind in_range)
+    ∙ or_last (is_place other other_kind (Place slot kind)) (is_in old (place_of other other_kind)) (is_queued other other_kind jobs) (was other other_kind in_range)
     ∙ sym (list_any-append (is_place other other_kind) jobs (Place slot kind ∷ []))
 
 or_none : (before : Bool) → before ≡ (before || false)
@@ -56,17 +56,17 @@ or_none false = refl
 
 pub marked-request : (marks : List ℕ) (jobs : List Job) (number : ℕ) (closed on again : Bool) → IsMarked marks jobs → IsMarked marks (jobs ++ Request number closed on again ∷ [])
 marked-request marks jobs number closed on again was other other_kind in_range =
-    was other other_kind in_range ∙ or_none (waits other other_kind jobs) ∙ sym (list_any-append (is_place other other_kind) jobs (Request number closed on again ∷ []))
+    was other other_kind in_range ∙ or_none (is_queued other other_kind jobs) ∙ sym (list_any-append (is_place other other_kind) jobs (Request number closed on again ∷ []))
 
 neither : (here later : Bool) → (here ≡ true → ⊥) → later ≡ false → (here || later) ≡ false
 neither true later absent h = elim (absent refl) [ ]
 neither false later absent h = h
 
--- of distinct places the first does not wait behind itself
-behind : (slot : ℕ) (kind : Kind) (place : ℕ) (jobs : List Job) → place_of slot kind ≡ place → AllByRecursion (λ p. eqb place p ≡ false) (places_in jobs) → waits slot kind jobs ≡ false
+-- of distinct places the first does not wait after itself
+behind : (slot : ℕ) (kind : Kind) (place : ℕ) (jobs : List Job) → place_of slot kind ≡ place → AllByRecursion (λ p. eqb place p ≡ false) (places_in jobs) → is_queued slot kind jobs ≡ false
 behind slot kind place [] same apart = refl
 behind slot kind place (Place other other_kind ∷ jobs) same apart =
-    neither (is_place slot kind (Place other other_kind)) (waits slot kind jobs)
+    neither (is_place slot kind (Place other other_kind)) (is_queued slot kind jobs)
     (λ here. both_ways (eqb place (place_of other other_kind)) apart.0 (eq-eqb place (place_of other other_kind) (sym same ∙ sym (same_place slot kind other other_kind here))))
     (behind slot kind place jobs same apart.1)
 behind slot kind place (Request number closed on again ∷ jobs) same apart = behind slot kind place jobs same apart
@@ -75,9 +75,9 @@ marked-tail : (old new : List ℕ) (jobs : List Job) (place slot : ℕ) (kind : 
 marked-tail old new jobs place slot kind at queue was set other other_kind in_range =
     set (place_of other other_kind)
     ∙ ap (λ b. if b then false else is_in old (place_of other other_kind)) (one_place place slot kind other other_kind at queue.legal.0 in_range)
-    ∙ cond_both (is_place other other_kind (Place slot kind)) false (is_in old (place_of other other_kind)) (λ b. b ≡ waits other other_kind jobs)
+    ∙ cond_both (is_place other other_kind (Place slot kind)) false (is_in old (place_of other other_kind)) (λ b. b ≡ is_queued other other_kind jobs)
     (λ here. sym (behind other other_kind (place_of slot kind) jobs (sym (same_place other other_kind slot kind here)) (IsDistinct-head eqb (place_of slot kind) (places_in jobs) queue.once)))
-    (λ apart. was other other_kind in_range ∙ ap (λ b. b || waits other other_kind jobs) apart)
+    (λ apart. was other other_kind in_range ∙ ap (λ b. b || is_queued other other_kind jobs) apart)
 
 pub marked-drop : (old new : List ℕ) (jobs : List Job) (place slot : ℕ) (kind : Kind) → place ≡ place_of slot kind → slice_get jobs 0 ≡ Some (Place slot kind) → IsQueue jobs → IsMarked old jobs → IsSet old new place false → IsMarked new (drop 1 jobs)
 marked-drop old new [] place slot kind at first queue was set = cc

@@ -2,7 +2,7 @@
 use Rattle.std.proofs.Common.{◌≡◌, ℕ, ◌+◌, ◌*◌, ◌<◌, ◌≤◌, Bool, true, false, not, if◌then◌else◌, nat_lt, lt-ltb, le-ltb, ◌&&◌, List, [], ◌∷◌, ◌++◌, Option, Some, None, refl, sym, ap, arith, inl, inr, ◌⊎◌, ◌∙◌, append_assoc, append-nil}
 use Rattle.std.proofs.lemmas.Bool.{cond_both}
 use Rattle.refresh_ring.specs.Places.{is_refreshed, slot_of, next_place}
-use Rattle.refresh_ring.specs.Jobs.{IsQueue, sends_of, sends_in, live_jobs, first_of, after_send, waits, most_requests, requests_in}
+use Rattle.refresh_ring.specs.Jobs.{IsQueue, sends_of, sends_in, live_jobs, first_of, after_send, is_queued, most_requests, requests_in}
 use Rattle.refresh_ring.specs.Scheduled.{Scheduled, after_changed, after_switch}
 use Rattle.refresh_ring.specs.Picked.{Picked, picked, live, candidate, sent, idle, job_sent, place_sent, is_last, destination_of, address_of, pick_of}
 use Rattle.refresh_ring.specs.Left.{jobs_wait, turns_for, turns_to_empty}
@@ -15,7 +15,7 @@ use Rattle.refresh_ring.specs.declared.job.Destination.TheVariants.{Loco}
 use Rattle.refresh_ring.specs.declared.turn.Candidate.TheVariants.{FromJobs, FromRing}
 use Rattle.refresh_ring.specs.declared.pick.Pick.{Pick}
 use Rattle.refresh_ring.specs.declared.pick.Pick.TheVariants.{Switch}
-use Rattle.refresh_ring.proofs.Waiting.{few_sends}
+use Rattle.refresh_ring.proofs.Queued.{few_sends}
 use Rattle.refresh_ring.proofs.Ahead.{wait_jobs, wait_most, wait_idle, wait_ring}
 
 pub to_send-append : (jobs more : List Job) → to_send (jobs ++ more) ≡ to_send jobs ++ to_send more
@@ -61,7 +61,7 @@ unfolding picked Kept
 picked-kept addresses s = candidate_kept addresses (live s) (live s).jobs (next_place s.slots s.cursor) s.prefers_jobs refl ∙ to_send-live s.slots s.jobs
 
 pub changed-kept : (slot : ℕ) (kind : Kind) (s : Scheduled) → to_send (after_changed slot kind s).jobs ≡ to_send s.jobs
-changed-kept slot kind s = cond_both (is_refreshed s.slots slot && not (waits slot kind s.jobs)) (s.jobs ++ Place slot kind ∷ []) s.jobs (λ js. to_send js ≡ to_send s.jobs) (λ h. to_send-append s.jobs (Place slot kind ∷ []) ∙ append-nil (to_send s.jobs)) (λ h. refl)
+changed-kept slot kind s = cond_both (is_refreshed s.slots slot && not (is_queued slot kind s.jobs)) (s.jobs ++ Place slot kind ∷ []) s.jobs (λ js. to_send js ≡ to_send s.jobs) (λ h. to_send-append s.jobs (Place slot kind ∷ []) ∙ append-nil (to_send s.jobs)) (λ h. refl)
 
 pub switch-asked : (number : ℕ) (closed on : Bool) (s : Scheduled) → requests_in s.jobs < most_requests → to_send (after_switch number closed on s).jobs ≡ to_send s.jobs ++ Switch number closed on ∷ Switch number closed on ∷ []
 switch-asked number closed on s few =
@@ -76,7 +76,7 @@ switch-refused number closed on s full =
 -- ---- both calls put jobs at the end
 
 pub changed-appends : (slot : ℕ) (kind : Kind) (s : Scheduled) → (more : List Job) × ((after_changed slot kind s).jobs ≡ s.jobs ++ more)
-changed-appends slot kind s = cond_both (is_refreshed s.slots slot && not (waits slot kind s.jobs)) (s.jobs ++ Place slot kind ∷ []) s.jobs (λ js. (more : List Job) × (js ≡ s.jobs ++ more)) (λ h. (Place slot kind ∷ [], refl)) (λ h. ([], sym (append-nil s.jobs)))
+changed-appends slot kind s = cond_both (is_refreshed s.slots slot && not (is_queued slot kind s.jobs)) (s.jobs ++ Place slot kind ∷ []) s.jobs (λ js. (more : List Job) × (js ≡ s.jobs ++ more)) (λ h. (Place slot kind ∷ [], refl)) (λ h. ([], sym (append-nil s.jobs)))
 
 pub switch-appends : (number : ℕ) (closed on : Bool) (s : Scheduled) → (more : List Job) × ((after_switch number closed on s).jobs ≡ s.jobs ++ more)
 switch-appends number closed on s = cond_both (nat_lt (requests_in s.jobs) most_requests) (s.jobs ++ Request number closed on true ∷ []) s.jobs (λ js. (more : List Job) × (js ≡ s.jobs ++ more)) (λ h. (Request number closed on true ∷ [], refl)) (λ h. ([], sym (append-nil s.jobs)))

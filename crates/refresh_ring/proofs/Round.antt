@@ -49,13 +49,13 @@ left_step ever test place cursor q cursor_in is on counts known next other = eli
       | inl more ↦ omega (arith, left-below ever place cursor lt, left-below ever place q before, count_to-above (at_place ever) cursor q more known, count_to-above (at_place ever) q place before counts)
       | inr back ↦ absurd (both_ways (test place) (next.above place lt is.1 (inr back)) on)
     ]
-    | inr past ↦ let passed : place < q = omega arith in absurd (both_ways (test place) (next.above place lt is.1 (inl passed)) on)
+    | inr past ↦ let above : place < q = omega arith in absurd (both_ways (test place) (next.above place lt is.1 (inl above)) on)
   ]
   | inr le ↦ elim (cases_lt cursor q) [
     | inl more ↦ let past : place ≤ q = omega arith in omega (arith, left-past ever place cursor le, left-past ever place q past, count_to-above (at_place ever) cursor q more known, count_to-mono (at_place ever) q last_place next.high)
     | inr back ↦ elim (cases_lt q place) [
       | inl before ↦ omega (arith, left-past ever place cursor le, left-below ever place q before, count_to-mono (at_place ever) cursor last_place cursor_in, count_to-above (at_place ever) 0 q next.low known, count_to-above (at_place ever) q place before counts)
-      | inr past ↦ let passed : place < q = omega arith in absurd (both_ways (test place) (next.below back place is.0 passed) on)
+      | inr past ↦ let above : place < q = omega arith in absurd (both_ways (test place) (next.below back place is.0 above) on)
     ]
   ]
 ]
@@ -87,23 +87,23 @@ abbrev turns_at : (ℕ → Bool) → ℕ → Scheduled → ℕ
 turns_at ever place s = turns_from ever place s.cursor s.last s.prefers_jobs
 
 -- the place is sent, or comes closer
-GoesOn : (ever : ℕ → Bool) (place : ℕ) → Scheduled → Picked → Type 0
-GoesOn ever place s m = (m.answer ≡ PlacePick (slot_of place) (kind_of place)) ⊎ (turns_at ever place m.state + 1 ≤ turns_at ever place s)
+Progresses : (ever : ℕ → Bool) (place : ℕ) → Scheduled → Picked → Type 0
+Progresses ever place s m = (m.answer ≡ PlacePick (slot_of place) (kind_of place)) ⊎ (turns_at ever place m.state + 1 ≤ turns_at ever place s)
 
 module _ (ever : ℕ → Bool) (place : ℕ) (is : IsPlace place) (addresses : List ℕ) (s : Scheduled) (on : is_place_on s.slots place ≡ true) (known : (n : ℕ) → is_refreshed s.slots n ≡ true → ever n ≡ true) where
-  idle_goes : (there : Destination) → is_last s.last there ≡ true → GoesOn ever place s (idle s)
-  unfolding GoesOn turns_from
+  idle_goes : (there : Destination) → is_last s.last there ≡ true → Progresses ever place s (idle s)
+  unfolding Progresses turns_from
   idle_goes there h = inr (omega (arith, wait_idle s.prefers_jobs s.last there h))
 
-  job_goes : (job : Job) → s.prefers_jobs ≡ true → GoesOn ever place s (sent addresses s (Some (FromJobs job)))
-  unfolding GoesOn turns_from
-  job_goes job prefers = cond_both (is_last s.last (destination_of addresses job)) (idle s) (job_sent addresses s job) (GoesOn ever place s)
+  job_goes : (job : Job) → s.prefers_jobs ≡ true → Progresses ever place s (sent addresses s (Some (FromJobs job)))
+  unfolding Progresses turns_from
+  job_goes job prefers = cond_both (is_last s.last (destination_of addresses job)) (idle s) (job_sent addresses s job) (Progresses ever place s)
       (idle_goes (destination_of addresses job))
       (λ h. inr (rw prefers (omega (arith, wait_jobs s.last))))
 
-  ring_goes : (q : ℕ) → IsFollowing (is_place_on s.slots) (min s.cursor last_place) q → GoesOn ever place s (sent addresses s (Some (FromRing q)))
-  unfolding GoesOn turns_from
-  ring_goes q next = cond_both (is_last s.last (Loco (address_of addresses (slot_of q)))) (idle s) (place_sent addresses s q) (GoesOn ever place s)
+  ring_goes : (q : ℕ) → IsFollowing (is_place_on s.slots) (min s.cursor last_place) q → Progresses ever place s (sent addresses s (Some (FromRing q)))
+  unfolding Progresses turns_from
+  ring_goes q next = cond_both (is_last s.last (Loco (address_of addresses (slot_of q)))) (idle s) (place_sent addresses s q) (Progresses ever place s)
       (idle_goes (Loco (address_of addresses (slot_of q))))
       (λ h. elim (cases_eq q place) [
         | inl e ↦ inl (rw e)
@@ -113,17 +113,17 @@ module _ (ever : ℕ → Bool) (place : ℕ) (is : IsPlace place) (addresses : L
             inr (rw clipped (omega (arith, further, wait_low s.prefers_jobs s.last, left_low ever place q next.high is (known (slot_of place) on))))
       ])
 
-  chosen_goes : (first : Option Job) (q : ℕ) (b : Bool) → s.prefers_jobs ≡ b → IsFollowing (is_place_on s.slots) (min s.cursor last_place) q → GoesOn ever place s (sent addresses s (candidate b first (Some q)))
+  chosen_goes : (first : Option Job) (q : ℕ) (b : Bool) → s.prefers_jobs ≡ b → IsFollowing (is_place_on s.slots) (min s.cursor last_place) q → Progresses ever place s (sent addresses s (candidate b first (Some q)))
   chosen_goes (Some job) q true prefers next = job_goes job prefers
   chosen_goes None q true prefers next = ring_goes q next
   chosen_goes first q false prefers next = ring_goes q next
 
-  sent_goes : (first : Option Job) (o : Option ℕ) → MatchOption o (NoneAtAll (is_place_on s.slots)) (IsFollowing (is_place_on s.slots) (min s.cursor last_place)) → GoesOn ever place s (sent addresses s (candidate s.prefers_jobs first o))
+  sent_goes : (first : Option Job) (o : Option ℕ) → MatchOption o (NoneAtAll (is_place_on s.slots)) (IsFollowing (is_place_on s.slots) (min s.cursor last_place)) → Progresses ever place s (sent addresses s (candidate s.prefers_jobs first o))
   sent_goes first None none = absurd (both_ways (is_place_on s.slots place) (none.fails place is.0 is.1) on)
   sent_goes first (Some q) next = chosen_goes first q s.prefers_jobs refl next
 
 place_goes : (ever : ℕ → Bool) (place : ℕ) (addresses : List ℕ) (s : Scheduled) → IsPlace place → is_place_on s.slots place ≡ true → ((n : ℕ) → is_refreshed s.slots n ≡ true → ever n ≡ true) → ((picked addresses s).answer ≡ PlacePick (slot_of place) (kind_of place)) ⊎ (turns_at ever place (picked addresses s).state + 1 ≤ turns_at ever place s)
-unfolding picked GoesOn turns_from
+unfolding picked Progresses turns_from
 place_goes ever place addresses s is on known =
     sent_goes ever place is addresses (live s) on known (first_of (live s).jobs) (next_place s.slots s.cursor) (next_place-from s.slots s.cursor)
 

@@ -1,4 +1,5 @@
--- What a list of calls says of a slot: each pair is a slot and whether it is refreshed from then on.
+-- What a list of calls says of a slot: each pair is a slot and whether it is refreshed from then
+-- on.
 use Rattle.std.specs.Prelude.{ℕ, ◌≡◌, Bool, true, List, ◌∷◌, ◌++◌}
 use Rattle.std.specs.List.{Contains}
 

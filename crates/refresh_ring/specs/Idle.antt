@@ -8,7 +8,8 @@ use Rattle.refresh_ring.specs.declared.job.Destination.{Destination}
 use Rattle.refresh_ring.specs.declared.pick.Pick.{Pick}
 use Rattle.refresh_ring.specs.declared.pick.Pick.TheVariants.{Idle}
 
--- nothing is due: no slot is refreshed, and so none of a change that waits, and no switch request waits
+-- nothing is due: no slot is refreshed, and so none of a change that waits, and no switch request
+-- waits
 pub record NothingIsDue (s : Scheduled) : Type 0 where
   pub slots : (slot : ℕ) → IsSlot slot → is_refreshed s.slots slot ≡ false
   pub requests : to_send s.jobs ≡ []
@@ -17,7 +18,8 @@ pub record NothingIsDue (s : Scheduled) : Type 0 where
 abbrev pub next_of : List ℕ → Scheduled → Pick
 next_of addresses s = (picked addresses (record s { last = None })).answer
 
--- it goes to the decoder, or to the module, that the last one went to (S-9.2 gives a decoder 5 ms between two packets to it)
+-- it goes to the decoder, or to the module, that the last one went to (S-9.2 gives a decoder 5 ms
+-- between two packets to it)
 abbrev pub is_too_soon : Option Destination → Option Destination → Bool
 is_too_soon last None = false
 is_too_soon last (Some there) = is_last last there

@@ -18,8 +18,8 @@ is_place slot kind (Place other other_kind) = (other == slot) && (number_of othe
 is_place slot kind (Request number closed on again) = false
 
 -- whether a place waits
-abbrev pub waits : ℕ → Kind → List Job → Bool
-waits slot kind jobs = list_any (is_place slot kind) jobs
+abbrev pub is_queued : ℕ → Kind → List Job → Bool
+is_queued slot kind jobs = list_any (is_place slot kind) jobs
 
 -- the places that wait
 abbrev pub places_in : List Job → List ℕ
@@ -57,7 +57,8 @@ most_requests = 32
 abbrev pub most_jobs : ℕ
 most_jobs = last_place + most_requests
 
--- what a queue holds: legal jobs, each place at most once, and no more switch requests than may wait
+-- what a queue holds: legal jobs, each place at most once, and no more switch requests than may
+-- wait
 pub record IsQueue (jobs : List Job) : Type 0 where
   pub legal : AllByRecursion IsJob jobs
   pub once : IsDistinct nat_eq (places_in jobs)

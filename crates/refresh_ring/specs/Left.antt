@@ -1,4 +1,5 @@
--- How many running turns are left, at most, until a packet is sent (the four-turn argument). Messages change none of it.
+-- How many running turns are left, at most, until a packet is sent (the four-turn argument).
+-- Messages change none of it.
 use Rattle.std.specs.Prelude.{ℕ, ◌+◌, ◌-◌, ◌*◌, Bool, true, false, not, nat_lt, min, if◌then◌else◌, List, Option, Some, None}
 use Rattle.std.proofs.Common.{zero, suc}
 use Rattle.std.specs.Option.{option_map}
@@ -46,7 +47,7 @@ turns_left ever slot kind s = turns_from ever (place_of slot kind) s.cursor s.la
 abbrev pub turns_ahead : ℕ → Kind → Scheduled → Option ℕ
 turns_ahead slot kind s = option_map (λ n. 4 * n + jobs_wait s.prefers_jobs s.last) (sends_ahead slot kind s.jobs)
 
--- turns until all of these jobs, which stand in front, were sent, and 4 more at most
+-- turns until all of these jobs, which are at the front, were sent, and 4 more at most
 abbrev pub turns_for : List Job → Scheduled → ℕ
 turns_for jobs s = 4 * sends_in jobs + jobs_wait s.prefers_jobs s.last
 

@@ -1,4 +1,5 @@
--- What a turn sends, and what it makes of a schedule. The order of sending is the project's own profile.
+-- What a turn sends, and what it makes of a schedule. The order of sending is the project's own
+-- profile.
 use Rattle.std.specs.Prelude.{ℕ, ◌+◌, ◌-◌, ◌/◌, ◌==◌, Bool, true, false, if◌then◌else◌, List, Option, Some, None, slice_index}
 use Rattle.refresh_ring.specs.Places.{IsPlace, slot_of, kind_of, next_place}
 use Rattle.refresh_ring.specs.Jobs.{IsJob, live_jobs, first_of, after_send}
@@ -27,7 +28,7 @@ candidate false job (Some place) = Some (FromRing place)
 candidate false (Some job) None = Some (FromJobs job)
 candidate false None None = None
 
--- the address that stands in a slot, of the list of all 119
+-- the address in a slot, of the list of all 119
 abbrev pub address_of : List ℕ → ℕ → ℕ
 address_of addresses slot = slice_index addresses (slot - 1)
 
@@ -73,8 +74,8 @@ place_sent addresses s place = record {
   answer = PlacePick (slot_of place) (kind_of place);
 }
 
--- the candidate is sent, or idle where the last packet went to the same decoder or nothing is to be sent (S-9.2 gives a
--- decoder 5 ms between two packets to it)
+-- the candidate is sent, or idle where the last packet went to the same decoder or nothing is to be
+-- sent (S-9.2 gives a decoder 5 ms between two packets to it)
 abbrev pub sent : List ℕ → Scheduled → Option Candidate → Picked
 sent addresses s None = idle s
 sent addresses s (Some (FromJobs job)) = if is_last s.last (destination_of addresses job) then idle s else job_sent addresses s job
@@ -88,7 +89,8 @@ live s = record s { jobs = live_jobs s.slots s.jobs }
 unfoldable pub picked : List ℕ → Scheduled → Picked
 picked addresses s = sent addresses (live s) (candidate s.prefers_jobs (first_of (live s).jobs) (next_place s.slots s.cursor))
 
--- a turn: while off nothing is sent and nothing changes, while paused all decoders are told to stop
+-- a turn: while off nothing is sent and nothing changes, while paused the broadcast stop is sent to
+-- all decoders
 abbrev pub turned : Power → List ℕ → Scheduled → Picked
 turned Off addresses s = record { state = s; answer = OffPick }
 turned Running addresses s = picked addresses s

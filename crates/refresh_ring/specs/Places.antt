@@ -1,4 +1,5 @@
--- Places of the refresh ring (the project's own profile): slot n with kind k, counted from 0, is place 119 * k + n.
+-- Places of the refresh ring (the project's own profile): slot n with kind k, counted from 0, is
+-- place 119 * k + n.
 use Rattle.std.specs.Prelude.{ℕ, ◌≡◌, ◌+◌, ◌-◌, ◌*◌, ◌/◌, ◌%◌, ◌<◌, ◌≤◌, ◌⊎◌, ◌&&◌, nat_le, Bool, true, false, if◌then◌else◌, List, Option, Some, None, MatchOption, slice_index_or}
 use Rattle.std.proofs.Common.{zero, suc}
 use Rattle.std.specs.Option.{option_or}
@@ -51,7 +52,8 @@ is_place_on slots place = is_refreshed slots (slot_of place)
 abbrev pub IsRefreshed : List Bool → ℕ → Type 0
 IsRefreshed slots place = (1 ≤ place) × (place ≤ last_place) × (is_place_on slots place ≡ true)
 
--- the law of the ring: the least refreshed place above the cursor; if there is none, the least refreshed place; None where nothing is refreshed
+-- the law of the ring: the least refreshed place above the cursor; if there is none, the least
+-- refreshed place; None where nothing is refreshed
 abbrev pub IsNext : List Bool → ℕ → Option ℕ → Type 0
 IsNext slots cursor next = MatchOption next ((q : ℕ) → ¬ IsRefreshed slots q) (λ p. IsRefreshed slots p
     × (((cursor < p) × ((q : ℕ) → cursor < q → q < p → ¬ IsRefreshed slots q))

@@ -1,7 +1,7 @@
 -- What contracts see of a schedule, and what messages make of it.
 use Rattle.std.specs.Prelude.{ℕ, ◌≡◌, ◌-◌, ◌≤◌, ◌&&◌, Bool, true, false, not, nat_lt, if◌then◌else◌, List, [], ◌∷◌, ◌++◌, length, replicate, slice_set, Option, None, Result, Ok, Err}
 use Rattle.refresh_ring.specs.Places.{slot_count, last_place, is_refreshed}
-use Rattle.refresh_ring.specs.Jobs.{IsQueue, most_requests, waits, requests_in}
+use Rattle.refresh_ring.specs.Jobs.{IsQueue, most_requests, is_queued, requests_in}
 use Rattle.refresh_ring.specs.declared.kind.Kind.{Kind}
 use Rattle.refresh_ring.specs.declared.job.Job.{Job}
 use Rattle.refresh_ring.specs.declared.job.Job.TheVariants.{Place, Request}
@@ -9,7 +9,7 @@ use Rattle.refresh_ring.specs.declared.job.Destination.{Destination}
 use Rattle.refresh_ring.specs.declared.fault.Full.{Full}
 
 pub record Scheduled : Type 0 where
-  -- what waits, in order; a switch request tells whether it is sent once more or twice
+  -- what waits, in order; a switch request holds whether it is sent once more or twice
   pub jobs : List Job
   -- for each of the slots 1 to 119, whether it is refreshed
   pub slots : List Bool
@@ -32,7 +32,7 @@ after_refresh slot on s = record s { slots = slice_set s.slots (slot - 1) on }
 
 -- a changed place of a refreshed slot waits at the end, unless it waits already
 abbrev pub with_place : List Bool → ℕ → Kind → List Job → List Job
-with_place slots slot kind jobs = if is_refreshed slots slot && not (waits slot kind jobs) then jobs ++ Place slot kind ∷ [] else jobs
+with_place slots slot kind jobs = if is_refreshed slots slot && not (is_queued slot kind jobs) then jobs ++ Place slot kind ∷ [] else jobs
 
 abbrev pub after_changed : ℕ → Kind → Scheduled → Scheduled
 after_changed slot kind s = record s { jobs = with_place s.slots slot kind s.jobs }

@@ -25,11 +25,8 @@ to_send (job ∷ jobs) = sends_left job ++ to_send jobs
 
 -- the switch packet of a turn, if it sends one
 abbrev pub switch_in : Pick → List Pick
-switch_in Off = []
-switch_in StopAll = []
-switch_in Idle = []
-switch_in (PlacePick slot kind) = []
 switch_in (Switch number closed on) = Switch number closed on ∷ []
+switch_in pick = []
 
 -- where a packet goes, if it goes to one decoder
 abbrev pub goes_to : List ℕ → Pick → Option Destination
@@ -44,7 +41,8 @@ abbrev pub IsApart : Option Destination → Option Destination → Type 0
 IsApart last None = Unit {0}
 IsApart last (Some there) = is_last last there ≡ false
 
--- what a running turn may send: idle, the packet of a refreshed slot, or that of a switch request that waits
+-- what a running turn may send: idle, the packet of a refreshed slot, or that of a switch request
+-- that waits
 abbrev pub IsDue : Scheduled → Pick → Type 0
 IsDue s Off = ⊥
 IsDue s StopAll = ⊥
@@ -54,13 +52,12 @@ IsDue s (Switch number closed on) = Contains (to_send s.jobs) (Switch number clo
 
 -- slots are 1 to 119, and switches those that a packet can name
 abbrev pub IsLegalPick : Pick → Type 0
-IsLegalPick Off = Unit {0}
-IsLegalPick StopAll = Unit {0}
-IsLegalPick Idle = Unit {0}
 IsLegalPick (PlacePick slot kind) = IsSlot slot
 IsLegalPick (Switch number closed on) = number ≤ last_switch
+IsLegalPick pick = Unit {0}
 
--- of the jobs in front, what is left after a turn; what they still had to send was sent or is left, and fewer turns are left
+-- of the jobs in front, the rest after a turn; what they still had to send was sent or is left, and
+-- fewer turns are left
 pub record LessLeft (front back : List Job) (turns : ℕ) (m : Picked) : Type 0 where
   pub left : List Job
   pub jobs_are : m.state.jobs ≡ left ++ back

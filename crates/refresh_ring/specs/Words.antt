@@ -1,4 +1,5 @@
--- Sets of places as words of bits: place p is bit p % 64 of word p / 64. No public clause cites these.
+-- Sets of places as words of bits: place p is bit p % 64 of word p / 64. No public clause cites
+-- these.
 use Rattle.std.specs.Prelude.{ℕ, ◌≡◌, ◌+◌, ◌/◌, ◌%◌, ◌==◌, Bool, false, List, map, slice_index_or}
 use Rattle.std.specs.Int.{bit_at}
 use Rattle.std.specs.List.{range_with_len}

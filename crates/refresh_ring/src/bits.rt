@@ -29,7 +29,9 @@ pub(crate) fn with_bit(word: u64, k: u32, on: bool) -> u64
 #[inline]
 pub(crate) fn least_bit_from(word: u64, k: u32) -> Option<u32>
     requires { k < 64 }
-    ensures { MatchOption result ((i : ℕ) → k ≤ i → bit_at word i ≡ 0) (λ n. (k ≤ n) × (n < 64) × (bit_at word n ≡ 1) × ((i : ℕ) → k ≤ i → i < n → bit_at word i ≡ 0)) }
+    ensures { MatchOption result ((i : ℕ) → k ≤ i → bit_at word i ≡ 0)
+        (λ n. (k ≤ n) × (n < 64) × (bit_at word n ≡ 1)
+        × ((i : ℕ) → k ≤ i → i < n → bit_at word i ≡ 0)) }
 {
     let high = word & (u64::MAX << k);
     if high == 0 {

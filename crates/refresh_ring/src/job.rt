@@ -7,12 +7,13 @@ use crate::kind::Kind;
 /// What waits to be sent.
 #[derive(Clone, Copy)]
 pub enum Job {
-    /// The packet of this kind for what stands in the slot, 1 to 119, at the moment of sending.
+    /// The packet of this kind for what is in the slot, 1 to 119, at the moment of sending.
     Place {
         slot: u8,
         kind: Kind,
     },
-    /// A switch request, number 0 to 2039, which is sent once more, or twice more where `again` is true.
+    /// A switch request, number 0 to 2039, which is sent once more, or twice more where `again` is
+    /// true.
     Request {
         number: u16,
         closed: bool,

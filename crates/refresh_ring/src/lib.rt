@@ -1,9 +1,18 @@
-//! What a command station sends next.
+//! The schedule of a command station: which packet it sends next.
 //!
-//! A place is a slot with one kind of packet. The ring goes round the places of the refreshed slots, jobs
-//! are what was changed or asked for and waits to be sent at once, and ring and jobs take turns.
+//! A [`Schedule`] receives which slots are refreshed, what was changed and which switches are
+//! requested, and picks the packet of each turn by [`Schedule::pick`]. A place is a slot with one
+//! kind of packet. The [`Ring`] goes round the places of the refreshed slots; jobs are changes and
+//! requests, which wait to be sent at once; ring and jobs take turns.
 //!
-//! Its tests stand in `library_tests/src/test_refresh_ring.rt`.
+//! ```ignore
+//! let mut schedule: Schedule<BitRing> = Schedule::new(alloc)?;
+//! schedule.refresh(1, true);
+//! schedule.changed(1, Kind::Speed);
+//! let pick = schedule.pick(&table, Power::Running);
+//! ```
+//!
+//! The tests are in `library_tests/src/test_refresh_ring.rt`.
 #![tactic(auto)]
 
 mod bit_ring;

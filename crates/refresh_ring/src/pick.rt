@@ -20,7 +20,7 @@ pub enum Pick {
     StopAll,
     /// The idle packet.
     Idle,
-    /// The packet of this kind for what stands in the slot, 1 to 119.
+    /// The packet of this kind for what is in the slot, 1 to 119.
     Place { slot: u8, kind: Kind },
     /// The packet of a switch, 0 to 2039, to be closed or thrown, its output on or off.
     Switch { number: u16, closed: bool, on: bool },

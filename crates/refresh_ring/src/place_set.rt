@@ -47,7 +47,8 @@ impl PlaceSet {
     #[inline]
     pub(crate) fn set(&mut self, place: u16, on: bool)
         requires { place < 64 * word_count }
-        ensures { (other : ℕ) → is_in self.new other ≡ (if other == place then on else is_in self.old other) }
+        ensures { (other : ℕ)
+            → is_in self.new other ≡ (if other == place then on else is_in self.old other) }
     {
         let index = (place / 64) as usize;
         self.words[index] = with_bit(self.words[index], u32::from(place % 64), on);
@@ -56,8 +57,10 @@ impl PlaceSet {
     // Puts each place of a slot in, or takes it out.
     pub(crate) fn set_slot(&mut self, slot: u8, on: bool)
         requires { IsSlot slot }
-        ensures own { (place : ℕ) → IsPlace place → slot_of place ≡ slot → is_in self.new place ≡ on }
-        ensures others { (n : ℕ) → ¬ (IsPlace n × (slot_of n ≡ slot)) → is_in self.new n ≡ is_in self.old n }
+        ensures own { (place : ℕ) → IsPlace place → slot_of place ≡ slot
+            → is_in self.new place ≡ on }
+        ensures others { (n : ℕ) → ¬ (IsPlace n × (slot_of n ≡ slot))
+            → is_in self.new n ≡ is_in self.old n }
     {
         for kind in 0..KINDS {
             self.set(SLOTS * kind + u16::from(slot), on);
@@ -68,7 +71,10 @@ impl PlaceSet {
     #[inline]
     pub(crate) fn least_from(&self, place: u16) -> Option<u16>
         requires { place < 64 * word_count }
-        ensures { MatchOption result ((q : ℕ) → place ≤ q → q < 64 * word_count → bit_of self.now q ≡ 0) (λ p. (place ≤ p) × (p < 64 * word_count) × (bit_of self.now p ≡ 1) × ((q : ℕ) → place ≤ q → q < p → bit_of self.now q ≡ 0)) }
+        ensures { MatchOption result
+            ((q : ℕ) → place ≤ q → q < 64 * word_count → bit_of self.now q ≡ 0)
+            (λ p. (place ≤ p) × (p < 64 * word_count) × (bit_of self.now p ≡ 1)
+            × ((q : ℕ) → place ≤ q → q < p → bit_of self.now q ≡ 0)) }
     {
         let mut from = place % 64;
         for i in place / 64..WORDS {

@@ -2,7 +2,7 @@
 ghost use Rattle.std.specs.Prelude.{◌≡◌, ◌<◌, ◌≤◌, ◌+◌, ◌++◌, [], ◌∷◌, false, true, if◌then◌else◌, IfOk, IfSome, drop};
 ghost use Rattle.dcc_packet.specs.Sent.{last_switch};
 ghost use Rattle.refresh_ring.specs.Places.{IsSlot, is_refreshed};
-ghost use Rattle.refresh_ring.specs.Jobs.{IsJob, IsQueue, most_requests, waits, requests_in, sends_ahead, is_live, live_jobs, first_of, after_send};
+ghost use Rattle.refresh_ring.specs.Jobs.{IsJob, IsQueue, most_requests, is_queued, requests_in, sends_ahead, is_live, live_jobs, first_of, after_send};
 ghost use Rattle.refresh_ring.specs.declared.job.Job.TheVariants.{Place, Request};
 
 use crate::fault::NoMemory;
@@ -21,13 +21,14 @@ pub(crate) const MOST_REQUESTS: u8 = 32;
 // A place waits at most once.
 const MOST_JOBS: usize = LAST_PLACE as usize + MOST_REQUESTS as usize;
 
-/// The jobs that wait, in order. Each place waits at most once, and at most 32 switch requests wait.
+/// The jobs that wait, in order. Each place waits at most once, and at most 32 switch requests
+/// wait.
 #[derive(Drop)]
 pub(crate) struct JobQueue {
     jobs: HeapCircularBuffer<Job>,
-    // The places among the jobs, so that nobody has to search for one.
+    // The places among the jobs, so that no search is needed.
     waiting: PlaceSet,
-    // How many of the jobs are switch requests, so that nobody has to count them.
+    // How many of the jobs are switch requests, so that no count is needed.
     requests: u8,
 }
 
@@ -62,9 +63,9 @@ impl JobQueue {
 
     // Whether a place waits.
     #[inline]
-    pub(crate) fn waits(&self, slot: u8, kind: Kind) -> bool
+    pub(crate) fn is_queued(&self, slot: u8, kind: Kind) -> bool
         requires { IsSlot slot }
-        ensures { result ≡ waits slot kind self.now }
+        ensures { result ≡ is_queued slot kind self.now }
     {
         self.waiting.has(place_of(slot, kind))
     }
@@ -95,7 +96,7 @@ impl JobQueue {
     // A place waits behind all others.
     pub(crate) fn push_place(&mut self, slot: u8, kind: Kind)
         requires slot { IsSlot slot }
-        requires absent { waits slot kind self.old ≡ false }
+        requires absent { is_queued slot kind self.old ≡ false }
         ensures jobs { self.new ≡ self.old ++ Place slot kind ∷ [] }
         ensures queue { IsQueue self.new }
     {
@@ -190,7 +191,8 @@ impl JobQueue {
     }
 }
 
-// Whether the job still waits to be sent: a switch request always, a place while its slot is refreshed.
+// Whether the job still waits to be sent: a switch request always, a place while its slot is
+// refreshed.
 fn is_live<R: Ring>(job: Job, ring: &R) -> bool
     requires { IsJob job }
     ensures { result ≡ is_live (R.slots ring.now) job }

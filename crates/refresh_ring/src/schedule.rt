@@ -1,4 +1,4 @@
-//! The schedule of a command station: what waits, where the ring stands, and what is sent next.
+//! The schedule of a command station: what waits, the position of the ring, and what is sent next.
 ghost use Rattle.std.specs.Prelude.{◌≡◌, ◌≤◌, ◌<◌, ◌-◌, None, Some, IfOk, IfSome, if◌then◌else◌, not};
 ghost use Rattle.dcc_packet.specs.Sent.{last_switch};
 ghost use Rattle.refresh_ring.specs.Places.{IsSlot, IsPlace, next_place};
@@ -19,9 +19,10 @@ use crate::view::View;
 use std::alloc::Global;
 use std::marker::Model;
 
-/// The refreshed slots, the jobs that wait, and where ring and turns stand.
+/// The refreshed slots, the jobs that wait, and the state of the ring and the turns.
 ///
-/// Each place waits at most once, and at most 32 switch requests wait, so its memory is taken once, by `new`.
+/// Each place waits at most once, and at most 32 switch requests wait, so its memory is taken once,
+/// by `new`.
 #[derive(Drop)]
 pub struct Schedule<R: Ring> {
     ring: R,
@@ -36,13 +37,27 @@ impl<R: Ring> Model for Schedule<R> {
 
     ghost Value = { Scheduled };
 
-    ghost view = { λ s. record { jobs = s.queue; slots = R.slots s.ring; cursor = s.cursor; last = s.last; prefers_jobs = s.prefers_jobs } };
+    ghost view = { λ s.
+        record {
+          jobs = s.queue;
+          slots = R.slots s.ring;
+          cursor = s.cursor;
+          last = s.last;
+          prefers_jobs = s.prefers_jobs;
+        } };
 
-    ghost invariant = { λ s. IsScheduled (record { jobs = s.queue; slots = R.slots s.ring; cursor = s.cursor; last = s.last; prefers_jobs = s.prefers_jobs }) };
+    ghost invariant = { λ s.
+        IsScheduled (record {
+          jobs = s.queue;
+          slots = R.slots s.ring;
+          cursor = s.cursor;
+          last = s.last;
+          prefers_jobs = s.prefers_jobs;
+        }) };
 }
 
 impl<R: Ring> Schedule<R> {
-    /// No slot is refreshed and nothing waits. It is refused where there is no memory for 508 jobs.
+    /// Creates a schedule without refreshed slots and jobs. Fails if out of memory for 508 jobs.
     pub fn new(alloc: Global) -> Result<Schedule<R>, NoMemory>
         ensures first { IfOk result (λ s. s ≡ first_schedule) }
         ensures legal { IfOk result IsScheduled }
@@ -56,7 +71,7 @@ impl<R: Ring> Schedule<R> {
         })
     }
 
-    /// Says whether a slot, 1 to 119, is refreshed from now on.
+    /// Sets whether a slot, 1 to 119, is refreshed from now on.
     pub fn refresh(&mut self, slot: u8, on: bool)
         requires { IsSlot slot }
         ensures state { self.new ≡ after_refresh slot on self.old }
@@ -65,20 +80,21 @@ impl<R: Ring> Schedule<R> {
         self.ring.set(slot, on);
     }
 
-    /// What this packet of a slot, 1 to 119, says was changed or asked for: the place waits behind all jobs, unless it
-    /// waits already or its slot is not refreshed.
+    /// Records a change of this packet of a slot, 1 to 119: the place waits after all jobs, unless
+    /// it waits already or its slot is not refreshed.
     pub fn changed(&mut self, slot: u8, kind: Kind)
         requires { IsSlot slot }
         ensures state { self.new ≡ after_changed slot kind self.old }
         ensures legal { IsScheduled self.new }
     {
-        if self.ring.has(slot) && !self.queue.waits(slot, kind) {
+        if self.ring.has(slot) && !self.queue.is_queued(slot, kind) {
             self.queue.push_place(slot, kind);
         }
     }
 
-    /// A request to close or throw a switch, number 0 to 2039, its output on or off, waits behind all jobs, and is then
-    /// sent twice. It is refused, and nothing changes, exactly where 32 requests wait.
+    /// Requests to close or throw a switch, number 0 to 2039, its output on or off: the request
+    /// waits after all jobs, and is then sent twice. Fails, and changes nothing, exactly if 32
+    /// requests wait.
     pub fn switch(&mut self, number: u16, closed: bool, on: bool) -> Result<(), Full>
         requires { number ≤ last_switch }
         ensures answer { result ≡ switch_answer self.old }
@@ -92,7 +108,8 @@ impl<R: Ring> Schedule<R> {
         Ok(())
     }
 
-    /// How many sends wait ahead of a place, those of slots that are not refreshed too. None where it does not wait.
+    /// Returns how many sends wait ahead of a place, including those of slots that are not
+    /// refreshed, or `None` if it does not wait.
     pub fn sends_ahead(&self, slot: u8, kind: Kind) -> Option<u32>
         ensures ahead { result ≡ sends_ahead slot kind self.now.jobs }
         ensures legal { IsScheduled self.now }
@@ -100,7 +117,7 @@ impl<R: Ring> Schedule<R> {
         self.queue.sends_ahead(slot, kind)
     }
 
-    /// How many switch requests still have a packet to send.
+    /// Returns how many switch requests still have a packet to send.
     pub fn switches_waiting(&self) -> u8
         ensures count { result ≡ requests_in self.now.jobs }
         ensures legal { IsScheduled self.now }
@@ -108,11 +125,12 @@ impl<R: Ring> Schedule<R> {
         self.queue.requests()
     }
 
-    /// What this turn sends. While off nothing changes, and while paused only the last destination is forgotten.
+    /// Returns what this turn sends. While off nothing changes, and while paused only the last
+    /// destination is cleared.
     pub fn pick<V: View>(&mut self, view: &V, power: Power) -> Pick
         ensures state { self.new ≡ (turned power (V.addresses view.now) self.old).state }
         ensures answer { result ≡ (turned power (V.addresses view.now) self.old).answer }
-        ensures due { power ≡ Power.Running → IsDue self.old result }
+        ensures is_due { power ≡ Power.Running → IsDue self.old result }
         ensures range { IsLegalPick result }
         ensures legal { IsScheduled self.new }
     {
@@ -147,11 +165,12 @@ impl<R: Ring> Schedule<R> {
     #[inline]
     fn candidate(&self, job: Option<Job>) -> Option<Candidate>
         requires { IfSome job IsJob }
-        ensures chosen { result ≡ candidate self.now.prefers_jobs job (next_place self.now.slots self.now.cursor) }
+        ensures chosen { result
+            ≡ candidate self.now.prefers_jobs job (next_place self.now.slots self.now.cursor) }
         ensures legal { IfSome result IsCandidate }
     {
         let place = match job {
-            // A job that is preferred goes first, so nobody has to ask the ring.
+            // A job that is preferred goes first, so the ring is not asked.
             Some(job) if self.prefers_jobs => return Some(Candidate::FromJobs { job }),
             _ => self.next_place(),
         };
@@ -170,7 +189,8 @@ impl<R: Ring> Schedule<R> {
         self.ring.next(self.cursor)
     }
 
-    // Sends the first job or a place of the ring, or idle where the last packet went to the same decoder.
+    // Sends the first job or a place of the ring, or idle where the last packet went to the same
+    // decoder.
     fn offer<V: View>(&mut self, view: &V, candidate: Candidate) -> Pick
         requires { IsCandidate candidate }
         ensures state { self.new ≡ (sent (V.addresses view.now) self.old (Some candidate)).state }
@@ -205,11 +225,13 @@ impl<R: Ring> Schedule<R> {
         }
     }
 
-    // Notes where a packet goes, and whether it may: where the last one went there too, none goes, and none is noted.
+    // Notes where a packet goes, and whether it may: where the last one went there too, none goes,
+    // and none is noted.
     #[inline]
     fn note_destination(&mut self, there: Destination) -> bool
         ensures may { result ≡ not (is_last self.old.last there) }
-        ensures state { self.new ≡ record self.old { last = if is_last self.old.last there then None else Some there } }
+        ensures state { self.new
+            ≡ record self.old { last = if is_last self.old.last there then None else Some there } }
         ensures legal { IsScheduled self.new }
     {
         if is_last(self.last, there) {

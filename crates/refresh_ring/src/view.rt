@@ -3,7 +3,7 @@ ghost use Rattle.std.specs.Prelude.{◌≡◌, ℕ, List, length};
 ghost use Rattle.refresh_ring.specs.Places.{IsSlot, slot_count};
 ghost use Rattle.refresh_ring.specs.Picked.{address_of};
 
-/// Which address stands in which slot.
+/// Which address is in which slot.
 pub trait View {
     /// The address in each of the slots 1 to 119, 0 for a free one.
     ghost addresses: { Self → List ℕ };

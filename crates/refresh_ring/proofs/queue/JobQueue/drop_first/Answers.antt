@@ -1,6 +1,6 @@
 use Rattle.std.proofs.Common.{◌≡◌, ap, sym, ◌∙◌, drop, slice_get, Some}
 use Rattle.refresh_ring.specs.declared.job.Job.TheVariants.{Place}
-use Rattle.refresh_ring.proofs.Waiting.{queue-drop}
+use Rattle.refresh_ring.proofs.Queued.{queue-drop}
 use Rattle.refresh_ring.proofs.Marks.{marked-drop, counted-drop}
 use Rattle.refresh_ring.proofs.queue.JobQueue.drop_first.Goals as goal
 

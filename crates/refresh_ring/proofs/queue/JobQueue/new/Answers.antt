@@ -1,5 +1,5 @@
 use Rattle.std.proofs.Common.{◌≡◌, ap, [], refl}
-use Rattle.refresh_ring.proofs.Waiting.{queue-empty}
+use Rattle.refresh_ring.proofs.Queued.{queue-empty}
 use Rattle.refresh_ring.proofs.Marks.{marked-empty}
 use Rattle.refresh_ring.proofs.queue.JobQueue.new.Goals as goal
 

@@ -2,7 +2,7 @@ use Rattle.std.proofs.Common.{◌≡◌, ◌+◌, ◌≤◌, ap, ◌∙◌, drop
 use Rattle.std.proofs.lemmas.List.{take_all}
 use Rattle.refresh_ring.specs.Jobs.{most_jobs, first_of, after_send}
 use Rattle.refresh_ring.specs.declared.job.Job.TheVariants.{Request}
-use Rattle.refresh_ring.proofs.Waiting.{queue-sent, sent_once, fits_again}
+use Rattle.refresh_ring.proofs.Queued.{queue-sent, sent_once, fits_again}
 use Rattle.refresh_ring.proofs.queue.JobQueue.note_sent.Goals as goal
 
 first : (c : goal.After-self-1) → first_of c.args.self.now ≡ Some (Request c.in-Some-Request.number c.in-Some-Request.closed c.in-Some-Request.on true)

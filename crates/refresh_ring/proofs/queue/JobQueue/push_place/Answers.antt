@@ -1,7 +1,7 @@
 use Rattle.std.proofs.Common.{◌≡◌, ◌++◌, ◌∷◌, [], ap, ◌∙◌}
 use Rattle.refresh_ring.specs.Jobs.{IsQueue}
 use Rattle.refresh_ring.specs.declared.job.Job.TheVariants.{Place}
-use Rattle.refresh_ring.proofs.Waiting.{queue-place, pushed}
+use Rattle.refresh_ring.proofs.Queued.{queue-place, pushed}
 use Rattle.refresh_ring.proofs.Marks.{marked-place, counted-place}
 use Rattle.refresh_ring.proofs.queue.JobQueue.push_place.Goals as goal
 

@@ -1,7 +1,7 @@
 use Rattle.std.proofs.Common.{◌≡◌, ◌++◌, ◌∷◌, [], ap, ◌∙◌, ◌+◌, true}
 use Rattle.refresh_ring.specs.Jobs.{IsQueue}
 use Rattle.refresh_ring.specs.declared.job.Job.TheVariants.{Request}
-use Rattle.refresh_ring.proofs.Waiting.{queue-request, pushed}
+use Rattle.refresh_ring.proofs.Queued.{queue-request, pushed}
 use Rattle.refresh_ring.proofs.Marks.{marked-request, counted-request}
 use Rattle.refresh_ring.proofs.queue.JobQueue.push_request.Goals as goal
 

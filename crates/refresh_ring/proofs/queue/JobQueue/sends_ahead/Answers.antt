@@ -1,6 +1,6 @@
 use Rattle.std.proofs.Common.{◌≡◌, ◌+◌, ap, arith}
 use Rattle.refresh_ring.specs.Jobs.{sends_in, sends_of}
-use Rattle.refresh_ring.proofs.Waiting.{few_sends}
+use Rattle.refresh_ring.proofs.Queued.{few_sends}
 use Rattle.refresh_ring.proofs.queue.JobQueue.sends_ahead.Goals as goal
 
 pub overflow_add-ahead : goal.overflow_add-ahead

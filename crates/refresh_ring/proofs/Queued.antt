@@ -8,7 +8,7 @@ use Rattle.std.proofs.lemmas.List.{append-nil}
 use Rattle.std.proofs.lemmas.Map.Steps.{length-le_from_distinct_below}
 use Rattle.dcc_packet.specs.Sent.{last_switch}
 use Rattle.refresh_ring.specs.Places.{IsSlot, last_place, place_of, number_of}
-use Rattle.refresh_ring.specs.Jobs.{IsJob, most_requests, most_jobs, is_place, waits, places_in, requests_in, sends_in, IsQueue, is_live, live_jobs, first_of, after_send}
+use Rattle.refresh_ring.specs.Jobs.{IsJob, most_requests, most_jobs, is_place, is_queued, places_in, requests_in, sends_in, IsQueue, is_live, live_jobs, first_of, after_send}
 use Rattle.refresh_ring.specs.declared.kind.Kind.{Kind}
 use Rattle.refresh_ring.specs.declared.job.Job.{Job}
 use Rattle.refresh_ring.specs.declared.job.Job.TheVariants.{Place, Request}
@@ -91,15 +91,15 @@ or_false : (a b : Bool) → (a || b) ≡ false → (a ≡ false) × (b ≡ false
 or_false true b h = cc
 or_false false b h = (refl, h)
 
-place_of-absent : (slot : ℕ) (kind : Kind) (jobs : List Job) → IsSlot slot → AllByRecursion IsJob jobs → waits slot kind jobs ≡ false → list_any (eqb (place_of slot kind)) (places_in jobs) ≡ false
+place_of-absent : (slot : ℕ) (kind : Kind) (jobs : List Job) → IsSlot slot → AllByRecursion IsJob jobs → is_queued slot kind jobs ≡ false → list_any (eqb (place_of slot kind)) (places_in jobs) ≡ false
 place_of-absent slot kind [] in_range legal h = refl
 place_of-absent slot kind (Place other other_kind ∷ jobs) in_range legal h =
-    let parts = or_false (is_place slot kind (Place other other_kind)) (waits slot kind jobs) h in
+    let parts = or_false (is_place slot kind (Place other other_kind)) (is_queued slot kind jobs) h in
     let here = place_of-other slot kind other other_kind in_range legal.0 parts.0 in
     rw here (place_of-absent slot kind jobs in_range legal.1 parts.1)
 place_of-absent slot kind (Request number closed on again ∷ jobs) in_range legal h = place_of-absent slot kind jobs in_range legal.1 h
 
-pub queue-place : (jobs : List Job) (slot : ℕ) (kind : Kind) → IsQueue jobs → IsSlot slot → waits slot kind jobs ≡ false → IsQueue (jobs ++ Place slot kind ∷ [])
+pub queue-place : (jobs : List Job) (slot : ℕ) (kind : Kind) → IsQueue jobs → IsSlot slot → is_queued slot kind jobs ≡ false → IsQueue (jobs ++ Place slot kind ∷ [])
 queue-place jobs slot kind queue in_range absent = record {
   legal = legal-push jobs (Place slot kind) queue.legal in_range;
   once = rw places_in-append (IsDistinct-push nat_eq_equiv (places_in jobs) (place_of slot kind) queue.once (place_of-absent slot kind jobs in_range queue.legal absent));

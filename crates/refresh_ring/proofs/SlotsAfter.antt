@@ -12,14 +12,14 @@ abbrev pub Call : Type 0
 Call = ℕ × Bool
 
 -- the slots after these calls
-abbrev pub told : List Bool → List Call → List Bool
-told slots [] = slots
-told slots (call ∷ calls) = told (set slots (call.0 - 1) call.1) calls
+abbrev pub slots_after : List Bool → List Call → List Bool
+slots_after slots [] = slots
+slots_after slots (call ∷ calls) = slots_after (set slots (call.0 - 1) call.1) calls
 
 abbrev AreSlots : List Call → Type 0
 AreSlots calls = All (λ call. IsSlot call.0) calls
 
--- no pair of the slot stands in the list
+-- no pair of the slot is in the list
 abbrev IsSilent : ℕ → List Call → Type 0
 IsSilent slot calls = (on : Bool) → ¬ Contains calls (slot, on)
 
@@ -47,19 +47,19 @@ module _ (slots : List Bool) (n : ℕ) (on : Bool) (whole : length slots ≡ slo
   set-other zero ne = refl
   set-other (suc k) ne = ap (λ b. nat_le 1 (suc k) && b) (get_or-set_other slots (n - 1) (suc k - 1) on false (λ e. ne (omega (arith, is))))
 
--- what is not told stays
-told-silent : (calls : List Call) (slots : List Bool) (slot : ℕ) → length slots ≡ slot_count → AreSlots calls → IsSilent slot calls → is_refreshed (told slots calls) slot ≡ is_refreshed slots slot
-told-silent [] slots slot whole legal silent = refl
-told-silent (call ∷ calls) slots slot whole legal silent =
+-- slots without a call stay as they were
+slots_after-silent : (calls : List Call) (slots : List Bool) (slot : ℕ) → length slots ≡ slot_count → AreSlots calls → IsSilent slot calls → is_refreshed (slots_after slots calls) slot ≡ is_refreshed slots slot
+slots_after-silent [] slots slot whole legal silent = refl
+slots_after-silent (call ∷ calls) slots slot whole legal silent =
     let less = silent-less slot call calls silent in
-    told-silent calls (set slots (call.0 - 1) call.1) slot (length-set slots (call.0 - 1) call.1 ∙ whole) (All-tail (λ c. IsSlot c.0) call calls legal) less.1
+    slots_after-silent calls (set slots (call.0 - 1) call.1) slot (length-set slots (call.0 - 1) call.1 ∙ whole) (All-tail (λ c. IsSlot c.0) call calls legal) less.1
     ∙ set-other slots call.0 call.1 whole (All-head (λ c. IsSlot c.0) call calls legal) slot less.0
 
 later : (slot : ℕ) (call : Call) (calls : List Call) → IsLastOn slot calls → IsLastOn slot (call ∷ calls)
 later slot call calls last = record { before = call ∷ last.before; after = last.after; are = ap (λ l. call ∷ l) last.are; last = last.last }
 
--- a refreshed slot was last told so, or was refreshed before and is not told
-on_told : (calls : List Call) (slots : List Bool) (slot : ℕ) → length slots ≡ slot_count → AreSlots calls → is_refreshed (told slots calls) slot ≡ true → IsLastOn slot calls ⊎ (IsSilent slot calls × (is_refreshed slots slot ≡ true))
+-- a refreshed slot was last set so, or was refreshed before and has no call
+on_told : (calls : List Call) (slots : List Bool) (slot : ℕ) → length slots ≡ slot_count → AreSlots calls → is_refreshed (slots_after slots calls) slot ≡ true → IsLastOn slot calls ⊎ (IsSilent slot calls × (is_refreshed slots slot ≡ true))
 on_told [] slots slot whole legal h = inr ((λ on there. omega (arith, there.1)), h)
 on_told (call ∷ calls) slots slot whole legal h =
     let is = All-head (λ c. IsSlot c.0) call calls legal in
@@ -76,32 +76,32 @@ on_told (call ∷ calls) slots slot whole legal h =
     pair : (call : Call) (slot : ℕ) (on : Bool) → call.0 ≡ slot → call.1 ≡ on → call ≡ (slot, on)
     pair call slot on e f = ap₂ (λ (n : ℕ) (b : Bool). let c : Call = (n, b) in c) e f
 
-told-append : (front back : List Call) (slots : List Bool) → told slots (front ++ back) ≡ told (told slots front) back
-told-append [] back slots = refl
-told-append (call ∷ front) back slots = told-append front back (set slots (call.0 - 1) call.1)
+slots_after-append : (front back : List Call) (slots : List Bool) → slots_after slots (front ++ back) ≡ slots_after (slots_after slots front) back
+slots_after-append [] back slots = refl
+slots_after-append (call ∷ front) back slots = slots_after-append front back (set slots (call.0 - 1) call.1)
 
-length-told : (calls : List Call) (slots : List Bool) → length (told slots calls) ≡ length slots
-length-told [] slots = refl
-length-told (call ∷ calls) slots = length-told calls (set slots (call.0 - 1) call.1) ∙ length-set slots (call.0 - 1) call.1
+length-slots_after : (calls : List Call) (slots : List Bool) → length (slots_after slots calls) ≡ length slots
+length-slots_after [] slots = refl
+length-slots_after (call ∷ calls) slots = length-slots_after calls (set slots (call.0 - 1) call.1) ∙ length-set slots (call.0 - 1) call.1
 
--- a slot that was last told so is refreshed
-told_on : (calls : List Call) (slots : List Bool) (slot : ℕ) → length slots ≡ slot_count → AreSlots calls → IsLastOn slot calls → is_refreshed (told slots calls) slot ≡ true
+-- a slot that was last set refreshed is refreshed
+told_on : (calls : List Call) (slots : List Bool) (slot : ℕ) → length slots ≡ slot_count → AreSlots calls → IsLastOn slot calls → is_refreshed (slots_after slots calls) slot ≡ true
 told_on calls slots slot whole legal last =
     let is : IsSlot slot = All-contains (λ c. IsSlot c.0) calls (slot, true) legal (subst (λ l. Contains l (slot, true)) (sym last.are) (Contains-append_right last.before ((slot, true) ∷ last.after) (slot, true) (0, omega arith, refl))) in
-    let were = told slots last.before in
-    let full : length were ≡ slot_count = length-told last.before slots ∙ whole in
-    ap (λ l. is_refreshed (told slots l) slot) last.are
-    ∙ ap (λ s. is_refreshed s slot) (told-append last.before ((slot, true) ∷ last.after) slots)
-    ∙ told-silent last.after (set were (slot - 1) true) slot (length-set were (slot - 1) true ∙ full) (rest_legal last.before last.after (subst AreSlots last.are legal)) last.last
+    let were = slots_after slots last.before in
+    let full : length were ≡ slot_count = length-slots_after last.before slots ∙ whole in
+    ap (λ l. is_refreshed (slots_after slots l) slot) last.are
+    ∙ ap (λ s. is_refreshed s slot) (slots_after-append last.before ((slot, true) ∷ last.after) slots)
+    ∙ slots_after-silent last.after (set were (slot - 1) true) slot (length-set were (slot - 1) true ∙ full) (rest_legal last.before last.after (subst AreSlots last.are legal)) last.last
     ∙ set-own were slot true full is
   where
     rest_legal : (before after : List Call) → AreSlots (before ++ (slot, true) ∷ after) → AreSlots after
     rest_legal [] after h = All-tail (λ c. IsSlot c.0) (slot, true) after h
     rest_legal (call ∷ before) after h = rest_legal before after (All-tail (λ c. IsSlot c.0) call (before ++ (slot, true) ∷ after) h)
 
--- after calls on an empty ring exactly the slots are refreshed that were last told so
-pub told-last : (calls : List Call) → AreSlots calls → (slot : ℕ) → (is_refreshed (told (replicate slot_count false) calls) slot ≡ true) ↔ IsLastOn slot calls
-told-last calls legal slot = (to, told_on calls (replicate slot_count false) slot refl legal)
+-- after calls on an empty ring exactly the slots last set so are refreshed
+pub slots_after-last : (calls : List Call) → AreSlots calls → (slot : ℕ) → (is_refreshed (slots_after (replicate slot_count false) calls) slot ≡ true) ↔ IsLastOn slot calls
+slots_after-last calls legal slot = (to, told_on calls (replicate slot_count false) slot refl legal)
   where
     none : (n i : ℕ) → ◌≡◌ {A = Bool} (slice_index_or (replicate n false) i false) false
     none zero zero = refl
@@ -113,7 +113,7 @@ told-last calls legal slot = (to, told_on calls (replicate slot_count false) slo
     off zero h = cc
     off (suc k) h = let no : slice_index_or (replicate slot_count false) (suc k - 1) false ≡ false = none slot_count (suc k - 1) in let low : nat_le 1 (suc k) ≡ true = grind (arith, nat_tests) in cc
 
-    to : is_refreshed (told (replicate slot_count false) calls) slot ≡ true → IsLastOn slot calls
+    to : is_refreshed (slots_after (replicate slot_count false) calls) slot ≡ true → IsLastOn slot calls
     to h = elim (on_told calls (replicate slot_count false) slot refl legal h) [
       | inl last ↦ last
       | inr still ↦ absurd (off slot still.1)
