@@ -201,9 +201,9 @@ with_address-twice addresses n a = ap (λ (m : FinMap nat_cmp ℕ). insert m n a
 pub with_address-free : (addresses : FinMap nat_cmp ℕ) (n a : ℕ) → get addresses n ≡ None → insert addresses n a ≡ with_address addresses n (Some a)
 with_address-free addresses n a none = ap (λ (m : FinMap nat_cmp ℕ). insert m n a) (sym (remove-absent addresses n none))
 
--- an address that stood in one slot alone stands nowhere after it left
+-- an address that was in one slot only is in none after it left
 pub left_alone : (addresses : FinMap nat_cmp ℕ) (n a : ℕ) → ((k : ℕ) → get addresses k ≡ Some a → k ≡ n) → (m : ℕ) → get (remove addresses n) m ≢ Some a
 left_alone addresses n a one m h = elim (cases_eq m n) [
-  | inl e ↦ let gone = remove_at addresses n m e in let clash : ◌≡◌ {A = Option ℕ} None (Some a) = sym gone ∙ h in cc
+  | inl e ↦ let absent = remove_at addresses n m e in let clash : ◌≡◌ {A = Option ℕ} None (Some a) = sym absent ∙ h in cc
   | inr ne ↦ ne (one m (sym (remove_off addresses n m ne) ∙ h))
 ]

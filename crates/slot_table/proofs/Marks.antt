@@ -45,16 +45,16 @@ other_mark k n ne = by_test (k == n) refl
     by_test true e = absurd (ne (ap Some (eqb-true k n e)))
     by_test false e = refl
 
-gone : (o : Option ℕ) (n : ℕ) → o ≡ Some n → unmarked o n ≡ None
-gone None n h = cc
-gone (Some k) n h = let same : k ≡ n = cc in rw (eq-eqb k n same) refl
+absent : (o : Option ℕ) (n : ℕ) → o ≡ Some n → unmarked o n ≡ None
+absent None n h = cc
+absent (Some k) n h = let same : k ≡ n = cc in rw (eq-eqb k n same) refl
 
 stays : (o : Option ℕ) (n : ℕ) → o ≢ Some n → unmarked o n ≡ o
 stays None n ne = refl
 stays (Some k) n ne = rw (other_mark k n ne) refl
 
 loses : (desk : Desk) (n : ℕ) → LosesMark desk (cleared desk n) n
-loses desk n = (gone desk.mark n, stays desk.mark n)
+loses desk n = (absent desk.mark n, stays desk.mark n)
 
 carried : (o : Option ℕ) (src dest : ℕ) → o ≡ Some src → moved_mark o src dest ≡ Some dest
 carried None src dest h = cc

@@ -1,4 +1,4 @@
--- What a call makes of the rows of its own slots.
+-- What a call makes of the rows of the slots that it concerns.
 use Rattle.std.proofs.Common.{◌≡◌, ◌≢◌, ℕ, ◌&&◌, not, Bool, true, false, Option, Some, None, is_ok, is_some, refl, ap, sym, subst, ◌∙◌}
 use Rattle.std.proofs.lemmas.Bool.{and_parts, both_ways}
 use Rattle.std.specs.Ordering.{nat_cmp}
@@ -18,7 +18,7 @@ use Rattle.slot_table.specs.Moves.{after_null_move, after_dispatch_put, dispatch
 use Rattle.slot_table.specs.Laws.{Becomes, Holds, OwnSlots}
 use Rattle.slot_table.proofs.Maps.{insert_at, insert_off, remove_at}
 use Rattle.slot_table.proofs.Desks.{taken, changed-at, cleared-none}
-use Rattle.slot_table.proofs.Leaves.{the_entry}
+use Rattle.slot_table.proofs.Removing.{the_entry}
 use Rattle.slot_table.proofs.Shown.{rows_are_legal}
 
 -- the row of a slot, by its place and the entry there
@@ -84,8 +84,8 @@ module _ (desk : Desk) (is : IsDesk desk) where
           let same : m ≡ n = cc in
           subst (λ (k : ℕ). Becomes desk (dispatch_get_at desk (Some k)) n (λ row. record row { state = InUse })) (sym same) (own-null_move n (is.marked n mark))
 
-  own-take_new : (a n : ℕ) → is_address a ≡ true → slot_of desk a ≡ None → free_slot desk ≡ Some n → row_of (after_take desk a) n ≡ row_with a new_entry
-  own-take_new a n legal none free = ap (λ (d : Desk). row_of d n) (taken desk a n none free legal) ∙ row-entered desk n a new_entry
+  own-take_unknown : (a n : ℕ) → is_address a ≡ true → slot_of desk a ≡ None → free_slot desk ≡ Some n → row_of (after_take desk a) n ≡ row_with a new_entry
+  own-take_unknown a n legal none free = ap (λ (d : Desk). row_of d n) (taken desk a n none free legal) ∙ row-entered desk n a new_entry
 
   own-take_held : (a n : ℕ) → is_address a ≡ true → Holds desk n a → after_take desk a ≡ desk
   own-take_held a n legal holds = let found : slot_of desk a ≡ Some n = ((rows_are_legal desk is).found n a).1 holds in rw (legal, found) refl
@@ -141,7 +141,7 @@ module _ (desk : Desk) (is : IsDesk desk) where
   pub own_slots : OwnSlots desk
   own_slots = record {
     take_held = own-take_held;
-    take_new = own-take_new;
+    take_unknown = own-take_unknown;
     speed = λ n spd placed. own-field n (Speed spd) placed refl;
     dirf = λ n dirf placed. own-field n (Dirf dirf) placed refl;
     snd = λ n snd placed. own-field n (Snd snd) placed refl;

@@ -17,7 +17,7 @@ use Rattle.slot_table.proofs.Search.{first_from-least, first_from-nothing, find-
 abbrev pub AreApart : List Pair → Type 0
 AreApart pairs = (i j : ℕ) → i < length pairs → j < length pairs → (pair_at pairs i).slot ≡ (pair_at pairs j).slot → i ≡ j
 
--- a pair of this slot and address stands in the list
+-- a pair of this slot and address is in the list
 abbrev pub Stands : List Pair → ℕ → ℕ → Type 0
 Stands pairs n a = (i : ℕ) × (i < length pairs) × ((pair_at pairs i).slot ≡ n) × ((pair_at pairs i).address ≡ a)
 
@@ -127,7 +127,7 @@ one_origin i j before after rise fall e = elim (cases_lt i j) [
 ]
 
 module _ (pairs : List Pair) (k : ℕ) (inside : k < length pairs) where
-  -- where a pair that is left stood
+  -- where a remaining pair was
   pub record Stood (j : ℕ) : Type 0 where
     pub at : ℕ
     pub low : at < length pairs
@@ -140,7 +140,7 @@ module _ (pairs : List Pair) (k : ℕ) (inside : k < length pairs) where
     | inr above ↦ record { at = j + 1; low = omega (arith, length-remove pairs k inside); pair = get_or-remove_above pairs k _ j above inside; moved = inr (above, refl) }
   ]
 
-  -- where a pair that stays stands
+  -- where a remaining pair is
   stays : (i : ℕ) → i < length pairs → i ≢ k → (j : ℕ) × (j < length (remove_in pairs k)) × (pair_at (remove_in pairs k) j ≡ pair_at pairs i)
   stays i in_range ne = elim (cases_lt i k) [
     | inl below ↦ (i, omega (arith, length-remove pairs k inside), get_or-remove_below pairs k _ i below inside)
@@ -190,7 +190,7 @@ module _ (pairs : List Pair) (k : ℕ) (inside : k < length pairs) where
   -- its slot has no address then, and the others keep theirs
   pub removed-addresses : AreApart pairs → (n : ℕ) → (pair_at pairs k).slot ≡ n → addresses_of (remove_in pairs k) ≡ remove (addresses_of pairs) n
   removed-addresses apart n own = same (addresses_of (remove_in pairs k)) (remove (addresses_of pairs) n) (λ q. elim (cases_eq q n) [
-    | inl e ↦ no_option (get (addresses_of (remove_in pairs k)) q) (λ a h. gone q a e h) ∙ sym (remove_at (addresses_of pairs) n q e)
+    | inl e ↦ no_option (get (addresses_of (remove_in pairs k)) q) (λ a h. absent q a e h) ∙ sym (remove_at (addresses_of pairs) n q e)
     | inr ne ↦ same_options (get (addresses_of (remove_in pairs k)) q) (get (addresses_of pairs) q) (λ a h. was q a h) (λ a h. is q a ne h) ∙ sym (remove_off (addresses_of pairs) n q ne)
   ])
     where
@@ -200,8 +200,8 @@ module _ (pairs : List Pair) (k : ℕ) (inside : k < length pairs) where
           let s = stood at.0 at.1 in
           get-at pairs q a apart (s.at, s.low, sym (ap (λ (p : Pair). p.slot) s.pair) ∙ at.2, sym (ap (λ (p : Pair). p.address) s.pair) ∙ at.3)
 
-      gone : (q a : ℕ) → q ≡ n → get (addresses_of (remove_in pairs k)) q ≡ Some a → ⊥
-      gone q a e h =
+      absent : (q a : ℕ) → q ≡ n → get (addresses_of (remove_in pairs k)) q ≡ Some a → ⊥
+      absent q a e h =
           let at = stands (remove_in pairs k) q a h in
           let s = stood at.0 at.1 in
           let own_slot : (pair_at pairs s.at).slot ≡ (pair_at pairs k).slot = sym (ap (λ (p : Pair). p.slot) s.pair) ∙ at.2 ∙ e ∙ sym own in
@@ -216,8 +216,8 @@ module _ (pairs : List Pair) (k : ℕ) (inside : k < length pairs) where
 -- ---- a pair comes
 
 module _ (pairs : List Pair) (k : ℕ) (le : k ≤ length pairs) (new : Pair) where
-  -- where a pair stood that is not the new one
-  pub record Came (j : ℕ) : Type 0 where
+  -- where a pair other than the new one was
+  pub record Shifted (j : ℕ) : Type 0 where
     pub at : ℕ
     pub low : at < length pairs
     pub pair : pair_at (insert_in pairs k new) j ≡ pair_at pairs at
@@ -226,8 +226,8 @@ module _ (pairs : List Pair) (k : ℕ) (le : k ≤ length pairs) (new : Pair) wh
   here : (j : ℕ) → j ≡ k → pair_at (insert_in pairs k new) j ≡ new
   here j e = ap (pair_at (insert_in pairs k new)) e ∙ get_or-insert_at pairs k new _ le
 
-  came : (j : ℕ) → j < length (insert_in pairs k new) → (j ≡ k) ⊎ Came j
-  came j in_range = elim (cases_eq j k) [
+  is_shifted : (j : ℕ) → j < length (insert_in pairs k new) → (j ≡ k) ⊎ Shifted j
+  is_shifted j in_range = elim (cases_eq j k) [
     | inl e ↦ inl e
     | inr ne ↦ elim (cases_lt j k) [
       | inl below ↦ inr (record { at = j; low = omega arith; pair = get_or-insert_below pairs k new _ j below le; moved = inl (below, refl) })
@@ -246,7 +246,7 @@ module _ (pairs : List Pair) (k : ℕ) (le : k ≤ length pairs) (new : Pair) wh
     | inr above ↦ (i + 1, omega (arith, length-insert pairs k new le), get_or-insert_above pairs k new _ i above le)
   ]
 
-  before : (i j : ℕ) (s : Came i) (t : Came j) → i < j → s.at < t.at
+  before : (i j : ℕ) (s : Shifted i) (t : Shifted j) → i < j → s.at < t.at
   before i j s t lt = by_cases s.moved t.moved
     where
       by_cases : ((i < k) × (s.at ≡ i)) ⊎ ((k < i) × (s.at + 1 ≡ i)) → ((j < k) × (t.at ≡ j)) ⊎ ((k < j) × (t.at + 1 ≡ j)) → s.at < t.at
@@ -255,14 +255,14 @@ module _ (pairs : List Pair) (k : ℕ) (le : k ≤ length pairs) (new : Pair) wh
       by_cases (inr a) (inl b) = omega (arith, a, b)
       by_cases (inr a) (inr b) = omega (arith, a, b)
 
-  under : (i : ℕ) (s : Came i) → i < k → s.at < k
+  under : (i : ℕ) (s : Shifted i) → i < k → s.at < k
   under i s lt = by_case s.moved
     where
       by_case : ((i < k) × (s.at ≡ i)) ⊎ ((k < i) × (s.at + 1 ≡ i)) → s.at < k
       by_case (inl a) = omega (arith, a)
       by_case (inr a) = omega (arith, a)
 
-  over : (i : ℕ) (s : Came i) → k < i → k ≤ s.at
+  over : (i : ℕ) (s : Shifted i) → k < i → k ≤ s.at
   over i s lt = by_case s.moved
     where
       by_case : ((i < k) × (s.at ≡ i)) ⊎ ((k < i) × (s.at + 1 ≡ i)) → k ≤ s.at
@@ -270,31 +270,31 @@ module _ (pairs : List Pair) (k : ℕ) (le : k ≤ length pairs) (new : Pair) wh
       by_case (inr a) = omega (arith, a)
 
   pub inserted-rising : IsRising pairs → ((i : ℕ) → i < k → (pair_at pairs i).address < new.address) → ((i : ℕ) → k ≤ i → i < length pairs → new.address < (pair_at pairs i).address) → IsRising (insert_in pairs k new)
-  inserted-rising rising below above i j lt high = by_cases (came i (omega arith)) (came j high)
+  inserted-rising rising below above i j lt high = by_cases (is_shifted i (omega arith)) (is_shifted j high)
     where
-      by_cases : (i ≡ k) ⊎ Came i → (j ≡ k) ⊎ Came j → (pair_at (insert_in pairs k new) i).address < (pair_at (insert_in pairs k new) j).address
+      by_cases : (i ≡ k) ⊎ Shifted i → (j ≡ k) ⊎ Shifted j → (pair_at (insert_in pairs k new) i).address < (pair_at (insert_in pairs k new) j).address
       by_cases (inl e) (inl f) = absurd (omega arith)
       by_cases (inl e) (inr t) = let step : new.address < (pair_at pairs t.at).address = above t.at (over j t (omega arith)) t.low in rw (here i e, t.pair) step
       by_cases (inr s) (inl f) = let step : (pair_at pairs s.at).address < new.address = below s.at (under i s (omega arith)) in rw (s.pair, here j f) step
       by_cases (inr s) (inr t) = let step : (pair_at pairs s.at).address < (pair_at pairs t.at).address = rising s.at t.at (before i j s t lt) t.low in rw (s.pair, t.pair) step
 
   pub inserted-slots : ((i : ℕ) → i < length pairs → IsSlot (pair_at pairs i).slot) → IsSlot new.slot → (i : ℕ) → i < length (insert_in pairs k new) → IsSlot (pair_at (insert_in pairs k new) i).slot
-  inserted-slots slots own i in_range = by_case (came i in_range)
+  inserted-slots slots own i in_range = by_case (is_shifted i in_range)
     where
-      by_case : (i ≡ k) ⊎ Came i → IsSlot (pair_at (insert_in pairs k new) i).slot
+      by_case : (i ≡ k) ⊎ Shifted i → IsSlot (pair_at (insert_in pairs k new) i).slot
       by_case (inl e) = rw (here i e) own
       by_case (inr s) = rw s.pair (slots s.at s.low)
 
   module _ (apart : AreApart pairs) (alone : get (addresses_of pairs) new.slot ≡ None) where
-    other_slot : (j : ℕ) (s : Came j) → (pair_at (insert_in pairs k new) j).slot ≢ new.slot
+    other_slot : (j : ℕ) (s : Shifted j) → (pair_at (insert_in pairs k new) j).slot ≢ new.slot
     other_slot j s e =
         let there : get (addresses_of pairs) new.slot ≡ Some (pair_at pairs s.at).address = get-at pairs new.slot (pair_at pairs s.at).address apart (s.at, s.low, sym (ap (λ (p : Pair). p.slot) s.pair) ∙ e, refl) in
         cc
 
     pub inserted-apart : AreApart (insert_in pairs k new)
-    inserted-apart i j low_i low_j e = by_cases (came i low_i) (came j low_j)
+    inserted-apart i j low_i low_j e = by_cases (is_shifted i low_i) (is_shifted j low_j)
       where
-        by_cases : (i ≡ k) ⊎ Came i → (j ≡ k) ⊎ Came j → i ≡ j
+        by_cases : (i ≡ k) ⊎ Shifted i → (j ≡ k) ⊎ Shifted j → i ≡ j
         by_cases (inl a) (inl b) = a ∙ sym b
         by_cases (inl a) (inr t) = absurd (other_slot j t (sym e ∙ ap (λ (p : Pair). p.slot) (here i a)))
         by_cases (inr s) (inl b) = absurd (other_slot i s (e ∙ ap (λ (p : Pair). p.slot) (here j b)))
@@ -312,7 +312,7 @@ module _ (pairs : List Pair) (k : ℕ) (le : k ≤ length pairs) (new : Pair) wh
         was : (q a : ℕ) → q ≢ new.slot → get (addresses_of (insert_in pairs k new)) q ≡ Some a → get (addresses_of pairs) q ≡ Some a
         was q a ne h =
             let at = stands (insert_in pairs k new) q a h in
-            elim (came at.0 at.1) [
+            elim (is_shifted at.0 at.1) [
               | inl e ↦ absurd (ne (sym at.2 ∙ ap (λ (p : Pair). p.slot) (here at.0 e)))
               | inr s ↦ get-at pairs q a apart (s.at, s.low, sym (ap (λ (p : Pair). p.slot) s.pair) ∙ at.2, sym (ap (λ (p : Pair). p.address) s.pair) ∙ at.3)
             ]

@@ -1,5 +1,5 @@
--- The index of a slot table: the slots that are not free with their addresses, and a word of the free ones.
--- No public clause cites these.
+-- The index of a slot table: the slots that are not free with their addresses, and a word of the
+-- free ones. No public clause cites these.
 use Rattle.std.specs.Prelude.{ℕ, ◌≡◌, ◌<◌, ◌&&◌, Bool, true, false, List, map, length, Option, Some, None, is_none, find, slice_index_or}
 use Rattle.std.specs.Int.{bit_at}
 use Rattle.std.specs.Ordering.{nat_cmp}
@@ -25,7 +25,8 @@ abbrev pub bit_of : Bool → ℕ
 bit_of true = 1
 bit_of false = 0
 
--- the pairs ascend, each names a slot of its own, and the bits of the word are the slots that none names
+-- the pairs ascend, each names a different slot, and the bits of the word are the slots that none
+-- names
 pub record IsIndex (pairs : List Pair) (free : ℕ) : Type 0 where
   pub rising : IsRising pairs
   pub slots : (i : ℕ) → i < length pairs → IsSlot (pair_at pairs i).slot
@@ -45,7 +46,7 @@ slot_with addresses a = find (λ n. is_same (get addresses n) a) all_slots
 abbrev pub first_free : FinMap nat_cmp ℕ → Option ℕ
 first_free addresses = find (λ n. is_none (get addresses n)) all_slots
 
--- the slot has this address, or none, in place of what it had
+-- the slot has this address, or none, instead of the one that it had
 abbrev pub with_address : FinMap nat_cmp ℕ → ℕ → Option ℕ → FinMap nat_cmp ℕ
 with_address addresses n None = remove addresses n
 with_address addresses n (Some a) = insert (remove addresses n) n a

@@ -1,5 +1,6 @@
 -- The four cases of OPC_MOVE_SLOTS: null move, dispatch put, dispatch get, and the move of a slot.
--- The states that they set, what becomes of the mark, and each refusal are this project's own profile.
+-- The states that they set, what becomes of the mark, and each refusal are this project's own
+-- profile.
 use Rattle.std.specs.Prelude.{ℕ, ◌==◌, ◌&&◌, Bool, true, false, not, if◌then◌else◌, Option, Some, None, Result, Ok, Err}
 use Rattle.std.specs.FinMap.{get, insert, remove}
 use Rattle.ln_ops.specs.declared.row.State.{State}

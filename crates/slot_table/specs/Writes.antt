@@ -1,6 +1,5 @@
--- What a throttle asks of a slot by OPC_LOCO_ADR, OPC_LOCO_SPD, OPC_LOCO_DIRF, OPC_LOCO_SND, OPC_IMM_PACKET, OPC_SLOT_STAT1
--- and OPC_WR_SL_DATA.
--- Each refusal is this project's own profile.
+-- What a throttle asks of a slot by OPC_LOCO_ADR, OPC_LOCO_SPD, OPC_LOCO_DIRF, OPC_LOCO_SND,
+-- OPC_IMM_PACKET, OPC_SLOT_STAT1 and OPC_WR_SL_DATA. Each refusal is this project's own profile.
 use Rattle.std.specs.Prelude.{ℕ, ◌≡◌, ◌==◌, ◌&&◌, ◌||◌, ◌%◌, Bool, true, false, not, if◌then◌else◌, Option, Some, None, Result, Ok, Err, OnOk, OnErr, is_ok}
 use Rattle.ln_ops.specs.declared.row.State.TheVariants.{Idle}
 use Rattle.ln_ops.specs.Fields.{SlotBytes}
@@ -16,7 +15,7 @@ use Rattle.slot_table.specs.Changes.{entered, cleared, changed, done_if}
 
 -- ---- OPC_LOCO_ADR: an address is loaded
 
--- an address that nobody has asked anything for (own): idle, 128 steps, stopped, forward, functions off
+-- an address with no earlier request (own): idle, 128 steps, stopped, forward, functions off
 abbrev pub new_entry : Entry
 new_entry = record { state = Idle; kind = 3; spd = 0; dirf = 0; snd = 0; more = 0; ss2 = 0; id1 = 0; id2 = 0 }
 
@@ -66,7 +65,8 @@ abbrev pub after_field : Desk → ℕ → Field → Desk
 after_field desk n field =
     if can_field desk n field then (if keeps_slot field then changed desk n (with_field field) else cleared desk n) else desk
 
--- What a call does that writes one field: it is done or refused, on a slot and as above; a refusal changes nothing.
+-- What a call does that writes one field: it is done or refused, on a slot and as above; a refusal
+-- changes nothing.
 pub record WritesField (old : Desk) (n : ℕ) (field : Field) (answered : Result (Unit {0}) SlotFault) (new : Desk) : Type 0 where
   pub answer : answered ≡ done_if (can_field old n field)
   pub slot : OnOk answered (IsSlot n)
@@ -76,7 +76,8 @@ pub record WritesField (old : Desk) (n : ℕ) (field : Field) (answered : Result
 
 -- ---- OPC_WR_SL_DATA: a whole slot
 
--- no byte says F9 to F12: the slot keeps them where it has this address already, and else they are off (own)
+-- no byte says F9 to F12: the slot keeps them where it has this address already, and else they are
+-- off (own)
 abbrev pub kept_more : Desk → ℕ → ℕ → ℕ
 kept_more desk n a = if (row_of desk n).address == a then (row_of desk n).more else 0
 
@@ -84,12 +85,13 @@ kept_more desk n a = if (row_of desk n).address == a then (row_of desk n).more e
 abbrev pub entry_from : SlotBytes → ℕ → Entry
 entry_from f more = record { state = state_of f.stat; kind = kind_of f.stat; spd = f.spd; dirf = f.dirf % 64; snd = f.snd % 16; more = more; ss2 = f.ss2; id1 = f.id1; id2 = f.id2 }
 
--- whether the address stands in another slot
+-- whether the address is in another slot
 abbrev pub is_elsewhere : Option ℕ → ℕ → Bool
 is_elsewhere None n = false
 is_elsewhere (Some m) n = not (m == n)
 
--- a legal slot and STAT1, and an address that is legal and stands in no other slot; with the state free any address
+-- a legal slot and STAT1, and an address that is legal and is in no other slot; with the state free
+-- any address
 abbrev pub write_answer : Desk → SlotBytes → Result (Unit {0}) SlotFault
 write_answer desk f =
     if is_slot f.slot && is_stat f.stat && (not (is_held (state_of f.stat)) || is_address (address_of f)) then

@@ -14,7 +14,7 @@ pub(crate) fn is_held(state: State) -> bool
     }
 }
 
-/// Whether a locomotive may stand in the slot.
+/// Whether a locomotive may be in the slot.
 pub(crate) fn is_slot(n: u8) -> bool
     ensures { result ≡ is_slot n }
 {

@@ -7,6 +7,6 @@ pub enum SlotFault {
     NoFree,
     /// The slot, its state, or a byte that is asked for does not allow it.
     Illegal,
-    /// The address stands in another slot.
+    /// The address is in another slot.
     Held,
 }

@@ -1,4 +1,4 @@
-//! Which address stands in which slot, to be searched both ways.
+//! Which address is in which slot, to be searched both ways.
 ghost use Rattle.std.specs.Prelude.{◌≡◌, ◌≢◌, ℕ, Some, None};
 ghost use Rattle.std.specs.FinMap.{get, empty};
 ghost use Rattle.slot_table.specs.Entry.{IsSlot};
@@ -49,7 +49,7 @@ impl Index {
         }
     }
 
-    /// The slot that an address stands in.
+    /// The slot that holds an address.
     pub(crate) fn slot_of(&self, address: u16) -> Option<u8>
         ensures { result ≡ slot_with self.now address }
     {
@@ -66,7 +66,7 @@ impl Index {
         least_bit(self.free)
     }
 
-    /// The slot gets this address, or none, in place of what it had.
+    /// The slot gets this address, or none, instead of the one that it had.
     pub(crate) fn change(&mut self, slot: u8, old: Option<u16>, new: Option<u16>)
         requires slot { IsSlot slot }
         requires had { get self.old slot ≡ old }
@@ -82,7 +82,8 @@ impl Index {
         }
     }
 
-    // The slot, which has this address or none, has none. Its pair stands in the list, so the search finds it.
+    // The slot, which has this address or none, has none. Its pair is in the list, so the search
+    // finds it.
     fn leave(&mut self, slot: u8, old: Option<u16>)
         requires slot { IsSlot slot }
         requires had { get self.old slot ≡ old }
@@ -97,7 +98,8 @@ impl Index {
         }
     }
 
-    // The slot, which has no address, gets this one, which stands in no slot: the search finds where its pair goes.
+    // The slot, which has no address, gets this one, which is in no slot: the search finds where
+    // its pair goes.
     fn enter(&mut self, slot: u8, address: u16)
         requires slot { IsSlot slot }
         requires free { get self.old slot ≡ None }

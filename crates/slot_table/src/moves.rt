@@ -12,7 +12,8 @@ use crate::table::SlotTable;
 use ln_ops::{Row, State};
 
 impl SlotTable {
-    /// A move of a slot to itself: the slot, which the call answers, is in use. It waits to be dispatched if it did.
+    /// A move of a slot to itself: the slot, which the call answers, is in use. It waits to be
+    /// dispatched if it did.
     ///
     /// Refused as `Illegal` unless the slot is in 1 to 119 and not free.
     pub fn null_move(&mut self, n: u8) -> Result<u8, SlotFault>
@@ -28,7 +29,8 @@ impl SlotTable {
         Ok(n)
     }
 
-    /// Dispatch put: the slot, which the call answers, is common, and is the one that waits to be dispatched.
+    /// Dispatch put: the slot, which the call answers, is common, and is the one that waits to be
+    /// dispatched.
     ///
     /// Refused as `Illegal` unless the slot is in 1 to 119 and not free.
     pub fn dispatch_put(&mut self, src: u8) -> Result<u8, SlotFault>
@@ -45,7 +47,8 @@ impl SlotTable {
         Ok(src)
     }
 
-    /// Dispatch get: the slot that waits to be dispatched, which the call answers, is in use and waits no longer.
+    /// Dispatch get: the slot that waits to be dispatched, which the call answers, is in use and
+    /// waits no longer.
     ///
     /// Refused as `Illegal` where none waits.
     pub fn dispatch_get(&mut self) -> Result<u8, SlotFault>
@@ -63,10 +66,11 @@ impl SlotTable {
         Ok(n)
     }
 
-    /// Moves the locomotive of a common or idle slot, with all that was asked for it, to a free slot, which the call
-    /// answers. It waits to be dispatched there if it did before.
+    /// Moves the locomotive of a common or idle slot, with all that was asked for it, to a free
+    /// slot, which the call answers. It waits to be dispatched there if it did before.
     ///
-    /// Refused as `Illegal` unless both slots are in 1 to 119, the one common or idle, the other free.
+    /// Refused as `Illegal` unless both slots are in 1 to 119, the one common or idle, the other
+    /// free.
     pub fn shift(&mut self, src: u8, dest: u8) -> Result<u8, SlotFault>
         ensures answer { result ≡ slot_if (can_shift self.old src dest) dest }
         ensures source { OnOk result (IsSlot src) }

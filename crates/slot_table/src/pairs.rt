@@ -2,15 +2,15 @@
 ghost use Rattle.std.specs.Prelude.{◌≡◌, ◌<◌, ◌≤◌, ℕ, length, IfOk, IfErr};
 ghost use Rattle.slot_table.specs.Index.{IsRising, pair_at};
 
-/// An address and the slot that it stands in.
+/// An address and the slot that holds it.
 #[derive(Clone, Copy, Debug, Default)]
 pub(crate) struct Pair {
     pub(crate) address: u16,
     pub(crate) slot: u8,
 }
 
-/// Where the pair of an address stands in a list that ascends by address, or else where it would. Each look halves what
-/// is left, so of 119 pairs it looks at 7 at most.
+/// The position of an address's pair in a list that ascends by address, or the position to insert
+/// it. Each look halves what is left, so of 119 pairs it looks at 7 at most.
 pub(crate) fn position(pairs: &[Pair], address: u16) -> Result<usize, usize>
     requires rising { IsRising pairs.now }
     requires few { length pairs.now ≤ 119 }
@@ -18,7 +18,8 @@ pub(crate) fn position(pairs: &[Pair], address: u16) -> Result<usize, usize>
     ensures there { IfOk result (λ k. (pair_at pairs.now k).address ≡ address) }
     ensures end { IfErr result (λ k. k ≤ length pairs.now) }
     ensures below { IfErr result (λ k. (i : ℕ) → i < k → (pair_at pairs.now i).address < address) }
-    ensures above { IfErr result (λ k. (i : ℕ) → k ≤ i → i < length pairs.now → address < (pair_at pairs.now i).address) }
+    ensures above { IfErr result
+        (λ k. (i : ℕ) → k ≤ i → i < length pairs.now → address < (pair_at pairs.now i).address) }
 {
     let mut low = 0;
     let mut high = pairs.len();

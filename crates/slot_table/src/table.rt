@@ -17,12 +17,12 @@ use std::marker::Model;
 
 /// Slots 1 to 119, each free or with a locomotive in it, and the slot that waits to be dispatched.
 ///
-/// No address stands in two slots, and the slot that waits is not free.
+/// No address is in two slots, and the slot that waits is not free.
 #[derive(Debug, Drop)]
 pub struct SlotTable {
     rows: Rows,
     mark: Option<u8>,
-    // The addresses of the rows, so that nobody has to go through them.
+    // The addresses of the rows, so that they need no search.
     index: Index,
 }
 
@@ -72,7 +72,7 @@ impl SlotTable {
         self.mark
     }
 
-    /// What slot `n`, 1 to 119, reads as: zeros with the state free where no locomotive stands in it.
+    /// What slot `n`, 1 to 119, reads as: zeros with the state free where no locomotive is in it.
     pub fn row(&self, n: u8) -> Row
         requires { IsSlot n }
         ensures row { result ≡ row_of self.now n }
@@ -82,7 +82,7 @@ impl SlotTable {
         self.rows[(n - 1) as usize]
     }
 
-    /// The slot that an address stands in.
+    /// The slot that holds an address.
     pub fn find(&self, address: u16) -> Option<u8>
         ensures found { result ≡ slot_of self.now address }
         ensures place { IfSome result (λ n. get self.now.place n ≡ Some address) }
@@ -131,11 +131,12 @@ impl SlotTable {
         }
     }
 
-    /// The slot gets this row in place of its own.
+    /// The slot gets this row instead of its present row.
     pub(crate) fn put(&mut self, n: u8, row: Row)
         requires slot { IsSlot n }
         requires row { IsRow row }
-        requires one_place { (m : ℕ) → is_held row.state ≡ true → get self.old.place m ≡ Some row.address → m ≡ n }
+        requires one_place { (m : ℕ) → is_held row.state ≡ true
+            → get self.old.place m ≡ Some row.address → m ≡ n }
         requires marked { is_held row.state ≡ false → self.old.mark ≢ Some n }
         ensures after { self.new ≡ written self.old n row }
         ensures desk { IsDesk self.new }
@@ -146,7 +147,7 @@ impl SlotTable {
         self.rows[position] = row;
     }
 
-    /// The slot, which is not free, waits to be dispatched in place of any other; or none does.
+    /// The slot, which is not free, waits to be dispatched instead of any other; or none does.
     pub(crate) fn set_mark(&mut self, mark: Option<u8>)
         requires { (n : ℕ) → mark ≡ Some n → IsSome (get self.old.place n) }
         ensures after { self.new ≡ record self.old { mark = mark } }
@@ -162,7 +163,8 @@ impl SlotTable {
         requires place { get self.old.place n ≡ Some row.address }
         requires entry { IsEntry (entry_of row) }
         requires desk { IsDesk self.old }
-        ensures after { self.new ≡ record self.old { asked = insert self.old.asked row.address (entry_of row) } }
+        ensures after { self.new
+            ≡ record self.old { asked = insert self.old.asked row.address (entry_of row) } }
         ensures desk { IsDesk self.new }
     {
         // The address stays, so the index does.

@@ -13,10 +13,11 @@ use crate::table::SlotTable;
 use ln_ops::{Row, SlotFields, State};
 
 impl SlotTable {
-    /// Loads an address (OPC_LOCO_ADR): the slot that holds it, as it is, or else the least free one, which is then
-    /// idle with 128 steps, speed 0, forward and all functions off.
+    /// Loads an address (OPC_LOCO_ADR): the slot that holds it, as it is, or else the least free
+    /// one, which is then idle with 128 steps, speed 0, forward and all functions off.
     ///
-    /// Refused as `Illegal` outside 1 to 10239, and else as `NoFree` where it has no slot and none is free.
+    /// Refused as `Illegal` outside 1 to 10239, and else as `NoFree` where it has no slot and none
+    /// is free.
     pub fn take(&mut self, address: u16) -> Result<u8, SlotFault>
         ensures answer { result ≡ take_answer self.old address }
         ensures slot { IfOk result IsSlot }
@@ -44,7 +45,8 @@ impl SlotTable {
         Ok(n)
     }
 
-    /// Sets SPD (OPC_LOCO_SPD), below 128. Refused as `Illegal` unless the slot is in 1 to 119 and not free.
+    /// Sets SPD (OPC_LOCO_SPD), below 128. Refused as `Illegal` unless the slot is in 1 to 119 and
+    /// not free.
     pub fn set_speed(&mut self, n: u8, spd: u8) -> Result<(), SlotFault>
         requires { spd < 128 }
         ensures { WritesField self.old n (Field.Speed spd) result self.new }
@@ -70,7 +72,8 @@ impl SlotTable {
         self.set_field(n, Field::Snd(snd))
     }
 
-    /// Sets F9 to F12, below 16: bits 3 to 0 are F12 to F9. Refused as `Illegal` where the slot is free.
+    /// Sets F9 to F12, below 16: bits 3 to 0 are F12 to F9. Refused as `Illegal` where the slot is
+    /// free.
     pub fn set_more(&mut self, n: u8, more: u8) -> Result<(), SlotFault>
         requires slot { IsSlot n }
         requires more { more < 16 }
@@ -81,7 +84,8 @@ impl SlotTable {
 
     /// Writes one field of a slot.
     ///
-    /// Refused as `Illegal` unless the slot is in 1 to 119 and not free, and a STAT1 is one that a slot may have.
+    /// Refused as `Illegal` unless the slot is in 1 to 119 and not free, and a STAT1 is one that a
+    /// slot may have.
     pub fn set_field(&mut self, n: u8, field: Field) -> Result<(), SlotFault>
         requires { IsValue field }
         ensures { WritesField self.old n field result self.new }
@@ -98,9 +102,11 @@ impl SlotTable {
         Ok(())
     }
 
-    /// Sets state and decoder type (OPC_SLOT_STAT1), below 128. The state free clears the slot, and a mark on it.
+    /// Sets state and decoder type (OPC_SLOT_STAT1), below 128. The state free clears the slot, and
+    /// a mark on it.
     ///
-    /// Refused as `Illegal` unless the slot is in 1 to 119 and not free, and STAT1 is one that a slot may have.
+    /// Refused as `Illegal` unless the slot is in 1 to 119 and not free, and STAT1 is one that a
+    /// slot may have.
     pub fn set_stat(&mut self, n: u8, stat: u8) -> Result<(), SlotFault>
         requires { stat < 128 }
         ensures { WritesField self.old n (Field.Stat stat) result self.new }
@@ -108,12 +114,13 @@ impl SlotTable {
         self.set_field(n, Field::Stat(stat))
     }
 
-    /// Writes a whole slot (OPC_WR_SL_DATA), TRK ignored. The slot no longer waits to be dispatched, and the state
-    /// free clears it, whatever the address. F9 to F12 stay as they are where the slot has this address already, and
-    /// are off where it has not.
+    /// Writes a whole slot (OPC_WR_SL_DATA), TRK ignored. The slot no longer waits to be
+    /// dispatched, and the state free clears it, whatever the address. F9 to F12 stay as they are
+    /// where the slot has this address already, and are off where it has not.
     ///
-    /// Refused as `Illegal` where the slot is not in 1 to 119, STAT1 is not one that a slot may have, or the address
-    /// of a state other than free is not in 1 to 10239; else as `Held` where that address stands in another slot.
+    /// Refused as `Illegal` where the slot is not in 1 to 119, STAT1 is not one that a slot may
+    /// have, or the address of a state other than free is not in 1 to 10239; else as `Held` where
+    /// that address is in another slot.
     pub fn write_row(&mut self, fields: &SlotFields) -> Result<(), SlotFault>
         ensures answer { result ≡ write_answer self.old fields.now }
         ensures slot { OnOk result (IsSlot fields.now.slot) }
@@ -223,7 +230,7 @@ fn row_from(fields: &SlotFields, more: u8) -> Row
     }
 }
 
-// Whether the address that was found stands in another slot.
+// Whether the address that was found is in another slot.
 fn is_elsewhere(found: Option<u8>, n: u8) -> bool
     ensures { result ≡ is_elsewhere found n }
 {

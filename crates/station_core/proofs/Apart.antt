@@ -43,11 +43,11 @@ use Rattle.station_core.proofs.Walks.{sent_by}
 
 -- the packet goes there, or to no one decoder
 abbrev Coarser : Option Destination → Option Destination → Type 0
-Coarser told there = (told ≡ there) ⊎ (told ≡ None)
+Coarser reported there = (reported ≡ there) ⊎ (reported ≡ None)
 
-coarse_if : (b : Bool) (told : Option Destination) (there : Option Destination) → Coarser told there → Coarser (if b then None else told) there
-coarse_if true told there c = inr refl
-coarse_if false told there c = c
+coarse_if : (b : Bool) (reported : Option Destination) (there : Option Destination) → Coarser reported there → Coarser (if b then None else reported) there
+coarse_if true reported there c = inr refl
+coarse_if false reported there c = c
 
 short_in : (first second : ℕ) → first < 128 → address_in first second ≡ Loco first
 short_in first second low = rw (lt-ltb first 128 low) refl
@@ -89,7 +89,7 @@ to_module number closed on legal =
     let high : second / 16 % 8 ≡ 7 - m / 64 = omega (arith, bit_low on, bit_low closed, most) in
     coarse_if (nat_eq first 0) _ (Some (Module m)) (coarse_if (nat_eq first 255) (Some (address_in first second)) (Some (Module m)) (inl (ap Some (module_in first second m refl high most))))
 
--- ---- switches have a number that there is
+-- ---- switches have a valid number
 
 abbrev IsLegal : Pick → Type 0
 IsLegal Off = Unit {0}
@@ -176,22 +176,22 @@ abbrev PacketGoes : Option (List ℕ) → Option Destination → Type 0
 PacketGoes packet there = (bytes : List ℕ) × (packet ≡ Some bytes) × Coarser (destination_of bytes) there
 
 goes : (seen : Seen) (pick : Pick) → AreLegal (to_send seen.jobs) → IsDue (scheduled seen) pick → PacketGoes (packet_of seen.powered.desk pick) (goes_to (addresses seen.powered.desk) pick)
-goes seen Off legal due = absurd due
-goes seen StopAll legal due = absurd due
-goes seen Idle legal due = (idle_bytes, refl, inl refl)
-goes seen (Place slot kind) legal due =
+goes seen Off legal is_due = absurd is_due
+goes seen StopAll legal is_due = absurd is_due
+goes seen Idle legal is_due = (idle_bytes, refl, inl refl)
+goes seen (Place slot kind) legal is_due =
     let row = row_of seen.powered.desk slot in (
       place_packet seen.powered.desk slot kind,
       refl,
-      subst (λ (a : ℕ). Coarser (destination_of (place_packet seen.powered.desk slot kind)) (Some (Loco a))) (sym (in_slot seen.powered.desk slot due))
+      subst (λ (a : ℕ). Coarser (destination_of (place_packet seen.powered.desk slot kind)) (Some (Loco a))) (sym (in_slot seen.powered.desk slot is_due))
           (of_entry (λ packet. Coarser (destination_of packet) (Some (Loco row.address))) row.address (to_address row.address) kind (entry_of row)),
     )
-goes seen (Switch number closed on) legal due =
-    (accessory_bytes number closed on, refl, to_module number closed on (one_legal due.0 (to_send seen.jobs) (Switch number closed on) legal due.1 due.2))
+goes seen (Switch number closed on) legal is_due =
+    (accessory_bytes number closed on, refl, to_module number closed on (one_legal is_due.0 (to_send seen.jobs) (Switch number closed on) legal is_due.1 is_due.2))
 
-still_apart : (told last next there : Option Destination) → Coarser told last → Coarser next there → IsApart last there → IsApart told next
-still_apart told last None there t n apart = tt
-still_apart told last (Some next) there t n apart = elim n [
+still_apart : (reported last next there : Option Destination) → Coarser reported last → Coarser next there → IsApart last there → IsApart reported next
+still_apart reported last None there t n apart = tt
+still_apart reported last (Some next) there t n apart = elim n [
   | inr none ↦ cc
   | inl same ↦
       let one : IsApart last (Some next) = subst (λ (o : Option Destination). IsApart last o) (sym same) apart in
@@ -203,7 +203,7 @@ still_apart told last (Some next) there t n apart = elim n [
 
 module _ (apart : (addresses : List ℕ) (s : Scheduled) → IsApart s.last (goes_to addresses (picked addresses s).answer))
     (last : (addresses : List ℕ) (s : Scheduled) → (picked addresses s).state.last ≡ goes_to addresses (picked addresses s).answer)
-    (due : (addresses : List ℕ) (s : Scheduled) → IsDue s (picked addresses s).answer)
+    (is_due : (addresses : List ℕ) (s : Scheduled) → IsDue s (picked addresses s).answer)
     (kept : (seen : Seen) (call : Call) → sent_by seen call ++ to_send (state_of seen call).jobs ≡ to_send seen.jobs ++ asked_by seen call) where
   still_legal : (seen : Seen) (call : Call) → AreLegal (to_send seen.jobs) → AreLegal (to_send (state_of seen call).jobs)
   still_legal seen call legal =
@@ -215,37 +215,37 @@ module _ (apart : (addresses : List ℕ) (s : Scheduled) → IsApart s.last (goe
   reply_is_none (Some reply) steps = refl
 
   -- of each turn, with what follows from where its packet went
-  turn_apart : (p : Power) (seen : Seen) → seen.powered.power ≡ p → AreLegal (to_send seen.jobs) → (told : Option Destination) → Coarser told seen.last → (steps : List Step)
+  turn_apart : (p : Power) (seen : Seen) → seen.powered.power ≡ p → AreLegal (to_send seen.jobs) → (reported : Option Destination) → Coarser reported seen.last → (steps : List Step)
       → ((next : Option Destination) → Coarser next (turn_of seen).state.last → AreApart next (packets_in steps))
-      → AreApart told (packets_in (sent (packet_of seen.powered.desk (turn_of seen).answer) ∷ steps))
-  turn_apart power.Off seen e legal told coarse steps rest =
+      → AreApart reported (packets_in (sent (packet_of seen.powered.desk (turn_of seen).answer) ∷ steps))
+  turn_apart power.Off seen e legal reported coarse steps rest =
       let kept_last : (turn_of seen).state.last ≡ seen.last = rw e refl in
-      rw e (rest told (subst (λ (l : Option Destination). Coarser told l) (sym kept_last) coarse))
-  turn_apart power.Paused seen e legal told coarse steps rest =
+      rw e (rest reported (subst (λ (l : Option Destination). Coarser reported l) (sym kept_last) coarse))
+  turn_apart power.Paused seen e legal reported coarse steps rest =
       let none : (turn_of seen).state.last ≡ None = rw e refl in
       rw e (tt, rest None (inl (sym none)))
-  turn_apart power.Running seen e legal told coarse steps rest =
+  turn_apart power.Running seen e legal reported coarse steps rest =
       let all = addresses seen.powered.desk in
       let pick : Pick = (picked all (scheduled seen)).answer in
       let is : (turn_of seen).answer ≡ pick = rw e refl in
-      let packet = goes seen pick legal (due all (scheduled seen)) in
-      let gone : (turn_of seen).state.last ≡ goes_to all pick = ap (λ (p : Power). (turned p all (scheduled seen)).state.last) e ∙ last all (scheduled seen) in
+      let packet = goes seen pick legal (is_due all (scheduled seen)) in
+      let removed : (turn_of seen).state.last ≡ goes_to all pick = ap (λ (p : Power). (turned p all (scheduled seen)).state.last) e ∙ last all (scheduled seen) in
       let told_next = destination_of packet.0 in
-      subst (λ (o : Option (List ℕ)). AreApart told (packets_in (sent o ∷ steps))) (sym (ap (packet_of seen.powered.desk) is ∙ packet.1)) (
-        still_apart told seen.last (destination_of packet.0) (goes_to all pick) coarse packet.2 (apart all (scheduled seen)),
-        rest (destination_of packet.0) (subst (λ (l : Option Destination). Coarser (destination_of packet.0) l) (sym gone) packet.2),
+      subst (λ (o : Option (List ℕ)). AreApart reported (packets_in (sent o ∷ steps))) (sym (ap (packet_of seen.powered.desk) is ∙ packet.1)) (
+        still_apart reported seen.last (destination_of packet.0) (goes_to all pick) coarse packet.2 (apart all (scheduled seen)),
+        rest (destination_of packet.0) (subst (λ (l : Option Destination). Coarser (destination_of packet.0) l) (sym removed) packet.2),
       )
 
-  apart_from : (seen : Seen) (calls : List Call) (told : Option Destination) → Coarser told seen.last → AreLegal (to_send seen.jobs) → AreApart told (packets_in (answers seen calls))
+  apart_from : (seen : Seen) (calls : List Call) (reported : Option Destination) → Coarser reported seen.last → AreLegal (to_send seen.jobs) → AreApart reported (packets_in (answers seen calls))
   unfolding moved
-  apart_from seen [] told coarse legal = tt
-  apart_from seen (Byte line byte ∷ calls) told coarse legal =
+  apart_from seen [] reported coarse legal = tt
+  apart_from seen (Byte line byte ∷ calls) reported coarse legal =
       let same = (message_same seen (message_ended seen line byte)).last in
       let after : Seen = state_of seen (Byte line byte) in
-      subst (λ (packets : List (List ℕ)). AreApart told packets) (sym (reply_is_none (answer_to_byte seen line byte) (answers after calls)))
-      (apart_from after calls told (subst (λ (l : Option Destination). Coarser told l) (sym same) coarse) (still_legal seen (Byte line byte) legal))
-  apart_from seen (Turn ∷ calls) told coarse legal =
-      turn_apart seen.powered.power seen refl legal told coarse (answers (state_of seen Turn) calls)
+      subst (λ (packets : List (List ℕ)). AreApart reported packets) (sym (reply_is_none (answer_to_byte seen line byte) (answers after calls)))
+      (apart_from after calls reported (subst (λ (l : Option Destination). Coarser reported l) (sym same) coarse) (still_legal seen (Byte line byte) legal))
+  apart_from seen (Turn ∷ calls) reported coarse legal =
+      turn_apart seen.powered.power seen refl legal reported coarse (answers (state_of seen Turn) calls)
       (λ next coarser. apart_from (state_of seen Turn) calls next coarser (still_legal seen Turn legal))
 
   pub neighbours : (start : Seen) (calls : List Call) → AllByRecursion IsJob start.jobs → NeighboursApart start calls

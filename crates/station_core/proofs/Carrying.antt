@@ -87,7 +87,7 @@ read-back repeats bytes h = read repeats _ bytes (can repeats bytes h)
 
 -- ---- a whole message
 
--- REPS, DHI and five bytes of data behind ED 0B 7F
+-- REPS, DHI and five bytes of data after ED 0B 7F
 record AreSent (r d x1 x2 x3 x4 x5 : ℕ) : Type 0 where
   reps : r < 128
   dhi : d < 128

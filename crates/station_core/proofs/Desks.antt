@@ -19,11 +19,11 @@ use Rattle.station_core.specs.After.{desk_after}
 use Rattle.station_core.specs.Immediate.{more_of, with_more}
 use Rattle.station_core.specs.declared.immediate.More.{More}
 use Rattle.station_core.proofs.Functions.{more_of-below}
-use Rattle.station_core.specs.Known.{Known, bytes_of, carried_out, known_after}
+use Rattle.station_core.specs.ThrottleView.{ThrottleView, bytes_of, carried_out, known_after}
 use Rattle.station_core.specs.Moments.{AtEveryMoment}
 use Rattle.station_core.specs.Powered.{PoweredDesk, HasDesk}
 
--- a whole message has only data behind its opcode
+-- a whole message has only data after its opcode
 data_at : (xs : List ℕ) (i : ℕ) → are_data xs ≡ true → slice_index xs i < 128
 data_at [] i h = omega arith
 data_at (x ∷ xs) zero h = ltb-true x 128 (and_parts (nat_lt x 128) (are_data xs) h).0
@@ -167,12 +167,12 @@ module _ (leaves : (desk : Desk) → IsDesk desk → LeavesDesk desk) where
   message_leaves powered bytes None e is = is
   message_leaves powered bytes (Some message) e is = op_leaves powered.desk (op_of message) is (op_fits message (ends_whole bytes message e))
 
-  call_leaves : (known : Known) (call : Call) → HasDesk known.powered → HasDesk (known_after known call).powered
+  call_leaves : (known : ThrottleView) (call : Call) → HasDesk known.powered → HasDesk (known_after known call).powered
   unfolding known_after
   call_leaves known (Byte line byte) is =
       message_leaves known.powered (bytes_of known line ++ byte ∷ []) (message_at_end (bytes_of known line ++ byte ∷ [])) refl is
   call_leaves known Turn is = is
 
-  pub stays_a_desk : (known : Known) (calls : List Call) → HasDesk known.powered → AtEveryMoment HasDesk known calls
+  pub stays_a_desk : (known : ThrottleView) (calls : List Call) → HasDesk known.powered → AtEveryMoment HasDesk known calls
   stays_a_desk known [] is = is
   stays_a_desk known (call ∷ calls) is = (is, stays_a_desk (known_after known call) calls (call_leaves known call is))

@@ -53,16 +53,16 @@ module _ (all : List (List ℕ)) (powered : PoweredDesk) (s : Scheduled) (line b
   module _ (message : List ℕ) (op : Op) where
     pub told_reply : (reply : Option Reply) → Heard (seen_with all powered s) line byte lines (Some message) → op ≡ op_of message
         → reply ≡ answer powered op (requests_in s.jobs) → reply ≡ answer_to_byte (seen_with all powered s) line byte
-    told_reply reply heard is told =
-        told
+    told_reply reply heard is reported =
+        reported
         ∙ ap (λ (o : Op). answer powered o (requests_in s.jobs)) is
         ∙ sym (ap (answer_to_message (seen_with all powered s)) heard.message)
 
     pub told_state : (state : Seen) → Heard (seen_with all powered s) line byte lines (Some message) → op ≡ op_of message
         → state ≡ after_op (seen_with lines powered s) op → state ≡ after_byte (seen_with all powered s) line byte
-    told_state state heard is told =
+    told_state state heard is reported =
         let left : List ℕ = unfinished_of (line_of (seen_with all powered s) line ++ byte ∷ []) in
-        told
+        reported
         ∙ ap (after_op (seen_with lines powered s)) is
         ∙ ap (λ (ls : List (List ℕ)). record (after_op (seen_with all powered s) (op_of message)) { lines = ls }) heard.lines_are
         ∙ sym (ap (λ (ended : Option (List ℕ)). record (after_message (seen_with all powered s) ended) { lines = slice_set all line left }) heard.message)

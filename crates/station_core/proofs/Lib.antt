@@ -14,6 +14,6 @@ pub mod Sent
 pub mod Short
 pub mod Steps
 pub mod Switches
-pub mod Waits
+pub mod Queued
 pub mod Walks
 pub mod Heard

@@ -33,14 +33,14 @@ slot_on desk n is =
     rw low (get-refreshed_slots desk (n - 1) (omega arith) ∙ ap (is_refreshed desk) place)
 
 pub is_pick_of : (desk : Desk) (s : Scheduled) (p : Power) (addresses : List ℕ) (picks : Pick) → s.slots ≡ refreshed_slots desk → picks ≡ (turned p addresses s).answer → IsLegalPick picks → (p ≡ power.Running → IsDue s picks) → IsPickOf desk picks
-is_pick_of desk s p addresses pick.Off same e legal due = tt
-is_pick_of desk s p addresses pick.StopAll same e legal due = tt
-is_pick_of desk s p addresses pick.Idle same e legal due = tt
-is_pick_of desk s power.Off addresses (pick.Place slot kind) same e legal due = cc
-is_pick_of desk s power.Paused addresses (pick.Place slot kind) same e legal due = cc
-is_pick_of desk s power.Running addresses (pick.Place slot kind) same e legal due =
-    (legal, driven_held (row_of desk slot).state (sym (slot_on desk slot legal) ∙ ap (λ (xs : List Bool). is_slot_on xs slot) (sym same) ∙ due refl))
-is_pick_of desk s p addresses (pick.Switch number closed on) same e legal due = legal
+is_pick_of desk s p addresses pick.Off same e legal is_due = tt
+is_pick_of desk s p addresses pick.StopAll same e legal is_due = tt
+is_pick_of desk s p addresses pick.Idle same e legal is_due = tt
+is_pick_of desk s power.Off addresses (pick.Place slot kind) same e legal is_due = cc
+is_pick_of desk s power.Paused addresses (pick.Place slot kind) same e legal is_due = cc
+is_pick_of desk s power.Running addresses (pick.Place slot kind) same e legal is_due =
+    (legal, driven_held (row_of desk slot).state (sym (slot_on desk slot legal) ∙ ap (λ (xs : List Bool). is_slot_on xs slot) (sym same) ∙ is_due refl))
+is_pick_of desk s p addresses (pick.Switch number closed on) same e legal is_due = legal
 
 pub slots-turned : ((addresses : List ℕ) (s : Scheduled) → (picked addresses s).state.slots ≡ s.slots) → (p : Power) (addresses : List ℕ) (s : Scheduled) → (turned p addresses s).state.slots ≡ s.slots
 slots-turned law power.Off addresses s = refl

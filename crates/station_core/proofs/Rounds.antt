@@ -19,7 +19,7 @@ use Rattle.station_core.specs.Asked.{after_places, after_request, changed_places
 use Rattle.station_core.specs.Moved.{moved, message_ended, after_message, after_byte}
 use Rattle.station_core.specs.Refreshed.{is_refreshed}
 use Rattle.station_core.specs.Slots.{refreshed_slots, addresses}
-use Rattle.station_core.specs.Known.{Known, known_after}
+use Rattle.station_core.specs.ThrottleView.{ThrottleView, known_after}
 use Rattle.station_core.specs.Moments.{ever_refreshed, turns_in, IsLive}
 use Rattle.station_core.specs.Powered.{PoweredDesk}
 use Rattle.station_core.specs.Runs.{state_of, Sends, Covers}
@@ -102,7 +102,7 @@ byte_same ever slot kind seen line byte =
 abbrev Knows : (ℕ → Bool) → Seen → Type 0
 Knows ever seen = (n : ℕ) → is_refreshed seen.powered.desk n ≡ true → ever n ≡ true
 
-all_known : (enough : Enough) (ever : ℕ → Bool) (seen : Seen) (known : Known) (calls : List Call) → Agree seen known → ((n : ℕ) → ever_refreshed known calls n ≡ true → ever n ≡ true) → AtEach (Knows ever) seen calls
+all_known : (enough : Enough) (ever : ℕ → Bool) (seen : Seen) (known : ThrottleView) (calls : List Call) → Agree seen known → ((n : ℕ) → ever_refreshed known calls n ≡ true → ever n ≡ true) → AtEach (Knows ever) seen calls
 all_known enough ever seen known [] agree within = λ n h. within n (ap (λ (p : PoweredDesk). is_refreshed p.desk n) (sym agree.powered) ∙ h)
 all_known enough ever seen known (call ∷ calls) agree within = (
   λ n h. within n (or_left (is_refreshed known.powered.desk n) (ever_refreshed (known_after known call) calls n) (ap (λ (p : PoweredDesk). is_refreshed p.desk n) (sym agree.powered) ∙ h)),
@@ -133,7 +133,7 @@ module _ (falls : Falls) (least : Least) (ever : ℕ → Bool) (slot : ℕ) (kin
 
 pub coverage_from : Enough → Falls → Least → Most → (start : Seen) (calls : List Call) → Covers start calls
 coverage_from enough falls least most start calls slot kind is full =
-    let begin : Known = known_of start in
+    let begin : ThrottleView = known_of start in
     let ever : ℕ → Bool = ever_refreshed begin calls in
     let live = moments enough (IsLive slot) start begin calls (agree_at_first start) full.live in
     let known = all_known enough ever start begin calls (agree_at_first start) (λ n h. h) in

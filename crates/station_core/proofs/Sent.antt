@@ -20,16 +20,16 @@ abbrev OfDesk : Seen → Option (List ℕ) → Type 0
 OfDesk seen packet = (bytes : List ℕ) × (packet ≡ Some bytes) × IsRunningPacket seen bytes
 
 of_pick : (seen : Seen) (pick : Pick) → IsDue (scheduled seen) pick → OfDesk seen (packet_of seen.powered.desk pick)
-of_pick seen Off due = absurd due
-of_pick seen StopAll due = absurd due
-of_pick seen Idle due = (_, refl, inl refl)
-of_pick seen (Place slot kind) due = (_, refl, inr (inl (slot, kind, on_desk seen.powered.desk slot due, refl)))
-of_pick seen (Switch number closed on) due = (_, refl, inr (inr (number, closed, on, due, refl)))
+of_pick seen Off is_due = absurd is_due
+of_pick seen StopAll is_due = absurd is_due
+of_pick seen Idle is_due = (_, refl, inl refl)
+of_pick seen (Place slot kind) is_due = (_, refl, inr (inl (slot, kind, on_desk seen.powered.desk slot is_due, refl)))
+of_pick seen (Switch number closed on) is_due = (_, refl, inr (inr (number, closed, on, is_due, refl)))
 
 of_turn : Due → (seen : Seen) (p : Power) → IsPacketOfDesk p seen (packet_of seen.powered.desk (turned p (addresses seen.powered.desk) (scheduled seen)).answer)
-of_turn due seen power.Off = refl
-of_turn due seen power.Paused = refl
-of_turn due seen power.Running = of_pick seen (picked (addresses seen.powered.desk) (scheduled seen)).answer (due (addresses seen.powered.desk) (scheduled seen))
+of_turn is_due seen power.Off = refl
+of_turn is_due seen power.Paused = refl
+of_turn is_due seen power.Running = of_pick seen (picked (addresses seen.powered.desk) (scheduled seen)).answer (is_due (addresses seen.powered.desk) (scheduled seen))
 
 pub packets_of_the_desk : Due → (seen : Seen) → IsPacketOfDesk seen.powered.power seen (packet_of seen.powered.desk (turned seen.powered.power (addresses seen.powered.desk) (scheduled seen)).answer)
-packets_of_the_desk due seen = of_turn due seen seen.powered.power
+packets_of_the_desk is_due seen = of_turn is_due seen seen.powered.power

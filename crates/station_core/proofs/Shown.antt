@@ -32,7 +32,7 @@ use Rattle.station_core.specs.Immediate.{more_of, with_more}
 use Rattle.station_core.specs.declared.immediate.More.{More}
 use Rattle.station_core.specs.Powered.{PoweredDesk}
 use Rattle.station_core.proofs.Anew.{unplaced}
-use Rattle.station_core.specs.Reads.{byte_read, gives, is_data_of, is_field, is_used, names, read_of, stat_at, stat_in_state, trk_at, Frees, Keeps, Writes, WritesItsBytes}
+use Rattle.station_core.specs.Reads.{byte_read, gives, is_data_of, is_field, is_used, names, read_of, stat_at, stat_in_state, trk_at, Frees, PreservesRead, Writes, WritesItsBytes}
 
 -- the bytes of a slot's data, by the row
 abbrev shown : Power → ℕ → Row → List ℕ
@@ -72,7 +72,7 @@ find_passes : (p : ℕ → Bool) (xs : List ℕ) (n : ℕ) → find p xs ≡ Som
 find_passes p [] n h = cc
 find_passes p (x ∷ xs) n h = find_at p x n (find p xs) (p x) refl (find_passes p xs n) h
 
--- what an answer that is slot data tells of an operation, and one that is not
+-- what follows for an operation from an answer that is slot data, and from one that is not
 given : (slot opc : ℕ) (new : PoweredDesk) (r : Result ℕ SlotFault) → is_data_of (Some (slot_or_refusal opc new r)) slot ≡ true → r ≡ Ok slot
 given slot opc new (Ok n) h = ap Ok (eqb-true n slot h)
 given slot opc new (Err fault) h = absurd cc
@@ -150,7 +150,7 @@ module _ (slot : ℕ) (inside : is_slot slot ≡ true) where
   byte_is : (powered : PoweredDesk) (at : ℕ) → byte_read powered slot at ≡ slice_index (shown powered.power slot (row_of powered.desk slot)) at
   byte_is powered at = ap (λ (xs : List ℕ). slice_index xs at) (read_is powered)
 
-  -- STAT1 tells whether a slot has a place
+  -- STAT1 shows whether a slot has a place
   used_is : (powered : PoweredDesk) → IsDesk powered.desk → is_used powered slot ≡ is_placed powered.desk slot
   used_is powered desk = ap (λ (byte : ℕ). is_held (state_of byte)) (byte_is powered stat_at) ∙ by_place (get powered.desk.place slot) refl
     where
@@ -202,7 +202,7 @@ module _ (slot : ℕ) (inside : is_slot slot ≡ true) (powered : PoweredDesk) (
   own-stat_free : (stat : ℕ) → is_used powered slot ≡ true → is_stat stat ≡ true → is_held (state_of stat) ≡ false → Frees powered (SlotStat slot stat) slot
   own-stat_free stat used legal free = frees slot inside powered (after_field powered.desk slot (field.Stat stat)) (own.stat_free slot stat (can_stat stat used legal) free)
 
-  stat_illegal : (stat : ℕ) → is_stat stat ≡ false → Keeps powered (SlotStat slot stat) slot
+  stat_illegal : (stat : ℕ) → is_stat stat ≡ false → PreservesRead powered (SlotStat slot stat) slot
   stat_illegal stat illegal = keeps slot inside powered (after_field powered.desk slot (field.Stat stat)) (rw illegal refl)
 
   -- a field of a slot that is free, and of another slot
@@ -227,7 +227,7 @@ module _ (slot : ℕ) (inside : is_slot slot ≡ true) (powered : PoweredDesk) (
       by_slot true e = subst (λ (m : ℕ). ReadsAs powered.desk (after_field powered.desk m written) slot) (sym (eqb-true n slot e)) (no_field written (no_place free))
       by_slot false e = other_field n written e
 
-  unused : (op : Op) → is_field op ≡ true → is_used powered slot ≡ false → Keeps powered op slot
+  unused : (op : Op) → is_field op ≡ true → is_used powered slot ≡ false → PreservesRead powered op slot
   unused (Speed n spd) is_one free = one_field n (field.Speed spd) free
   unused (Dirf n dirf) is_one free = one_field n (field.Dirf dirf) free
   unused (Snd n snd) is_one free = one_field n (field.Snd snd) free
@@ -310,7 +310,7 @@ module _ (slot : ℕ) (inside : is_slot slot ≡ true) (powered : PoweredDesk) (
       by_tests false held first l e f h = absurd cc
       by_tests true (Some n) first l e f h = let same : n ≡ slot = cc in absurd (both_ways (is_placed powered.desk slot) free (held_place ((rows.found slot a).0 (e ∙ ap Some same)).0))
       by_tests true None None l e f h = absurd cc
-      by_tests true None (Some n) l e f h = let same : n ≡ slot = cc in own.take_new a slot l e (f ∙ ap Some same)
+      by_tests true None (Some n) l e f h = let same : n ≡ slot = cc in own.take_unknown a slot l e (f ∙ ap Some same)
 
   finds : (a : ℕ) → take_answer powered.desk a ≡ Ok slot → is_placed powered.desk slot ≡ true → after_take powered.desk a ≡ powered.desk
   finds a took placed = by_tests (is_address a) (slot_of powered.desk a) (free_slot powered.desk) refl took
@@ -338,7 +338,7 @@ module _ (slot : ℕ) (inside : is_slot slot ≡ true) (powered : PoweredDesk) (
       ∙ ap (λ (n : ℕ). 0xE7 ∷ 0x0E ∷ slot ∷ 0x23 ∷ low ∷ 0 ∷ 0 ∷ track_status powered.power ∷ 0 ∷ n ∷ 0 ∷ 0 ∷ 0 ∷ []) second
       ∙ ap (λ (n : ℕ). 0xE7 ∷ 0x0E ∷ slot ∷ 0x23 ∷ low ∷ 0 ∷ 0 ∷ n ∷ 0 ∷ high ∷ 0 ∷ 0 ∷ 0 ∷ []) (sym (byte_is slot inside powered 7))
 
-  own-load_held : (high low : ℕ) → gives powered (LocoAddr high low) slot ≡ true → is_used powered slot ≡ true → Keeps powered (LocoAddr high low) slot
+  own-load_held : (high low : ℕ) → gives powered (LocoAddr high low) slot ≡ true → is_used powered slot ≡ true → PreservesRead powered (LocoAddr high low) slot
   own-load_held high low h used =
       keeps slot inside powered (after_take powered.desk (address_with high low)) (ap (λ (d : Desk). row_of d slot) (finds (address_with high low) (taken high low h) (has_place used)))
 
@@ -380,7 +380,7 @@ module _ (slot : ℕ) (inside : is_slot slot ≡ true) (powered : PoweredDesk) (
       by_power Running e = refl
       by_power Paused e = absurd (omega (arith, e))
 
-  own-idle_else : byte_read powered slot 7 ≢ 7 → Keeps powered ForceIdle slot
+  own-idle_else : byte_read powered slot 7 ≢ 7 → PreservesRead powered ForceIdle slot
   own-idle_else h = read_is slot inside (after powered ForceIdle) ∙ by_power powered.power (λ e. h (byte_is slot inside powered 7 ∙ e)) ∙ sym (read_is slot inside powered)
     where
       by_power : (power : Power) → track_status power ≢ 7 → shown (paused power) slot row ≡ shown power slot row
@@ -392,7 +392,7 @@ module _ (slot : ℕ) (inside : is_slot slot ≡ true) (powered : PoweredDesk) (
   same_desk : (desk : Desk) → desk ≡ powered.desk → read_of (record { power = powered.power; desk = desk }) slot ≡ read_of powered slot
   same_desk desk e = keeps slot inside powered desk (ap (λ (d : Desk). row_of d slot) e)
 
-  refused : (op : Op) (opc waiting : ℕ) → answer powered op waiting ≡ Some (reply.LongAck opc 0) → Keeps powered op slot
+  refused : (op : Op) (opc waiting : ℕ) → answer powered op waiting ≡ Some (reply.LongAck opc 0) → PreservesRead powered op slot
   refused (Move src dest) opc waiting h = same_desk (after_move powered.desk src dest) (move_refused powered.desk src dest (failed 0x3A opc (after powered (Move src dest)) (move_answer powered.desk src dest) h))
   refused (LocoAddr high low) opc waiting h = same_desk (after_take powered.desk (address_with high low)) (take_refused powered.desk (address_with high low) (failed 0x3F opc (after powered (LocoAddr high low)) (take_answer powered.desk (address_with high low)) h))
   refused (SlotWrite f) opc waiting h = same_desk (after_write powered.desk f) (write_refused powered.desk f (unwritten opc (write_answer powered.desk f) h))
@@ -445,7 +445,7 @@ module _ (slot : ℕ) (inside : is_slot slot ≡ true) (powered : PoweredDesk) (
       by_slot true e true p = subst (λ (n : ℕ). read_of (record { power = powered.power; desk = after_field powered.desk n (field.More more.bits) }) slot ≡ read_of powered slot) (sym (eqb-true more.slot slot e)) (at_slot p)
       by_slot true e false p = keeps slot inside powered (after_field powered.desk more.slot (field.More more.bits)) (subst (λ (n : ℕ). ReadsAs powered.desk (after_field powered.desk n (field.More more.bits)) slot) (sym (eqb-true more.slot slot e)) (no_field (field.More more.bits) p))
 
-  others : (op : Op) → names op slot ≡ false → gives powered op slot ≡ false → Keeps powered op slot
+  others : (op : Op) → names op slot ≡ false → gives powered op slot ≡ false → PreservesRead powered op slot
   others (Speed n spd) ne none = keeps slot inside powered (after_field powered.desk n (field.Speed spd)) (other_field n (field.Speed spd) ne)
   others (Dirf n dirf) ne none = keeps slot inside powered (after_field powered.desk n (field.Dirf dirf)) (other_field n (field.Dirf dirf) ne)
   others (Snd n snd) ne none = keeps slot inside powered (after_field powered.desk n (field.Snd snd)) (other_field n (field.Snd snd) ne)

@@ -20,7 +20,7 @@ use Rattle.station_core.specs.declared.call.Call.{Call}
 use Rattle.station_core.specs.declared.call.Call.TheVariants.{Byte, Turn}
 use Rattle.station_core.specs.declared.call.Step.{Step}
 use Rattle.station_core.specs.declared.call.Step.TheVariants as step
-use Rattle.station_core.specs.Asking.{steps_asked, motion_asked, is_forward}
+use Rattle.station_core.specs.Requested.{steps_asked, motion_asked, is_forward}
 use Rattle.station_core.specs.Moved.{moved, answer_to_byte, packet_of, replied, sent, turn_of}
 use Rattle.station_core.specs.Packets.{address_sent, entry_packet, is_lit, place_packet}
 use Rattle.station_core.specs.Promises.{is_accessory, packet_for, packets_for, switches_asked, switches_sent, IsFrontOf, SwitchesInOrder}
@@ -29,17 +29,17 @@ use Rattle.station_core.specs.Seen.{Seen}
 use Rattle.station_core.proofs.Walks.{IsFront, picks_sent, sent_by}
 
 -- what every packet of a locomotive address has by its address
-module _ (P : List ℕ → Type 0) (a : ℕ) (told : (first : ℕ) (rest : List ℕ) → P (to_decoder (address_sent a) (first ∷ rest))) where
+module _ (P : List ℕ → Type 0) (a : ℕ) (reported : (first : ℕ) (rest : List ℕ) → P (to_decoder (address_sent a) (first ∷ rest))) where
   pub of_speed : (steps : Steps) (motion : Motion) (forward lit : Bool) → P (speed_bytes (address_sent a) steps motion forward lit)
-  of_speed S14 motion forward lit = told _ []
-  of_speed S28 motion forward lit = told _ []
-  of_speed S128 motion forward lit = told _ _
+  of_speed S14 motion forward lit = reported _ []
+  of_speed S28 motion forward lit = reported _ []
+  of_speed S128 motion forward lit = reported _ _
 
   pub of_entry : (kind : Kind) (e : Entry) → P (entry_packet kind a e)
   of_entry Speed e = of_speed (steps_asked e) (motion_asked e) (is_forward e) (is_lit e)
-  of_entry GroupOne e = told _ []
-  of_entry GroupTwo e = told _ []
-  of_entry GroupThree e = told _ []
+  of_entry GroupOne e = reported _ []
+  of_entry GroupTwo e = reported _ []
+  of_entry GroupThree e = reported _ []
 
 no_switch : (a first : ℕ) (rest : List ℕ) → is_accessory (to_decoder (address_sent a) (first ∷ rest)) ≡ false
 no_switch a first rest = by_size (cases_lt a 128)

@@ -2,7 +2,7 @@
 use Rattle.std.specs.Prelude.{ℕ, ◌==◌, if◌then◌else◌}
 use Rattle.ln_ops.specs.Slot.{address_with}
 use Rattle.ln_ops.specs.declared.op.Op.{Op}
-use Rattle.ln_ops.specs.declared.op.Op.TheVariants.{PowerOff, PowerOn, ForceIdle, Speed, Dirf, Snd, SwReq, SwAck, LongAck, SlotStat, Move, SlotRead, LocoAddr, SlotData, SlotWrite, Imm, Other}
+use Rattle.ln_ops.specs.declared.op.Op.TheVariants.{PowerOff, PowerOn, ForceIdle, Speed, Dirf, Snd, SlotStat, Move, LocoAddr, SlotWrite, Imm}
 use Rattle.slot_table.specs.Desk.{Desk}
 use Rattle.slot_table.specs.declared.field.Field.TheVariants as field
 use Rattle.slot_table.specs.Moves.{after_null_move, after_dispatch_put, after_dispatch_get, after_shift}
@@ -27,43 +27,22 @@ after_move desk src dest =
 
 -- the slots after an operation
 abbrev pub desk_after : Desk → Op → Desk
-desk_after desk PowerOff = desk
-desk_after desk PowerOn = desk
-desk_after desk ForceIdle = desk
 desk_after desk (Speed slot spd) = after_field desk slot (field.Speed spd)
 desk_after desk (Dirf slot dirf) = after_field desk slot (field.Dirf dirf)
 desk_after desk (Snd slot snd) = after_field desk slot (field.Snd snd)
-desk_after desk (SwReq number closed on) = desk
-desk_after desk (SwAck number closed on) = desk
-desk_after desk (LongAck opc ack) = desk
 desk_after desk (SlotStat slot stat) = after_field desk slot (field.Stat stat)
 desk_after desk (Move src dest) = after_move desk src dest
-desk_after desk (SlotRead slot) = desk
 desk_after desk (LocoAddr high low) = after_take desk (address_with high low)
-desk_after desk (SlotData fields) = desk
 desk_after desk (SlotWrite fields) = after_write desk fields
 desk_after desk (Imm count im1 im2 im3 im4 im5) = with_more desk (more_of desk count im1 im2 im3 im4 im5)
-desk_after desk Other = desk
+desk_after desk op = desk
 
 -- the power after an operation
 abbrev pub power_after : Power → Op → Power
 power_after power PowerOff = Off
 power_after power PowerOn = Running
 power_after power ForceIdle = paused power
-power_after power (Speed slot spd) = power
-power_after power (Dirf slot dirf) = power
-power_after power (Snd slot snd) = power
-power_after power (SwReq number closed on) = power
-power_after power (SwAck number closed on) = power
-power_after power (LongAck opc ack) = power
-power_after power (SlotStat slot stat) = power
-power_after power (Move src dest) = power
-power_after power (SlotRead slot) = power
-power_after power (LocoAddr high low) = power
-power_after power (SlotData fields) = power
-power_after power (SlotWrite fields) = power
-power_after power (Imm count im1 im2 im3 im4 im5) = power
-power_after power Other = power
+power_after power op = power
 
 -- the desk with its power after an operation
 abbrev pub after : PoweredDesk → Op → PoweredDesk

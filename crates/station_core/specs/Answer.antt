@@ -1,11 +1,12 @@
--- What a station answers to an operation. Each refusal, and the code of each long acknowledge, is this project's own.
+-- What a station answers to an operation. Each refusal, and the code of each long acknowledge, is
+-- this project's own.
 use Rattle.std.specs.Prelude.{ℕ, ◌==◌, ◌/◌, ◌%◌, ◌&&◌, Bool, nat_le, nat_lt, if◌then◌else◌, Option, Some, None, Result, Ok, Err}
 use Rattle.refresh_ring.specs.Jobs.{most_requests}
 use Rattle.dcc_packet.specs.Sent.{last_switch}
 use Rattle.ln_ops.specs.Fields.{SlotBytes}
 use Rattle.ln_ops.specs.Slot.{address_with, is_slot, stat_with}
 use Rattle.ln_ops.specs.declared.op.Op.{Op}
-use Rattle.ln_ops.specs.declared.op.Op.TheVariants.{PowerOff, PowerOn, ForceIdle, Speed, Dirf, Snd, SwReq, SwAck, LongAck, SlotStat, Move, SlotRead, LocoAddr, SlotData, SlotWrite, Imm, Other}
+use Rattle.ln_ops.specs.declared.op.Op.TheVariants.{SwReq, SwAck, Move, SlotRead, LocoAddr, SlotWrite, Imm}
 use Rattle.ln_ops.specs.declared.reply.Reply.{Reply}
 use Rattle.ln_ops.specs.declared.reply.Reply.TheVariants as reply
 use Rattle.ln_ops.specs.declared.row.Row.{Row}
@@ -70,26 +71,18 @@ move_answer desk src dest =
     (if src == dest then slot_if (is_placed desk src) src else
     (if dest == 0 then slot_if (is_placed desk src) src else slot_if (can_shift desk src dest) dest))
 
--- switches that can be asked for (own): those that a packet can name, where fewer requests wait than have room
+-- switches that can be asked for (own): those that a packet can name, where fewer requests wait
+-- than have room
 abbrev pub is_taken : ℕ → ℕ → Bool
 is_taken number waiting = nat_le number last_switch && nat_lt waiting most_requests
 
--- the answer to an operation, where so many switch requests wait
+-- the answer to an operation, by the number of switch requests that wait
 abbrev pub answer : PoweredDesk → Op → ℕ → Option Reply
-answer powered PowerOff waiting = None
-answer powered PowerOn waiting = None
-answer powered ForceIdle waiting = None
-answer powered (Speed slot spd) waiting = None
-answer powered (Dirf slot dirf) waiting = None
-answer powered (Snd slot snd) waiting = None
 answer powered (SwReq number closed on) waiting = if is_taken number waiting then None else Some (reply.LongAck 0x30 0)
 answer powered (SwAck number closed on) waiting = Some (reply.LongAck 0x3D (if is_taken number waiting then 0x7F else 0))
-answer powered (LongAck opc ack) waiting = None
-answer powered (SlotStat slot stat) waiting = None
 answer powered (Move src dest) waiting = Some (slot_or_refusal 0x3A (after powered (Move src dest)) (move_answer powered.desk src dest))
 answer powered (SlotRead slot) waiting = Some (if is_slot slot then slot_data powered slot else reply.LongAck 0x3B 0)
 answer powered (LocoAddr high low) waiting = Some (slot_or_refusal 0x3F (after powered (LocoAddr high low)) (take_answer powered.desk (address_with high low)))
-answer powered (SlotData fields) waiting = None
 answer powered (SlotWrite fields) waiting = Some (write_reply (write_answer powered.desk fields))
 answer powered (Imm count im1 im2 im3 im4 im5) waiting = Some (more_reply (more_of powered.desk count im1 im2 im3 im4 im5))
-answer powered Other waiting = None
+answer powered op waiting = None

@@ -2,7 +2,7 @@
 use Rattle.std.specs.Prelude.{ℕ, Bool, nat_le, if◌then◌else◌, List, [], ◌∷◌, Option, Some, None, Result, Ok, Err}
 use Rattle.dcc_packet.specs.Sent.{last_switch}
 use Rattle.ln_ops.specs.declared.op.Op.{Op}
-use Rattle.ln_ops.specs.declared.op.Op.TheVariants.{PowerOff, PowerOn, ForceIdle, Speed, Dirf, Snd, SwReq, SwAck, LongAck, SlotStat, Move, SlotRead, LocoAddr, SlotData, SlotWrite, Imm, Other}
+use Rattle.ln_ops.specs.declared.op.Op.TheVariants.{Speed, Dirf, Snd, SwReq, SwAck, SlotStat, Move, SlotWrite, Imm}
 use Rattle.slot_table.specs.Desk.{Desk}
 use Rattle.slot_table.specs.Writes.{can_field, write_answer}
 use Rattle.slot_table.specs.declared.field.Field.{Field}
@@ -49,25 +49,17 @@ abbrev pub of_more : Desk → Option More → List (ℕ × Kind)
 of_more desk (Some more) = of_field desk more.slot (field.More more.bits)
 of_more desk None = []
 
--- the places that a message changes, where it is accepted, in the order in which they are to wait (own)
+-- the places that a message changes, where it is accepted, in the order in which they are to wait
+-- (own)
 abbrev pub changed_places : Desk → Op → List (ℕ × Kind)
-changed_places desk PowerOff = []
-changed_places desk PowerOn = []
-changed_places desk ForceIdle = []
 changed_places desk (Speed slot spd) = of_field desk slot (field.Speed spd)
 changed_places desk (Dirf slot dirf) = of_field desk slot (field.Dirf dirf)
 changed_places desk (Snd slot snd) = of_field desk slot (field.Snd snd)
-changed_places desk (SwReq number closed on) = []
-changed_places desk (SwAck number closed on) = []
-changed_places desk (LongAck opc ack) = []
 changed_places desk (SlotStat slot stat) = of_field desk slot (field.Stat stat)
 changed_places desk (Move src dest) = of_slot (move_answer desk src dest)
-changed_places desk (SlotRead slot) = []
-changed_places desk (LocoAddr high low) = []
-changed_places desk (SlotData fields) = []
 changed_places desk (SlotWrite fields) = of_write fields.slot (write_answer desk fields)
 changed_places desk (Imm count im1 im2 im3 im4 im5) = of_more desk (more_of desk count im1 im2 im3 im4 im5)
-changed_places desk Other = []
+changed_places desk op = []
 
 -- the schedule after these places were changed: each waits, where its slot is refreshed
 abbrev pub after_places : List (ℕ × Kind) → Scheduled → Scheduled
@@ -78,22 +70,9 @@ after_places (place ∷ places) s = after_places places (after_changed place.0 p
 abbrev pub after_request : ℕ → Bool → Bool → Scheduled → Scheduled
 after_request number closed on s = record s { jobs = if nat_le number last_switch then with_request number closed on s.jobs else s.jobs }
 
--- what a message makes of a schedule that goes by the desk after it; the desk here is the one before it
+-- what a message makes of a schedule that goes by the desk after it; the desk here is the one
+-- before it
 abbrev pub schedule_asked : Desk → Op → Scheduled → Scheduled
 schedule_asked desk (SwReq number closed on) s = after_request number closed on s
 schedule_asked desk (SwAck number closed on) s = after_request number closed on s
-schedule_asked desk PowerOff s = s
-schedule_asked desk PowerOn s = s
-schedule_asked desk ForceIdle s = s
-schedule_asked desk (Speed slot spd) s = after_places (changed_places desk (Speed slot spd)) s
-schedule_asked desk (Dirf slot dirf) s = after_places (changed_places desk (Dirf slot dirf)) s
-schedule_asked desk (Snd slot snd) s = after_places (changed_places desk (Snd slot snd)) s
-schedule_asked desk (LongAck opc ack) s = s
-schedule_asked desk (SlotStat slot stat) s = after_places (changed_places desk (SlotStat slot stat)) s
-schedule_asked desk (Move src dest) s = after_places (changed_places desk (Move src dest)) s
-schedule_asked desk (SlotRead slot) s = s
-schedule_asked desk (LocoAddr high low) s = s
-schedule_asked desk (SlotData fields) s = s
-schedule_asked desk (SlotWrite fields) s = after_places (changed_places desk (SlotWrite fields)) s
-schedule_asked desk (Imm count im1 im2 im3 im4 im5) s = after_places (changed_places desk (Imm count im1 im2 im3 im4 im5)) s
-schedule_asked desk Other s = s
+schedule_asked desk op s = after_places (changed_places desk op) s

@@ -1,5 +1,5 @@
--- What OPC_IMM_PACKET asks. Which packets are taken is this project's own profile: those of function group three, for a
--- locomotive that stands in a slot.
+-- What OPC_IMM_PACKET asks. Which packets are taken is this project's own profile: those of
+-- function group three, for a locomotive that is in a slot.
 use Rattle.std.specs.Prelude.{ℕ, ◌+◌, ◌-◌, ◌*◌, ◌/◌, ◌%◌, ◌==◌, ◌&&◌, Bool, nat_le, if◌then◌else◌, List, [], ◌∷◌, take, Option, Some, None}
 use Rattle.slot_table.specs.Desk.{Desk}
 use Rattle.slot_table.specs.declared.field.Field.TheVariants as field
@@ -16,8 +16,9 @@ abbrev pub more_in : Option ℕ → ℕ → Option More
 more_in None bits = None
 more_in (Some slot) bits = Some (record { slot = slot; bits = bits })
 
--- The slot and its F9 to F12 that the bytes of a packet ask for, the check not among them: an address and 1010DDDD. An
--- address is one byte, 1 to 127, or two, the first 192 to 231; no slot's address below 128 is sent as two.
+-- The slot and its F9 to F12 that the bytes of a packet ask for, the check not among them: an
+-- address and 1010DDDD. An address is one byte, 1 to 127, or two, the first 192 to 231; no slot's
+-- address below 128 is sent as two.
 abbrev pub more_asked : Desk → List ℕ → Option More
 more_asked desk (short ∷ byte ∷ []) =
     if nat_le 1 short && nat_le short 127 && is_group_three byte then more_in (slot_of desk short) (byte % 16) else None
@@ -26,7 +27,7 @@ more_asked desk (high ∷ low ∷ byte ∷ []) =
     if nat_le 192 high && nat_le high 231 && nat_le 128 address && is_group_three byte then more_in (slot_of desk address) (byte % 16) else None
 more_asked desk _ = None
 
--- of the five bytes so many count
+-- f9 to F12 that the first `count` of the five bytes ask for
 abbrev pub more_of : Desk → (count im1 im2 im3 im4 im5 : ℕ) → Option More
 more_of desk count im1 im2 im3 im4 im5 = more_asked desk (take count (im1 ∷ im2 ∷ im3 ∷ im4 ∷ im5 ∷ []))
 

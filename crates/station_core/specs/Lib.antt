@@ -1,11 +1,11 @@
 pub mod After
 pub mod Answer
 pub mod Asked
-pub mod Asking
+pub mod Requested
 pub mod Carried
 pub mod Kept
 pub mod Immediate
-pub mod Known
+pub mod ThrottleView
 pub mod Meaning
 pub mod Messages
 pub mod Moments

@@ -7,13 +7,15 @@ use Rattle.station_core.specs.Runs.{answers, packets_in}
 use Rattle.station_core.specs.Seen.{Seen}
 use Rattle.station_core.specs.declared.call.Call.{Call}
 
--- S-9.2.1, address partitions: 0AAAAAAA, 10AAAAAA with 1AAA, whose bits are complemented, or 11AAAAAA AAAAAAAA
+-- S-9.2.1, address partitions: 0AAAAAAA, 10AAAAAA with 1AAA, whose bits are complemented, or
+-- 11AAAAAA AAAAAAAA
 abbrev pub address_in : (first second : ℕ) → Destination
 address_in first second =
     if nat_lt first 128 then Loco first else
     (if nat_lt first 192 then Module (first % 64 + 64 * (7 - second / 16 % 8)) else Loco ((first - 192) * 256 + second))
 
--- the one decoder address, or the one module, that a packet goes to; a broadcast and the idle packet go to none
+-- the one decoder address, or the one module, that a packet goes to; a broadcast and the idle
+-- packet go to none
 abbrev pub destination_of : List ℕ → Option Destination
 destination_of (first ∷ second ∷ rest) =
     if first == 0 then None else (if first == 255 then None else Some (address_in first second))

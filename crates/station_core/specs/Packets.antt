@@ -6,11 +6,11 @@ use Rattle.dcc_packet.specs.Sent.{speed_bytes, group_one_bytes, group_two_bytes,
 use Rattle.refresh_ring.specs.declared.kind.Kind.{Kind}
 use Rattle.refresh_ring.specs.declared.kind.Kind.TheVariants.{Speed, GroupOne, GroupTwo, GroupThree}
 use Rattle.refresh_ring.specs.declared.pick.Pick.{Pick}
-use Rattle.refresh_ring.specs.declared.pick.Pick.TheVariants.{Off, StopAll, Idle, Place, Switch}
+use Rattle.refresh_ring.specs.declared.pick.Pick.TheVariants.{Place, Switch}
 use Rattle.slot_table.specs.Desk.{Desk}
 use Rattle.slot_table.specs.Entry.{Entry, IsSlot, entry_of}
 use Rattle.ln_ops.specs.Slot.{is_held}
-use Rattle.station_core.specs.Asking.{steps_asked, motion_asked, is_forward, functions_asked}
+use Rattle.station_core.specs.Requested.{steps_asked, motion_asked, is_forward, functions_asked}
 use Rattle.slot_table.specs.Reading.{row_of}
 
 -- an address of a slot is sent as a short one up to 127, and as a long one from 128 on (own)
@@ -41,14 +41,12 @@ entry_packet GroupOne a e = group_one_packet a e
 entry_packet GroupTwo a e = group_two_packet a e
 entry_packet GroupThree a e = group_three_packet a e
 
--- the packet of a place, for what stands in the slot
+-- the packet of a place, for what is in the slot
 abbrev pub place_packet : Desk → ℕ → Kind → List ℕ
 place_packet desk slot kind = let row = row_of desk slot in entry_packet kind row.address (entry_of row)
 
--- what can be sent: a slot that is not free, a switch that there is
+-- what can be sent: a slot that is not free, a switch with a valid number
 abbrev pub IsPickOf : Desk → Pick → Type 0
-IsPickOf desk Off = Unit {0}
-IsPickOf desk StopAll = Unit {0}
-IsPickOf desk Idle = Unit {0}
 IsPickOf desk (Place slot kind) = IsSlot slot × (is_held (row_of desk slot).state ≡ true)
 IsPickOf desk (Switch number closed on) = number ≤ last_switch
+IsPickOf desk pick = Unit {0}

@@ -7,6 +7,6 @@ pub record PoweredDesk : Type 0 where
   pub power : Power
   pub desk : Desk
 
--- no address stands in two slots, and each address in a slot has its entry
+-- no address is in two slots, and each address in a slot has its entry
 abbrev pub HasDesk : PoweredDesk → Type 0
 HasDesk powered = IsDesk powered.desk

@@ -4,14 +4,14 @@ use Rattle.std.specs.List.{filter}
 use Rattle.dcc_packet.specs.Sent.{accessory_bytes}
 use Rattle.ln_ops.specs.Message.{op_of}
 use Rattle.ln_ops.specs.declared.op.Op.{Op}
-use Rattle.ln_ops.specs.declared.op.Op.TheVariants.{PowerOff, PowerOn, ForceIdle, Speed, Dirf, Snd, SwReq, SwAck, LongAck, SlotStat, Move, SlotRead, LocoAddr, SlotData, SlotWrite, Imm, Other}
+use Rattle.ln_ops.specs.declared.op.Op.TheVariants.{SwReq, SwAck}
 use Rattle.slot_table.specs.Entry.{IsSlot}
 use Rattle.refresh_ring.specs.Jobs.{requests_in, sends_ahead}
 use Rattle.refresh_ring.specs.Left.{turns_to_empty}
 use Rattle.refresh_ring.specs.Sent.{to_send}
 use Rattle.refresh_ring.specs.declared.kind.Kind.{Kind}
 use Rattle.refresh_ring.specs.declared.pick.Pick.{Pick}
-use Rattle.refresh_ring.specs.declared.pick.Pick.TheVariants.{Off, StopAll, Idle, Place, Switch}
+use Rattle.refresh_ring.specs.declared.pick.Pick.TheVariants.{Switch}
 use Rattle.refresh_ring.specs.declared.pick.Power.TheVariants.{Running}
 use Rattle.station_core.specs.After.{desk_after}
 use Rattle.station_core.specs.Answer.{is_taken}
@@ -25,18 +25,20 @@ use Rattle.station_core.specs.Seen.{Seen, known_of}
 use Rattle.station_core.specs.declared.call.Call.{Call}
 use Rattle.station_core.specs.declared.call.Call.TheVariants.{Byte, Turn}
 
--- changes first: a place that waits with so many sends ahead is sent within four turns for each of them and four more
+-- changes first: a place that waits with n sends ahead is sent within four turns for each of them
+-- and four more
 abbrev pub ChangesFirst : Seen → List Call → Type 0
 ChangesFirst start calls = (slot : ℕ) (kind : Kind) (ahead : ℕ) → IsSlot slot → sends_ahead slot kind start.jobs ≡ Some ahead
     → AtEveryMoment (IsLive slot) (known_of start) calls → 4 * (ahead + 1) ≤ turns_in calls → Sends slot kind start calls
 
--- What was changed waits: each place that a message changes, if its slot is refreshed then. A message that is refused
--- changes none.
+-- What was changed waits: each place that a message changes, if its slot is refreshed then. A
+-- message that is refused changes none.
 abbrev pub ChangesWait : Seen → Op → Type 0
 ChangesWait seen op = (slot : ℕ) (kind : Kind) → IsSlot slot → Contains (changed_places seen.powered.desk op) (slot, kind)
     → is_refreshed (desk_after seen.powered.desk op) slot ≡ true → (ahead : ℕ) × (sends_ahead slot kind (after_op seen op).jobs ≡ Some ahead)
 
--- S-9.2.1, address partitions: the packet of a switch begins with 10AAAAAA, any other packet does not
+-- S-9.2.1, address partitions: the packet of a switch begins with 10AAAAAA, any other packet does
+-- not
 abbrev pub is_accessory : List ℕ → Bool
 is_accessory [] = false
 is_accessory (first ∷ rest) = first / 64 == 2
@@ -48,10 +50,7 @@ switches_sent start calls = filter is_accessory (packets_in (answers start calls
 -- the packet of a switch that was asked for
 abbrev pub packet_for : Pick → List (List ℕ)
 packet_for (Switch number closed on) = accessory_bytes number closed on ∷ []
-packet_for (Place slot kind) = []
-packet_for Idle = []
-packet_for StopAll = []
-packet_for Off = []
+packet_for pick = []
 
 abbrev pub packets_for : List Pick → List (List ℕ)
 packets_for [] = []
@@ -63,23 +62,9 @@ twice_if taken pick = if taken then pick ∷ pick ∷ [] else []
 
 -- the requests that a message makes, where they are accepted
 abbrev pub asked_by_op : Seen → Op → List Pick
-asked_by_op seen PowerOff = []
-asked_by_op seen PowerOn = []
-asked_by_op seen ForceIdle = []
-asked_by_op seen (Speed slot spd) = []
-asked_by_op seen (Dirf slot dirf) = []
-asked_by_op seen (Snd slot snd) = []
 asked_by_op seen (SwReq number closed on) = twice_if (is_taken number (requests_in seen.jobs)) (Switch number closed on)
 asked_by_op seen (SwAck number closed on) = twice_if (is_taken number (requests_in seen.jobs)) (Switch number closed on)
-asked_by_op seen (LongAck opc ack) = []
-asked_by_op seen (SlotStat slot stat) = []
-asked_by_op seen (Move src dest) = []
-asked_by_op seen (SlotRead slot) = []
-asked_by_op seen (LocoAddr high low) = []
-asked_by_op seen (SlotData fields) = []
-asked_by_op seen (SlotWrite fields) = []
-asked_by_op seen (Imm count im1 im2 im3 im4 im5) = []
-asked_by_op seen Other = []
+asked_by_op seen op = []
 
 abbrev pub asked_by_message : Seen → Option (List ℕ) → List Pick
 asked_by_message seen None = []
@@ -94,8 +79,8 @@ abbrev pub switches_asked : Seen → List Call → List Pick
 switches_asked seen [] = []
 switches_asked seen (call ∷ calls) = asked_by seen call ++ switches_asked (state_of seen call) calls
 
--- switches twice, in order: the packets of switches that were sent, and then those that are still to send, are those
--- that were to send, and then that of each accepted request twice
+-- switches twice, in order: the packets of switches that were sent, and then those that are still
+-- to send, are those that were to send, and then that of each accepted request twice
 abbrev pub SwitchesInOrder : Seen → List Call → Type 0
 SwitchesInOrder start calls =
     switches_sent start calls ++ packets_for (to_send (state_after start calls).jobs)
@@ -108,7 +93,7 @@ IsRunning powered = powered.power ≡ Running
 abbrev pub IsFrontOf : List (List ℕ) → List (List ℕ) → Type 0
 IsFrontOf front all = (rest : List (List ℕ)) × (front ++ rest ≡ all)
 
--- and in as many turns as empty any queue, 2,160, while power runs all that was to send was sent
+-- and within 2,160 turns, enough to empty any queue, while power runs all that was to send was sent
 abbrev pub SwitchesAreSent : Seen → List Call → Type 0
 SwitchesAreSent start calls =
     AtEveryMoment IsRunning (known_of start) calls → turns_to_empty ≤ turns_in calls → IsFrontOf (packets_for (to_send start.jobs)) (switches_sent start calls)

@@ -5,13 +5,13 @@ use Rattle.refresh_ring.specs.Scheduled.{Scheduled}
 use Rattle.refresh_ring.specs.declared.job.Job.{Job}
 use Rattle.refresh_ring.specs.declared.job.Destination.{Destination}
 use Rattle.refresh_ring.specs.declared.pick.Power.TheVariants.{Off}
-use Rattle.station_core.specs.Known.{Known}
+use Rattle.station_core.specs.ThrottleView.{ThrottleView}
 use Rattle.station_core.specs.Powered.{PoweredDesk}
 use Rattle.station_core.specs.Slots.{refreshed_slots}
 
--- The unfinished bytes of each line, the desk, and what decides which packet is sent next: the jobs that wait, the
--- place that the ring sent last, where the last packet went, and whether jobs are preferred. Which slots are
--- refreshed is the desk's.
+-- The unfinished bytes of each line, the desk, and what decides which packet is sent next: the jobs
+-- that wait, the place that the ring sent last, where the last packet went, and whether jobs are
+-- preferred. Which slots are refreshed is the desk's.
 pub record Seen : Type 0 where
   pub lines : List (List ℕ)
   pub powered : PoweredDesk
@@ -20,8 +20,9 @@ pub record Seen : Type 0 where
   pub last : Option Destination
   pub prefers_jobs : Bool
 
--- what throttles can know of a station: of the bytes that came before, those that are unfinished are enough
-abbrev pub known_of : Seen → Known
+-- what throttles can know of a station: of the bytes that came before, those that are unfinished
+-- are enough
+abbrev pub known_of : Seen → ThrottleView
 known_of seen = record { lines = seen.lines; powered = seen.powered }
 
 -- the schedule of a station

@@ -11,7 +11,7 @@ use Rattle.station_core.specs.Packets.{place_packet}
 use Rattle.station_core.specs.Refreshed.{is_refreshed}
 use Rattle.station_core.specs.Seen.{Seen}
 
--- a packet of a refreshed slot, made of what stands there at that moment
+-- a packet of a refreshed slot, made of what is in the slot at that moment
 abbrev pub IsOfSlot : Seen → List ℕ → Type 0
 IsOfSlot seen packet = (slot : ℕ) × (kind : Kind) × (is_refreshed seen.powered.desk slot ≡ true) × (packet ≡ place_packet seen.powered.desk slot kind)
 

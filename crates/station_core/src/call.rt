@@ -1,22 +1,22 @@
-//! One event of a station, and what it answers.
+//! One event of a station, and its result.
 use dcc_packet::Packet;
 use ln_ops::Reply;
 
 /// One event of a station.
 #[derive(Clone, Copy, Debug, PartialEq, Eq)]
 pub enum Call {
-    /// A byte comes on a line.
+    /// A byte is received on a line.
     Byte { line: u8, byte: u8 },
     /// The track has room for a packet.
     Turn,
 }
 
-/// What one event answers.
+/// The result of one event.
 #[derive(Debug, Drop, PartialEq, Eq)]
 pub enum Step {
-    /// A byte that is not answered.
+    /// A byte without a reply.
     Quiet,
-    /// The reply on the line of the byte.
+    /// The reply, on the line of the byte.
     Reply(Reply),
     /// The packet that a turn sends.
     Packet(Packet),

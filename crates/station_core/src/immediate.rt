@@ -1,4 +1,5 @@
-//! What OPC_IMM_PACKET asks for: a packet of the track, of which this station takes those of function group three.
+//! What OPC_IMM_PACKET asks for: a packet of the track, of which this station takes those of
+//! function group three.
 ghost use Rattle.std.specs.Prelude.{◌≡◌, ◌<◌, true, take, IfSome};
 ghost use Rattle.slot_table.specs.Entry.{IsSlot};
 ghost use Rattle.slot_table.specs.Reading.{is_placed, slot_of};
@@ -17,7 +18,7 @@ pub(crate) struct More {
     pub(crate) bits: u8,
 }
 
-/// The first so many of these bytes, or all where they are fewer.
+/// The first `count` of these bytes, or all where they are fewer.
 pub(crate) fn counted(count: u8, bytes: &[u8; MOST_BYTES]) -> &[u8]
     ensures { result.now ≡ take count bytes.now }
 {

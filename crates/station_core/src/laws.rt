@@ -1,9 +1,9 @@
-//! What holds of every list of calls.
+//! The laws of every list of calls.
 ghost use Rattle.std.specs.Prelude.{◌≡◌, ◌<◌, ◌≤◌, ◌++◌, ℕ, List, length, IfSome, IsTrue};
 ghost use Rattle.dcc_packet.specs.Packet.{is_checked};
 ghost use Rattle.ln_frame.specs.Stream.{messages_of};
 ghost use Rattle.ln_frame.specs.Unfinished.{unfinished_of};
-ghost use Rattle.station_core.specs.Known.{Known, bytes_of, known_after_all};
+ghost use Rattle.station_core.specs.ThrottleView.{ThrottleView, bytes_of, known_after_all};
 ghost use Rattle.station_core.specs.Messages.{bytes_on, carried_out_on};
 ghost use Rattle.station_core.specs.Moments.{AtEveryMoment};
 ghost use Rattle.station_core.specs.Neighbours.{NeighboursApart};
@@ -20,18 +20,20 @@ ghost use Rattle.station_core.specs.declared.call.Call.TheVariants.{Byte as Byte
 
 use ln_frame::{any_cut, left_is_enough};
 
-/// What a call makes of a station, and what it answers, by its kind: a byte is answered by a reply or by nothing, a turn by
-/// a packet or, while off, by none.
+/// The effect of a call on a station, and its result, by its kind: a byte is answered by a reply or
+/// by nothing, a turn by a packet or, while off, by none.
 #[tactic(auto, unfolding(crate::specs::Moved::moved))]
 pub fn calls_are_moves()
-    ensures after_byte { (seen : Seen) (line byte : ℕ) → state_of seen (ByteCall line byte) ≡ after_byte seen line byte }
-    ensures to_byte { (seen : Seen) (line byte : ℕ) → answer_of seen (ByteCall line byte) ≡ replied (answer_to_byte seen line byte) }
+    ensures after_byte { (seen : Seen) (line byte : ℕ)
+        → state_of seen (ByteCall line byte) ≡ after_byte seen line byte }
+    ensures to_byte { (seen : Seen) (line byte : ℕ)
+        → answer_of seen (ByteCall line byte) ≡ replied (answer_to_byte seen line byte) }
     ensures after_turn { (seen : Seen) → state_of seen TurnCall ≡ after_turn seen }
     ensures to_turn { (seen : Seen) → answer_of seen TurnCall ≡ sent (packet_of_turn seen) }
 {}
 
-/// From any start, in a full refresh cycle of a slot each of its packets is sent, for what stands in the slot at
-/// that turn.
+/// From any start, in a full refresh cycle of a slot each of its packets is sent, for what is in
+/// the slot at that turn.
 pub fn coverage()
     ensures { (start : Seen) (calls : List CallOf) → Covers start calls }
 {
@@ -50,11 +52,12 @@ pub fn packets_of_the_desk()
 pub fn packets_are_short()
     ensures some { (seen : Seen) → IfSome (packet_of_turn seen) (λ packet. 3 ≤ length packet) }
     ensures few { (seen : Seen) → IfSome (packet_of_turn seen) (λ packet. length packet ≤ 5) }
-    ensures checked { (seen : Seen) → IfSome (packet_of_turn seen) (λ packet. IsTrue (is_checked packet)) }
+    ensures checked { (seen : Seen)
+        → IfSome (packet_of_turn seen) (λ packet. IsTrue (is_checked packet)) }
 {}
 
-/// From any start, a packet of a slot that waits is sent within four turns for each send ahead of it and four more, for
-/// what stands in the slot at that turn.
+/// From any start, a packet of a slot that waits is sent within four turns for each send ahead of
+/// it and four more, for what is in the slot at that turn.
 pub fn changes_first()
     ensures { (start : Seen) (calls : List CallOf) → ChangesFirst start calls }
 {
@@ -77,36 +80,43 @@ pub fn switches_in_order()
     refresh_ring::laws::switches_in_order();
 }
 
-/// From a start that a station can have, all that was to send of switch requests is sent in 2,160 turns with power.
+/// From a start that a station can have, all that was to send of switch requests is sent in 2,160
+/// turns with power.
 pub fn switches_are_sent()
-    ensures { (start : Seen) (calls : List CallOf) → IsScheduled (scheduled start) → SwitchesAreSent start calls }
+    ensures { (start : Seen) (calls : List CallOf) → IsScheduled (scheduled start)
+        → SwitchesAreSent start calls }
 {
     left_is_enough();
     refresh_ring::laws::switches_in_order();
 }
 
-/// From a start that a station can have, no two neighbouring packets go to one locomotive address or one module.
+/// From a start that a station can have, no two neighbouring packets go to one locomotive address
+/// or one module.
 pub fn neighbours()
-    ensures { (start : Seen) (calls : List CallOf) → IsScheduled (scheduled start) → NeighboursApart start calls }
+    ensures { (start : Seen) (calls : List CallOf) → IsScheduled (scheduled start)
+        → NeighboursApart start calls }
 {
     refresh_ring::laws::neighbours();
     refresh_ring::laws::switches_in_order();
     refresh_ring::laws::picks_are_due();
 }
 
-/// From any start, the power and the desk of a station are what throttles can know: those that the messages of its lines
-/// make, whatever is sent meanwhile.
+/// From any start, the power and the desk of a station are what throttles can know: those that the
+/// messages of its lines make, whatever is sent meanwhile.
 pub fn desk_of_messages()
-    ensures { (start : Seen) (calls : List CallOf) → (state_after start calls).powered ≡ (known_after_all (known_of start) calls).powered }
+    ensures { (start : Seen) (calls : List CallOf)
+        → (state_after start calls).powered ≡ (known_after_all (known_of start) calls).powered }
 {
     left_is_enough();
 }
 
-/// The messages that are carried out on a line are the whole messages of its bytes: of those that were unfinished and
-/// then those that came.
+/// The messages that are carried out on a line are the whole messages of its bytes: of the
+/// unfinished ones and then those received.
 pub fn messages_of_a_line()
-    ensures { (known : Known) (calls : List CallOf) (line : ℕ) → line < length known.lines → unfinished_of (bytes_of known line) ≡ bytes_of known line
-        → carried_out_on line known calls ≡ messages_of (bytes_of known line ++ bytes_on line calls) }
+    ensures { (known : ThrottleView) (calls : List CallOf) (line : ℕ) → line < length known.lines
+        → unfinished_of (bytes_of known line) ≡ bytes_of known line
+        → carried_out_on line known calls
+        ≡ messages_of (bytes_of known line ++ bytes_on line calls) }
 {
     left_is_enough();
     any_cut();
@@ -114,7 +124,8 @@ pub fn messages_of_a_line()
 
 /// From a desk every list of calls leaves a desk, at each of its moments.
 pub fn stays_a_desk()
-    ensures { (known : Known) (calls : List CallOf) → HasDesk known.powered → AtEveryMoment HasDesk known calls }
+    ensures { (known : ThrottleView) (calls : List CallOf) → HasDesk known.powered
+        → AtEveryMoment HasDesk known calls }
 {
     slot_table::laws::leaves_desk();
 }

@@ -1,6 +1,17 @@
-//! The command station: the bytes of its lines to replies, and turns of the track to packets.
+//! The command station: from the bytes of its lines to replies, and from turns of the track to
+//! packets.
 //!
-//! Its tests stand in `library_tests/src`: `test_station_core.rt` and `test_station_core/`.
+//! A [`Station`] takes each byte of a line by [`Station::byte`] and returns the
+//! [`Reply`](ln_ops::Reply), and gives the packet of each turn by [`Station::turn`].
+//! [`Station::run`] runs a list of [`Call`]s.
+//!
+//! ```ignore
+//! let mut station = Station::new(alloc, 1)?;
+//! if let Some(reply) = station.byte(0, byte) { /* write it */ }
+//! if let Some(packet) = station.turn() { /* send it on the track */ }
+//! ```
+//!
+//! The tests are in `library_tests/src`: `test_station_core.rt` and `test_station_core/`.
 #![tactic(auto)]
 
 mod call;
@@ -24,4 +35,4 @@ pub use meaning::{
     packets_are_carried, what_is_new_waits, whole_slots_wait,
 };
 pub use refresh_ring::{Kind, Power};
-pub use station::{Station, StationFault};
+pub use station::{MAX_LINES, Station, StationFault};

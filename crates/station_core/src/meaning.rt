@@ -10,7 +10,7 @@ ghost use Rattle.ln_ops.specs.declared.op.Op.{Op as OpOf};
 ghost use Rattle.ln_ops.specs.declared.op.Op.TheVariants.{PowerOn};
 ghost use Rattle.refresh_ring.specs.declared.kind.Kind.{Kind as KindOf};
 ghost use Rattle.refresh_ring.specs.declared.pick.Power.TheVariants.{Off};
-ghost use Rattle.station_core.specs.Asking.{functions_asked, is_forward};
+ghost use Rattle.station_core.specs.Requested.{functions_asked, is_forward};
 ghost use Rattle.station_core.specs.After.{desk_after, power_after};
 ghost use Rattle.station_core.specs.Answer.{answer, more_reply};
 ghost use Rattle.station_core.specs.Carried.{can_carry, carried_by, carrying};
@@ -22,43 +22,57 @@ ghost use Rattle.station_core.specs.Seen.{Seen};
 
 use crate::laws;
 
-/// A slot asks for F0 to F12 bit by bit, and for no function above. Bit 5 of DIRF is the direction, 0 forward.
+/// A slot asks for F0 to F12 bit by bit, and for no function above. Bit 5 of DIRF is the direction,
+/// 0 forward.
 pub fn functions_are_bits()
     ensures bits { (e : Entry) → asked_bits e ≡ bits_of_slot e }
     ensures no_more { (e : Entry) → functions_asked e < 2 ^ 13 }
     ensures forward { (e : Entry) → is_forward e ≡ true ↔ bit_at e.dirf 5 ≡ 0 }
 {}
 
-/// What a message changes of the packets of a refreshed slot waits, and so do all packets of a slot that it makes a
-/// refreshed one.
+/// What a message changes of the packets of a refreshed slot waits, and so do all packets of a slot
+/// that it makes a refreshed one.
 pub fn what_is_new_waits()
-    ensures { (seen : Seen) (op : OpOf) (slot : ℕ) (kind : KindOf) → HasDesk seen.powered → IsSlot slot → IsNew seen op slot kind → WaitsAfter seen op slot kind }
+    ensures { (seen : Seen) (op : OpOf) (slot : ℕ) (kind : KindOf) → HasDesk seen.powered
+        → IsSlot slot → IsNew seen op slot kind → WaitsAfter seen op slot kind }
 {
     laws::changes_wait();
     slot_table::laws::others_stay();
     slot_table::laws::own_slots();
 }
 
-/// After a message that leaves a whole slot each packet of the slot waits, whether it changed or not.
+/// After a message that leaves a whole slot each packet of the slot waits, whether it changed or
+/// not.
 pub fn whole_slots_wait()
-    ensures { (seen : Seen) (op : OpOf) (slot : ℕ) (kind : KindOf) → IsSlot slot → LeavesSlot seen.powered.desk op slot → WaitsAfter seen op slot kind }
+    ensures { (seen : Seen) (op : OpOf) (slot : ℕ) (kind : KindOf) → IsSlot slot
+        → LeavesSlot seen.powered.desk op slot → WaitsAfter seen op slot kind }
 {
     laws::changes_wait();
 }
 
-/// OPC_IMM_PACKET asks for F9 to F12 of a slot exactly where its bytes are a packet of function group three to the
-/// address in that slot, as the station itself sends that address.
+/// OPC_IMM_PACKET asks for F9 to F12 of a slot exactly where its bytes are a packet of function
+/// group three to the address in that slot, as the station itself sends that address.
 pub fn group_three_is_asked()
-    ensures { (desk : Desk) (bytes : List ℕ) (slot bits : ℕ) → list_all (λ byte. nat_lt byte 256) bytes ≡ true → (more_asked desk bytes ≡ Some (record { slot = slot; bits = bits })) ↔ AskMore desk bytes slot bits }
+    ensures { (desk : Desk) (bytes : List ℕ) (slot bits : ℕ)
+        → list_all (λ byte. nat_lt byte 256) bytes ≡ true
+        → (more_asked desk bytes ≡ Some (record { slot = slot; bits = bits }))
+        ↔ AskMore desk bytes slot bits }
 {}
 
-/// The bytes that a throttle puts into OPC_IMM_PACKET, one to five, are the bytes that are read of it, whatever the
-/// repeats; by these alone the station answers, and changes the slots.
+/// The bytes that a throttle puts into OPC_IMM_PACKET, one to five, are the bytes that are read of
+/// it, whatever the repeats; by these alone the station answers, and changes the slots.
 pub fn packets_are_carried()
-    ensures whole { (repeats : ℕ) (bytes : List ℕ) → can_carry repeats bytes ≡ true → IsWhole (carrying repeats bytes) }
-    ensures read { (repeats : ℕ) (bytes : List ℕ) → can_carry repeats bytes ≡ true → carried_by (op_of (carrying repeats bytes)) ≡ bytes }
-    ensures after { (repeats : ℕ) (bytes : List ℕ) (desk : Desk) → can_carry repeats bytes ≡ true → desk_after desk (op_of (carrying repeats bytes)) ≡ with_more desk (more_asked desk bytes) }
-    ensures answer { (repeats : ℕ) (bytes : List ℕ) (powered : PoweredDesk) (waiting : ℕ) → can_carry repeats bytes ≡ true → answer powered (op_of (carrying repeats bytes)) waiting ≡ Some (more_reply (more_asked powered.desk bytes)) }
+    ensures whole { (repeats : ℕ) (bytes : List ℕ) → can_carry repeats bytes ≡ true
+        → IsWhole (carrying repeats bytes) }
+    ensures read { (repeats : ℕ) (bytes : List ℕ) → can_carry repeats bytes ≡ true
+        → carried_by (op_of (carrying repeats bytes)) ≡ bytes }
+    ensures after { (repeats : ℕ) (bytes : List ℕ) (desk : Desk) → can_carry repeats bytes ≡ true
+        → desk_after desk (op_of (carrying repeats bytes))
+        ≡ with_more desk (more_asked desk bytes) }
+    ensures answer { (repeats : ℕ) (bytes : List ℕ) (powered : PoweredDesk) (waiting : ℕ)
+        → can_carry repeats bytes ≡ true
+        → answer powered (op_of (carrying repeats bytes)) waiting
+        ≡ Some (more_reply (more_asked powered.desk bytes)) }
 {}
 
 /// Off ends by power on alone.
@@ -66,10 +80,11 @@ pub fn off_ends_by_power_on()
     ensures { (op : OpOf) → op ≢ PowerOn → power_after Off op ≡ Off }
 {}
 
-/// What OPC_RQ_SL_DATA is answered for a slot after each message is what it was answered before, but for the bytes that
-/// the message writes.
+/// What OPC_RQ_SL_DATA is answered for a slot after each message is what it was answered before,
+/// but for the bytes that the message writes.
 pub fn messages_write_their_bytes()
-    ensures { (powered : PoweredDesk) (slot : ℕ) → HasDesk powered → IsSlot slot → WritesItsBytes powered slot }
+    ensures { (powered : PoweredDesk) (slot : ℕ) → HasDesk powered → IsSlot slot
+        → WritesItsBytes powered slot }
 {
     slot_table::laws::rows_are_legal();
     slot_table::laws::others_stay();

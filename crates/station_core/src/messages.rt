@@ -1,4 +1,4 @@
-//! What the messages of a line make of the station, and what it answers.
+//! The effect of a line's messages on the station, and its replies.
 ghost use Rattle.std.specs.Prelude.{◌≡◌, ◌==◌, ◌||◌, ◌<◌, [], Some, IfSome, IfOk, OnErr, true};
 ghost use Rattle.std.specs.Result.{ForOk};
 ghost use Rattle.ln_ops.specs.Message.{IsOfData};
@@ -48,9 +48,9 @@ const REFUSED: u8 = 0x00;
 const LAST_SWITCH: u16 = 2039;
 
 impl Station {
-    // Carries out a message. It stands apart, as most bytes end none.
+    // Carries out a message. A separate function, since most bytes end no message.
     #[inline(never)]
-    pub(crate) fn obey(&mut self, op: Op) -> Option<Reply>
+    pub(crate) fn carry_out_op(&mut self, op: Op) -> Option<Reply>
         requires { IsOfData op }
         ensures reply { result ≡ answer self.old.powered op (requests_in self.old.jobs) }
         ensures state { self.new ≡ after_op self.old op }
@@ -70,7 +70,7 @@ impl Station {
             Op::SlotRead { slot } => self.read_slot(slot),
             Op::SwReq { number, closed, on } => self.request_switch(number, closed, on),
             Op::SwAck { number, closed, on } => self.acknowledge_switch(number, closed, on),
-            // A master tells these, and a throttle does not.
+            // Sent by a master, not by a throttle.
             Op::LongAck { .. } | Op::SlotData(_) => None,
             Op::Imm {
                 count,
@@ -86,7 +86,8 @@ impl Station {
 
     fn set_power(&mut self, power: Power) -> Option<Reply>
         ensures reply { result ≡ None }
-        ensures state { self.new ≡ record self.old { powered = record self.old.powered { power = power } } }
+        ensures state { self.new
+            ≡ record self.old { powered = record self.old.powered { power = power } } }
     {
         self.power = power;
         None
@@ -95,7 +96,13 @@ impl Station {
     // OPC_IDLE: a running track is paused.
     fn pause(&mut self) -> Option<Reply>
         ensures reply { result ≡ None }
-        ensures state { self.new ≡ record self.old { powered = record self.old.powered { power = paused self.old.powered.power } } }
+        ensures state { self.new
+            ≡ record self.old {
+              powered = record self.old.powered {
+                power = paused
+                    self.old.powered.power;
+              };
+            } }
     {
         if self.power == Power::Running {
             self.power = Power::Paused;
@@ -107,7 +114,9 @@ impl Station {
     fn set_field(&mut self, slot: u8, field: Field) -> Option<Reply>
         requires { IsValue field }
         ensures reply { result ≡ None }
-        ensures state { self.new ≡ after_change self.old (after_field self.old.powered.desk slot field) (of_field self.old.powered.desk slot field) }
+        ensures state { self.new
+            ≡ after_change self.old (after_field self.old.powered.desk slot field)
+            (of_field self.old.powered.desk slot field) }
     {
         slot_table::laws::others_stay();
         if self.table.set_field(slot, field).is_err() {
@@ -120,7 +129,10 @@ impl Station {
     // F9 to F12 of a slot, by the bytes of a packet in OPC_IMM_PACKET.
     fn set_more(&mut self, bytes: &[u8]) -> Option<Reply>
         ensures reply { result ≡ Some (more_reply (more_asked self.old.powered.desk bytes.now)) }
-        ensures state { self.new ≡ after_change self.old (with_more self.old.powered.desk (more_asked self.old.powered.desk bytes.now)) (of_more self.old.powered.desk (more_asked self.old.powered.desk bytes.now)) }
+        ensures state { self.new
+            ≡ after_change self.old
+            (with_more self.old.powered.desk (more_asked self.old.powered.desk bytes.now))
+            (of_more self.old.powered.desk (more_asked self.old.powered.desk bytes.now)) }
         ensures sendable { IfSome result IsSendable }
     {
         let Some(more) = more_asked(&self.table, bytes) else {
@@ -140,7 +152,7 @@ impl Station {
         ensures sendable { IfSome result IsSendable }
     {
         let slot = if stays(src, dest) {
-            self.hand_over(src, dest)
+            self.dispatch(src, dest)
         } else {
             self.shift(src, dest)
         };
@@ -148,11 +160,12 @@ impl Station {
     }
 
     // Dispatch get, null move or dispatch put.
-    fn hand_over(&mut self, src: u8, dest: u8) -> Result<u8, SlotFault>
+    fn dispatch(&mut self, src: u8, dest: u8) -> Result<u8, SlotFault>
         requires { (src == 0 || (src == dest || dest == 0)) ≡ true }
         ensures answer { result ≡ move_answer self.old.powered.desk src dest }
         ensures slot { IfOk result IsSlot }
-        ensures state { self.new ≡ after_change self.old (after_move self.old.powered.desk src dest) (of_slot result) }
+        ensures state { self.new
+            ≡ after_change self.old (after_move self.old.powered.desk src dest) (of_slot result) }
     {
         slot_table::laws::others_stay();
         let slot = handed_over(&mut self.table, src, dest)?;
@@ -163,7 +176,8 @@ impl Station {
     fn shift(&mut self, src: u8, dest: u8) -> Result<u8, SlotFault>
         ensures answer { result ≡ slot_if (can_shift self.old.powered.desk src dest) dest }
         ensures slot { IfOk result IsSlot }
-        ensures state { self.new ≡ after_change self.old (after_shift self.old.powered.desk src dest) (of_slot result) }
+        ensures state { self.new
+            ≡ after_change self.old (after_shift self.old.powered.desk src dest) (of_slot result) }
     {
         slot_table::laws::others_stay();
         let slot = self.table.shift(src, dest)?;
@@ -186,7 +200,8 @@ impl Station {
     fn take(&mut self, address: u16) -> Result<u8, SlotFault>
         ensures answer { result ≡ take_answer self.old.powered.desk address }
         ensures slot { IfOk result IsSlot }
-        ensures state { self.new ≡ after_change self.old (after_take self.old.powered.desk address) [] }
+        ensures state { self.new
+            ≡ after_change self.old (after_take self.old.powered.desk address) [] }
     {
         slot_table::laws::others_stay();
         let slot = self.table.take(address)?;
@@ -224,7 +239,8 @@ impl Station {
 
     // OPC_SW_REQ: answered only where it is refused.
     fn request_switch(&mut self, number: u16, closed: bool, on: bool) -> Option<Reply>
-        ensures reply { result ≡ answer self.old.powered (Op.SwReq number closed on) (requests_in self.old.jobs) }
+        ensures reply { result
+            ≡ answer self.old.powered (Op.SwReq number closed on) (requests_in self.old.jobs) }
         ensures state { self.new ≡ after_op self.old (Op.SwReq number closed on) }
         ensures sendable { IfSome result IsSendable }
     {
@@ -237,7 +253,8 @@ impl Station {
 
     // OPC_SW_ACK: always answered.
     fn acknowledge_switch(&mut self, number: u16, closed: bool, on: bool) -> Option<Reply>
-        ensures reply { result ≡ answer self.old.powered (Op.SwAck number closed on) (requests_in self.old.jobs) }
+        ensures reply { result
+            ≡ answer self.old.powered (Op.SwAck number closed on) (requests_in self.old.jobs) }
         ensures state { self.new ≡ after_op self.old (Op.SwAck number closed on) }
         ensures sendable { IfSome result IsSendable }
     {
@@ -287,7 +304,8 @@ fn stays(src: u8, dest: u8) -> bool
     src == 0 || src == dest || dest == 0
 }
 
-// What such a message does to the table: dispatch get, null move or dispatch put, tried in this order.
+// What such a message does to the table: dispatch get, null move or dispatch put, tried in this
+// order.
 fn handed_over(table: &mut SlotTable, src: u8, dest: u8) -> Result<u8, SlotFault>
     requires { (src == 0 || (src == dest || dest == 0)) ≡ true }
     ensures answer { result ≡ move_answer table.old src dest }

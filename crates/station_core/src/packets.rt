@@ -6,13 +6,13 @@ ghost use Rattle.dcc_packet.specs.Steps.{steps_of_kind};
 ghost use Rattle.ln_ops.specs.Slot.{is_held};
 ghost use Rattle.slot_table.specs.Entry.{IsRow, entry_of};
 ghost use Rattle.station_core.specs.Packets.{address_sent, entry_packet, is_lit};
-ghost use Rattle.station_core.specs.Asking.{functions_asked, is_forward, motion_asked, steps_asked};
+ghost use Rattle.station_core.specs.Requested.{functions_asked, is_forward, motion_asked, steps_asked};
 
 use dcc_packet::{Address, Packet, Steps, group_one, group_three, group_two, speed, steps_of};
 use ln_ops::Row;
 use refresh_ring::Kind;
 
-/// The packet of this kind for what stands in a slot that is not free.
+/// The packet of this kind for what is in a slot that is not free.
 pub(crate) fn entry_packet(kind: Kind, row: &Row) -> Packet
     requires row { IsRow row.now }
     requires held { is_held row.now.state ≡ true }
@@ -31,7 +31,9 @@ pub(crate) fn entry_packet(kind: Kind, row: &Row) -> Packet
 fn speed_packet(address: Address, row: &Row) -> Packet
     requires legal { IsTrue (is_legal address) }
     requires row { IsRow row.now }
-    ensures { result ≡ speed_bytes address (steps_asked (entry_of row.now)) (motion_asked (entry_of row.now)) (is_forward (entry_of row.now)) (is_lit (entry_of row.now)) }
+    ensures { result
+        ≡ speed_bytes address (steps_asked (entry_of row.now)) (motion_asked (entry_of row.now))
+        (is_forward (entry_of row.now)) (is_lit (entry_of row.now)) }
 {
     let steps = steps_asked(row.kind);
     let motion = steps_of(steps, row.spd);

@@ -69,7 +69,8 @@ pub(crate) fn refresh_if_driven(table: &SlotTable, schedule: &mut Schedule<BitRi
     schedule.refresh(slot, is_driven(table.row(slot).state));
 }
 
-// The same, and the packets that a change alters wait to be sent first, where the slot is refreshed.
+// The same, and the packets that a change alters wait to be sent first, where the slot is
+// refreshed.
 pub(crate) fn schedule_changes(
     table: &SlotTable,
     schedule: &mut Schedule<BitRing>,
@@ -77,7 +78,9 @@ pub(crate) fn schedule_changes(
     change: Change,
 )
     requires { IsSlot slot }
-    ensures state { schedule.new ≡ after_places (places_with slot change) (after_refresh slot (is_refreshed table.now slot) schedule.old) }
+    ensures state { schedule.new
+        ≡ after_places (places_with slot change)
+        (after_refresh slot (is_refreshed table.now slot) schedule.old) }
     ensures legal { IsScheduled schedule.new }
 {
     refresh_if_driven(table, schedule, slot);

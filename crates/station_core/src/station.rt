@@ -1,4 +1,5 @@
-//! A station: what a byte on one of its lines, or a turn of its track, does to its slots, its power and what waits.
+//! A station: the effect of a byte on one of its lines, or of a turn of its track, on its slots,
+//! its power and its jobs.
 ghost use Rattle.std.specs.Prelude.{◌≡◌, ℕ, ◌<◌, ◌∷◌, ◌++◌, [], List, Some, IfOk, IfErr, IfSome, length, true, false, IsTrue};
 ghost use Rattle.std.specs.Option.{option_to_list};
 ghost use Rattle.ln_frame.specs.Stream.{messages_of};
@@ -11,7 +12,7 @@ ghost use Rattle.slot_table.specs.Desk.{IsDesk};
 ghost use Rattle.slot_table.specs.Entry.{IsRow, IsSlot};
 ghost use Rattle.slot_table.specs.Reading.{row_of};
 ghost use Rattle.station_core.specs.Packets.{IsPickOf};
-ghost use Rattle.station_core.specs.Known.{known_after_all};
+ghost use Rattle.station_core.specs.ThrottleView.{known_after_all};
 ghost use Rattle.station_core.specs.Messages.{bytes_on, carried_out_on};
 ghost use Rattle.station_core.specs.Moments.{AtEveryMoment};
 ghost use Rattle.station_core.specs.Neighbours.{NeighboursApart};
@@ -36,22 +37,22 @@ use std::alloc::Global;
 use std::marker::Model;
 
 /// The most lines of a station.
-const MOST_LINES: usize = 8;
+pub const MAX_LINES: usize = 8;
 
 /// Why a station was not made.
 #[derive(Clone, Copy, Debug, PartialEq, Eq)]
 pub enum StationFault {
     /// A station has 1 to 8 lines.
     BadLines,
-    /// There was no memory for the jobs that wait.
+    /// Out of memory for the jobs that wait.
     NoMemory,
 }
 
-/// A command station: up to eight LocoNet lines, whose bytes share nothing but the slots, and what is sent on the
+/// A command station: up to eight LocoNet lines, which share only the slots, and the packets of the
 /// track for the slots that are in use or common.
 #[derive(Drop)]
 pub struct Station {
-    framers: ArrayVec<Framer, MOST_LINES>,
+    framers: ArrayVec<Framer, MAX_LINES>,
     pub(crate) table: SlotTable,
     pub(crate) power: Power,
     pub(crate) schedule: Schedule<BitRing>,
@@ -69,19 +70,22 @@ impl Model for Station {
     ghost use Rattle.station_core.specs.Seen.{seen_with};
     ghost use Rattle.station_core.specs.Kept.{IsStation};
 
-    ghost view = { λ s. seen_with s.framers.items (record { power = s.power; desk = s.table }) s.schedule };
+    ghost view = { λ s.
+        seen_with s.framers.items (record { power = s.power; desk = s.table }) s.schedule };
 
     ghost invariant = { λ s. IsStation s.framers.items s.table s.schedule };
 }
 
 impl Station {
-    /// A station with so many lines: power off, all slots free, nothing heard on a line, nothing to send.
+    /// Creates a station with `lines` lines: power off, all slots free, no byte received on a line,
+    /// nothing to send.
     ///
-    /// Refused as `BadLines` unless the lines are 1 to 8, and else where there is no memory for the jobs.
+    /// Fails with `BadLines` unless `lines` is 1 to 8, and otherwise if out of memory for the jobs.
     pub fn new(alloc: Global, lines: u8) -> Result<Station, StationFault>
         ensures lines { is_line_count lines ≡ false → result ≡ Err StationFault.BadLines }
         ensures made { IfOk result (λ s. (is_line_count lines ≡ true) × (s ≡ first_seen lines)) }
-        ensures memory { IfErr result (λ e. is_line_count lines ≡ true → e ≡ StationFault.NoMemory) }
+        ensures memory { IfErr result
+            (λ e. is_line_count lines ≡ true → e ≡ StationFault.NoMemory) }
     {
         if lines < 1 || lines > 8 {
             return Err(StationFault::BadLines);
@@ -101,20 +105,21 @@ impl Station {
         }
     }
 
-    /// What every station keeps of itself: a law, and no code.
+    /// The invariant of every station: a law without code.
     pub fn always_legal(&self)
         ensures lines { is_line_count (length self.now.lines) ≡ true }
         // No address has two slots, and each slot that is not free has its entry.
         ensures desk { IsDesk self.now.powered.desk }
         ensures schedule { IsScheduled (scheduled self.now) }
         // What a line holds is the beginning of a message.
-        ensures unfinished { (line : ℕ) → unfinished_of (line_of self.now line) ≡ line_of self.now line }
+        ensures unfinished { (line : ℕ)
+            → unfinished_of (line_of self.now line) ≡ line_of self.now line }
     {
         // A proof learns what a type keeps where a field is used.
         let _ = &self.schedule;
     }
 
-    /// How many lines there are, 1 to 8.
+    /// Returns the number of lines, 1 to 8.
     pub fn lines(&self) -> u8
         ensures lines { result ≡ length self.now.lines }
         ensures count { is_line_count result ≡ true }
@@ -122,14 +127,15 @@ impl Station {
         self.framers.len() as u8
     }
 
-    /// The power of the track.
+    /// Returns the power of the track.
     pub fn power(&self) -> Power
         ensures { result ≡ self.now.powered.power }
     {
         self.power
     }
 
-    /// What a slot, 1 to 119, reads as; zeros with the state free where no locomotive stands in it.
+    /// Returns what a slot, 1 to 119, reads as; zeros with the state free if no locomotive is in
+    /// it.
     pub fn row(&self, slot: u8) -> Row
         requires { IsSlot slot }
         ensures row { result ≡ row_of self.now.powered.desk slot }
@@ -138,14 +144,15 @@ impl Station {
         self.table.row(slot)
     }
 
-    /// The slot that waits to be dispatched.
+    /// Returns the slot that waits to be dispatched.
     pub fn mark(&self) -> Option<u8>
         ensures { result ≡ self.now.powered.desk.mark }
     {
         self.table.mark()
     }
 
-    /// How many sends wait ahead of a packet of a slot, 1 to 119, that waits. None where it does not wait.
+    /// Returns how many sends wait ahead of a waiting packet of a slot, 1 to 119, or `None` if it
+    /// does not wait.
     pub fn sends_ahead(&self, slot: u8, kind: Kind) -> Option<u32>
         requires { IsSlot slot }
         ensures { result ≡ sends_ahead slot kind self.now.jobs }
@@ -153,14 +160,15 @@ impl Station {
         self.schedule.sends_ahead(slot, kind)
     }
 
-    /// How many switch requests still have a packet to send, at most 32.
+    /// Returns how many switch requests still have a packet to send, at most 32.
     pub fn switches_waiting(&self) -> u8
         ensures { result ≡ requests_in self.now.jobs }
     {
         self.schedule.switches_waiting()
     }
 
-    /// Hears a byte on a line, and answers on that line where the byte ends a message that is answered.
+    /// Receives a byte on a line, and returns the reply on that line if the byte completes a
+    /// message that has one.
     #[inline(never)]
     pub fn byte(&mut self, line: u8, byte: u8) -> Option<Reply>
         requires { line < length self.old.lines }
@@ -168,11 +176,14 @@ impl Station {
         ensures state { self.new ≡ after_byte self.old line byte }
         ensures lines { length self.new.lines ≡ length self.old.lines }
         ensures sendable { IfSome result IsSendable }
-        // However the line goes on, no message is lost and none is made up.
+        // Whatever bytes follow on the line, no message is lost and none is invented.
         ensures further { (z : List ℕ) → messages_of (line_of self.old line ++ byte ∷ z)
-            ≡ option_to_list (message_ended self.old line byte) ++ messages_of (line_of self.new line ++ z) }
+            ≡ option_to_list (message_ended self.old line byte)
+            ++ messages_of (line_of self.new line ++ z) }
         // Each place that a message changes waits after it, where its slot is refreshed.
-        ensures waits { (message : List ℕ) → message_ended self.old line byte ≡ Some message → ChangesWait self.old (op_of message) }
+        ensures changes_queued { (message : List ℕ)
+            → message_ended self.old line byte ≡ Some message
+            → ChangesWait self.old (op_of message) }
         // No address has two slots, and each slot that is not free has its entry.
         ensures desk { IsDesk self.old.powered.desk }
     {
@@ -181,12 +192,12 @@ impl Station {
         let framer = &mut self.framers[line as usize];
         // A message, which has room for 127 bytes, is read where it lies.
         match &framer.push(byte) {
-            Some(message) => self.obey(read(message)),
+            Some(message) => self.carry_out_op(read(message)),
             None => None,
         }
     }
 
-    /// The packet that is sent now. None exactly while the power is off.
+    /// Returns the packet to send now, or `None` exactly while the power is off.
     pub fn turn(&mut self) -> Option<Packet>
         ensures packet { result ≡ packet_of_turn self.old }
         ensures state { self.new ≡ after_turn self.old }
@@ -202,7 +213,8 @@ impl Station {
         self.packet_of(pick)
     }
 
-    /// Each call in order, its answer written at its place. A list of calls may be cut anywhere.
+    /// Runs the calls in order, and writes each result at the same index of `steps`. A list of
+    /// calls may be divided anywhere.
     pub fn run(&mut self, calls: &[Call], steps: &mut [Step])
         requires places { length calls.now ≡ length steps.old }
         requires lines { AreCalls (length self.old.lines) calls.now }
@@ -210,10 +222,12 @@ impl Station {
         ensures answers { steps.new ≡ answers self.old calls.now }
         ensures lines { length self.new.lines ≡ length self.old.lines }
         // What was asked is what the bytes of the lines ask, whatever was sent meanwhile.
-        ensures told { self.new.powered ≡ (known_after_all (known_of self.old) calls.now).powered }
+        ensures reported { self.new.powered
+            ≡ (known_after_all (known_of self.old) calls.now).powered }
         // On each line the whole messages of its bytes are carried out, and no others.
         ensures messages { (line : ℕ) → line < length self.old.lines
-            → carried_out_on line (known_of self.old) calls.now ≡ messages_of (line_of self.old line ++ bytes_on line calls.now) }
+            → carried_out_on line (known_of self.old) calls.now
+            ≡ messages_of (line_of self.old line ++ bytes_on line calls.now) }
         // At each moment no address has two slots, and each slot that is not free has its entry.
         ensures desks { AtEveryMoment HasDesk (known_of self.old) calls.now }
         // In a full refresh cycle of a slot each of its packets is sent.

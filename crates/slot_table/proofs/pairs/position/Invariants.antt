@@ -2,7 +2,7 @@ use Rattle.std.proofs.Common.{ℕ, ◌<◌, ◌≤◌, ◌-◌, length}
 use Rattle.slot_table.specs.Index.{pair_at}
 use Rattle.slot_table.proofs.pairs.position.Given as goal
 
--- the address stands nowhere below or above what is left
+-- the address is neither below nor above the remaining pairs
 abbrev pub invariant-loop-low : goal.invariant-loop-low
 invariant-loop-low l = record {
   order : l.low ≤ l.high;

@@ -33,7 +33,7 @@ returns-in-Err c =
     ∙ with_address-free (addresses_of c.self.inside.pairs.items) c.args.slot c.args.address (free c)
     ∙ ap (λ (m : FinMap nat_cmp ℕ). with_address m c.args.slot (Some c.args.address)) c.self.view_is
 
--- the address stands nowhere
+-- the address is in no slot
 pub returns-in_default : goal.returns-in_default
 returns-in_default c =
     let low : c.in_default.field-0 < length c.self.inside.pairs.items = subst (λ (l : List Pair). c.in_default.field-0 < length l) c.as_slice.ensures.value c.in_default.ensures.within in

@@ -31,7 +31,7 @@ returns-in-Ok c =
     ∙ removed-addresses c.self.inside.pairs.items c.in-Ok.k (low c) c.self.invariant.apart c.args.slot (own c)
     ∙ ap (λ (m : FinMap nat_cmp ℕ). with_address m c.args.slot None) c.self.view_is
 
--- the address stands somewhere
+-- the address is in a slot
 pub returns-in_default-position : goal.returns-in_default-position
 returns-in_default-position c =
     let at : get (addresses_of c.self.inside.pairs.items) c.args.slot ≡ Some c.in-Some.address = ap (λ (m : FinMap nat_cmp ℕ). get m c.args.slot) c.self.view_is ∙ c.requires.had ∙ c.in-Some.is in

@@ -10,7 +10,7 @@ use Rattle.station_core.specs.Seen.{Seen, line_of, seen_with}
 use Rattle.station_core.proofs.Framed.{stays_station}
 use Rattle.station_core.proofs.Heard.{Heard, heard_by, kept_count, kept_messages, quiet_reply, quiet_state, told_reply, told_state}
 use Rattle.station_core.proofs.station.Station.byte.Goals as goal
-use Rattle.station_core.proofs.station.Station.byte.Goals.{In-None, After-obey}
+use Rattle.station_core.proofs.station.Station.byte.Goals.{In-None, After-carry_out_op}
 
 pub invariant_of-self : goal.invariant_of-self
 invariant_of-self c =
@@ -22,14 +22,14 @@ invariant_of-self-in-None c =
     stays_station c.self.inside.framers.items c.deref_mut.result.now c.args.line (slice_index_or c.deref_mut.result.now c.args.line c.index-deref_mut-line.result ++ c.args.byte ∷ []) c.push.new.self c.self.inside.table c.self.inside.schedule c.self.invariant
     (subst (λ (seen : Seen). c.args.line < length seen.lines) (sym c.self.view_is) c.requires) c.deref_mut.ensures.value c.left_is_enough.ensures.once c.push.ensures.unfinished
 
-pub returns-in-None-clause-waits : goal.returns-in-None-clause-waits
-returns-in-None-clause-waits c = λ message ended. c.changes_wait.ensures c.args.self.now (op_of message)
+pub returns-in-None-clause-changes_queued : goal.returns-in-None-clause-changes_queued
+returns-in-None-clause-changes_queued c = λ message ended. c.changes_wait.ensures c.args.self.now (op_of message)
 
 pub returns-in-None-clause-desk : goal.returns-in-None-clause-desk
 returns-in-None-clause-desk c = subst (λ (seen : Seen). IsDesk seen.powered.desk) c.self.view_is c.self.invariant.in_step.desk
 
-pub returns-in-Some-clause-waits : goal.returns-in-Some-clause-waits
-returns-in-Some-clause-waits c = λ message ended. c.changes_wait.ensures c.args.self.now (op_of message)
+pub returns-in-Some-clause-changes_queued : goal.returns-in-Some-clause-changes_queued
+returns-in-Some-clause-changes_queued c = λ message ended. c.changes_wait.ensures c.args.self.now (op_of message)
 
 pub returns-in-Some-clause-desk : goal.returns-in-Some-clause-desk
 returns-in-Some-clause-desk c = subst (λ (seen : Seen). IsDesk seen.powered.desk) c.self.view_is c.self.invariant.in_step.desk
@@ -40,8 +40,8 @@ quiet c =
     (subst (λ (seen : Seen). c.args.line < length seen.lines) (sym c.self.view_is) c.requires)
     c.push.ensures.given c.push.ensures.unfinished c.push.ensures.further c.in-None.is
 
-told : (c : After-obey) → Heard (seen_with c.self.inside.framers.items (record { power = c.self.inside.power; desk = c.self.inside.table }) c.self.inside.schedule) c.args.line c.args.byte (refill (length c.self.inside.framers.items) c.self.inside.framers.items (set c.deref_mut.result.now c.args.line c.push.new.self)) (Some c.in-Some.message)
-told c =
+reported : (c : After-carry_out_op) → Heard (seen_with c.self.inside.framers.items (record { power = c.self.inside.power; desk = c.self.inside.table }) c.self.inside.schedule) c.args.line c.args.byte (refill (length c.self.inside.framers.items) c.self.inside.framers.items (set c.deref_mut.result.now c.args.line c.push.new.self)) (Some c.in-Some.message)
+reported c =
     heard_by c.self.inside.framers.items c.deref_mut.result.now (record { power = c.self.inside.power; desk = c.self.inside.table }) c.self.inside.schedule c.args.line c.args.byte c.index-deref_mut-line.result c.push.new.self c.push.result (Some c.in-Some.message) c.deref_mut.ensures.value
     (subst (λ (seen : Seen). c.args.line < length seen.lines) (sym c.self.view_is) c.requires)
     c.push.ensures.given c.push.ensures.unfinished c.push.ensures.further c.in-Some.is
@@ -78,28 +78,28 @@ returns-in-None-clause-further c =
 
 pub returns-in-Some-clause-reply : goal.returns-in-Some-clause-reply
 returns-in-Some-clause-reply c =
-    subst (λ (seen : Seen). c.obey.result ≡ answer_to_byte seen c.args.line c.args.byte) c.self.view_is
+    subst (λ (seen : Seen). c.carry_out_op.result ≡ answer_to_byte seen c.args.line c.args.byte) c.self.view_is
     (told_reply c.self.inside.framers.items (record { power = c.self.inside.power; desk = c.self.inside.table }) c.self.inside.schedule c.args.line c.args.byte
-    (refill (length c.self.inside.framers.items) c.self.inside.framers.items (set c.deref_mut.result.now c.args.line c.push.new.self)) c.in-Some.message c.read.result c.obey.result (told c) c.read.ensures.op c.obey.ensures.reply)
+    (refill (length c.self.inside.framers.items) c.self.inside.framers.items (set c.deref_mut.result.now c.args.line c.push.new.self)) c.in-Some.message c.read.result c.carry_out_op.result (reported c) c.read.ensures.op c.carry_out_op.ensures.reply)
 
-told_state_of : (c : After-obey) → c.obey.new.self ≡ after_byte c.args.self.now c.args.line c.args.byte
+told_state_of : (c : After-carry_out_op) → c.carry_out_op.new.self ≡ after_byte c.args.self.now c.args.line c.args.byte
 told_state_of c =
-    subst (λ (seen : Seen). c.obey.new.self ≡ after_byte seen c.args.line c.args.byte) c.self.view_is
+    subst (λ (seen : Seen). c.carry_out_op.new.self ≡ after_byte seen c.args.line c.args.byte) c.self.view_is
     (told_state c.self.inside.framers.items (record { power = c.self.inside.power; desk = c.self.inside.table }) c.self.inside.schedule c.args.line c.args.byte
-    (refill (length c.self.inside.framers.items) c.self.inside.framers.items (set c.deref_mut.result.now c.args.line c.push.new.self)) c.in-Some.message c.read.result c.obey.new.self (told c) c.read.ensures.op c.obey.ensures.state)
+    (refill (length c.self.inside.framers.items) c.self.inside.framers.items (set c.deref_mut.result.now c.args.line c.push.new.self)) c.in-Some.message c.read.result c.carry_out_op.new.self (reported c) c.read.ensures.op c.carry_out_op.ensures.state)
 
 pub returns-in-Some-clause-state : goal.returns-in-Some-clause-state
 returns-in-Some-clause-state c = told_state_of c
 
 pub returns-in-Some-clause-lines : goal.returns-in-Some-clause-lines
-returns-in-Some-clause-lines c = kept_count c.args.self.now c.obey.new.self c.args.line c.args.byte (told_state_of c)
+returns-in-Some-clause-lines c = kept_count c.args.self.now c.carry_out_op.new.self c.args.line c.args.byte (told_state_of c)
 
 pub returns-in-Some-clause-sendable : goal.returns-in-Some-clause-sendable
-returns-in-Some-clause-sendable c = c.obey.ensures.sendable
+returns-in-Some-clause-sendable c = c.carry_out_op.ensures.sendable
 
 pub returns-in-Some-clause-further : goal.returns-in-Some-clause-further
 returns-in-Some-clause-further c =
-    kept_messages c.args.self.now c.obey.new.self c.args.line c.args.byte (told_state_of c)
+    kept_messages c.args.self.now c.carry_out_op.new.self c.args.line c.args.byte (told_state_of c)
     (refill (length c.self.inside.framers.items) c.self.inside.framers.items (set c.deref_mut.result.now c.args.line c.push.new.self)) (Some c.in-Some.message)
-    (subst (λ (seen : Seen). Heard seen c.args.line c.args.byte (refill (length c.self.inside.framers.items) c.self.inside.framers.items (set c.deref_mut.result.now c.args.line c.push.new.self)) (Some c.in-Some.message)) c.self.view_is (told c))
+    (subst (λ (seen : Seen). Heard seen c.args.line c.args.byte (refill (length c.self.inside.framers.items) c.self.inside.framers.items (set c.deref_mut.result.now c.args.line c.push.new.self)) (Some c.in-Some.message)) c.self.view_is (reported c))
     c.requires

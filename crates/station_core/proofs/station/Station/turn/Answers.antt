@@ -22,7 +22,7 @@ invariant_of-self c = record {
 
 pub packet_of-requires : goal.packet_of-requires
 packet_of-requires c =
-    is_pick_of c.self.inside.table c.self.inside.schedule c.self.inside.power (addresses c.self.inside.table) c.pick-pick.result c.self.invariant.in_step.slots c.pick-pick.ensures.answer c.pick-pick.ensures.range c.pick-pick.ensures.due
+    is_pick_of c.self.inside.table c.self.inside.schedule c.self.inside.power (addresses c.self.inside.table) c.pick-pick.result c.self.invariant.in_step.slots c.pick-pick.ensures.answer c.pick-pick.ensures.range c.pick-pick.ensures.is_due
 
 pub returns-clause-packet : goal.returns-clause-packet
 returns-clause-packet c =

@@ -7,7 +7,7 @@ use Rattle.station_core.specs.declared.schedule.Change.TheVariants.{All}
 use Rattle.station_core.specs.Moved.{after_change}
 use Rattle.station_core.specs.Seen.{Seen, seen_with}
 use Rattle.station_core.proofs.Follows.{Others, handed_over, in_step, noted_as}
-use Rattle.station_core.proofs.station.Station.hand_over.Goals as goal
+use Rattle.station_core.proofs.station.Station.dispatch.Goals as goal
 
 others : (c : goal.After-schedule_changes) → Others c.self.inside.table c.handed_over.new.table c.in_ok-slot.slot
 others c = λ m ne.
