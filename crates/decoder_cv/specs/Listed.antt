@@ -1,5 +1,6 @@
--- What a list of configuration variables with their values makes of a locomotive decoder (NMRA S-9.2.2; which lists are
--- refused, and what is taken where CV17 or CV18 is left out, is this project's profile).
+-- What a list of configuration variables with their values makes of a locomotive decoder (NMRA
+-- S-9.2.2; which lists are refused, and what is taken where CV17 or CV18 is left out, is this
+-- project's profile).
 use Rattle.std.specs.Prelude.{ℕ, ◌==◌, ◌&&◌, ◌||◌, nat_le, Bool, if◌then◌else◌, List, Option, Some, None, option_map, Result, Err}
 use Rattle.std.specs.List.{count_by, find, list_all}
 use Rattle.std.specs.Option.{unwrap_or}
@@ -24,7 +25,7 @@ times number pairs = count_by (is_of number) pairs
 abbrev pub value_in : ℕ → List CvPair → Option ℕ
 value_in number pairs = option_map (λ pair. pair.value) (find (is_of number) pairs)
 
--- each number is a variable's, and none stands twice
+-- each number is a variable's, and none appears twice
 abbrev pub are_variables : List CvPair → Bool
 are_variables pairs = list_all (λ pair. is_number pair.number && times pair.number pairs == 1) pairs
 

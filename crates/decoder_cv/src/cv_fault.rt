@@ -11,6 +11,6 @@ pub enum CvFault {
     BadCv17,
     /// CV29 bit 7 says that this is an accessory decoder.
     NotLoco,
-    /// A number is outside 1 to 1024 or stands twice, or CV1 or CV29 is missing.
+    /// A number is outside 1 to 1024 or appears twice, or CV1 or CV29 is missing.
     BadList,
 }

@@ -38,21 +38,24 @@ impl Model for CvSet {
 
     ghost Value = { Settings };
 
-    ghost view = { λ cv. record { address = cv.address; reversed = cv.reversed; fourteen = cv.fourteen } };
+    ghost view = { λ cv.
+        record { address = cv.address; reversed = cv.reversed; fourteen = cv.fourteen } };
 
     ghost invariant = { λ cv. IsTrue (is_legal cv.address) };
 
-    ghost inverse = { λ cv. record { address = cv.address; reversed = cv.reversed; fourteen = cv.fourteen } };
+    ghost inverse = { λ cv.
+        record { address = cv.address; reversed = cv.reversed; fourteen = cv.fourteen } };
 }
 
 impl CvSet {
     ghost use Rattle.decoder_cv.specs.Listed.{listed, settings_with};
     ghost use Rattle.decoder_cv.specs.Settings.{settings_of};
 
-    /// The settings that these values make: CV1 the short address, CV17 and CV18 the two bytes of the long one on
-    /// the track, CV29 the flags.
+    /// The settings that these values make: CV1 the short address, CV17 and CV18 the two bytes of
+    /// the long one on the track, CV29 the flags.
     ///
-    /// CV1 has to be 1 to 127 even where CV29 asks for the long address; CV17 is looked at only there.
+    /// CV1 has to be 1 to 127 even where CV29 asks for the long address; CV17 is looked at only
+    /// there.
     pub fn new(cv1: u8, cv17: u8, cv18: u8, cv29: u8) -> Result<CvSet, CvFault>
         ensures { result ≡ settings_of cv1 cv17 cv18 cv29 }
     {
@@ -79,9 +82,9 @@ impl CvSet {
 
     /// The settings that a list of variables with their values makes, in any order.
     ///
-    /// `BadList` is tested first: each number has to be 1 to 1024 and may stand once, and CV1 and CV29 have to be
-    /// there. Then the values are those of [`CvSet::new`], with 192 where CV17 is left out and 0 where CV18 is. Other
-    /// variables have no effect.
+    /// `BadList` is tested first: each number has to be 1 to 1024 and may appear once, and CV1 and
+    /// CV29 have to be there. Then the values are those of [`CvSet::new`], with 192 where CV17 is
+    /// left out and 0 where CV18 is. Other variables have no effect.
     pub fn of_list(pairs: &[CvPair]) -> Result<CvSet, CvFault>
         ensures { result ≡ listed pairs.now }
     {
@@ -131,7 +134,8 @@ impl CvSet {
         self.reversed
     }
 
-    /// Whether the decoder reads speed packets as 14 steps with F0 (CV29 bit 1 is clear), and not as 28.
+    /// Whether the decoder reads speed packets as 14 steps with F0 (CV29 bit 1 is clear), and not
+    /// as 28.
     #[inline]
     pub fn fourteen(&self) -> bool
         ensures { result ≡ self.now.fourteen }

@@ -1,7 +1,7 @@
-//! The settings of a locomotive decoder: its configuration variables CV1, CV17, CV18 and CV29 (NMRA S-9.2.2), given one
-//! by one or in a list of any variables.
+//! The settings of a locomotive decoder: its configuration variables CV1, CV17, CV18 and CV29 (NMRA
+//! S-9.2.2), given one by one or in a list of any variables.
 //!
-//! Its tests stand in `library_tests/src/test_decoder_cv.rt`.
+//! The tests are in `library_tests/src/test_decoder_cv.rt`.
 #![tactic(auto)]
 
 mod cv_fault;

@@ -4,7 +4,7 @@ ghost use Rattle.decoder_cv.specs.Listed.{are_variables, is_number, times, value
 
 use crate::cv_pair::CvPair;
 
-/// Whether each number is a variable's, and none stands twice.
+/// Whether each number is a variable's, and none appears twice.
 ///
 /// It goes over the list once for each pair up to the first at fault, so no more than 1,025 times.
 pub(crate) fn are_variables(pairs: &[CvPair]) -> bool

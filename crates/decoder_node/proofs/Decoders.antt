@@ -10,7 +10,7 @@ use Rattle.dcc_packet.specs.Wave.{IsWave}
 use Rattle.decoder_rx.specs.Position.{Position, is_hunting}
 use Rattle.decoder_rx.specs.Table.{after_all, answers}
 use Rattle.decoder_node.specs.Decoder.{Decoder}
-use Rattle.decoder_node.specs.Hearing.{Hears, heard, heard_all}
+use Rattle.decoder_node.specs.Hearing.{Receives, heard, heard_all}
 use Rattle.decoder_node.specs.Heard.{obeying, after_receipt, ObeysWaves}
 use Rattle.decoder_node.proofs.Drained.{drained}
 use Rattle.decoder_node.proofs.Waves.{Laws, Ignores, spells_none, obeyed, ran}
@@ -48,9 +48,9 @@ module _ {Settings State : Type 0} (does : Settings → State → Instr → Stat
             (state ∙ all.0, hunting ∙ all.1);
       }
 
-  pub hears : Laws → (old new : Decoder Settings State) (halves : List ℕ) → new ≡ heard_all does old halves → Hears does old halves new
+  pub hears : Laws → (old new : Decoder Settings State) (halves : List ℕ) → new ≡ heard_all does old halves → Receives does old halves new
   hears laws old new halves h =
-      subst (Hears does old halves) (sym h) (record { in_turn = refl; kept = settings_after halves old; waves = waves laws old halves })
+      subst (Receives does old halves) (sym h) (record { in_turn = refl; kept = settings_after halves old; waves = waves laws old halves })
 
   same : (one other : Decoder Settings State) → one.settings ≡ other.settings → one.state ≡ other.state → one.receiver ≡ other.receiver → one ≡ other
   same one other settings state receiver =

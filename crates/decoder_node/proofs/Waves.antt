@@ -7,13 +7,13 @@ use Rattle.dcc_packet.specs.Reading.{instruction_of, form_of}
 use Rattle.dcc_packet.specs.Wave.{IsWave}
 use Rattle.decoder_rx.specs.Position.{Position, is_hunting}
 use Rattle.decoder_rx.specs.Table.{given, after, after_all, answers}
-use Rattle.decoder_rx.specs.Reading.{IsRight, Reads, Passes}
+use Rattle.decoder_rx.specs.Reading.{IsRight, Reads, Skips}
 use Rattle.decoder_node.specs.Heard.{after_receipt, AreWaves}
 
--- what the crate of the receiver promises
+-- the law of the receiver's crate
 pub record Laws : Type 0 where
   pub reads : (position : Position) (packet halves : List ℕ) → IsTrue (is_hunting position) → IsRight packet → IsWave packet halves → Reads position halves packet
-  pub passes : (position : Position) (packet halves : List ℕ) → IsTrue (is_hunting position) → IsPacket packet → is_checked packet ≡ false → IsWave packet halves → Passes position halves
+  pub skips : (position : Position) (packet halves : List ℕ) → IsTrue (is_hunting position) → IsPacket packet → is_checked packet ≡ false → IsWave packet halves → Skips position halves
   pub settles : (position : Position) (packet halves : List ℕ) → IsPacket packet → IsWave packet halves → IsTrue (is_hunting (after_all position halves))
 
 -- a packet whose check is wrong spells nothing
@@ -38,15 +38,15 @@ received_none : {State : Type 0} (obey : State → List ℕ → State) (n : ℕ)
 received_none obey zero s = refl
 received_none obey (suc n) s = received_none obey n s
 
--- a wave does what its packet does
+-- a wave has the effect of its packet
 pub obeyed : {State : Type 0} (obey : State → List ℕ → State) → Ignores obey → Laws → (s : State) (position : Position) (packet halves : List ℕ) → IsPacket packet → IsWave packet halves → IsTrue (is_hunting position) → fold (after_receipt obey) s (answers position halves) ≡ obey s packet
 obeyed obey ignores laws s position packet halves p w b = elim (cases_Bool (is_checked packet)) [
   | inl right ↦
       let reads = laws.reads position packet halves b (record { form = p; checked = right }) w in
       ap (fold (after_receipt obey) s) reads.given ∙ received_last obey (length halves - 1) s packet
   | inr wrong ↦
-      let passes = laws.passes position packet halves b p wrong w in
-      ap (fold (after_receipt obey) s) passes.given ∙ received_none obey (length halves) s ∙ sym (ignores s packet wrong)
+      let skips = laws.skips position packet halves b p wrong w in
+      ap (fold (after_receipt obey) s) skips.given ∙ received_none obey (length halves) s ∙ sym (ignores s packet wrong)
 ]
 
 received-append : {State : Type 0} (obey : State → List ℕ → State) (xs ys : List ℕ) (s : State) (position : Position) → fold (after_receipt obey) s (answers position (xs ++ ys)) ≡ fold (after_receipt obey) (fold (after_receipt obey) s (answers position xs)) (answers (after_all position xs) ys)
@@ -60,7 +60,7 @@ after_all-append (x ∷ xs) ys position = after_all-append xs ys (after position
 abbrev pub Ran : {State : Type 0} → (State → List ℕ → State) → State → Position → List (List ℕ) → List ℕ → Type 0
 Ran obey s position packets halves = (fold (after_receipt obey) s (answers position halves) ≡ fold obey s packets) × IsTrue (is_hunting (after_all position halves))
 
--- waves one behind the other do what their packets do
+-- consecutive waves have the effect of their packets
 pub ran : {State : Type 0} (obey : State → List ℕ → State) → Ignores obey → Laws → (packets : List (List ℕ)) (halves : List ℕ) (s : State) (position : Position) → AreWaves packets halves → IsTrue (is_hunting position) → Ran obey s position packets halves
 ran obey ignores laws [] halves s position w b = subst (λ (hs : List ℕ). Ran obey s position [] hs) (sym w) (refl, b)
 ran obey ignores laws (packet ∷ packets) halves s position w b =

@@ -4,7 +4,7 @@ use Rattle.decoder_cv.specs.Settings.{Settings}
 use Rattle.decoder_rx.specs.Position.{Position, Hunting, is_hunting}
 use Rattle.decoder_node.specs.declared.running.Running.{Running}
 
--- what it is set to, its state, and where its receiver is
+-- its settings, its state, and the position of its receiver
 pub record Decoder (Settings State : Type 0) : Type 0 where
   pub settings : Settings
   pub state : State
@@ -22,6 +22,6 @@ AccessoryDecoder = Decoder ℕ ℕ
 abbrev pub IsBetween : {Settings State : Type 0} → Decoder Settings State → Type 0
 IsBetween decoder = IsTrue (is_hunting decoder.receiver)
 
--- as it is made, in its first state: its receiver hunts, with no one half counted
+-- a new decoder in its first state: its receiver hunts, with no one half counted
 abbrev pub fresh : {Settings State : Type 0} → Settings → State → Decoder Settings State
 fresh settings first = record { settings = settings; state = first; receiver = Hunting 0 }

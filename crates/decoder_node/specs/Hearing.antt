@@ -1,4 +1,5 @@
--- What a decoder makes of the half-bits that it hears, where by its settings an instruction does this to its state.
+-- The effect on a decoder of the half-bits that it hears, by the effect of an instruction on its
+-- state under its settings.
 use Rattle.std.specs.Prelude.{ℕ, ◌≡◌, List, fold}
 use Rattle.dcc_packet.specs.declared.instr.Instr.{Instr}
 use Rattle.decoder_rx.specs.Table.{after, given}
@@ -16,9 +17,9 @@ heard does decoder half = record {
 abbrev pub heard_all : {Settings State : Type 0} (does : Settings → State → Instr → State) → Decoder Settings State → List ℕ → Decoder Settings State
 heard_all does = fold (heard does)
 
--- What hearing these halves does: what hearing each in turn does, by settings that stay; and where they are waves of
--- packets, what is said of those.
-pub record Hears {Settings State : Type 0} (does : Settings → State → Instr → State) (old : Decoder Settings State) (halves : List ℕ) (new : Decoder Settings State) : Type 0 where
+-- The effect of hearing these halves: that of hearing each in turn, under settings that stay; and
+-- if they are waves of packets, the effect of those.
+pub record Receives {Settings State : Type 0} (does : Settings → State → Instr → State) (old : Decoder Settings State) (halves : List ℕ) (new : Decoder Settings State) : Type 0 where
   pub in_turn : new ≡ heard_all does old halves
   pub kept : new.settings ≡ old.settings
   pub waves : ObeysWaves (obeying (does old.settings)) old.state old.receiver halves new.state new.receiver

@@ -1,9 +1,9 @@
--- How a locomotive decoder may run.
+-- The states of a locomotive decoder.
 use Rattle.std.specs.Prelude.{◌^◌, ◌<◌, true}
 use Rattle.dcc_packet.specs.declared.steps.Motion.TheVariants.{Stop}
 use Rattle.decoder_node.specs.declared.running.Running.{Running}
 
--- how a decoder starts, and starts again at Reset: it stands, forward, with all functions off
+-- the initial state, and the state after Reset: stopped, forward, with all functions off
 abbrev pub first_running : Running
 first_running = record { motion = Stop; forward = true; functions = 0 }
 

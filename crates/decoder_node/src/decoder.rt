@@ -1,4 +1,4 @@
-//! A decoder, whatever instructions do to it.
+//! A decoder, for any effect of instructions.
 ghost use Rattle.std.specs.Prelude.{◌≡◌, ℕ, List, None};
 ghost use Rattle.std.specs.Iterator.{IsFinite, Drains};
 ghost use Rattle.dcc_packet.specs.declared.instr.Instr.{Instr as InstrValue};
@@ -15,17 +15,18 @@ pub trait Obeys<State> {
     /// The state after an instruction.
     ghost does: { Self → State → InstrValue → State };
 
-    /// What is true of the state at any time.
+    /// The invariant of the state.
     ghost holds: { State → Type 0 };
 
-    /// The state obeys what a packet spells, and stays as it is where that is nothing.
+    /// Obeys the instruction of a packet; `None` leaves the state as it is.
     fn obey(&self, state: &mut State, instr: &Option<Instr>)
         requires { holds state.old }
         ensures obeys { state.new ≡ after_receipt (does self.now) state.old instr.now }
         ensures holds { holds state.new };
 }
 
-/// A decoder on the track, which hears it half by half: its settings, the state that obeys by them, and its receiver.
+/// A decoder on the track: its settings, the state that obeys by them, and its receiver. It hears
+/// the track half by half.
 #[derive(Debug, Drop)]
 pub struct Decoder<Settings: Obeys<State>, State> {
     pub(crate) settings: Settings,
@@ -38,7 +39,8 @@ impl<Settings: Obeys<State>, State> Model for Decoder<Settings, State> {
 
     ghost Value = { Decoder Settings State };
 
-    ghost view = { λ decoder. record { settings = decoder.settings; state = decoder.state; receiver = decoder.rx } };
+    ghost view = { λ decoder.
+        record { settings = decoder.settings; state = decoder.state; receiver = decoder.rx } };
 
     ghost invariant = { λ decoder. Settings.holds decoder.state };
 }
@@ -48,9 +50,9 @@ impl<Settings: Obeys<State>, State> Decoder<Settings, State> {
     ghost use Rattle.half_bits.specs.Halves.{halves_of};
     ghost use Rattle.decoder_rx.specs.Table.{given};
     ghost use Rattle.decoder_node.specs.Decoder.{fresh, IsBetween};
-    ghost use Rattle.decoder_node.specs.Hearing.{heard, heard_all, Hears};
+    ghost use Rattle.decoder_node.specs.Hearing.{heard, heard_all, Receives};
 
-    /// A decoder with these settings and this state, which has heard nothing.
+    /// Creates a decoder with these settings and this state, which has heard nothing.
     pub(crate) fn starting(settings: Settings, state: State) -> Self
         requires { Settings.holds state }
         ensures { result ≡ fresh settings state }
@@ -62,7 +64,8 @@ impl<Settings: Obeys<State>, State> Decoder<Settings, State> {
         }
     }
 
-    /// Hears the next half of the track, of this many microseconds, and obeys the packet that it ends, if it ends one.
+    /// Hears the next half of the track, of `half` microseconds, and obeys the packet that it
+    /// completes, if any.
     #[inline]
     pub fn hear(&mut self, half: u16)
         ensures heard { self.new ≡ heard Settings.does self.old half }
@@ -76,19 +79,24 @@ impl<Settings: Obeys<State>, State> Decoder<Settings, State> {
     /// Obeys a packet.
     #[inline(never)]
     fn obey_packet(&mut self, packet: &Packet)
-        ensures { self.new ≡ record self.old { state = obeying (Settings.does self.old.settings) self.old.state packet.now } }
+        ensures { self.new
+            ≡ record self.old {
+              state = obeying (Settings.does self.old.settings) self.old.state
+                  packet.now;
+            } }
     {
         self.settings.obey(&mut self.state, &read(packet));
     }
 
     /// Hears each item in order.
     ///
-    /// A decoder with no packet under way that hears a wave obeys its packet; any decoder that hears a wave has no
-    /// packet under way then.
+    /// A decoder with no packet under way that hears a wave obeys its packet; any decoder that
+    /// hears a wave has no packet under way then.
     pub fn hear_all<I: Iterator<Item = u16> + Drop>(&mut self, halves: I)
         requires can { I.can_next halves }
         requires ends { IsFinite (I.remaining halves) }
-        ensures { (items : List ℕ) × Drains I.next_gives halves items × Hears Settings.does self.old items self.new }
+        ensures { (items : List ℕ) × Drains I.next_gives halves items
+            × Receives Settings.does self.old items self.new }
     {
         decoder_rx::laws::complete();
         decoder_rx::laws::settles();
@@ -102,14 +110,14 @@ impl<Settings: Obeys<State>, State> Decoder<Settings, State> {
         }
     }
 
-    /// Hears two halves, one after the other: together, where they are those of a bit.
+    /// Hears two halves, one after the other: together, if they are those of a bit.
     #[inline]
     fn hear_two(&mut self, first: u16, second: u16)
         ensures { self.new ≡ heard Settings.does (heard Settings.does self.old first) second }
     {
         match (bit_of(first), bit_of(second)) {
             (Some(bit), Some(next)) if bit == next => {
-                // What it does not hear is a one, and each half of a one does the same.
+                // A pair not heard is a one, and each half of a one has the same effect.
                 if !self.rx.hear_bit(bit) {
                     self.hear_each(ONE, ONE);
                 }
@@ -118,7 +126,7 @@ impl<Settings: Obeys<State>, State> Decoder<Settings, State> {
         }
     }
 
-    /// The same, each alone.
+    /// The same, each half separately.
     #[inline(never)]
     fn hear_each(&mut self, first: u16, second: u16)
         ensures { self.new ≡ heard Settings.does (heard Settings.does self.old first) second }
@@ -127,16 +135,18 @@ impl<Settings: Obeys<State>, State> Decoder<Settings, State> {
         self.hear(second);
     }
 
-    /// Hears all half-bits of a packet that spells this instruction, or none, as `hear_all` does, and quicker where no
-    /// packet is under way: then it looks at the instruction alone.
+    /// Hears all half-bits of a packet that spells `instr`, or nothing, as `hear_all` does. It is
+    /// faster if no packet is under way: then only the instruction is used.
     ///
-    /// No packet is under way then, and a decoder that had none under way has obeyed this one.
+    /// Afterwards no packet is under way, and a decoder that had none under way has obeyed this
+    /// one.
     #[inline]
     pub fn hear_packet(&mut self, packet: &Packet, instr: &Option<Instr>)
         requires read { instr.now ≡ instruction_of packet.now }
-        ensures hears { Hears Settings.does self.old (halves_of packet.now) self.new }
+        ensures hears { Receives Settings.does self.old (halves_of packet.now) self.new }
         ensures settles { IsBetween self.new }
-        ensures obeys { IsBetween self.old → self.new.state ≡ obeying (Settings.does self.old.settings) self.old.state packet.now }
+        ensures obeys { IsBetween self.old
+            → self.new.state ≡ obeying (Settings.does self.old.settings) self.old.state packet.now }
     {
         decoder_rx::laws::complete();
         decoder_rx::laws::settles();
@@ -144,7 +154,7 @@ impl<Settings: Obeys<State>, State> Decoder<Settings, State> {
         self.hear_wave(packet, instr);
     }
 
-    /// The same, which is quicker where its receiver hears the wave at once.
+    /// The same, faster if its receiver hears the wave at once.
     #[inline]
     fn hear_wave(&mut self, packet: &Packet, instr: &Option<Instr>)
         requires read { instr.now ≡ instruction_of packet.now }

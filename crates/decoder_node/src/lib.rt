@@ -1,7 +1,16 @@
-//! The DCC decoders of a layout: what they make of the half-bits that they hear (NMRA S-9.1, S-9.2, S-9.2.1,
-//! S-9.2.2).
+//! The DCC decoders of a layout, and how they act on the half-bits that they hear (NMRA S-9.1,
+//! S-9.2, S-9.2.1, S-9.2.2).
 //!
-//! Its tests stand in `library_tests/src/test_decoder_node.rt`.
+//! A [`Loco`] obeys by its configuration variables, an [`Accessory`] by its module number. A caller
+//! passes each half-bit to `hear` and reads the state by `running` or `outputs`.
+//!
+//! ```ignore
+//! let mut loco = Loco::new(cvs);
+//! for micros in halves { loco.hear(micros); }
+//! let running = loco.running();
+//! ```
+//!
+//! The tests are in `library_tests/src/test_decoder_node.rt`.
 #![tactic(auto)]
 
 mod accessory;
@@ -17,7 +26,7 @@ pub use accessory::Accessory;
 pub use decoder::Decoder;
 pub use laws::waves_are_obeyed;
 pub use loco::Loco;
-pub use node::{NodeList, NodeSpec};
+pub use node::{MAX_NODES, NodeList, NodeSpec};
 pub use running::Running;
 
 /// The microseconds of a half of a one.

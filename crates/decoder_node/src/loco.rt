@@ -5,30 +5,33 @@ use crate::decoder::Decoder;
 use crate::running::{FIRST, Running};
 use decoder_cv::CvSet;
 
-/// A locomotive decoder on the track, which hears it half by half.
+/// A locomotive decoder on the track. It hears the track half by half.
 ///
-/// Contracts see it as a `LocoDecoder`: its settings, how it runs, and the position of its receiver.
+/// Contracts see it as a `LocoDecoder`: its settings, how it runs, and the position of its
+/// receiver.
 pub type Loco = Decoder<CvSet, Running>;
 
 impl Loco {
     ghost use Rattle.decoder_node.specs.Decoder.{fresh};
     ghost use Rattle.decoder_node.specs.Running.{IsAble, first_running};
 
-    /// A decoder with these settings, which stands, forward, with all functions off, and has heard nothing.
+    /// Creates a stopped decoder with these settings, forward, with all functions off, which has
+    /// heard nothing.
     pub fn new(cv: CvSet) -> Loco
         ensures { result ≡ fresh cv first_running }
     {
         Decoder::starting(cv, FIRST)
     }
 
-    /// The track lost its power: the decoder stands, forward, with all functions off, and has heard nothing.
+    /// Resets the decoder as the loss of track power does: stopped, forward, all functions off,
+    /// nothing heard.
     pub fn power_lost(&mut self)
         ensures { self.new ≡ fresh self.old.settings first_running }
     {
         *self = Loco::new(self.settings);
     }
 
-    /// How it runs. Of the functions, F0 to F12 alone may be on.
+    /// Returns how it runs. Only functions F0 to F12 may be on.
     #[inline]
     pub fn running(&self) -> Running
         ensures value { result ≡ self.now.state }

@@ -1,9 +1,9 @@
-//! The decoders of a layout, before they are made.
+//! Descriptions of the decoders of a layout.
 use arrayvec::ArrayVec;
 use dcc_packet::Module;
 use decoder_cv::CvSet;
 
-/// What a decoder of a layout is.
+/// The description of one decoder of a layout.
 #[derive(Clone, Copy, Debug, PartialEq, Eq)]
 pub enum NodeSpec {
     /// A locomotive decoder with these settings.
@@ -12,8 +12,11 @@ pub enum NodeSpec {
     Accessory(Module),
 }
 
-/// The decoders of a layout, at most 64.
-pub type NodeList = ArrayVec<NodeSpec, 64>;
+/// The most decoders of a layout: one for each bit of a set of those that miss a packet.
+pub const MAX_NODES: usize = 64;
+
+/// The decoders of a layout, at most [`MAX_NODES`].
+pub type NodeList = ArrayVec<NodeSpec, MAX_NODES>;
 
 impl Default for NodeSpec {
     ghost use Rattle.std.specs.Prelude.{◌≡◌};

@@ -1,4 +1,4 @@
-//! What a packet does to a locomotive decoder.
+//! The effect of a packet on a locomotive decoder.
 ghost use Rattle.std.specs.Prelude.{◌≡◌, ◌<◌, ◌/◌, ◌%◌, true};
 ghost use Rattle.dcc_packet.specs.SpeedNumbers.{motion_of_number};
 ghost use Rattle.decoder_node.specs.Bits.{with_bits};
@@ -27,7 +27,8 @@ impl Obeys<Running> for CvSet {
     }
 }
 
-/// Whether an instruction is for a locomotive decoder with these settings: for all of them, or for its address.
+/// Whether an instruction is for a locomotive decoder with these settings: for all of them, or for
+/// its address.
 #[inline]
 fn concerns(cv: &CvSet, instr: &Instr) -> bool
     ensures { result ≡ concerns cv.now instr.now }
@@ -83,14 +84,14 @@ fn after_instr(cv: &CvSet, running: Running, instr: Instr) -> Running
     }
 }
 
-/// Whether an address is the decoder's own.
+/// Whether an address is that of the decoder.
 fn is_own(cv: &CvSet, address: Address) -> bool
     ensures { result ≡ is_own cv.now.address address }
 {
     cv.address() == address
 }
 
-/// The decoder's own forward, where D of the packet is `d`.
+/// The direction in the decoder's own sense, if D of the packet is `d`.
 fn own_forward(cv: &CvSet, d: bool) -> bool
     ensures { result ≡ own_forward cv.now d }
 {

@@ -1,4 +1,4 @@
-//! What a packet does to an accessory decoder.
+//! The effect of a packet on an accessory decoder.
 ghost use Rattle.std.specs.Prelude.{◌≡◌, ◌<◌, Bool, if◌then◌else◌};
 ghost use Rattle.decoder_node.specs.Bits.{with_bits};
 ghost use Rattle.decoder_node.specs.Switched.{AreOutputs, switched, output_of};
@@ -44,7 +44,7 @@ fn output_of(pair: u8, closed: bool) -> u8
     2 * (pair % 4) + u8::from(closed)
 }
 
-/// The outputs where one is switched on or off.
+/// The outputs after one of them is switched on or off.
 fn with_output(outputs: u8, output: u8, on: bool) -> u8
     requires { output < 8 }
     ensures { result ≡ with_bits outputs output 1 (if on then 1 else 0) }

@@ -1,9 +1,9 @@
--- Where a receiver is in a packet.
+-- The state of a receiver within a packet.
 use Rattle.std.specs.Prelude.{ℕ, Bool, true, false, List, Option}
 
--- Hunting with so many one halves counted, at most 20. Start: after them one zero half.
--- InBit with the whole bytes, the bits of the next byte as a number and how many they are,
--- and the first half of the next bit, where it was heard.
+-- Hunting with a count of one halves, at most 20. Start: after them one zero half. InBit with the
+-- whole bytes, the bits of the next byte as a number and their count, and the first half of the
+-- next bit, if it was heard.
 pub data Position : Type 0 where
   Hunting : (ones : ℕ) → Position
   Start : Position

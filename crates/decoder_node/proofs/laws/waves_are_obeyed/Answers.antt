@@ -7,7 +7,7 @@ use Rattle.decoder_node.proofs.Waves.{Laws}
 use Rattle.decoder_node.proofs.laws.waves_are_obeyed.Goals as goal
 
 laws : goal.After-settles → Laws
-laws c = record { reads = c.complete.ensures.wave; passes = c.complete.ensures.wrong; settles = c.settles.ensures.between }
+laws c = record { reads = c.complete.ensures.wave; skips = c.complete.ensures.wrong; settles = c.settles.ensures.between }
 
 pub returns-clause-loco : goal.returns-clause-loco
 returns-clause-loco c old halves = hears obeyed (laws c) old (heard_all obeyed old halves) halves refl

@@ -19,7 +19,7 @@ loop-first-preserved g c =
 
 pub returns-in_default-next : goal.returns-in_default-next
 returns-in_default-next g c =
-    let laws : Laws = record { reads = c.complete.ensures.wave; passes = c.complete.ensures.wrong; settles = c.settles.ensures.between } in
+    let laws : Laws = record { reads = c.complete.ensures.wave; skips = c.complete.ensures.wrong; settles = c.settles.ensures.between } in
     let does = g.Settings.Obeys.does in
     let i = c.loop-first.invariant in
     let j = it.again i {Q = λ xs. heard does c.loop-first.self c.in-Some.first ≡ heard_all does c.args.self.now xs} c.in-Some.first c.in-Some.is (c.next.ensures.steps, c.next.ensures.goes) (heard_next does c.args.self.now c.loop-first.self i.seen c.in-Some.first i.holds) in
@@ -27,6 +27,6 @@ returns-in_default-next g c =
 
 pub returns : goal.returns
 returns g c =
-    let laws : Laws = record { reads = c.complete.ensures.wave; passes = c.complete.ensures.wrong; settles = c.settles.ensures.between } in
+    let laws : Laws = record { reads = c.complete.ensures.wave; skips = c.complete.ensures.wrong; settles = c.settles.ensures.between } in
     let i = c.loop-first.invariant in
     (i.seen, it.drained i c.in_default.is c.next.ensures.steps, hears g.Settings.Obeys.does laws c.args.self.now c.loop-first.self i.seen i.holds)

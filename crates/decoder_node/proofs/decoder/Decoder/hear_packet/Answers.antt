@@ -1,10 +1,10 @@
 use Rattle.half_bits.specs.Halves.{halves_of}
-use Rattle.decoder_node.specs.Hearing.{Hears}
+use Rattle.decoder_node.specs.Hearing.{Receives}
 use Rattle.decoder_node.proofs.Decoders.{hears}
 use Rattle.decoder_node.proofs.decoder.Decoder.hear_packet.Goals as goal
 
-heard : (g : _) (c : goal.After-hear_wave g) → Hears g.Settings.Obeys.does c.args.self.now (halves_of c.args.packet.now) c.hear_wave.new.self
-heard g c = hears g.Settings.Obeys.does (record { reads = c.complete.ensures.wave; passes = c.complete.ensures.wrong; settles = c.settles.ensures.between }) c.args.self.now c.hear_wave.new.self (halves_of c.args.packet.now) c.hear_wave.ensures
+heard : (g : _) (c : goal.After-hear_wave g) → Receives g.Settings.Obeys.does c.args.self.now (halves_of c.args.packet.now) c.hear_wave.new.self
+heard g c = hears g.Settings.Obeys.does (record { reads = c.complete.ensures.wave; skips = c.complete.ensures.wrong; settles = c.settles.ensures.between }) c.args.self.now c.hear_wave.new.self (halves_of c.args.packet.now) c.hear_wave.ensures
 
 pub returns-clause-hears : goal.returns-clause-hears
 returns-clause-hears g c = heard g c

@@ -23,7 +23,7 @@ returns g c =
     let halves = halves_of packet in
     let form = c.halves_are_a_wave.ensures.packet in
     let wave = c.halves_are_a_wave.ensures.wave in
-    heard_at_once does (record { reads = c.complete.ensures.wave; passes = c.complete.ensures.wrong; settles = c.settles.ensures.between })
+    heard_at_once does (record { reads = c.complete.ensures.wave; skips = c.complete.ensures.wrong; settles = c.settles.ensures.between })
     (record { settings = inside.settings; state = inside.state; receiver = inside.rx })
     (record { settings = inside.settings; state = c.obey.new.state; receiver = c.hear_wave.new.self }) packet halves form wave
     (sym c.hear_wave.ensures.heard ∙ c.if-not-hear_wave.false) refl
