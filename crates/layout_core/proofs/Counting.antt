@@ -1,4 +1,4 @@
--- How many reads, bytes, replies and turns there are.
+-- The numbers of reads, bytes, replies and turns.
 use Rattle.std.proofs.Common.{◌≡◌, ℕ, ◌+◌, ◌*◌, ◌^◌, ◌<◌, ◌≤◌, List, [], ◌∷◌, ◌++◌, Option, length, length-append, take, arith}
 use Rattle.std.proofs.lemmas.List.{length-replicate, length-take-le}
 use Rattle.station_core.specs.declared.call.Step.{Step}
@@ -10,7 +10,7 @@ use Rattle.layout_core.specs.declared.event.Event.TheVariants.{Turn}
 use Rattle.layout_core.specs.declared.world.World.{World}
 use Rattle.layout_core.specs.Counts.{HasRoom}
 use Rattle.layout_core.specs.Played.{after_event, answer_to, answers_to}
-use Rattle.layout_core.specs.Served.{Serves, byte_events, moment_of, replies_in, replies_of_answer, served_events, turns_in, turns_of_answer}
+use Rattle.layout_core.specs.Served.{ServesEvents, byte_events, moment_of, replies_in, replies_of_answer, served_events, turns_in, turns_of_answer}
 
 pub counted_more : (so_far n : ℕ) (before buf : List ℕ) → so_far ≡ length before → n ≤ length buf → so_far + n ≡ length (before ++ take n buf)
 counted_more so_far n before buf counted bound = omega (arith, length-append before (take n buf), length-take-le n buf bound)
@@ -19,7 +19,7 @@ counted_more so_far n before buf counted bound = omega (arith, length-append bef
 pub few_of : (n : ℕ) (buf : List ℕ) → n ≤ length buf → length buf ≡ 64 → length (take n buf) ≤ 64
 few_of n buf bound whole = omega (arith, length-take-le n buf bound)
 
--- an event brings a reply or a turn at most
+-- an event makes at most one reply or one turn
 few_of_answer : (step : Step) → (replies_of_answer step ≤ 1) × (turns_of_answer step ≤ 1)
 few_of_answer (Reply reply) = (omega arith, omega arith)
 few_of_answer (Packet packet) = (omega arith, omega arith)
@@ -33,9 +33,9 @@ few_answers (event ∷ events) seen =
     let rest = few_answers events (after_event seen event) in
     (omega (arith, one.0, rest.0), omega (arith, one.1, rest.1))
 
--- so there is room behind events, where there was for them and more
+-- so there is room after the events, if there was room for them and more
 pub room_behind : (more all line : ℕ) (events : List Event) (from to : Counts) (old new : World) (written written' traced traced' : Option (List ℕ)) → length events + more ≤ all → HasRoom all from
-    → Serves line events (moment_of old written traced from.replies from.turns) (moment_of new written' traced' to.replies to.turns) → HasRoom more to
+    → ServesEvents line events (moment_of old written traced from.replies from.turns) (moment_of new written' traced' to.replies to.turns) → HasRoom more to
 room_behind more all line events from to old new written written' traced traced' fits room serves =
     let few = few_answers events old.station in
     let replies : to.replies ≡ from.replies + replies_in (answers_to old.station events) = serves.replies in
@@ -56,12 +56,12 @@ byte_fits line turns i bytes fits below =
     let some : length (take i bytes) ≡ i = length-take-le i bytes (omega (arith, below)) in
     omega (arith, served_length line turns (take i bytes) fits, some)
 
--- and a turn more behind it
+-- and one more turn after it
 pub turn_fits : (line turn turns i byte : ℕ) (bytes : List ℕ) → turns < 256 → turn < turns → i < length bytes
     → length (served_events line turns (take i bytes) ++ byte_events line turn byte) + 1 ≤ 256 * length bytes
 turn_fits line turn turns i byte bytes fits more below =
     omega (arith, length-append (served_events line turns (take i bytes)) (byte_events line turn byte), byte_length line turn byte, byte_fits line turns i bytes fits below)
 
--- the bytes of so many reads, and those of one more
+-- the bytes of a number of reads, and those of one more
 pub chunk_fits : (made bytes chunk : ℕ) → made < 4294967296 → bytes ≤ 64 * made → chunk ≤ 64 → 0 + (256 * bytes + 256 * chunk) < 2 ^ 64
 chunk_fits made bytes chunk below few small = omega arith

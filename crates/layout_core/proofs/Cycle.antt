@@ -1,4 +1,4 @@
--- A full refresh cycle tells a locomotive all that its entry asks, and nothing else.
+-- A full refresh cycle sends a locomotive all that its entry asks, and nothing else.
 use Rattle.std.proofs.Common.{◌≡◌, ◌⊎◌, ℕ, ◌+◌, ◌*◌, ◌<◌, ◌≤◌, nat_eq, Bool, true, false, if◌then◌else◌, List, [], ◌∷◌, ◌++◌, length, Some, suc, refl, ap, sym, subst, ◌∙◌, arith, inl, inr, append_assoc}
 use Rattle.std.proofs.lemmas.Bool.{both_ways, cases_eq, or_right}
 use Rattle.std.proofs.lemmas.List.Elements.{All-from_recursion}
@@ -23,7 +23,7 @@ use Rattle.station_core.specs.declared.call.Step.TheVariants.{Packet}
 use Rattle.station_core.specs.Moved.{packet_of_turn, sent}
 use Rattle.station_core.specs.Packets.{entry_packet, place_packet}
 use Rattle.station_core.specs.Refreshed.{is_driven, is_refreshed}
-use Rattle.station_core.specs.Known.{Known, known_after, known_after_all}
+use Rattle.station_core.specs.ThrottleView.{ThrottleView, known_after, known_after_all}
 use Rattle.station_core.specs.Moments.{AtEveryMoment, IsLive, ever_refreshed, slots_refreshed, turns_in}
 use Rattle.station_core.specs.Powered.{HasDesk, PoweredDesk}
 use Rattle.station_core.specs.Runs.{Covers, Sends, answer_of, state_after, state_of}
@@ -51,11 +51,11 @@ use Rattle.layout_core.specs.World.{HaveHeard}
 use Rattle.layout_core.proofs.Heard.{all_keep, all_split, same_cv, sounds-append, sounds_are_whole, whole_obeyed}
 use Rattle.layout_core.proofs.Moments.{AtEach, Follows, at_each, cycle_here, follows_behind}
 
--- the laws that it stands on
+-- the laws that it depends on
 pub record Laws : Type 0 where
   pub turns : (seen : Seen) → answer_of seen TurnCall ≡ sent (packet_of_turn seen)
-  pub told : (start : Seen) → Follows start (known_of start)
-  pub desks : (known : Known) (calls : List Call) → HasDesk known.powered → AtEveryMoment HasDesk known calls
+  pub reported : (start : Seen) → Follows start (known_of start)
+  pub desks : (known : ThrottleView) (calls : List Call) → HasDesk known.powered → AtEveryMoment HasDesk known calls
   pub coverage : (start : Seen) (calls : List Call) → Covers start calls
   pub packets : (seen : Seen) → IsPacketOfDesk seen.powered.power seen (packet_of_turn seen)
   pub rows : (desk : Desk) → IsDesk desk → RowsAreLegal desk
@@ -94,7 +94,7 @@ heard_turn i missed seen packet is listens rest =
     ap (λ (step : Step). packets_among (sounds_of_turn (is_missed missed i) step ++ rest)) is
     ∙ ap (λ (b : Bool). packets_among (sounds_of_turn b (Packet packet) ++ rest)) listens
 
--- noise is no packet
+-- noise is not a packet
 heard_noise : (b : Bool) (half : ℕ) (rest : List Sound) → packets_among ((if b then Single half ∷ [] else []) ++ rest) ≡ packets_among rest
 heard_noise true half rest = refl
 heard_noise false half rest = refl
@@ -111,13 +111,13 @@ calls-append [] later = refl
 calls-append (event ∷ events) later =
     ap (λ (calls : List Call). calls_of event ++ calls) (calls-append events later) ∙ sym (append_assoc (calls_of event) (calls_in events) (calls_in later))
 
-last_moment : (known : Known) (calls : List Call) → AtEveryMoment HasDesk known calls → HasDesk (known_after_all known calls).powered
+last_moment : (known : ThrottleView) (calls : List Call) → AtEveryMoment HasDesk known calls → HasDesk (known_after_all known calls).powered
 last_moment known [] now = now
 last_moment known (call ∷ calls) moments = last_moment (known_after known call) calls moments.1
 
 -- a desk after some of the calls
 desk_behind : (laws : Laws) (start : Seen) (before : List Call) → HasDesk start.powered → HasDesk (state_after start before).powered
-desk_behind laws start before is = subst HasDesk (sym (laws.told start before)) (last_moment (known_of start) before (laws.desks (known_of start) before is))
+desk_behind laws start before is = subst HasDesk (sym (laws.reported start before)) (last_moment (known_of start) before (laws.desks (known_of start) before is))
 
 -- two entries ask for the same
 record AskAlike (one other : Entry) : Type 0 where
@@ -188,17 +188,17 @@ module _ (laws : Laws) (cv : Settings) (i slot a : ℕ) (e : Entry) (mine : IsTr
   -- a turn sends one packet, which is harmless
   turn_packet : (seen : Seen) → IsDesk seen.powered.desk → StandsIn slot a e seen.powered → IsLive slot seen.powered → (packet : List ℕ) × (answer_of seen TurnCall ≡ Packet packet) × IsHarmless packet
   turn_packet seen desk stands live =
-      let told = subst (λ power. IsPacketOfDesk power seen (packet_of_turn seen)) live.running (laws.packets seen) in
-      (told.0, laws.turns seen ∙ ap sent told.1, running_packet seen desk stands live told.0 told.2)
+      let reported = subst (λ power. IsPacketOfDesk power seen (packet_of_turn seen)) live.running (laws.packets seen) in
+      (reported.0, laws.turns seen ∙ ap sent reported.1, running_packet seen desk stands live reported.0 reported.2)
 
   all_harmless : (seen : Seen) (cycle : List Event) → AtEach HasDesk seen (calls_in cycle) → AtEach (StandsIn slot a e) seen (calls_in cycle) → AtEach (IsLive slot) seen (calls_in cycle) → MissesNone i cycle → AllByRecursion IsHarmless (heard i seen cycle)
   all_harmless seen [] desks stands live misses = tt
   all_harmless seen (Byte line byte ∷ cycle) desks stands live misses =
       all_harmless (after_event seen (Byte line byte)) cycle desks.1 stands.1 live.1 misses
   all_harmless seen (Turn missed ∷ cycle) desks stands live misses =
-      let told = turn_packet seen desks.0 stands.0 live.0 in
-      subst (AllByRecursion IsHarmless) (sym (heard_turn i missed seen told.0 told.1 misses.0 (sounds_in i (state_of seen TurnCall) cycle)))
-      (told.2, all_harmless (state_of seen TurnCall) cycle desks.1 stands.1 live.1 misses.1)
+      let reported = turn_packet seen desks.0 stands.0 live.0 in
+      subst (AllByRecursion IsHarmless) (sym (heard_turn i missed seen reported.0 reported.1 misses.0 (sounds_in i (state_of seen TurnCall) cycle)))
+      (reported.2, all_harmless (state_of seen TurnCall) cycle desks.1 stands.1 live.1 misses.1)
   all_harmless seen (Noise node half ∷ cycle) desks stands live misses =
       subst (AllByRecursion IsHarmless) (sym (heard_noise (nat_eq node i) half (sounds_in i seen cycle))) (all_harmless seen cycle desks stands live misses)
 
@@ -212,9 +212,9 @@ module _ (laws : Laws) (cv : Settings) (i slot a : ℕ) (e : Entry) (mine : IsTr
         subst (λ (packets : List (List ℕ)). Contains packets (entry_packet k a e)) (sym (heard_turn i missed seen (entry_packet k a e) asked misses.0 (sounds_in i (state_of seen TurnCall) cycle)))
         (0, omega arith, refl)
     | inr later ↦
-        let told = turn_packet seen desks.0 stands.0 live.0 in
+        let reported = turn_packet seen desks.0 stands.0 live.0 in
         let at = has_packet k (state_of seen TurnCall) cycle desks.1 stands.1 live.1 misses.1 later in
-        subst (λ (packets : List (List ℕ)). Contains packets (entry_packet k a e)) (sym (heard_turn i missed seen told.0 told.1 misses.0 (sounds_in i (state_of seen TurnCall) cycle)))
+        subst (λ (packets : List (List ℕ)). Contains packets (entry_packet k a e)) (sym (heard_turn i missed seen reported.0 reported.1 misses.0 (sounds_in i (state_of seen TurnCall) cycle)))
         (suc at.0, omega (arith, at.1), at.2)
   ]
   has_packet k seen (Noise node half ∷ cycle) desks stands live misses sends =
@@ -238,11 +238,11 @@ module _ (laws : Laws) (cv : Settings) (i slot a : ℕ) (e : Entry) (mine : IsTr
         laws.settling cv a e r (heard i seen cycle) (record { address = is_address; entry = legal_entry; answers = mine; steps = steps }) tells
 
 -- after a full refresh cycle, by what is known, the decoder runs as its entry wants
-settled : (laws : Laws) (cv : Settings) (i slot a : ℕ) (e : Entry) → IsTrue (answers_to cv a) → AgreesInSteps cv e.kind → (seen : Seen) (known : Known) → Follows seen known → HasDesk seen.powered → (cycle : List Event)
+settled : (laws : Laws) (cv : Settings) (i slot a : ℕ) (e : Entry) → IsTrue (answers_to cv a) → AgreesInSteps cv e.kind → (seen : Seen) (known : ThrottleView) → Follows seen known → HasDesk seen.powered → (cycle : List Event)
     → IsCycleOf slot a e known (calls_in cycle) → MissesNone i cycle → (r : Running) → runs cv r (heard i seen cycle) ≡ wanted e cv.reversed
 settled laws cv i slot a e mine steps seen known follows desk cycle full misses r =
     let calls : List Call = calls_in cycle in
-    let own : Follows seen (known_of seen) = laws.told seen in
+    let own : Follows seen (known_of seen) = laws.reported seen in
     let desks : AtEach HasDesk seen calls = at_each HasDesk seen (known_of seen) calls own (laws.desks (known_of seen) calls desk) in
     let live : AtEach (IsLive slot) seen calls = at_each (IsLive slot) seen known calls follows full.full.live in
     let stands : AtEach (StandsIn slot a e) seen calls = at_each (StandsIn slot a e) seen known calls follows full.stands in
@@ -266,19 +266,19 @@ settled laws cv i slot a e mine steps seen known follows desk cycle full misses 
 
 -- ---- what is known, part by part
 
-pub known_after-append : (known : Known) (calls later : List Call) → known_after_all known (calls ++ later) ≡ known_after_all (known_after_all known calls) later
+pub known_after-append : (known : ThrottleView) (calls later : List Call) → known_after_all known (calls ++ later) ≡ known_after_all (known_after_all known calls) later
 known_after-append known [] later = refl
 known_after-append known (call ∷ calls) later = known_after-append (known_after known call) calls later
 
-moments_behind : (P : PoweredDesk → Type 0) (known : Known) (calls later : List Call) → AtEveryMoment P known (calls ++ later) → AtEveryMoment P (known_after_all known calls) later
+moments_behind : (P : PoweredDesk → Type 0) (known : ThrottleView) (calls later : List Call) → AtEveryMoment P known (calls ++ later) → AtEveryMoment P (known_after_all known calls) later
 moments_behind P known [] later moments = moments
 moments_behind P known (call ∷ calls) later moments = moments_behind P (known_after known call) calls later moments.1
 
-first_known : (P : PoweredDesk → Type 0) (known : Known) (calls : List Call) → AtEveryMoment P known calls → P known.powered
+first_known : (P : PoweredDesk → Type 0) (known : ThrottleView) (calls : List Call) → AtEveryMoment P known calls → P known.powered
 first_known P known [] now = now
 first_known P known (call ∷ calls) moments = moments.0
 
-ever_behind : (known : Known) (calls later : List Call) (slot : ℕ) → ever_refreshed (known_after_all known calls) later slot ≡ true → ever_refreshed known (calls ++ later) slot ≡ true
+ever_behind : (known : ThrottleView) (calls later : List Call) (slot : ℕ) → ever_refreshed (known_after_all known calls) later slot ≡ true → ever_refreshed known (calls ++ later) slot ≡ true
 ever_behind known [] later slot h = h
 ever_behind known (call ∷ calls) later slot h = or_right (is_refreshed known.powered.desk slot) _ (ever_behind (known_after known call) calls later slot h)
 
@@ -296,8 +296,8 @@ turns-append : (calls later : List Call) → turns_in (calls ++ later) ≡ turns
 turns-append [] later = omega arith
 turns-append (call ∷ calls) later = let rest : turns_in (calls ++ later) ≡ turns_in calls + turns_in later = turns-append calls later in omega (arith, rest)
 
--- what is behind one turn of a cycle is a cycle, where the cycle has a turn more than it needs
-cycle_behind : (slot a : ℕ) (e : Entry) (known : Known) (calls later : List Call) → turns_in calls ≡ 1 → IsCycleOf slot a e known (calls ++ later) → 4 * kinds * slots_refreshed known (calls ++ later) + 1 ≤ turns_in (calls ++ later) → IsCycleOf slot a e (known_after_all known calls) later
+-- the events after one turn of a cycle are a cycle, if the cycle has a turn more than it needs
+cycle_behind : (slot a : ℕ) (e : Entry) (known : ThrottleView) (calls later : List Call) → turns_in calls ≡ 1 → IsCycleOf slot a e known (calls ++ later) → 4 * kinds * slots_refreshed known (calls ++ later) + 1 ≤ turns_in (calls ++ later) → IsCycleOf slot a e (known_after_all known calls) later
 cycle_behind slot a e known calls later one full more =
     let count : slots_refreshed (known_after_all known calls) later ≤ slots_refreshed known (calls ++ later) =
     fewer_pass (ever_refreshed (known_after_all known calls) later) (ever_refreshed known (calls ++ later)) all_slots (ever_behind known calls later) in
@@ -353,7 +353,7 @@ running_from packets loco (Loco new) obeyed = ap Some obeyed
 running_from packets loco (Accessory new) obeyed = absurd obeyed
 
 -- with no packet under way, it runs as its entry wants after a cycle, and none is under way
-over_cycle : (laws : Laws) (i slot a : ℕ) (e : Entry) (cv : Settings) → IsTrue (answers_to cv a) → AgreesInSteps cv e.kind → (seen : Seen) (known : Known) → Follows seen known → HasDesk seen.powered → (cycle : List Event)
+over_cycle : (laws : Laws) (i slot a : ℕ) (e : Entry) (cv : Settings) → IsTrue (answers_to cv a) → AgreesInSteps cv e.kind → (seen : Seen) (known : ThrottleView) → Follows seen known → HasDesk seen.powered → (cycle : List Event)
     → IsCycleOf slot a e known (calls_in cycle) → MissesNone i cycle → NoNoise i cycle → (old new : Node) → spec_of old ≡ LocoSpec cv → IsBetween old → HearsAll (sounds_in i seen cycle) old new
     → (running_of new ≡ Some (wanted e cv.reversed)) × IsBetween new
 over_cycle laws i slot a e cv mine steps seen known follows desk cycle full misses quiet old new made between hears =
@@ -371,7 +371,7 @@ over_cycle laws i slot a e cv mine steps seen known follows desk cycle full miss
 follows_events : (laws : Laws) (start : Seen) (events : List Event) → Follows (after_events start events) (known_after_all (known_of start) (calls_in events))
 follows_events laws start events =
     subst (λ (seen : Seen). Follows seen (known_after_all (known_of start) (calls_in events))) (sym (after_is start events))
-    (follows_behind start (known_of start) (calls_in events) (laws.told start))
+    (follows_behind start (known_of start) (calls_in events) (laws.reported start))
 
 desk_after_events : (laws : Laws) (start : Seen) (events : List Event) → HasDesk start.powered → HasDesk (after_events start events).powered
 desk_after_events laws start events is =
@@ -397,29 +397,30 @@ runs_as_wanted laws start events old new desk has before cycle i loco none parts
     (over_cycle laws i slot a e loco.settings hears.answers hears.steps (after_events start before) (known_after_all (known_of start) (calls_in before)) (follows_events laws start before) (desk_after_events laws start before desk) cycle full hears.misses hears.quiet
     cut.0 (slice_index_or new i none) (all_keep (sounds_in i start before) (Loco loco) cut.0 cut.1) so_far.1 cut.2).0
 
--- The headline after noise: the packet of the first turn leaves no packet under way, and the rest is a cycle.
+-- The headline after noise: the packet of the first turn leaves no packet under way, and the rest
+-- is a cycle.
 module _ (laws : Laws) (i slot a : ℕ) (e : Entry) (cv : Settings) (mine : IsTrue (answers_to cv a)) (steps : AgreesInSteps cv e.kind) where
-  settles_at_turn : (seen : Seen) (known : Known) → Follows seen known → HasDesk seen.powered → (missed : ℕ) → StandsIn slot a e known.powered → IsLive slot known.powered → is_missed missed i ≡ false
+  settles_at_turn : (seen : Seen) (known : ThrottleView) → Follows seen known → HasDesk seen.powered → (missed : ℕ) → StandsIn slot a e known.powered → IsLive slot known.powered → is_missed missed i ≡ false
       → (old new : Node) → HearsAll (sounds_at i seen (Turn missed)) old new → IsBetween new
   settles_at_turn seen known follows desk missed stands live listens old new hears =
       let now : known.powered ≡ seen.powered = sym (follows []) in
-      let told = turn_packet laws cv i slot a e mine seen desk (subst (StandsIn slot a e) now stands) (subst (IsLive slot) now live) in
-      let sounds : sounds_at i seen (Turn missed) ≡ Whole told.0 ∷ [] =
-      ap (λ (step : Step). sounds_of_turn (is_missed missed i) step) told.1 ∙ ap (λ (b : Bool). sounds_of_turn b (Packet told.0)) listens in
-      let whole : HearsAll (Whole told.0 ∷ []) old new = subst (λ (ss : List Sound). HearsAll ss old new) sounds hears in
+      let reported = turn_packet laws cv i slot a e mine seen desk (subst (StandsIn slot a e) now stands) (subst (IsLive slot) now live) in
+      let sounds : sounds_at i seen (Turn missed) ≡ Whole reported.0 ∷ [] =
+      ap (λ (step : Step). sounds_of_turn (is_missed missed i) step) reported.1 ∙ ap (λ (b : Bool). sounds_of_turn b (Packet reported.0)) listens in
+      let whole : HearsAll (Whole reported.0 ∷ []) old new = subst (λ (ss : List Sound). HearsAll ss old new) sounds hears in
       subst IsBetween (sym whole.2) whole.1.settles
 
-  over_longer_cycle : (seen : Seen) (known : Known) → Follows seen known → HasDesk seen.powered → (cycle : List Event) → IsCycleOf slot a e known (calls_in cycle) → 4 * kinds * slots_refreshed known (calls_in cycle) + 1 ≤ turns_in (calls_in cycle)
+  over_longer_cycle : (seen : Seen) (known : ThrottleView) → Follows seen known → HasDesk seen.powered → (cycle : List Event) → IsCycleOf slot a e known (calls_in cycle) → 4 * kinds * slots_refreshed known (calls_in cycle) + 1 ≤ turns_in (calls_in cycle)
       → MissesNone i cycle → NoNoise i cycle → (old new : Node) → spec_of old ≡ LocoSpec cv → HearsAll (sounds_in i seen cycle) old new → (running_of new ≡ Some (wanted e cv.reversed)) × IsBetween new
   over_longer_cycle seen known follows desk cycle full more misses quiet old new made hears =
       let cut : FirstTurn cycle = first_turn cycle (omega (arith, more)) in
       let turn : List Event = Turn cut.missed ∷ [] in
       let behind : List Event = Turn cut.missed ∷ cut.rest in
-      -- before the turn, and behind it
+      -- before the turn, and after it
       let at_turn : Seen = after_events seen cut.front in
-      let known_at : Known = known_after_all known (calls_in cut.front) in
+      let known_at : ThrottleView = known_after_all known (calls_in cut.front) in
       let after : Seen = after_event at_turn (Turn cut.missed) in
-      let known_behind : Known = known_after_all known_at (TurnCall ∷ []) in
+      let known_behind : ThrottleView = known_after_all known_at (TurnCall ∷ []) in
       let calls : calls_in cycle ≡ calls_in cut.front ++ (TurnCall ∷ calls_in cut.rest) = ap calls_in cut.parts ∙ calls-append cut.front behind in
       let full_parts : IsCycleOf slot a e known (calls_in cut.front ++ (TurnCall ∷ calls_in cut.rest)) = subst (IsCycleOf slot a e known) calls full in
       let more_parts : 4 * kinds * slots_refreshed known (calls_in cut.front ++ (TurnCall ∷ calls_in cut.rest)) + 1 ≤ turns_in (calls_in cut.front ++ (TurnCall ∷ calls_in cut.rest)) =
@@ -444,7 +445,7 @@ module _ (laws : Laws) (i slot a : ℕ) (e : Entry) (cv : Settings) (mine : IsTr
       let between : IsBetween second.0 = settles_at_turn at_turn known_at follows_at desk_at cut.missed stands_at.0 live_at.0 misses_turn.0 first.0 second.0 second.1 in
       let kept : spec_of second.0 ≡ LocoSpec cv = all_keep (sounds_at i at_turn (Turn cut.missed)) first.0 second.0 second.1 ∙ all_keep (sounds_in i seen cut.front) old first.0 first.1 ∙ made in
       over_cycle laws i slot a e cv mine steps after known_behind follows_after desk_then cut.rest
-      (subst (λ (k : Known). IsCycleOf slot a e k (calls_in cut.rest)) (known_after-append known (calls_in cut.front) (TurnCall ∷ [])) rest_cycle)
+      (subst (λ (k : ThrottleView). IsCycleOf slot a e k (calls_in cut.rest)) (known_after-append known (calls_in cut.front) (TurnCall ∷ [])) rest_cycle)
       misses_turn.1 quiet_turn second.0 new kept between second.2
 
 pub runs_after_noise : Laws → (start : Seen) (events : List Event) (old new : List Node) → HasDesk start.powered → HaveHeard start events old new → RunsAfterNoise (known_of start) events old new

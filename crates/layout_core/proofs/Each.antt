@@ -1,4 +1,5 @@
--- The nodes in the midst of a packet: those before place i have heard or missed it, the others are as they were.
+-- The nodes in the midst of a packet: those before place i have heard or missed it, the others are
+-- as they were.
 use Rattle.std.proofs.Common.{◌≡◌, ℕ, ◌+◌, ◌<◌, ◌≤◌, Bool, true, false, List, [], ◌∷◌, ◌++◌, length, map, take, append-nil, drop_of_length-le, refl, ap, sym, subst, ◌∙◌, arith, inl, inr}
 use Rattle.std.proofs.lemmas.Bool.{cases_eq}
 use Rattle.std.proofs.lemmas.List.{length-set, get_or-set_same, get_or-set_other, get_or_default, get_or-map, set-get_or, map-set, take_all}

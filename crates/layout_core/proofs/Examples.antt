@@ -48,7 +48,7 @@ two_turns =
     ap₂ (λ (a b : List ℕ). ended_line (codes "track " ++ a ++ codes " off") ++ (ended_line (codes "track " ++ b ++ codes " FF 00 FF") ++ []))
     (decimal_digit 1 (omega arith)) (decimal_digit 2 (omega arith))
 
--- a reply stands before the turn of its byte
+-- a reply is before the turn of its byte
 a_reply : traced_from 1 9 (Reply (LongAck 0x3F 0) ∷ Off ∷ []) ≡ codes "reply 1 B4 3F 00 74" ++ 10 ∷ codes "track 9 off" ++ 10 ∷ []
 a_reply =
     ap₂ (λ (a b : List ℕ). ended_line (codes "reply " ++ a ++ codes " B4 3F 00 74") ++ (ended_line (codes "track " ++ b ++ codes " off") ++ []))

@@ -1,4 +1,5 @@
--- Each packet of an entry sets its fields and keeps the others, so that all together settle a decoder.
+-- Each packet of an entry sets its fields and keeps the others, so that all together settle a
+-- decoder.
 use Rattle.std.proofs.Common.{◌≡◌, IsTrue, ◌⊎◌, ℕ, ◌+◌, ◌*◌, ◌/◌, ◌%◌, ◌^◌, ◌<◌, ◌==◌, ◌||◌, Bool, true, false, if◌then◌else◌, List, [], ◌∷◌, Some, None, zero, suc, refl, sym, ap, subst, ◌∙◌, arith, inl, inr}
 use Rattle.std.proofs.lemmas.Bool.{cases_Bool, both_ways, cond-true, cond-false}
 use Rattle.std.proofs.lemmas.List.Elements.{recursion_from_All}
@@ -14,14 +15,14 @@ use Rattle.dcc_packet.specs.Sent.{speed_bytes, group_one_bytes, group_two_bytes,
 use Rattle.dcc_packet.specs.Steps.{motion_of}
 use Rattle.slot_table.specs.Entry.{Entry}
 use Rattle.station_core.specs.Packets.{address_sent, is_lit, speed_packet, group_one_packet, group_two_packet, group_three_packet}
-use Rattle.station_core.specs.Asking.{steps_asked, is_forward, functions_asked}
+use Rattle.station_core.specs.Requested.{steps_asked, is_forward, functions_asked}
 use Rattle.decoder_cv.specs.Settings.{Settings}
 use Rattle.decoder_node.specs.declared.running.Running.{Running}
 use Rattle.decoder_node.specs.Bits.{with_bits}
 use Rattle.decoder_node.specs.Obey.{is_own, lit, obey, runs}
 use Rattle.layout_core.specs.Wanted.{wanted}
 use Rattle.layout_core.specs.Settling.{IsPacketOf, speed, group_one, group_two, group_three, LeavesAsItIs, IsAskedBy, TellsAll}
-use Rattle.layout_core.proofs.Told.{Spelling, Speeds, run_by, motion-fits, own-sent, legal-sent, bit-lowest, own-speed_14, own-speed_28, own-speed_128, own-group_one, own-group_two, own-group_three}
+use Rattle.layout_core.proofs.Requests.{Spelling, Speeds, run_by, motion-fits, own-sent, legal-sent, bit-lowest, own-speed_14, own-speed_28, own-speed_128, own-group_one, own-group_two, own-group_three}
 
 -- what each packet sets, as a fact that no other packet undoes
 record SpeedSet (cv : Settings) (want r : Running) : Type 0 where

@@ -4,7 +4,7 @@ use Rattle.half_bits.specs.Halves.{halves_of}
 use Rattle.decoder_node.specs.declared.node.NodeSpec.{NodeSpec}
 use Rattle.decoder_node.specs.declared.node.NodeSpec.TheVariants.{Loco as LocoSpec, Accessory as AccessorySpec}
 use Rattle.decoder_node.specs.Decoder.{AccessoryDecoder, LocoDecoder, IsBetween as IsBetweenPackets}
-use Rattle.decoder_node.specs.Hearing.{Hears}
+use Rattle.decoder_node.specs.Hearing.{Receives}
 use Rattle.decoder_node.specs.Heard.{obeying}
 use Rattle.decoder_node.specs.Obey.{obey, obeyed}
 use Rattle.decoder_node.specs.Switched.{switch, switched}
@@ -12,12 +12,12 @@ use Rattle.layout_core.specs.declared.node.Node.TheVariants.{Loco, Accessory}
 use Rattle.layout_core.specs.Nodes.{node_of, spec_of}
 use Rattle.layout_core.specs.Hearing.{HearsPacket}
 
-pub loco_hears : (packet : List ℕ) (old new : LocoDecoder) → Hears obeyed old (halves_of packet) new → IsBetweenPackets new → (IsBetweenPackets old → new.state ≡ obeying (obeyed old.settings) old.state packet)
+pub loco_hears : (packet : List ℕ) (old new : LocoDecoder) → Receives obeyed old (halves_of packet) new → IsBetweenPackets new → (IsBetweenPackets old → new.state ≡ obeying (obeyed old.settings) old.state packet)
     → HearsPacket packet (Loco old) (Loco new)
 unfolding obey
 loco_hears packet old new hears settles obeys = record { in_halves = hears.in_turn; kept = ap LocoSpec hears.kept; settles = settles; obeys = obeys }
 
-pub accessory_hears : (packet : List ℕ) (old new : AccessoryDecoder) → Hears switched old (halves_of packet) new → IsBetweenPackets new → (IsBetweenPackets old → new.state ≡ obeying (switched old.settings) old.state packet)
+pub accessory_hears : (packet : List ℕ) (old new : AccessoryDecoder) → Receives switched old (halves_of packet) new → IsBetweenPackets new → (IsBetweenPackets old → new.state ≡ obeying (switched old.settings) old.state packet)
     → HearsPacket packet (Accessory old) (Accessory new)
 unfolding switch
 accessory_hears packet old new hears settles obeys = record { in_halves = hears.in_turn; kept = ap AccessorySpec hears.kept; settles = settles; obeys = obeys }

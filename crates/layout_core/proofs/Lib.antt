@@ -1,5 +1,5 @@
 pub mod Hearing
-pub mod Told
+pub mod Requests
 pub mod Fields
 pub mod Each
 pub mod Heard
@@ -9,9 +9,9 @@ pub mod Premises
 pub mod Played
 pub mod Same
 pub mod Cycle
-pub mod Known
+pub mod ThrottleView
 pub mod Moments
-pub mod Serving
+pub mod ServeSteps
 pub mod Stopping
 pub mod Putting
 pub mod Counting

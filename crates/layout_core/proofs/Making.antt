@@ -1,4 +1,4 @@
--- What a new layout says where its station is refused.
+-- A new layout whose station is refused.
 use Rattle.std.proofs.Common.{◌≡◌, Result, Ok, Err, ap, sym, subst, ◌∙◌}
 use Rattle.std.specs.Prelude.{IfErr, IfOk}
 use Rattle.std.specs.Result.{IsErrAnd}

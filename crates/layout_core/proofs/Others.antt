@@ -1,4 +1,4 @@
--- What is not for a decoder does nothing to it.
+-- Packets that are not for a decoder leave it as it is.
 use Rattle.std.specs.Prelude.{nat_le}
 use Rattle.std.proofs.Common.{◌≡◌, ℕ, ◌+◌, ◌/◌, ◌<◌, ◌≤◌, Bool, true, false, List, [], ◌∷◌, Option, Some, None, refl, ap, sym, subst, ◌∙◌, arith}
 use Rattle.std.proofs.lemmas.Bool.{and_parts, eqb-true, leb-true, false_from_ne_true}
@@ -11,14 +11,14 @@ use Rattle.dcc_packet.specs.Sent.{idle_bytes, accessory_bytes}
 use Rattle.dcc_packet.specs.Spells.{Spells, Tells}
 use Rattle.slot_table.specs.Entry.{Entry, IsAddress, IsEntry}
 use Rattle.station_core.specs.Packets.{address_sent, is_lit}
-use Rattle.station_core.specs.Asking.{steps_asked, motion_asked, is_forward, functions_asked}
+use Rattle.station_core.specs.Requested.{steps_asked, motion_asked, is_forward, functions_asked}
 use Rattle.decoder_cv.specs.Answering.{is_at, answers_to}
 use Rattle.decoder_cv.specs.Settings.{Settings}
 use Rattle.decoder_node.specs.declared.running.Running.{Running}
 use Rattle.decoder_node.specs.Heard.{after_receipt}
 use Rattle.decoder_node.specs.Obey.{is_own, obey, obeyed}
 use Rattle.layout_core.specs.Settling.{IsPacketOf, speed, group_one, group_two, group_three, LeavesAsItIs}
-use Rattle.layout_core.proofs.Told.{Spelling, obey-told, motion-fits, own-sent, legal-sent, other-speed, other-group_one, other-group_two, other-group_three}
+use Rattle.layout_core.proofs.Requests.{Spelling, obey-reported, motion-fits, own-sent, legal-sent, other-speed, other-group_one, other-group_two, other-group_three}
 
 one_number : (own : Address) (a b : ℕ) → is_at own a ≡ true → is_at own b ≡ true → a ≡ b
 one_number (Short n) a b h k = sym (eqb-true n a (and_parts _ _ h).0) ∙ eqb-true n b (and_parts _ _ k).0
@@ -40,14 +40,14 @@ not_for_it laws cv b e packet is entry silent of r = by_packet of where
   by_packet (group_three h) = subst (λ (bytes : List ℕ). obey cv r bytes ≡ r) (sym h) (other-group_three laws cv (address_sent b) (legal-sent b is) r other (functions_asked e))
 
 pub idle_leaves : Spelling → Spells idle_bytes Idle → (cv : Settings) → LeavesAsItIs cv idle_bytes
-idle_leaves laws idle cv r = obey-told laws cv r idle_bytes Idle idle
+idle_leaves laws idle cv r = obey-reported laws cv r idle_bytes Idle idle
 
 -- the first byte of a packet
 abbrev front : List ℕ → ℕ
 front [] = 0
 front (byte ∷ bytes) = byte
 
--- that of a packet to a locomotive decoder is none of an accessory decoder's
+-- the first byte of a packet to a locomotive decoder is none of an accessory decoder's
 loco_front : (bytes instruction : List ℕ) (address : Address) → Tells bytes address instruction → 128 ≤ front bytes → front bytes < 192 → ⊥
 loco_front bytes instruction (Short n) (legal, is) low high =
     let first : front bytes ≡ n = ap front is in
@@ -72,7 +72,7 @@ by_reading : Spelling → (cv : Settings) (r : Running) (packet : List ℕ) → 
 by_reading laws cv r packet low high None e = refl
 by_reading laws cv r packet low high (Some i) e = by_instr cv r packet low high i ((laws.read packet i).0 e)
 
--- whatever the number: such bytes speak to no locomotive decoder
+-- for any number: such bytes address no locomotive decoder
 pub switch_leaves : Spelling → (number : ℕ) (closed on : Bool) → (cv : Settings) → LeavesAsItIs cv (accessory_bytes number closed on)
 unfolding obey
 switch_leaves laws number closed on cv r =

@@ -61,7 +61,7 @@ event_heard i seen (Turn missed) old new none below after = turn_heard i missed 
 event_heard i seen (Noise node half) old new none below after =
     half_sounds (nat_eq node i) half (slice_index_or old i none) (slice_index_or new i none) (after.each i none below)
 
--- an event and those behind it
+-- an event and those after it
 pub next_heard : (seen : Seen) (event : Event) (events : List Event) (old mid new : List Node) → AfterEvent event (answer_to seen event) old mid → HaveHeard (after_event seen event) events mid new → HaveHeard seen (event ∷ events) old new
 next_heard seen event events old mid new after rest =
     let count : length mid ≡ length old = event_count event (answer_to seen event) old mid after in
@@ -82,7 +82,7 @@ both_heard seen events later old mid new first second = record {
       (first.each i none below) (second.each i none (omega (arith, below, first.count))));
 }
 
--- what no noise names obeys
+-- a node that no noise names obeys
 pub heard_obeyed : (seen : Seen) (events : List Event) (old new : List Node) → HaveHeard seen events old new → HaveObeyed seen events old new
 heard_obeyed seen events old new has i none below quiet between =
     whole_obeyed (sounds_in i seen events) (slice_index_or old i none) (slice_index_or new i none) (sounds_are_whole i seen events quiet) (has.each i none below) between

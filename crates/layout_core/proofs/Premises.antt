@@ -21,7 +21,7 @@ use Rattle.slot_table.specs.Moves.{after_shift, may_move, move_place}
 use Rattle.slot_table.specs.Reading.{all_slots, entry_at, is_same, row_at, row_of}
 use Rattle.slot_table.specs.Writes.{after_field, after_take, new_entry, take_at}
 use Rattle.station_core.specs.declared.call.Call.{Call}
-use Rattle.station_core.specs.Known.{Known, known_after}
+use Rattle.station_core.specs.ThrottleView.{ThrottleView, known_after}
 use Rattle.station_core.specs.Moments.{AtEveryMoment, IsLive, ever_refreshed, slots_refreshed, turns_in}
 use Rattle.station_core.specs.Powered.{PoweredDesk}
 use Rattle.station_core.specs.Refreshed.{is_driven, is_refreshed}
@@ -43,14 +43,14 @@ use Rattle.layout_core.specs.Served.{served_events}
 abbrev asked : Entry
 asked = record { state = state_of_number 3; kind = 3; spd = 0x40; dirf = 0; snd = 0; more = 0; ss2 = 0; id1 = 0; id2 = 0 }
 
--- it is asked of address 3, which stands in slot 1
+-- it is asked of address 3, which is in slot 1
 abbrev first : Desk
 first = record { place = insert empty 1 3; asked = insert empty 3 asked; mark = None }
 
 abbrev running : Desk → PoweredDesk
 running desk = record { power = Running; desk = desk }
 
-abbrev start : Known
+abbrev start : ThrottleView
 start = record { lines = [] ∷ []; powered = running first }
 
 -- a decoder of address 3 in 28 or 128 steps that else is as this one, and a new one
@@ -67,7 +67,7 @@ record IsAsked (powered : PoweredDesk) : Type 0 where
   row : row_of powered.desk 1 ≡ row_with 3 asked
   alone : (n : ℕ) → is_refreshed powered.desk n ≡ (n == 1)
 
-at_all : (P : PoweredDesk → Type 0) → ((powered : PoweredDesk) → IsAsked powered → P powered) → (known : Known) (calls : List Call) → AtEveryMoment IsAsked known calls → AtEveryMoment P known calls
+at_all : (P : PoweredDesk → Type 0) → ((powered : PoweredDesk) → IsAsked powered → P powered) → (known : ThrottleView) (calls : List Call) → AtEveryMoment IsAsked known calls → AtEveryMoment P known calls
 at_all P gives known [] now = gives known.powered now
 at_all P gives known (call ∷ calls) now = (gives known.powered now.0, at_all P gives (known_after known call) calls now.1)
 
@@ -75,16 +75,16 @@ or_same : (a b : Bool) → b ≡ a → (a || b) ≡ a
 or_same true b same = refl
 or_same false b same = same
 
-ever_alone : (known : Known) (calls : List Call) → AtEveryMoment IsAsked known calls → (n : ℕ) → ever_refreshed known calls n ≡ (n == 1)
+ever_alone : (known : ThrottleView) (calls : List Call) → AtEveryMoment IsAsked known calls → (n : ℕ) → ever_refreshed known calls n ≡ (n == 1)
 ever_alone known [] now n = now.alone n
 ever_alone known (call ∷ calls) now n =
     or_same _ _ (ever_alone (known_after known call) calls now.1 n ∙ sym (now.0.alone n)) ∙ now.0.alone n
 
-one_slot : (known : Known) (calls : List Call) → AtEveryMoment IsAsked known calls → slots_refreshed known calls ≡ 1
+one_slot : (known : ThrottleView) (calls : List Call) → AtEveryMoment IsAsked known calls → slots_refreshed known calls ≡ 1
 unfolding all_slots
 one_slot known calls now = ap (λ (slots : List ℕ). length slots) (filter_agree _ (λ n. n == 1) (ever_alone known calls now) all_slots)
 
-is_cycle : (known : Known) (calls : List Call) → AtEveryMoment IsAsked known calls → 16 ≤ turns_in calls → IsCycleOf 1 3 asked known calls
+is_cycle : (known : ThrottleView) (calls : List Call) → AtEveryMoment IsAsked known calls → 16 ≤ turns_in calls → IsCycleOf 1 3 asked known calls
 is_cycle known calls now enough = record {
   is_slot = (omega arith, omega arith);
   full = record {
@@ -203,7 +203,7 @@ find_agree p q same (n ∷ ns) = ap₂ (λ (b : Bool) (rest : Option ℕ). if b 
 apart : (n k : ℕ) → 2 ≤ k → (n == k) ≡ true → (n == 1) ≡ false
 apart n k above here = grind (arith, nat_tests)
 
--- address 4 is taken, and comes to slot 2
+-- address 4 is accepted, and gets slot 2
 abbrev second : Desk
 second = entered first 2 4 new_entry
 
@@ -280,7 +280,7 @@ frees =
     ap₂ (λ (can : Bool) (o : Option ℕ). if can then record { place = remove third.place 5; asked = without third.asked o; mark = unmarked None 5 } else third)
     (ap (λ (o : Option ℕ). is_stat 0 && is_some o) (third_shows.places 5)) (third_shows.places 5)
 
--- address 4 is taken, its slot 2 is moved to 5 and freed, and a switch is asked to close
+-- address 4 is accepted, its slot 2 is moved to 5 and freed, and a switch is requested to close
 abbrev others : List ℕ
 others = 0xBF ∷ 0 ∷ 4 ∷ 0x44 ∷ 0xBA ∷ 2 ∷ 5 ∷ 0x42 ∷ 0xB5 ∷ 5 ∷ 0 ∷ 0x4F ∷ 0xB0 ∷ 0 ∷ 0x30 ∷ 0x7F ∷ []
 
@@ -321,8 +321,8 @@ dirt = replicate 20 58 ++ 100 ∷ 100 ∷ []
 in_mid_packet : ¬ (IsBetween (Loco (heard_all obeyed new_at_3 dirt)))
 in_mid_packet between = cc
 
--- However the locomotive ran, and wherever its receiver was and noise left it: after seventeen turns it runs at step 63
--- of 128, and no packet is under way.
+-- However the locomotive ran, and whatever state noise left its receiver in: after seventeen turns
+-- it runs at step 63 of 128, and no packet is under way.
 after_noise_and_turns : (loco : LocoDecoder) (new : List Node) → RunsAfterNoise start (map (Noise 0) dirt ++ turns 17) (Loco (at_3 loco) ∷ []) new
     → (running_of (slice_index_or new 0 (Loco loco)) ≡ Some (record { motion = Step S128 63; forward = true; functions = 0 }))
     × IsBetween (slice_index_or new 0 (Loco loco))

@@ -1,4 +1,4 @@
--- What an answer leaves that is put out, by what its writes say of themselves.
+-- What writing an answer leaves, by the contracts of its writes.
 use Rattle.std.proofs.Common.{◌≡◌, ℕ, ◌+◌, Bool, true, false, List, [], Option, Result, Ok, Err, OnOk, OnErr, sym, ap, subst, ◌∙◌, arith}
 use Rattle.std.specs.Prelude.{IfErr}
 use Rattle.std.specs.Io.KnownBytes.{Appends}
@@ -73,12 +73,12 @@ module _ (put : Result (Unit {0}) Broken) (result : Result (Unit {0}) ServeFault
         subst (λ (r : Result (Unit {0}) ServeFault). IfErr r (λ fault. PutsOut fault line turn [] answer w w' t t')) (sym is)
         (fault_so Trace put (λ fault. PutsOut fault line turn [] answer w w' t t') (on_err_weaker put out part))
 
--- a front of the bytes of an answer was written, and its line is not traced
+-- a prefix of the bytes of an answer was written, and its line is not traced
 pub write_faults : (answer : Step) (bytes : List ℕ) (w w' t : Option (List ℕ)) → bytes_of_answer answer ≡ bytes → AppendsFront w w' [] bytes → Appends t t []
     → AppendsFront w w' [] (bytes_of_answer answer) × Appends t t []
 write_faults answer bytes w w' t is front none = (subst (λ (bs : List ℕ). AppendsFront w w' [] bs) (sym is) front, none)
 
--- so it is where a step put out its bytes, and its line was made
+-- the same for a step that wrote its bytes, and whose line was made
 pub written_as : (line turn : ℕ) (answer step : Step) (old new now : Option (List ℕ)) (failed still : Bool) (text said : List ℕ) → answer ≡ step → Appends old new (bytes_of_answer step) → now ≡ new
     → failed ≡ still → still ≡ false → text ≡ said → line_of_answer line turn step ≡ ended_line said → HasWritten line turn answer old now failed text
 written_as line turn answer step old new now failed still text said is appends kept same works made lines = record {

@@ -11,16 +11,16 @@ use Rattle.layout_core.specs.declared.engine.ServeFault.{ServeFault}
 use Rattle.layout_core.specs.declared.engine.ServeFault.TheVariants.{Read, Write, Trace, TooManyReads}
 use Rattle.layout_core.specs.declared.event.Event.{Event}
 use Rattle.layout_core.specs.declared.event.Event.TheVariants.{Byte, Turn}
-use Rattle.layout_core.specs.Faults.{AppendsFront, Leaves, PutsOut, ServesOrStops, StopsAt, StopsWithin, ended_by, is_read}
-use Rattle.layout_core.specs.Served.{Moment, Serves, byte_events, bytes_of_answer, line_of_answer, served_events, traced_from, turns_in, written_for}
+use Rattle.layout_core.specs.Faults.{AppendsFront, HoldsAfterFault, PutsOut, ServesOrStops, StopsAt, StopsWithin, ended_by, is_read}
+use Rattle.layout_core.specs.Served.{Moment, ServesEvents, byte_events, bytes_of_answer, line_of_answer, served_events, traced_from, turns_in, written_for}
 use Rattle.layout_core.specs.Played.{after_event, after_events, answer_to, answers_to}
 use Rattle.layout_core.specs.World.{AfterEvent, HaveHeard, IsSameLayout}
-use Rattle.layout_core.proofs.Known.{front_behind}
+use Rattle.layout_core.proofs.ThrottleView.{front_behind}
 use Rattle.layout_core.proofs.Played.{both_heard, next_heard, nothing_heard}
 use Rattle.layout_core.proofs.Same.{same_then}
-use Rattle.layout_core.proofs.Serving.{answers-append, served-append, state-append, traced-append, turns-append, written-append}
+use Rattle.layout_core.proofs.ServeSteps.{answers-append, served-append, state-append, traced-append, turns-append, written-append}
 
--- what is put out behind what was put out whole
+-- a part written after what was written whole
 puts_out_behind : (fault : ServeFault) (line turn later : ℕ) (front steps : List Step) (last : Step) (w w' w'' t t' t'' : Option (List ℕ)) → later ≡ turn + turns_in front
     → Appends w w' (written_for front) → Appends t t' (traced_from line turn front) → PutsOut fault line later steps last w' w'' t' t'' → PutsOut fault line turn (front ++ steps) last w w'' t t''
 puts_out_behind Read line turn later front steps last w w' w'' t t' t'' at written traced out = absurd out
@@ -44,7 +44,7 @@ puts_out_behind Trace line turn later front steps last w w' w'' t t' t'' at writ
           (front_behind t t' t'' (traced_from line turn front) (traced_from line later steps) (line_of_answer line (later + turns_in steps) last) traced out.1)),
     )
 
-stops_at_then : (fault : ServeFault) (line : ℕ) (events before : List Event) (last : Event) (old mid new : Moment) → Serves line events old mid → StopsAt fault line before last mid new → StopsAt fault line (events ++ before) last old new
+stops_at_then : (fault : ServeFault) (line : ℕ) (events before : List Event) (last : Event) (old mid new : Moment) → ServesEvents line events old mid → StopsAt fault line before last mid new → StopsAt fault line (events ++ before) last old new
 stops_at_then fault line events before last old mid new first stop =
     let seen : Seen = old.world.station in
     let after : Seen = after_events seen events in
@@ -72,7 +72,7 @@ stops_at_then fault line events before last old mid new first stop =
     }
 
 -- Where all of the events are three parts, the first served and the stop in the second.
-pub stops_then : (fault : ServeFault) (line : ℕ) (all events now later : List Event) (old mid new : Moment) → all ≡ events ++ (now ++ later) → Serves line events old mid → StopsWithin fault line now mid new → StopsWithin fault line all old new
+pub stops_then : (fault : ServeFault) (line : ℕ) (all events now later : List Event) (old mid new : Moment) → all ≡ events ++ (now ++ later) → ServesEvents line events old mid → StopsWithin fault line now mid new → StopsWithin fault line all old new
 stops_then fault line all events now later old mid new parts first stop =
     let before = stop.1.0 in
     let behind = stop.1.1 in
@@ -84,7 +84,7 @@ stops_then fault line all events now later old mid new parts first stop =
     ∙ sym (append_assoc events before (last ∷ (behind ++ later))) in
     ((events ++ before) ++ last ∷ [], (events ++ before, behind ++ later, last, cut, refl, stops_at_then fault line events before last old mid new first stop.1.5))
 
--- a turn, and those behind it
+-- a turn, and those after it
 byte_parts : (line turns i byte : ℕ) → i < turns → byte_events line turns byte ≡ byte_events line i byte ++ ((Turn 0 ∷ []) ++ replicate (turns - i - 1) (Turn 0))
 byte_parts line turns i byte below =
     let count : turns ≡ i + (1 + (turns - i - 1)) = omega (arith, below) in
@@ -94,7 +94,7 @@ byte_parts line turns i byte below =
     ∙ ap (λ (events : List Event). Byte line byte ∷ (replicate i (Turn 0) ++ events)) (sym one)
 
 -- a fault that stops at an event leaves those before it and it
-pub stops_leave : (fault : ServeFault) (line : ℕ) (events : List Event) (old new : Moment) (stop : StopsWithin fault line events old new) → Leaves fault line events stop.0 old new
+pub stops_leave : (fault : ServeFault) (line : ℕ) (events : List Event) (old new : Moment) (stop : StopsWithin fault line events old new) → HoldsAfterFault fault line events stop.0 old new
 stops_leave Read line events old new stop = absurd stop.1.5.puts_out
 stops_leave TooManyReads line events old new stop = absurd stop.1.5.puts_out
 stops_leave Write line events old new stop = stop.1
@@ -128,7 +128,7 @@ handed_on {A} (Err e) fault line events old new sink_failed trace_failed is stop
 
 -- handed on, where some events were served before
 pub stopped : {A : Type 0} (result : Result A ServeFault) (fault : ServeFault) (line : ℕ) (all events now later : List Event) (old mid new : Moment) (sink_failed trace_failed : Bool)
-    → IsErrAnd result (λ e. e ≡ fault) → all ≡ events ++ (now ++ later) → Serves line events old mid → ServesOrStops {A = A} (Err fault) line now mid new sink_failed trace_failed
+    → IsErrAnd result (λ e. e ≡ fault) → all ≡ events ++ (now ++ later) → ServesEvents line events old mid → ServesOrStops {A = A} (Err fault) line now mid new sink_failed trace_failed
     → ServesOrStops result line all old new sink_failed trace_failed
 stopped result fault line all events now later old mid new sink_failed trace_failed is parts first stop =
     handed_on result fault line all old new sink_failed trace_failed is (stops_then fault line all events now later old mid new parts first stop.0, stop.1, stop.2)
@@ -146,7 +146,7 @@ no_limit_stops TooManyReads line events old new stop is = absurd stop.1.5.puts_o
 no_limit_stops Write line events old new stop is = cc
 no_limit_stops Trace line events old new stop is = cc
 
--- the bytes before the next one, that one, and those behind it
+-- the bytes before the next one, that one, and those after it
 pub served_parts : (line turns i : ℕ) (bytes : List ℕ) → i < length bytes → served_events line turns bytes ≡ served_events line turns (take i bytes) ++ (byte_events line turns (get_or bytes i 0) ++ served_events line turns (drop (i + 1) bytes))
 served_parts line turns i bytes below =
     ap (served_events line turns) (sym (take-append-drop i bytes) ∙ ap (λ (bs : List ℕ). take i bytes ++ bs) (drop_more bytes i 0 below))
@@ -164,7 +164,7 @@ turn_parts line turns turn i bytes more below =
     ∙ ap (λ (events : List Event). front ++ events) (append_assoc byte left rest)
     ∙ sym (append_assoc front byte (left ++ rest))
 
--- an event that is not put out whole
+-- an event whose answer is not written whole
 pub stops_at_event : (fault : ServeFault) (line : ℕ) (event : Event) (step : Step) (old new : Moment) → new.world.station ≡ after_event old.world.station event
     → step ≡ answer_to old.world.station event → AfterEvent event step old.world.nodes new.world.nodes → IsSameLayout old.world new.world → PutsOut fault line (old.turns + 1) [] step old.written new.written old.traced new.traced
     → StopsWithin fault line (event ∷ []) old new

@@ -1,12 +1,12 @@
--- The headline: a locomotive that hears a full refresh cycle of its address runs as its slot says. All of it is said of
--- what throttles can know.
+-- The headline: a locomotive that hears a full refresh cycle of its address runs as its slot says.
+-- All of it is stated over what throttles can know.
 use Rattle.std.specs.Prelude.{ℕ, ◌≡◌, ◌+◌, ◌*◌, ◌<◌, ◌≤◌, false, List, [], ◌∷◌, ◌++◌, Some, length, IsTrue}
 use Rattle.std.specs.List.{slice_index_or}
 use Rattle.dcc_packet.specs.Kinds.{kinds}
 use Rattle.slot_table.specs.Entry.{Entry, IsSlot}
 use Rattle.slot_table.specs.Reading.{row_of}
 use Rattle.station_core.specs.declared.call.Call.{Call}
-use Rattle.station_core.specs.Known.{Known, known_after_all}
+use Rattle.station_core.specs.ThrottleView.{ThrottleView, known_after_all}
 use Rattle.station_core.specs.Moments.{AtEveryMoment, IsFullCycle, slots_refreshed, turns_in}
 use Rattle.station_core.specs.Powered.{PoweredDesk}
 use Rattle.decoder_cv.specs.Answering.{answers_to, AgreesInSteps}
@@ -26,8 +26,9 @@ MissesNone i (Byte line byte ∷ events) = MissesNone i events
 MissesNone i (Turn missed ∷ events) = (is_missed missed i ≡ false) × MissesNone i events
 MissesNone i (Noise node half ∷ events) = MissesNone i events
 
--- The slot reads as this address, and as the entry in all that its packets say: type, speed, direction and functions. Its
--- state may change between common and in use, and so may SS2, ID1 and ID2.
+-- The slot reads as this address, and as the entry in all that its packets say: type, speed,
+-- direction and functions. Its state may change between common and in use, and so may SS2, ID1 and
+-- ID2.
 pub record StandsIn (slot a : ℕ) (e : Entry) (powered : PoweredDesk) : Type 0 where
   pub address : (row_of powered.desk slot).address ≡ a
   pub kind : (row_of powered.desk slot).kind ≡ e.kind
@@ -36,22 +37,24 @@ pub record StandsIn (slot a : ℕ) (e : Entry) (powered : PoweredDesk) : Type 0 
   pub snd : (row_of powered.desk slot).snd ≡ e.snd
   pub more : (row_of powered.desk slot).more ≡ e.more
 
--- a full refresh cycle of an address: at every moment it stands in the same slot and the same is asked of it
-pub record IsCycleOf (slot a : ℕ) (e : Entry) (known : Known) (calls : List Call) : Type 0 where
+-- a full refresh cycle of an address: at every moment it is in the same slot and the same is asked
+-- of it
+pub record IsCycleOf (slot a : ℕ) (e : Entry) (known : ThrottleView) (calls : List Call) : Type 0 where
   pub is_slot : IsSlot slot
   pub full : IsFullCycle slot known calls
   pub stands : AtEveryMoment (StandsIn slot a e) known calls
 
--- The locomotive answers to the address of the cycle and agrees with its entry in the step mode; and, as node i, it
--- misses no turn of the cycle, and no noise of the cycle names it.
+-- The locomotive answers to the address of the cycle and agrees with its entry in the step mode;
+-- and, as node i, it misses no turn of the cycle, and no noise of the cycle names it.
 pub record HearsCycle (i a : ℕ) (e : Entry) (loco : LocoDecoder) (cycle : List Event) : Type 0 where
   pub answers : IsTrue (answers_to loco.settings a)
   pub steps : AgreesInSteps loco.settings e.kind
   pub misses : MissesNone i cycle
   pub quiet : NoNoise i cycle
 
--- For each way to part the events into a cycle and what came before it, and for each locomotive: a claim of these, of the
--- locomotive, node i, as it was at the start, and of the node as it is at the end.
+-- For each way to part the events into a cycle and what came before it, and for each locomotive: a
+-- claim of these, of the locomotive, node i, as it was at the start, and of the node as it is at
+-- the end.
 abbrev pub ForEachLoco : {Any : Type 0} (Claim : (before cycle : List Any) (i : ℕ) (loco : LocoDecoder) (node : Node) → Type 0) → List Any → (old new : List Node) → Type 0
 ForEachLoco {Any} Claim events old new =
     (before cycle : List Any) (i : ℕ) (loco : LocoDecoder) (none : Node)
@@ -60,9 +63,9 @@ ForEachLoco {Any} Claim events old new =
     → slice_index_or old i none ≡ Loco loco
     → Claim before cycle i loco (slice_index_or new i none)
 
--- The headline. Where no packet was under way at the start, and no noise names the locomotive: after the cycle it runs as
--- the entry wants it, whatever came before.
-abbrev pub RunsAsWanted : Known → List Event → (old new : List Node) → Type 0
+-- The headline. If no packet was under way at the start, and no noise names the locomotive, then
+-- after the cycle it runs as the entry asks, whatever was heard before.
+abbrev pub RunsAsWanted : ThrottleView → List Event → (old new : List Node) → Type 0
 RunsAsWanted start = ForEachLoco (λ before cycle i loco node.
     (slot a : ℕ) (e : Entry)
     → IsBetweenPackets loco
@@ -71,9 +74,10 @@ RunsAsWanted start = ForEachLoco (λ before cycle i loco node.
     → IsCycleOf slot a e (known_after_all start (calls_in before)) (calls_in cycle)
     → running_of node ≡ Some (wanted e loco.settings.reversed))
 
--- The headline after noise. Whatever noise came before the cycle, and wherever it left the receiver: where the cycle has
--- one turn more than a full one needs, the locomotive runs as the entry wants it then, and no packet is under way.
-abbrev pub RunsAfterNoise : Known → List Event → (old new : List Node) → Type 0
+-- The headline after noise. Whatever noise preceded the cycle, and whatever state it left the
+-- receiver in: if the cycle has one turn more than a full one needs, the locomotive then runs as
+-- the entry asks, and no packet is under way.
+abbrev pub RunsAfterNoise : ThrottleView → List Event → (old new : List Node) → Type 0
 RunsAfterNoise start = ForEachLoco (λ before cycle i loco node.
     (slot a : ℕ) (e : Entry)
     → HearsCycle i a e loco cycle

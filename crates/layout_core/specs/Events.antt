@@ -1,11 +1,11 @@
--- The events of a layout, as its station sees them, and whom noise names.
+-- The events of a layout, as its station sees them, and the nodes that noise names.
 use Rattle.std.specs.Prelude.{ℕ, ◌≡◌, ◌==◌, false, List, [], ◌∷◌, ◌++◌}
 use Rattle.station_core.specs.declared.call.Call.{Call}
 use Rattle.station_core.specs.declared.call.Call.TheVariants.{Byte as ByteCall, Turn as TurnCall}
 use Rattle.layout_core.specs.declared.event.Event.{Event}
 use Rattle.layout_core.specs.declared.event.Event.TheVariants.{Byte, Turn, Noise}
 
--- an event is at most one call of the station; it knows nothing of noise
+-- an event is at most one call of the station; noise does not concern it
 abbrev pub calls_of : Event → List Call
 calls_of (Byte line byte) = ByteCall line byte ∷ []
 calls_of (Turn missed) = TurnCall ∷ []

@@ -1,4 +1,4 @@
--- What a fault leaves of a served connection.
+-- The state of a served connection after a fault.
 use Rattle.std.specs.Prelude.{ℕ, ◌≡◌, ◌+◌, ◌<◌, Bool, true, false, Option, Result, Ok, Err, List, [], ◌∷◌, ◌++◌, length, take}
 use Rattle.std.specs.Io.KnownBytes.{Appends}
 use Rattle.station_core.specs.declared.call.Step.{Step}
@@ -8,27 +8,21 @@ use Rattle.layout_core.specs.declared.event.Event.{Event}
 use Rattle.layout_core.specs.declared.world.World.{World}
 use Rattle.station_core.specs.Seen.{known_of}
 use Rattle.layout_core.specs.Cycle.{RunsAsWanted}
-use Rattle.layout_core.specs.Served.{HasRead, Input, Moment, Serves, bytes_of_answer, line_of_answer, moment_of, served_events, traced_from, turns_in, written_for}
+use Rattle.layout_core.specs.Served.{HasRead, Input, Moment, ServesEvents, bytes_of_answer, line_of_answer, moment_of, served_events, traced_from, turns_in, written_for}
 use Rattle.layout_core.specs.Played.{after_events, answer_to, answers_to}
 use Rattle.layout_core.specs.World.{HaveHeard, IsSameLayout}
 
 abbrev pub is_read : ServeFault → Bool
 is_read Read = true
-is_read Write = false
-is_read Trace = false
-is_read TooManyReads = false
+is_read fault = false
 
 abbrev pub is_write : ServeFault → Bool
-is_write Read = false
 is_write Write = true
-is_write Trace = false
-is_write TooManyReads = false
+is_write fault = false
 
 abbrev pub is_trace : ServeFault → Bool
-is_trace Read = false
-is_trace Write = false
 is_trace Trace = true
-is_trace TooManyReads = false
+is_trace fault = false
 
 -- whether it ended in such a fault
 abbrev pub ended_by : {A : Type 0} → (ServeFault → Bool) → Result A ServeFault → Bool
@@ -39,8 +33,9 @@ ended_by is (Err fault) = is fault
 abbrev pub AppendsFront : (old new : Option (List ℕ)) → (whole cut : List ℕ) → Type 0
 AppendsFront old new whole cut = (n : ℕ) × (n < length cut) × Appends old new (whole ++ take n cut)
 
--- What these answers and a last one put out, but not all of the last: at a fault of writing, of its bytes a proper front
--- is written, and its line is missing; at a fault of tracing, of its line a proper front is traced.
+-- What these answers and a last one write, but not all of the last: at a fault of writing, a proper
+-- prefix of its bytes is written, and its line is missing; at a fault of tracing, a proper prefix
+-- of its line is traced.
 abbrev pub PutsOut : ServeFault → (line turn : ℕ) → List Step → Step → (written written' traced traced' : Option (List ℕ)) → Type 0
 PutsOut Write line turn steps last written written' traced traced' =
     AppendsFront written written' (written_for steps) (bytes_of_answer last) × Appends traced traced' (traced_from line turn steps)
@@ -49,7 +44,8 @@ PutsOut Trace line turn steps last written written' traced traced' =
 PutsOut Read line turn steps last written written' traced traced' = ⊥
 PutsOut TooManyReads line turn steps last written written' traced traced' = ⊥
 
--- The events before and a last one are done, and no other; all is put out but for the end of what the last one puts out.
+-- The events before and a last one are done, and no other; all is written except the end of the
+-- last one's output.
 pub record StopsAt (fault : ServeFault) (line : ℕ) (before : List Event) (last : Event) (old new : Moment) : Type 0 where
   pub station : new.world.station ≡ after_events old.world.station (before ++ last ∷ [])
   pub nodes : HaveHeard old.world.station (before ++ last ∷ []) old.world.nodes new.world.nodes
@@ -64,24 +60,26 @@ StopsAfter fault line events done old new =
 abbrev pub StopsWithin : ServeFault → (line : ℕ) → List Event → (old new : Moment) → Type 0
 StopsWithin fault line events old new = (done : List Event) × StopsAfter fault line events done old new
 
--- All of these events are served, and both devices work; or it stops at one of them, and just the device of the fault failed.
+-- All of these events are served, and both devices work; or it stops at one of them, and just the
+-- device of the fault failed.
 abbrev pub ServesOrStops : {A : Type 0} → Result A ServeFault → (line : ℕ) → List Event → (old new : Moment) → (sink_failed trace_failed : Bool) → Type 0
-ServesOrStops (Ok a) line events old new sink_failed trace_failed = Serves line events old new × (sink_failed ≡ false) × (trace_failed ≡ false)
+ServesOrStops (Ok a) line events old new sink_failed trace_failed = ServesEvents line events old new × (sink_failed ≡ false) × (trace_failed ≡ false)
 ServesOrStops (Err fault) line events old new sink_failed trace_failed =
     StopsWithin fault line events old new × (sink_failed ≡ is_write fault) × (trace_failed ≡ is_trace fault)
 
--- What is done of the events of the bytes that were read: all of them where the source failed or too many reads were
--- made, and else those up to one that was not put out whole.
-abbrev pub Leaves : ServeFault → (line : ℕ) → (events done : List Event) → (old new : Moment) → Type 0
-Leaves Read line events done old new = (done ≡ events) × Serves line events old new
-Leaves TooManyReads line events done old new = (done ≡ events) × Serves line events old new
-Leaves Write line events done old new = StopsAfter Write line events done old new
-Leaves Trace line events done old new = StopsAfter Trace line events done old new
+-- What is done of the events of the bytes read: all of them if the source failed or too many reads
+-- were made, and otherwise those up to one whose answer was not written whole.
+abbrev pub HoldsAfterFault : ServeFault → (line : ℕ) → (events done : List Event) → (old new : Moment) → Type 0
+HoldsAfterFault Read line events done old new = (done ≡ events) × ServesEvents line events old new
+HoldsAfterFault TooManyReads line events done old new = (done ≡ events) × ServesEvents line events old new
+HoldsAfterFault Write line events done old new = StopsAfter Write line events done old new
+HoldsAfterFault Trace line events done old new = StopsAfter Trace line events done old new
 
--- These bytes were read, of their events these were done, and then it ended in this fault. A locomotive that heard a full
--- refresh cycle meanwhile runs as its slot says, as at the end of a connection that is served whole.
+-- These bytes were read, these of their events were done, and then serving ended in this fault. A
+-- locomotive that heard a full refresh cycle meanwhile runs as its slot says, as at the end of a
+-- connection that is served whole.
 abbrev pub HasFaulted : ServeFault → (line turns : ℕ) → (input input' : Input) → (old : Moment) → World → (written traced : Option (List ℕ)) → Type 0
 HasFaulted fault line turns input input' old world written traced =
     (reads replies made : ℕ) × (bytes : List ℕ) × (done : List Event) × HasRead reads bytes input input'
-    × Leaves fault line (served_events line turns bytes) done old (moment_of world written traced replies made)
+    × HoldsAfterFault fault line (served_events line turns bytes) done old (moment_of world written traced replies made)
     × RunsAsWanted (known_of old.world.station) done old.world.nodes world.nodes

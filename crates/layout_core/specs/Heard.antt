@@ -17,7 +17,7 @@ pub data Sound : Type 0 where
   Whole : (packet : List ℕ) → Sound
   Single : (half : ℕ) → Sound
 
--- of a turn that the station answers so: the packet, unless the node misses it
+-- of a turn with this answer: the packet, unless the node misses it
 abbrev pub sounds_of_turn : (is_missed : Bool) → Step → List Sound
 sounds_of_turn true step = []
 sounds_of_turn false (Packet packet) = Whole packet ∷ []
@@ -45,7 +45,7 @@ packets_among (Single half ∷ sounds) = packets_among sounds
 abbrev pub heard : ℕ → Seen → List Event → List (List ℕ)
 heard i seen events = packets_among (sounds_in i seen events)
 
--- what hearing one thing does
+-- the effect of hearing one thing
 abbrev pub HearsOne : Sound → Node → Node → Type 0
 HearsOne (Whole packet) old new = HearsPacket packet old new
 HearsOne (Single half) old new = HeardHalves (half ∷ []) old new

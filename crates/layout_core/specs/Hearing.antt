@@ -1,4 +1,4 @@
--- What the decoders of a layout make of the packets that they hear.
+-- The effect on the decoders of a layout of the packets that they hear.
 use Rattle.std.specs.Prelude.{ℕ, ◌≡◌, Bool, true, false, List, [], ◌∷◌}
 use Rattle.half_bits.specs.Halves.{halves_of}
 use Rattle.decoder_node.specs.Hearing.{heard_all}
@@ -15,15 +15,16 @@ Obeyed packets (Accessory old) (Accessory new) = new.state ≡ switches old.sett
 Obeyed packets (Loco old) (Accessory new) = ⊥
 Obeyed packets (Accessory old) (Loco new) = ⊥
 
--- these half-bits came to its receiver, one after another
+-- its receiver heard these half-bits, one after another
 abbrev pub HeardHalves : List ℕ → Node → Node → Type 0
 HeardHalves halves (Loco old) (Loco new) = new ≡ heard_all obeyed old halves
 HeardHalves halves (Accessory old) (Accessory new) = new ≡ heard_all switched old halves
 HeardHalves halves (Loco old) (Accessory new) = ⊥
 HeardHalves halves (Accessory old) (Loco new) = ⊥
 
--- What a packet that it hears whole does: what all half-bits of it do, one after another; no packet is under way then,
--- whatever was heard before, and where none was under way before, the node obeyed this packet.
+-- The effect of a packet heard whole: that of all half-bits of it, one after another; no packet is
+-- under way afterwards, whatever was heard before, and if none was under way before, the node
+-- obeyed this packet.
 pub record HearsPacket (packet : List ℕ) (old new : Node) : Type 0 where
   pub in_halves : HeardHalves (halves_of packet) old new
   pub kept : spec_of new ≡ spec_of old

@@ -9,7 +9,7 @@ use Rattle.decoder_node.specs.Running.{first_running}
 use Rattle.layout_core.specs.declared.node.Node.{Node}
 use Rattle.layout_core.specs.declared.node.Node.TheVariants.{Loco, Accessory}
 
--- a node as it is made: it has heard nothing, a locomotive stands, and all outputs are off
+-- a new node: it has heard nothing, a locomotive is stopped, and all outputs are off
 abbrev pub node_of : NodeSpec → Node
 node_of (LocoSpec cv) = Loco (fresh cv first_running)
 node_of (AccessorySpec number) = Accessory (fresh number 0)

@@ -1,4 +1,4 @@
--- What events make of the station of a layout, and what it answers to them.
+-- The effect of events on the station of a layout, and its answers to them.
 use Rattle.std.specs.Prelude.{ℕ, Bool, true, nat_lt, IsTrue, List, [], ◌∷◌}
 use Rattle.std.specs.List.{list_all}
 use Rattle.station_core.specs.declared.call.Call.TheVariants.{Byte as ByteCall, Turn as TurnCall}
@@ -10,7 +10,7 @@ use Rattle.layout_core.specs.declared.event.Event.{Event}
 use Rattle.layout_core.specs.declared.event.Event.TheVariants.{Byte, Turn, Noise}
 use Rattle.layout_core.specs.Events.{calls_of}
 
--- a byte comes on one of the lines, and noise to one of the nodes
+-- a byte is received on one of the lines, and noise is heard by one of the nodes
 abbrev pub is_event : (lines nodes : ℕ) → Event → Bool
 is_event lines nodes (Byte line byte) = nat_lt line lines
 is_event lines nodes (Turn missed) = true
@@ -27,7 +27,7 @@ abbrev pub after_events : Seen → List Event → Seen
 after_events seen [] = seen
 after_events seen (event ∷ events) = after_events (after_event seen event) events
 
--- what it answers; to noise, nothing
+-- its answer; none to noise
 abbrev pub answer_to : Seen → Event → Step
 answer_to seen (Byte line byte) = answer_of seen (ByteCall line byte)
 answer_to seen (Turn missed) = answer_of seen TurnCall

@@ -1,4 +1,4 @@
--- What a clause reads of a port, and what a port makes of an answer.
+-- The parts of a port that clauses use, and how a port converts a result.
 use Rattle.std.specs.Prelude.{ℕ, Bool, ◌==◌, if◌then◌else◌, Option, Some, None, Result, Ok, Err}
 use Rattle.layout_core.specs.declared.port.Port.{Port}
 
@@ -14,7 +14,7 @@ port_ended p = p.ended
 abbrev pub port_reads : {T : Type 0} → Port T → ℕ
 port_reads p = p.reads.count
 
--- the count that was answered; none at an error
+-- the count returned; none at an error
 abbrev pub count_of : {E : Type 0} → Result ℕ E → Option ℕ
 count_of (Ok n) = Some n
 count_of (Err e) = None

@@ -1,4 +1,4 @@
--- What a served connection does: its events, the bytes that it writes, and its trace.
+-- The effect of a served connection: its events, the bytes that it writes, and its trace.
 use Rattle.std.specs.Prelude.{ℕ, ◌≡◌, ◌+◌, ◌*◌, ◌≤◌, Option, List, [], ◌∷◌, ◌++◌, length, replicate}
 use Rattle.std.specs.Io.KnownBytes.{Appends, Consumes}
 use Rattle.ln_ops.specs.Reply.{IsSendable, reply_bytes}
@@ -14,7 +14,7 @@ use Rattle.layout_core.specs.Cycle.{RunsAsWanted}
 use Rattle.layout_core.specs.Played.{after_events, answers_to}
 use Rattle.layout_core.specs.World.{HaveHeard, IsSameLayout}
 
--- the events of a byte: it comes, and then so many turns that nobody misses
+-- the events of a byte: it is received, followed by `turns` turns that no node misses
 abbrev pub byte_events : (line turns : ℕ) → ℕ → List Event
 byte_events line turns byte = Byte line byte ∷ replicate turns (Turn 0)
 
@@ -26,16 +26,12 @@ served_events line turns (byte ∷ bytes) = byte_events line turns byte ++ serve
 -- a reply is written as its bytes, and nothing else is written
 abbrev pub bytes_of_answer : Step → List ℕ
 bytes_of_answer (Reply reply) = reply_bytes reply
-bytes_of_answer (Packet packet) = []
-bytes_of_answer Quiet = []
-bytes_of_answer Off = []
+bytes_of_answer step = []
 
 -- a reply that a line can carry
 abbrev pub IsSendableAnswer : Step → Type 0
 IsSendableAnswer (Reply reply) = IsSendable reply
-IsSendableAnswer (Packet packet) = Unit {0}
-IsSendableAnswer Quiet = Unit {0}
-IsSendableAnswer Off = Unit {0}
+IsSendableAnswer step = Unit {0}
 
 -- the bytes that answers write
 abbrev pub written_for : List Step → List ℕ
@@ -66,9 +62,7 @@ turns_in (step ∷ steps) = turns_of_answer step + turns_in steps
 
 abbrev pub replies_of_answer : Step → ℕ
 replies_of_answer (Reply reply) = 1
-replies_of_answer (Packet packet) = 0
-replies_of_answer Quiet = 0
-replies_of_answer Off = 0
+replies_of_answer step = 0
 
 abbrev pub replies_in : List Step → ℕ
 replies_in [] = 0
@@ -79,8 +73,8 @@ abbrev pub traced_from : (line turn : ℕ) → List Step → List ℕ
 traced_from line turn [] = []
 traced_from line turn (step ∷ steps) = line_of_answer line turn step ++ traced_from line (turn + turns_of_answer step) steps
 
--- A moment of a served connection: the world, the bytes that were written and traced, where those are known, and how many
--- replies and turns there were.
+-- A moment of a served connection: the world, the bytes written and traced, if they are known, and
+-- the numbers of replies and turns.
 pub record Moment : Type 0 where
   pub world : World
   pub written : Option (List ℕ)
@@ -91,9 +85,9 @@ pub record Moment : Type 0 where
 abbrev pub moment_of : World → (written traced : Option (List ℕ)) → (replies turns : ℕ) → Moment
 moment_of world written traced replies turns = record { world = world; written = written; traced = traced; replies = replies; turns = turns }
 
--- The events are done, one after another, and each node heard what they send; their replies are written, their lines are
--- traced, and both are counted.
-pub record Serves (line : ℕ) (events : List Event) (old new : Moment) : Type 0 where
+-- The events are done, one after another, and each node heard what they send; their replies are
+-- written, their lines are traced, and both are counted.
+pub record ServesEvents (line : ℕ) (events : List Event) (old new : Moment) : Type 0 where
   pub station : new.world.station ≡ after_events old.world.station events
   pub nodes : HaveHeard old.world.station events old.world.nodes new.world.nodes
   pub written : Appends old.written new.written (written_for (answers_to old.world.station events))
@@ -102,7 +96,7 @@ pub record Serves (line : ℕ) (events : List Event) (old new : Moment) : Type 0
   pub turns : new.turns ≡ old.turns + turns_in (answers_to old.world.station events)
   pub same : IsSameLayout old.world new.world
 
--- a source: the bytes that it has left, where those are known, and how many reads were made
+-- a source: the bytes not yet read, if they are known, and the number of reads
 pub record Input : Type 0 where
   pub left : Option (List ℕ)
   pub reads : ℕ
@@ -116,9 +110,9 @@ pub record HasRead (made : ℕ) (bytes : List ℕ) (old new : Input) : Type 0 wh
   pub counted : new.reads ≡ old.reads + made
   pub few : length bytes ≤ 64 * made
 
--- All bytes were read and served, and the summary counts them. A locomotive that heard a full refresh cycle meanwhile runs
--- as its slot says.
+-- All bytes were read and served, and the summary counts them. A locomotive that heard a full
+-- refresh cycle meanwhile runs as its slot says.
 abbrev pub HasServed : (line turns : ℕ) → Summary → (input input' : Input) → (old new : Moment) → Type 0
 HasServed line turns summary input input' old new =
-    (bytes : List ℕ) × HasRead summary.reads bytes input input' × (summary.bytes ≡ length bytes) × Serves line (served_events line turns bytes) old new
+    (bytes : List ℕ) × HasRead summary.reads bytes input input' × (summary.bytes ≡ length bytes) × ServesEvents line (served_events line turns bytes) old new
     × RunsAsWanted (known_of old.world.station) (served_events line turns bytes) old.world.nodes new.world.nodes

@@ -1,4 +1,4 @@
--- What a decoder has to hear so that it runs as an entry wants.
+-- What a decoder has to hear to run as an entry asks.
 use Rattle.std.specs.Prelude.{ℕ, ◌≡◌, ◌⊎◌, List, All, Contains, IsTrue}
 use Rattle.slot_table.specs.Entry.{Entry, IsEntry, IsAddress}
 use Rattle.station_core.specs.Packets.{speed_packet, group_one_packet, group_two_packet, group_three_packet}
@@ -25,8 +25,8 @@ pub record IsAskedBy (cv : Settings) (a : ℕ) (e : Entry) : Type 0 where
   pub answers : IsTrue (answers_to cv a)
   pub steps : AgreesInSteps cv e.kind
 
--- Each packet of the list is one of those of this address and its entry, or leaves the decoder as it is; and each of
--- those stands in the list.
+-- Each packet of the list is one of those of this address and its entry, or leaves the decoder as
+-- it is; and each of those is in the list.
 pub record TellsAll (cv : Settings) (a : ℕ) (e : Entry) (packets : List (List ℕ)) : Type 0 where
   pub only : All (λ packet. IsPacketOf a e packet ⊎ LeavesAsItIs cv packet) packets
   pub has_speed : Contains packets (speed_packet a e)

@@ -1,12 +1,12 @@
-//! What a served connection reads from. What it writes to is a [`Sink`](input_text::Sink).
+//! The input of a served connection. Its output is a [`Sink`](input_text::Sink).
 ghost use Rattle.std.specs.Prelude.{◌≡◌, ℕ, ◌+◌, ◌<◌, ◌≤◌, ◌==◌, Bool, true, false, Option, List, length, IfOk, OnOk, OnErr};
 ghost use Rattle.std.specs.Io.KnownBytes.{ReadConsumes};
 
 use input_text::Broken;
 
-/// What bytes are read from.
+/// A source of bytes.
 pub trait Source {
-    /// The bytes that it has left, where it tells them.
+    /// The bytes not yet read, if they are known.
     ghost left: { Self → Option (List ℕ) };
 
     /// Whether a read failed.
@@ -15,11 +15,11 @@ pub trait Source {
     /// Whether a read found the end.
     ghost ended: { Self → Bool };
 
-    /// How many reads were made.
+    /// The number of reads.
     ghost reads: { Self → ℕ };
 
-    /// Reads bytes to the front of a slice that is not empty, and tells how many: 0 only at the end, after which
-    /// nothing more is read. An error takes no byte.
+    /// Reads bytes into the front of `buf`, which is not empty, and returns the number of bytes
+    /// read: 0 only at the end, after which nothing more may be read. An error consumes no byte.
     fn get(&mut self, buf: &mut [u8]) -> Result<usize, Broken>
         requires room { 0 < length buf.old }
         requires goes_on { ended self.old ≡ false }

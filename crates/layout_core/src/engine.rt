@@ -1,4 +1,4 @@
-//! A connection that is served byte by byte.
+//! Serving a connection byte by byte.
 ghost use Rattle.std.specs.Prelude.{◌≡◌, ◌+◌, ◌*◌, ◌<◌, ◌≤◌, true, false, [], ◌∷◌, length, IfOk, IfErr, OnOk, IsErrOf, IsTrue};
 ghost use Rattle.std.specs.Io.KnownBytes.{Appends, IsAtEnd};
 ghost use Rattle.layout_core.specs.Played.{is_event};
@@ -11,44 +11,44 @@ use crate::device::Source;
 use crate::event::Event;
 use crate::laws;
 use crate::world::World;
-use crate::writing::{put_all, put_line};
-use input_text::Sink;
+use crate::writing::put_line;
+use input_text::{Sink, put_all};
 use ln_ops::to_msg;
 use show_text::{off_line, reply_line, track_line};
 use station_core::Step;
 
-/// How far a connection is served.
+/// The limits of a served connection.
 #[derive(Clone, Copy, Debug, PartialEq, Eq)]
 pub struct Limits {
-    /// The most reads that are made.
+    /// The most reads.
     pub reads: u32,
     /// The turns of the track after each byte.
     pub turns: u8,
 }
 
-/// What was done on a connection that came to its end.
+/// What was done on a connection that was served to its end.
 #[derive(Clone, Copy, Debug, PartialEq, Eq)]
 pub struct Summary {
-    /// Reads, with the last one, which found the end.
+    /// The number of reads, including the last one, which found the end.
     pub reads: u32,
-    /// Bytes read.
+    /// The number of bytes read.
     pub bytes: u64,
-    /// Replies written.
+    /// The number of replies written.
     pub replies: u64,
-    /// Turns made, as many for each byte as the limits say.
+    /// The number of turns: `Limits::turns` for each byte.
     pub turns: u64,
 }
 
-/// Why a connection was given up.
+/// Why serving a connection stopped before its end.
 #[derive(Clone, Copy, Debug, PartialEq, Eq)]
 pub enum ServeFault {
     /// A read failed.
     Read,
-    /// A write of a reply failed or took no byte.
+    /// A write of a reply failed or accepted no byte.
     Write,
-    /// A write of a line of the trace failed or took no byte.
+    /// A write of a line of the trace failed or accepted no byte.
     Trace,
-    /// All reads were made and none found the end.
+    /// All reads were made, and none found the end.
     TooManyReads,
 }
 
@@ -74,7 +74,7 @@ impl Counts {
     }
 }
 
-/// Writes the bytes of an answer, and then its line in the trace, where a turn has this number.
+/// Writes the bytes of an answer, and then its line of the trace; a turn has the number `turn`.
 fn put_out<K: Sink, T: Sink>(
     answer: &Step,
     line: u8,
@@ -85,9 +85,13 @@ fn put_out<K: Sink, T: Sink>(
     requires sendable { IsSendableAnswer answer.now }
     requires sink_works { K.failed sink.old ≡ false }
     requires trace_works { T.failed trace.old ≡ false }
-    ensures written { OnOk result (Appends (K.held sink.old) (K.held sink.new) (bytes_of_answer answer.now)) }
-    ensures traced { OnOk result (Appends (T.held trace.old) (T.held trace.new) (line_of_answer line turn answer.now)) }
-    ensures faulted { IfErr result (λ fault. PutsOut fault line turn [] answer.now (K.held sink.old) (K.held sink.new) (T.held trace.old) (T.held trace.new)) }
+    ensures written { OnOk result
+        (Appends (K.held sink.old) (K.held sink.new) (bytes_of_answer answer.now)) }
+    ensures traced { OnOk result
+        (Appends (T.held trace.old) (T.held trace.new) (line_of_answer line turn answer.now)) }
+    ensures faulted { IfErr result
+        (λ fault. PutsOut fault line turn [] answer.now (K.held sink.old) (K.held sink.new)
+        (T.held trace.old) (T.held trace.new)) }
     ensures sink_failed { K.failed sink.new ≡ ended_by is_write result }
     ensures trace_failed { T.failed trace.new ≡ ended_by is_trace result }
 {
@@ -105,7 +109,7 @@ fn put_out<K: Sink, T: Sink>(
     put_line(trace, &text).or(Err(ServeFault::Trace))
 }
 
-/// Does one event, and puts out what it answers.
+/// Runs one event, and writes its answer.
 fn serve_event<K: Sink, T: Sink>(
     world: &mut World,
     event: Event,
@@ -114,13 +118,16 @@ fn serve_event<K: Sink, T: Sink>(
     trace: &mut T,
     counts: &mut Counts,
 ) -> Result<(), ServeFault>
-    requires call { IsTrue (is_event (length world.old.station.lines) (length world.old.nodes) event) }
+    requires call { IsTrue
+        (is_event (length world.old.station.lines) (length world.old.nodes) event) }
     requires sink_works { K.failed sink.old ≡ false }
     requires trace_works { T.failed trace.old ≡ false }
     requires room { HasRoom 1 counts.old }
     ensures { ServesOrStops result line (event ∷ [])
-        (moment_of world.old (K.held sink.old) (T.held trace.old) counts.old.replies counts.old.turns)
-        (moment_of world.new (K.held sink.new) (T.held trace.new) counts.new.replies counts.new.turns)
+        (moment_of world.old (K.held sink.old) (T.held trace.old) counts.old.replies
+        counts.old.turns)
+        (moment_of world.new (K.held sink.new) (T.held trace.new) counts.new.replies
+        counts.new.turns)
         (K.failed sink.new) (T.failed trace.new) }
 {
     let answer = world.step(event);
@@ -129,7 +136,7 @@ fn serve_event<K: Sink, T: Sink>(
     Ok(())
 }
 
-/// Serves bytes, one after another, each with the turns behind it.
+/// Serves bytes, one after another, each followed by its turns.
 fn serve_bytes<K: Sink, T: Sink>(
     world: &mut World,
     line: u8,
@@ -144,8 +151,10 @@ fn serve_bytes<K: Sink, T: Sink>(
     requires trace_works { T.failed trace.old ≡ false }
     requires room { HasRoom (256 * length bytes.now) counts.old }
     ensures { ServesOrStops result line (served_events line turns bytes.now)
-        (moment_of world.old (K.held sink.old) (T.held trace.old) counts.old.replies counts.old.turns)
-        (moment_of world.new (K.held sink.new) (T.held trace.new) counts.new.replies counts.new.turns)
+        (moment_of world.old (K.held sink.old) (T.held trace.old) counts.old.replies
+        counts.old.turns)
+        (moment_of world.new (K.held sink.new) (T.held trace.new) counts.new.replies
+        counts.new.turns)
         (K.failed sink.new) (T.failed trace.new) }
 {
     for byte in bytes {
@@ -164,15 +173,18 @@ fn serve_bytes<K: Sink, T: Sink>(
     Ok(())
 }
 
-/// Serves a connection on a line: each byte from the source is heard, its reply is written to the sink, and then so many
-/// turns of the track are made, which no decoder misses. Replies and turns are lines of the trace, where the turns are
-/// numbered from 1.
+/// Serves a connection on a line: the station receives each byte from the source, its reply is
+/// written to the sink, and then `limits.turns` turns of the track are made, which no decoder
+/// misses. Replies and turns are lines of the trace, where the turns are numbered from 1.
 ///
-/// Reads up to 64 bytes at a time, and ends with a summary where the source ends. So what is done depends on the bytes
-/// alone, and not on how they are cut.
+/// Reads up to 64 bytes at a time, and returns a summary when the source ends. The result depends
+/// on the bytes only, not on how they are divided into reads.
 ///
-/// A device that fails ends it at once, and so do `limits.reads` reads of which none found the end. What was done, written
-/// and traced before stands, and all bytes that were read are served, but for what comes behind a write that failed.
+/// # Errors
+///
+/// A device that fails ends it at once, as do `limits.reads` reads that do not find the end. All
+/// bytes read are served, except those after a write that failed; what was written and traced
+/// before remains.
 pub fn serve<S: Source, K: Sink, T: Sink>(
     world: &mut World,
     line: u8,
@@ -188,19 +200,23 @@ pub fn serve<S: Source, K: Sink, T: Sink>(
     requires trace_works { T.failed trace.old ≡ false }
     // All bytes are read and served.
     ensures served { IfOk result (λ summary. HasServed line limits.turns summary
-        (input_of (S.left source.old) (S.reads source.old)) (input_of (S.left source.new) (S.reads source.new))
+        (input_of (S.left source.old) (S.reads source.old))
+        (input_of (S.left source.new) (S.reads source.new))
         (moment_of world.old (K.held sink.old) (T.held trace.old) 0 0)
         (moment_of world.new (K.held sink.new) (T.held trace.new) summary.replies summary.turns)) }
     ensures turns { IfOk result (λ summary. summary.turns ≡ limits.turns * summary.bytes) }
     ensures end { OnOk result ((S.ended source.new ≡ true) × IsAtEnd (S.left source.new)) }
-    // Else what was read is served, but for what comes behind a write that failed. The headline holds of both.
+    // Otherwise the bytes read are served, except those after a failed write. The headline holds in
+    // both cases.
     ensures faulted { IfErr result (λ fault. HasFaulted fault line limits.turns
-        (input_of (S.left source.old) (S.reads source.old)) (input_of (S.left source.new) (S.reads source.new))
+        (input_of (S.left source.old) (S.reads source.old))
+        (input_of (S.left source.new) (S.reads source.new))
         (moment_of world.old (K.held sink.old) (T.held trace.old) 0 0)
         world.new (K.held sink.new) (T.held trace.new)) }
-    ensures too_many { IsErrOf result ServeFault.TooManyReads → (S.reads source.new ≡ S.reads source.old + limits.reads) × (S.ended source.new ≡ false) }
+    ensures too_many { IsErrOf result ServeFault.TooManyReads
+        → (S.reads source.new ≡ S.reads source.old + limits.reads) × (S.ended source.new ≡ false) }
     ensures most_reads { S.reads source.new ≤ S.reads source.old + limits.reads }
-    // The other faults come exactly where a device failed.
+    // The other faults are returned exactly if a device failed.
     ensures source_failed { S.failed source.new ≡ ended_by is_read result }
     ensures sink_failed { K.failed sink.new ≡ ended_by is_write result }
     ensures trace_failed { T.failed trace.new ≡ ended_by is_trace result }

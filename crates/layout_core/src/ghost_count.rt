@@ -1,9 +1,9 @@
-//! A count that no run time keeps.
+//! A count that exists in proofs only.
 ghost use Rattle.std.specs.Prelude.{◌≡◌, ℕ, ◌+◌};
 
 use std::marker::{Model, PhantomData};
 
-/// A number that proofs alone see. It takes no memory.
+/// A number that only proofs see. It takes no memory.
 #[derive(Drop)]
 pub(crate) struct GhostCount {
     marker: PhantomData<u8>,
@@ -17,7 +17,7 @@ impl Model for GhostCount {
 }
 
 impl GhostCount {
-    /// Nothing counted.
+    /// A count of zero.
     pub(crate) fn new() -> GhostCount
         ensures { result.count ≡ 0 }
     {
@@ -26,7 +26,7 @@ impl GhostCount {
         }
     }
 
-    /// One more. It does nothing at run time.
+    /// Adds one. It does nothing at run time.
     pub(crate) fn step(&mut self)
         ensures { self.new.count ≡ self.old.count + 1 }
     {}

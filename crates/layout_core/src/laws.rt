@@ -1,4 +1,5 @@
-//! The laws of this crate, each as a function that does nothing and ensures it: a call hands the law to a proof.
+//! The laws of this crate. Each is a function without code that ensures it: a call gives the law to
+//! a proof.
 ghost use Rattle.std.specs.Prelude.{◌≡◌, ◌≢◌, ℕ, Bool, false, List, [], ◌∷◌, ◌++◌, IsTrue};
 ghost use Rattle.dcc_packet.specs.Sent.{accessory_bytes, idle_bytes};
 ghost use Rattle.slot_table.specs.Entry.{Entry, IsAddress, IsEntry};
@@ -16,41 +17,57 @@ ghost use Rattle.layout_core.specs.Wanted.{wanted};
 ghost use Rattle.layout_core.specs.Played.{after_events, answer_to};
 ghost use Rattle.layout_core.specs.World.{AfterEvent, HaveHeard, HaveObeyed};
 
-/// A decoder that an address and its entry concern, and that hears each of the entry's packets, and besides
-/// only these and what leaves it as it is, ends as the entry wants it, however it ran before.
+/// A decoder that answers to an address and agrees with its entry, and that hears each of the
+/// entry's packets and otherwise only these and packets that leave it as it is, ends as the entry
+/// asks, however it ran before.
 pub fn settling()
-    ensures { (cv : Settings) (a : ℕ) (e : Entry) (start : Running) (packets : List (List ℕ)) → IsAskedBy cv a e → TellsAll cv a e packets → runs cv start packets ≡ wanted e cv.reversed }
+    ensures { (cv : Settings) (a : ℕ) (e : Entry) (start : Running) (packets : List (List ℕ))
+        → IsAskedBy cv a e → TellsAll cv a e packets
+        → runs cv start packets ≡ wanted e cv.reversed }
 {
     dcc_packet::laws::spellings_are_read();
     dcc_packet::laws::sent_packets_spell();
-    dcc_packet::laws::speeds_are_told();
+    dcc_packet::laws::speeds_read_back();
 }
 
-/// The packets of other addresses, idle packets and the packets of switches leave a locomotive decoder as it is.
+/// The packets of other addresses, idle packets and the packets of switches leave a locomotive
+/// decoder as it is.
 pub fn others_leave_it()
-    ensures not_its_own { (cv : Settings) (b : ℕ) (e : Entry) (packet : List ℕ) → IsAddress b → IsEntry e → answers_to cv b ≡ false → IsPacketOf b e packet → LeavesAsItIs cv packet }
-    ensures other_address { (cv : Settings) (a b : ℕ) (e : Entry) (packet : List ℕ) → IsAddress b → IsEntry e → IsTrue (answers_to cv a) → a ≢ b → IsPacketOf b e packet → LeavesAsItIs cv packet }
+    ensures not_its_own { (cv : Settings) (b : ℕ) (e : Entry) (packet : List ℕ) → IsAddress b
+        → IsEntry e → answers_to cv b ≡ false → IsPacketOf b e packet → LeavesAsItIs cv packet }
+    ensures other_address { (cv : Settings) (a b : ℕ) (e : Entry) (packet : List ℕ) → IsAddress b
+        → IsEntry e → IsTrue (answers_to cv a) → a ≢ b → IsPacketOf b e packet
+        → LeavesAsItIs cv packet }
     ensures idle { (cv : Settings) → LeavesAsItIs cv idle_bytes }
-    ensures accessory { (cv : Settings) (number : ℕ) (closed on : Bool) → LeavesAsItIs cv (accessory_bytes number closed on) }
+    ensures accessory { (cv : Settings) (number : ℕ) (closed on : Bool)
+        → LeavesAsItIs cv (accessory_bytes number closed on) }
 {
     dcc_packet::laws::spellings_are_read();
     dcc_packet::laws::sent_packets_spell();
 }
 
-/// What the nodes of a layout heard of events, they heard one thing after another, however the list is cut into calls. So
-/// a node that no noise names obeyed its packets.
+/// What the nodes of a layout hear of events adds up, however the list is divided into calls. So a
+/// node that no noise names obeyed its packets.
 pub fn events_add_up()
     ensures none { (seen : Seen) (nodes : List Node) → HaveHeard seen [] nodes nodes }
-    ensures one { (seen : Seen) (event : Event) (old new : List Node) → AfterEvent event (answer_to seen event) old new → HaveHeard seen (event ∷ []) old new }
-    ensures more { (seen : Seen) (events later : List Event) (old mid new : List Node) → HaveHeard seen events old mid → HaveHeard (after_events seen events) later mid new → HaveHeard seen (events ++ later) old new }
-    ensures obeyed { (seen : Seen) (events : List Event) (old new : List Node) → HaveHeard seen events old new → HaveObeyed seen events old new }
+    ensures one { (seen : Seen) (event : Event) (old new : List Node)
+        → AfterEvent event (answer_to seen event) old new → HaveHeard seen (event ∷ []) old new }
+    ensures more { (seen : Seen) (events later : List Event) (old mid new : List Node)
+        → HaveHeard seen events old mid → HaveHeard (after_events seen events) later mid new
+        → HaveHeard seen (events ++ later) old new }
+    ensures obeyed { (seen : Seen) (events : List Event) (old new : List Node)
+        → HaveHeard seen events old new → HaveObeyed seen events old new }
 {}
 
-/// The headline, and the headline after noise, of all nodes that heard what events bring, from a desk: so they hold of
-/// `step` and of `run`, however often each is called.
+/// The headline, and the headline after noise, of all nodes after events from a desk: so they hold
+/// for `step` and `run`, in any number of calls.
 pub fn headline()
-    ensures headline { (start : Seen) (events : List Event) (old new : List Node) → HasDesk start.powered → HaveHeard start events old new → RunsAsWanted (known_of start) events old new }
-    ensures after_noise { (start : Seen) (events : List Event) (old new : List Node) → HasDesk start.powered → HaveHeard start events old new → RunsAfterNoise (known_of start) events old new }
+    ensures headline { (start : Seen) (events : List Event) (old new : List Node)
+        → HasDesk start.powered → HaveHeard start events old new
+        → RunsAsWanted (known_of start) events old new }
+    ensures after_noise { (start : Seen) (events : List Event) (old new : List Node)
+        → HasDesk start.powered → HaveHeard start events old new
+        → RunsAfterNoise (known_of start) events old new }
 {
     station_core::laws::calls_are_moves();
     station_core::laws::desk_of_messages();

@@ -19,7 +19,7 @@ impl Node {
     ghost use Rattle.layout_core.specs.Nodes.{node_of, running_of, outputs_of};
     ghost use Rattle.layout_core.specs.Hearing.{HeardHalves, HearsPacket};
 
-    /// A decoder in its first state, which has heard nothing.
+    /// Creates a decoder in its first state, which has heard nothing.
     pub(crate) fn new(spec: NodeSpec) -> Node
         ensures { result ≡ node_of spec }
     {
@@ -29,7 +29,8 @@ impl Node {
         }
     }
 
-    /// Hears a packet that spells this instruction, or none: it does what its receiver would make of each half-bit.
+    /// Hears a packet that spells this instruction, or none, as its receiver hears each half-bit of
+    /// it.
     #[inline]
     pub(crate) fn hear(&mut self, packet: &Packet, instr: &Option<Instr>)
         requires read { instr.now ≡ instruction_of packet.now }
@@ -41,7 +42,7 @@ impl Node {
         }
     }
 
-    /// Its receiver hears a half-bit of this many microseconds.
+    /// Hears a half-bit of `half` microseconds.
     pub(crate) fn hear_half(&mut self, half: u16)
         ensures { HeardHalves (half ∷ []) self.old self.new }
     {
@@ -51,7 +52,7 @@ impl Node {
         }
     }
 
-    /// How it runs, or `None` for an accessory decoder.
+    /// Returns how it runs, or `None` for an accessory decoder.
     pub(crate) fn running(&self) -> Option<Running>
         ensures { result ≡ running_of self.now }
     {
@@ -61,7 +62,7 @@ impl Node {
         }
     }
 
-    /// Its outputs, bit j for output j, or `None` for a locomotive decoder.
+    /// Returns its outputs, bit j for output j, or `None` for a locomotive decoder.
     pub(crate) fn outputs(&self) -> Option<u8>
         ensures { result ≡ outputs_of self.now }
     {

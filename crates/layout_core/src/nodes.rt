@@ -10,11 +10,8 @@ ghost use Rattle.layout_core.specs.World.{OneHears};
 use crate::node::Node;
 use arrayvec::ArrayVec;
 use dcc_packet::{Instr, Packet, read};
-use decoder_node::{NodeList, Running};
+use decoder_node::{MAX_NODES, NodeList, Running};
 use std::marker::Model;
-
-/// The most nodes of a layout, one for each bit of a set of those that miss a packet.
-const MAX_NODES: usize = 64;
 
 /// The decoders of a layout, at most 64.
 ///
@@ -34,7 +31,7 @@ impl Model for Nodes {
 }
 
 impl Nodes {
-    /// These decoders, each in its first state, having heard nothing.
+    /// Creates these decoders, each in its first state, having heard nothing.
     pub fn new(specs: &NodeList) -> Nodes
         ensures made { result ≡ map node_of specs.now.items }
     {
@@ -45,13 +42,16 @@ impl Nodes {
         Nodes { nodes }
     }
 
-    /// Each node hears this packet, but for node i where bit i of `missed` is set. Bits past the last node mean nothing.
+    /// Passes this packet to each node, except node i if bit i of `missed` is set. Bits past the
+    /// last node are ignored.
     ///
-    /// The packet is read once, for all of them, and not where there is none.
+    /// The packet is parsed once for all nodes, and not at all if there is none.
     pub fn hear(&mut self, packet: &Packet, missed: u64)
         ensures count { length self.new ≡ length self.old }
         ensures specs { map spec_of self.new ≡ map spec_of self.old }
-        ensures each { (i : ℕ) (none : NodeValue) → i < length self.old → AfterPacket (is_missed missed i) packet.now (slice_index_or self.old i none) (slice_index_or self.new i none) }
+        ensures each { (i : ℕ) (none : NodeValue) → i < length self.old
+            → AfterPacket (is_missed missed i) packet.now (slice_index_or self.old i none)
+            (slice_index_or self.new i none) }
     {
         if self.is_empty() {
             return;
@@ -59,7 +59,7 @@ impl Nodes {
         hear_each(self.nodes.as_mut_slice(), packet, &read(packet), missed);
     }
 
-    /// Node i alone hears a half-bit of this many microseconds that belongs to no packet.
+    /// Passes a half-bit of `half` microseconds that belongs to no packet to node i only.
     pub fn noise(&mut self, i: usize, half: u16)
         requires { i < length self.old }
         ensures noise { OneHears i half self.old self.new }
@@ -68,7 +68,7 @@ impl Nodes {
         self.nodes.as_mut_slice()[i].hear_half(half);
     }
 
-    /// How many decoders there are, at most 64.
+    /// Returns the number of decoders, at most 64.
     pub fn len(&self) -> usize
         ensures count { result ≡ length self.now }
         ensures most { result ≤ 64 }
@@ -76,14 +76,14 @@ impl Nodes {
         self.nodes.len()
     }
 
-    /// Whether there is none.
+    /// Whether there are no decoders.
     pub fn is_empty(&self) -> bool
         ensures { result ≡ (length self.now == 0) }
     {
         self.nodes.is_empty()
     }
 
-    /// How node i runs, or `None` for an accessory decoder.
+    /// Returns how node i runs, or `None` for an accessory decoder.
     pub fn running(&self, i: usize) -> Option<Running>
         requires { i < length self.now }
         ensures { (none : NodeValue) → result ≡ running_of (slice_index_or self.now i none) }
@@ -91,7 +91,7 @@ impl Nodes {
         self.nodes.as_slice()[i].running()
     }
 
-    /// The outputs of node i, or `None` for a locomotive decoder.
+    /// Returns the outputs of node i, or `None` for a locomotive decoder.
     pub fn outputs(&self, i: usize) -> Option<u8>
         requires { i < length self.now }
         ensures { (none : NodeValue) → result ≡ outputs_of (slice_index_or self.now i none) }
@@ -100,12 +100,15 @@ impl Nodes {
     }
 }
 
-/// Each of these nodes hears the packet, which spells this instruction, or none, but for those whose bit is set.
+/// Passes the packet, which spells this instruction or none, to each of these nodes whose bit is
+/// not set.
 fn hear_each(nodes: &mut [Node], packet: &Packet, instr: &Option<Instr>, missed: u64)
     requires fits { length nodes.old ≤ 64 }
     requires read { instr.now ≡ instruction_of packet.now }
     ensures specs { map spec_of nodes.new ≡ map spec_of nodes.old }
-    ensures each { (i : ℕ) (none : NodeValue) → i < length nodes.old → AfterPacket (is_missed missed i) packet.now (slice_index_or nodes.old i none) (slice_index_or nodes.new i none) }
+    ensures each { (i : ℕ) (none : NodeValue) → i < length nodes.old
+        → AfterPacket (is_missed missed i) packet.now (slice_index_or nodes.old i none)
+        (slice_index_or nodes.new i none) }
 {
     for (i, node) in nodes.iter_mut().enumerate() {
         if !is_missed(missed, i) {

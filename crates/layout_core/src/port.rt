@@ -8,8 +8,8 @@ use input_text::{Broken, Sink};
 use std::io;
 use std::io::{Read, Write};
 
-/// A reader as a source, or a writer as a sink. Each call of theirs is one call of the reader or the writer, whatever that
-/// answers. A write that takes no byte is an error.
+/// A reader as a source, or a writer as a sink. Each call makes exactly one call of the reader or
+/// the writer. A write that accepts no byte is an error.
 #[derive(Drop)]
 pub struct Port<T> {
     inner: T,
@@ -21,7 +21,7 @@ pub struct Port<T> {
 impl<T> Port<T> {
     ghost use Rattle.layout_core.specs.Port.{port_ended, port_failed, port_inner, port_reads};
 
-    /// A device over this, which has neither failed nor ended.
+    /// Creates a device over `inner` that has neither failed nor ended.
     pub fn new(inner: T) -> Port<T>
         ensures inner { port_inner result ≡ inner }
         ensures failed { port_failed result ≡ false }
@@ -37,14 +37,14 @@ impl<T> Port<T> {
     }
 }
 
-/// What a port makes of the answer of its reader. No error is tried again.
+/// Converts the result of the reader's call. No error is retried.
 fn given(answer: io::Result<usize>) -> Result<usize, Broken>
     ensures { count_of result ≡ count_of answer }
 {
     answer.map_err(|_| Broken)
 }
 
-/// What a port makes of the answer of its writer. A write of no byte is an error, and none is tried again.
+/// Converts the result of the writer's call. A write of no byte is an error, and none is retried.
 fn taken(answer: io::Result<usize>) -> Result<usize, Broken>
     ensures { count_of result ≡ some_count_of answer }
 {

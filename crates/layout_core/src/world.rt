@@ -8,22 +8,22 @@ ghost use Rattle.layout_core.specs.declared.node.Node.{Node as NodeValue};
 ghost use Rattle.layout_core.specs.Cycle.{RunsAfterNoise, RunsAsWanted};
 ghost use Rattle.layout_core.specs.Nodes.{node_of, outputs_of, running_of, spec_of};
 ghost use Rattle.layout_core.specs.Served.{IsSendableAnswer};
-ghost use Rattle.layout_core.specs.Standings.{standing_of};
+ghost use Rattle.layout_core.specs.DecoderStates.{decoder_state_of};
 ghost use Rattle.decoder_node.specs.declared.node.NodeSpec.{NodeSpec};
-ghost use Rattle.show_text.specs.Nodes.{IsToldOf};
+ghost use Rattle.show_text.specs.Nodes.{IsStateOf};
 ghost use Rattle.layout_core.specs.Events.{calls_in};
 ghost use Rattle.layout_core.specs.Played.{AreEvents, after_event, after_events, answer_to, answers_to, is_event};
 ghost use Rattle.layout_core.specs.World.{AfterEvent, HaveHeard, HaveObeyed, IsSameLayout, OneHears};
 
+use crate::decoder_state::DecoderState;
 use crate::event::Event;
 use crate::laws;
 use crate::nodes::Nodes;
-use crate::standing::Standing;
 use decoder_node::{NodeList, Running};
 use station_core::{Station, StationFault, Step};
 use std::alloc::Global;
 
-/// A station, and the decoders on its track: nothing but its packets moves them.
+/// A station, and the decoders on its track, which change by its packets only.
 #[derive(Drop)]
 pub struct World {
     pub(crate) station: Station,
@@ -31,15 +31,18 @@ pub struct World {
 }
 
 impl World {
-    /// A new station with so many lines, and these decoders, each in its first state.
+    /// Creates a station with `lines` lines, and these decoders, each in its first state.
     ///
-    /// Refused as the station is: `BadLines` unless the lines are 1 to 8, and else where there is no memory.
+    /// Fails as the station does: with `BadLines` unless `lines` is 1 to 8, and otherwise if out of
+    /// memory.
     pub fn new(alloc: Global, lines: u8, nodes: NodeList) -> Result<World, StationFault>
         ensures lines { is_line_count lines ≡ false → result ≡ Err StationFault.BadLines }
-        ensures station { IfOk result (λ w. (is_line_count lines ≡ true) × (w.station ≡ first_seen lines)) }
+        ensures station { IfOk result
+            (λ w. (is_line_count lines ≡ true) × (w.station ≡ first_seen lines)) }
         ensures nodes { IfOk result (λ w. w.nodes ≡ map node_of nodes.items) }
         ensures specs { IfOk result (λ w. map spec_of w.nodes ≡ nodes.items) }
-        ensures memory { IfErr result (λ e. is_line_count lines ≡ true → e ≡ StationFault.NoMemory) }
+        ensures memory { IfErr result
+            (λ e. is_line_count lines ≡ true → e ≡ StationFault.NoMemory) }
     {
         let station = Station::new(alloc, lines)?;
         let nodes = Nodes::new(&nodes);
@@ -53,7 +56,7 @@ impl World {
         &self.station
     }
 
-    /// How many decoders there are, at most 64.
+    /// Returns the number of decoders, at most 64.
     pub fn nodes(&self) -> usize
         ensures count { result ≡ length self.now.nodes }
         ensures most { result ≤ 64 }
@@ -61,7 +64,7 @@ impl World {
         self.nodes.len()
     }
 
-    /// How decoder i runs, or `None` for an accessory decoder.
+    /// Returns how decoder i runs, or `None` for an accessory decoder.
     pub fn running(&self, i: usize) -> Option<Running>
         requires { i < length self.now.nodes }
         ensures { (none : NodeValue) → result ≡ running_of (slice_index_or self.now.nodes i none) }
@@ -69,7 +72,7 @@ impl World {
         self.nodes.running(i)
     }
 
-    /// The outputs of decoder i, bit j for output j, or `None` for a locomotive decoder.
+    /// Returns the outputs of decoder i, bit j for output j, or `None` for a locomotive decoder.
     pub fn outputs(&self, i: usize) -> Option<u8>
         requires { i < length self.now.nodes }
         ensures { (none : NodeValue) → result ≡ outputs_of (slice_index_or self.now.nodes i none) }
@@ -77,21 +80,24 @@ impl World {
         self.nodes.outputs(i)
     }
 
-    /// How decoder i stands.
-    pub fn standing(&self, i: usize) -> Standing
+    /// Returns the state of decoder i.
+    pub fn decoder_state(&self, i: usize) -> DecoderState
         requires { i < length self.now.nodes }
-        ensures standing { (none : NodeValue) → result ≡ standing_of (slice_index_or self.now.nodes i none) }
-        // Of a locomotive decoder it is how it runs, of an accessory decoder its outputs.
-        ensures told { (none : NodeSpec) → IsToldOf (slice_index_or (map spec_of self.now.nodes) i none) result.running result.outputs }
+        ensures decoder_state { (none : NodeValue)
+            → result ≡ decoder_state_of (slice_index_or self.now.nodes i none) }
+        // `running` for a locomotive decoder, `outputs` for an accessory decoder.
+        ensures kind { (none : NodeSpec)
+            → IsStateOf (slice_index_or (map spec_of self.now.nodes) i none) result.running
+            result.outputs }
     {
-        Standing {
+        DecoderState {
             running: self.running(i),
             outputs: self.outputs(i),
         }
     }
 
-    /// One event: the station moves, and each decoder hears what it sends, but for those that miss it. Noise reaches one
-    /// decoder alone.
+    /// Runs one event: the station handles it, and each decoder that does not miss the packet hears
+    /// it. Noise is heard by one decoder only.
     #[inline]
     pub fn step(&mut self, event: Event) -> Step
         requires { IsTrue (is_event (length self.old.station.lines) (length self.old.nodes) event) }
@@ -108,10 +114,12 @@ impl World {
         }
     }
 
-    /// Each event in order, its answer written at its place. A list of events may be cut anywhere.
+    /// Runs the events in order and writes each result at the same index of `steps`. A list of
+    /// events may be divided into calls anywhere.
     pub fn run(&mut self, events: &[Event], steps: &mut [Step])
         requires places { length events.now ≡ length steps.old }
-        requires events { AreEvents (length self.old.station.lines) (length self.old.nodes) events.now }
+        requires events { AreEvents (length self.old.station.lines) (length self.old.nodes)
+            events.now }
         ensures station { self.new.station ≡ after_events self.old.station events.now }
         ensures answers { steps.new ≡ answers_to self.old.station events.now }
         ensures nodes { HaveHeard self.old.station events.now self.old.nodes self.new.nodes }
@@ -121,9 +129,11 @@ impl World {
         // A node that no noise names obeys exactly the packets that it hears.
         ensures obeyed { HaveObeyed self.old.station events.now self.old.nodes self.new.nodes }
         // A locomotive that hears a full refresh cycle runs as its slot says.
-        ensures headline { RunsAsWanted (known_of self.old.station) events.now self.old.nodes self.new.nodes }
-        // So does one whose receiver noise left anywhere, where it hears one turn more.
-        ensures after_noise { RunsAfterNoise (known_of self.old.station) events.now self.old.nodes self.new.nodes }
+        ensures headline { RunsAsWanted (known_of self.old.station) events.now self.old.nodes
+            self.new.nodes }
+        // The same holds after any noise, given one more turn.
+        ensures after_noise { RunsAfterNoise (known_of self.old.station) events.now self.old.nodes
+            self.new.nodes }
     {
         laws::headline();
         station_core::laws::stays_a_desk();
@@ -133,7 +143,7 @@ impl World {
         }
     }
 
-    // A byte moves no decoder.
+    // A byte changes no decoder.
     #[inline]
     fn byte(&mut self, line: u8, byte: u8) -> Step
         requires { line < length self.old.station.lines }
@@ -169,7 +179,7 @@ impl World {
         }
     }
 
-    // Noise reaches one decoder, and the station knows nothing of it.
+    // Noise is heard by one decoder and does not concern the station.
     fn noise(&mut self, node: u8, half: u16) -> Step
         requires { node < length self.old.nodes }
         ensures station { self.new.station ≡ self.old.station }

@@ -21,6 +21,6 @@ AsRaw = plain (λ _. raws.the_row world.the_row global.the_row ghosts)
 abbrev pub AsKept : Slot 0
 AsKept = plain (λ _. held.the_row)
 
--- a value for where there is no layout
+-- a value if there is no layout
 abbrev pub no_world : world.the_row.Denot
 no_world = record { station = first_seen 1; nodes = [] }

@@ -12,19 +12,19 @@ behind_more : (done : List NodeSpec) (spec : NodeSpec) (rest : Option (List Node
 behind_more done spec None = refl
 behind_more done spec (Some specs) = ap Some (append_assoc done (spec ∷ []) specs)
 
--- one that is none
+-- one that is invalid
 pub refused : (done : List NodeSpec) (decoder : Decoder) (later : List Decoder) → spec_of decoder ≡ None → behind done (specs_of (decoder ∷ later)) ≡ None
 unfolding specs_of
 refused done decoder later none = ap (λ found. behind done (option_and_then (λ spec. option_map (λ specs. spec ∷ specs) (specs_of later)) found)) none
 
--- one that is read
+-- one that is valid
 pub one_more : (done : List NodeSpec) (decoder : Decoder) (spec : NodeSpec) (later : List Decoder) → spec_of decoder ≡ Some spec → behind (done ++ spec ∷ []) (specs_of later) ≡ behind done (specs_of (decoder ∷ later))
 unfolding specs_of
 one_more done decoder spec later some =
     behind_more done spec (specs_of later)
     ∙ ap (λ found. behind done (option_and_then (λ (spec : NodeSpec). option_map (λ specs. spec ∷ specs) (specs_of later)) found)) (sym some)
 
--- and none is left
+-- and none remain
 pub all_read : (done : List NodeSpec) → behind done (specs_of []) ≡ Some (done ++ [])
 unfolding specs_of
 all_read done = refl

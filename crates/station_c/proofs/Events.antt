@@ -1,4 +1,4 @@
--- Events of a list, each by itself.
+-- Events of a list, one at a time.
 use Rattle.std.proofs.Common.{ℕ, ◌<◌, zero, suc, List, [], ◌∷◌, length, arith}
 use Rattle.std.proofs.lemmas.Bool.{and_parts}
 use Rattle.std.specs.List.{list_all, slice_index_or}

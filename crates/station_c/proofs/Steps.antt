@@ -1,4 +1,4 @@
--- What the walks of this crate cite.
+-- The modules that the walks of this crate cite.
 pub use Rattle.std.proofs.Common.{◌≡◌, List, [], ◌∷◌, ◌++◌, refl, sym, ap, ◌∙◌, subst}
 pub use Rattle.std.proofs.raw_atomic.Walks.{proved_at, leaves}
 pub use Rattle.std.proofs.BoxSteps.Form.{Bx, B, D, R, P, word, box_typed}

@@ -1,11 +1,11 @@
--- What an event answers, as C sees it.
+-- The answer to an event, for C.
 use Rattle.std.specs.Prelude.{ℕ, ◌-◌, List, [], ◌++◌, length, replicate}
 use Rattle.ln_ops.specs.Reply.{reply_bytes}
 use Rattle.station_core.specs.declared.call.Step.{Step}
 use Rattle.station_core.specs.declared.call.Step.TheVariants.{Quiet, Reply, Packet, Off}
 use Rattle.station_c.specs.declared.answer.Answer.{Answer}
 
--- these bytes, and zeros behind them up to 14
+-- these bytes, followed by zeros up to 14
 abbrev pub filled : (kind : ℕ) → List ℕ → Answer
 filled kind bytes = record { kind = kind; size = length bytes; bytes = bytes ++ replicate (14 - length bytes) 0 }
 

@@ -1,4 +1,4 @@
--- What a layout owns that a program in C holds: what a box of it owns.
+-- What the handle of a layout in a program in C owns: all that a box of the layout owns.
 use Rattle.std.specs.Prelude.{Bool, true, false}
 use base.Fml.{Fml, ftrue}
 use base.Stored.{Coded}
@@ -8,7 +8,7 @@ use Rattle.std.specs.Global.{Global}
 use Rattle.std.specs.contracts.prelude.GlobalAllocator.TheImpl.{ghosts}
 use Rattle.layout_core.specs.contracts.world.World.{the_row}
 
--- nothing where there is no layout
+-- nothing if there is no layout
 abbrev pub kept_owns : (made : Bool) → Global → Ptr → the_row.Denot → Fml
 kept_owns true alloc at world = box_owns (ghosts.dealloc_token alloc) the_row at world
 kept_owns false alloc at world = ftrue

@@ -1,4 +1,4 @@
--- A layout that a program in C holds, and how one is made.
+-- The handle of a layout in a program in C, and how a layout is made.
 use Rattle.std.specs.Prelude.{ℕ, ◌≡◌, ◌⊎◌, Bool, true, false, if◌then◌else◌, List, length, map, Option, Some, None, Result, Ok, Err}
 use Rattle.station_core.specs.Seen.{Seen, first_seen, is_line_count}
 use Rattle.decoder_node.specs.declared.node.NodeSpec.{NodeSpec}
@@ -17,7 +17,7 @@ nodes_of layout = layout.inside.world.nodes
 abbrev pub lines_of : Layout → ℕ
 lines_of layout = length (station_of layout).lines
 
--- there is one as there was, with the same station and decoders
+-- the layout is as before, with the same station and decoders
 abbrev pub IsUnchanged : (old new : Layout) → Type 0
 IsUnchanged old new = (new.made ≡ old.made) × (new.inside.world ≡ old.inside.world)
 
@@ -27,13 +27,14 @@ pub record IsNew (lines : ℕ) (specs : List NodeSpec) (layout : Layout) : Type 
   pub station : station_of layout ≡ first_seen lines
   pub nodes : nodes_of layout ≡ map node_of specs
 
--- Why none is made: 4 there is one already, 2 the decoders are none, 1 the lines are not 1 to 8. 0 where nothing is wrong.
+-- Why none is made: 4 there is one already, 2 the decoders are invalid, 1 the lines are not 1 to 8.
+-- 0 if nothing is wrong.
 abbrev pub refusal : (made : Bool) → Option (List NodeSpec) → (lines : ℕ) → ℕ
 refusal true specs lines = 4
 refusal false None lines = 2
 refusal false (Some specs) lines = if is_line_count lines then 0 else 1
 
--- 3 where there is no memory, which comes only where nothing else is wrong
+-- 3 if out of memory, which is returned only if nothing else is wrong
 abbrev pub IsStatus : (refusal status : ℕ) → Type 0
 IsStatus refusal status = (status ≡ refusal) ⊎ ((refusal ≡ 0) × (status ≡ 3))
 

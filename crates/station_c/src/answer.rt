@@ -1,4 +1,4 @@
-//! Answers, as C sees them.
+//! The answers to events, for C.
 ghost use Rattle.std.specs.Prelude.{◌≡◌, ◌≤◌, length};
 ghost use Rattle.layout_core.specs.Served.{IsSendableAnswer};
 ghost use Rattle.station_c.specs.Answer.{answered, filled};
@@ -9,7 +9,7 @@ use station_core::Step;
 /// The most bytes of an answer: those of slot data.
 const MOST_BYTES: usize = 14;
 
-/// Nothing was answered.
+/// No answer.
 const QUIET: u8 = 0;
 
 /// A reply, on the line of the byte.
@@ -21,19 +21,19 @@ const PACKET: u8 = 2;
 /// A turn while the track has no power.
 const OFF: u8 = 3;
 
-/// What one event answers.
+/// The answer to one event.
 #[repr(C)]
 #[derive(Clone, Copy, Debug, PartialEq)]
 pub struct Answer {
-    /// 0 where nothing was answered, 1 for a reply, 2 for a packet, 3 for a turn without power.
+    /// 0 for no answer, 1 for a reply, 2 for a packet, 3 for a turn without power.
     pub kind: u8,
-    /// How many bytes there are: of a reply 4 or 14, of a packet 3 to 6, else 0.
+    /// The number of bytes: of a reply 4 or 14, of a packet 3 to 6, otherwise 0.
     pub size: u8,
-    /// The bytes, and behind them zeros.
+    /// The bytes, followed by zeros.
     pub bytes: [u8; MOST_BYTES],
 }
 
-/// An answer, for C.
+/// Converts an answer for C.
 pub(crate) fn answered(step: &Step) -> Answer
     requires { IsSendableAnswer step.now }
     ensures { result ≡ answered step.now }
@@ -46,7 +46,7 @@ pub(crate) fn answered(step: &Step) -> Answer
     }
 }
 
-/// An answer of this kind with these bytes.
+/// Returns an answer of this kind with these bytes.
 fn filled(kind: u8, from: &[u8]) -> Answer
     requires { length from.now ≤ 14 }
     ensures { result ≡ filled kind from.now }

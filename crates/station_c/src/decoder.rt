@@ -1,4 +1,4 @@
-//! Decoders, as C describes them.
+//! The decoders, as C describes them.
 ghost use Rattle.std.specs.Prelude.{◌≡◌, option_map};
 ghost use Rattle.station_c.specs.Decoder.{nodes_of, spec_of};
 
@@ -6,7 +6,8 @@ use dcc_packet::Module;
 use decoder_cv::CvSet;
 use decoder_node::{NodeList, NodeSpec};
 
-/// What a decoder is: the accessory decoder of a module, or else a locomotive decoder with these variables.
+/// The description of a decoder: the accessory decoder of a module, or else a locomotive decoder
+/// with these variables.
 #[repr(C)]
 #[derive(Clone, Copy)]
 pub struct Decoder {
@@ -24,7 +25,7 @@ pub struct Decoder {
     pub cv29: u8,
 }
 
-/// The decoder that this describes, if it is one.
+/// Returns the decoder of this description, if it is valid.
 fn read(decoder: &Decoder) -> Option<NodeSpec>
     ensures { result ≡ spec_of decoder.now }
 {
@@ -40,7 +41,8 @@ fn read(decoder: &Decoder) -> Option<NodeSpec>
     }
 }
 
-/// The decoders that these describe, in order. `None` where one is none, and where there are more than 64.
+/// Returns the decoders of these descriptions, in order, or `None` if one is invalid or there are
+/// more than 64.
 pub(crate) fn read_all(decoders: &[Decoder]) -> Option<NodeList>
     ensures { option_map (λ list. list.items) result ≡ nodes_of decoders.now }
 {

@@ -1,11 +1,11 @@
-//! Events, as C describes them.
+//! The events, as C describes them.
 ghost use Rattle.std.specs.Prelude.{◌≡◌};
 ghost use Rattle.std.specs.List.{list_all};
 ghost use Rattle.station_c.specs.Event.{event_of, is_one};
 
 use layout_core::Event;
 
-/// A byte comes on a line.
+/// A byte is received on a line.
 const BYTE: u8 = 0;
 
 /// The track has room for a packet.
@@ -14,11 +14,11 @@ const TURN: u8 = 1;
 /// The receiver of one decoder hears a half-bit that belongs to no packet.
 const NOISE: u8 = 2;
 
-/// One event of a layout. The fields that its kind does not name mean nothing.
+/// One event of a layout. Fields that do not belong to its kind are ignored.
 #[repr(C)]
 #[derive(Clone, Copy)]
 pub struct EventFields {
-    /// Of a turn: decoder i misses the packet where bit i is set.
+    /// Of a turn: decoder i misses the packet if bit i is set.
     pub missed: u64,
     /// Of noise: the microseconds of the half-bit.
     pub half: u16,
@@ -32,7 +32,7 @@ pub struct EventFields {
     pub node: u8,
 }
 
-/// The event that these fields describe.
+/// Returns the event of these fields.
 pub(crate) fn read(fields: &EventFields) -> Event
     ensures { result ≡ event_of fields.now }
 {
@@ -51,7 +51,7 @@ pub(crate) fn read(fields: &EventFields) -> Event
     }
 }
 
-/// Whether these fields describe an event of a layout with so many lines and decoders.
+/// Whether these fields describe an event of a layout with `lines` lines and `nodes` decoders.
 fn is_one(fields: &EventFields, lines: u8, nodes: usize) -> bool
     ensures { result ≡ is_one lines nodes fields.now }
 {
@@ -63,7 +63,7 @@ fn is_one(fields: &EventFields, lines: u8, nodes: usize) -> bool
     }
 }
 
-/// Whether each of these describes an event of a layout with so many lines and decoders.
+/// Whether each of these describes an event of a layout with `lines` lines and `nodes` decoders.
 pub(crate) fn are_events(events: &[EventFields], lines: u8, nodes: usize) -> bool
     ensures { result ≡ list_all (is_one lines nodes) events.now }
 {

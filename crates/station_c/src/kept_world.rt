@@ -9,9 +9,9 @@ use std::alloc::Global;
 use std::marker::Model;
 use std::ptr;
 
-/// A layout behind a pointer that a program in C keeps and never looks behind, or nothing.
+/// A layout behind a pointer that a program in C keeps and never dereferences, or nothing.
 ///
-/// To let it go is to leak the layout.
+/// Dropping it leaks the layout.
 #[repr(C)]
 #[derive(Drop)]
 pub struct KeptWorld {
@@ -46,7 +46,7 @@ impl KeptWorld {
         KeptWorld::of_raw(Raw::of(world))
     }
 
-    /// Its box.
+    /// Returns its box.
     pub(crate) fn into_box(self) -> Box<World, Global>
         requires { self.made ≡ true }
         ensures { result.value ≡ self.world }

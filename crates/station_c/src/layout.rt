@@ -1,4 +1,4 @@
-//! What a program in C holds of a layout.
+//! The handle of a layout in a program in C.
 ghost use Rattle.std.specs.Prelude.{◌≡◌, true, false, None, IfSome};
 
 use crate::kept_world::KeptWorld;
@@ -6,7 +6,8 @@ use layout_core::World;
 use std::alloc::Global;
 use std::mem;
 
-/// What a program in C holds of a layout: 16 bytes that it keeps and hands to each call. All zeros are no layout.
+/// The handle of a layout in a program in C: 16 bytes that it keeps and passes to each call. All
+/// zeros mean no layout.
 #[repr(C)]
 #[derive(Drop)]
 pub struct Layout {
@@ -17,7 +18,7 @@ pub struct Layout {
 }
 
 impl Layout {
-    /// No layout, as C begins with.
+    /// Creates a handle without a layout, as C begins with.
     pub(crate) fn none(alloc: Global) -> Layout
         ensures { result.made ≡ false }
     {
@@ -29,7 +30,8 @@ impl Layout {
 
     /// Takes the layout out, if there is one.
     pub(crate) fn take(&mut self, alloc: Global) -> Option<Box<World, Global>>
-        ensures found { IfSome result (λ world. (self.old.made ≡ true) × (world.value ≡ self.old.inside.world)) }
+        ensures found { IfSome result
+            (λ world. (self.old.made ≡ true) × (world.value ≡ self.old.inside.world)) }
         ensures left { IfSome result (λ world. self.new.made ≡ false) }
         ensures none { result ≡ None → (self.old.made ≡ false) × (self.new ≡ self.old) }
     {
@@ -40,7 +42,7 @@ impl Layout {
         Some(inside.into_box())
     }
 
-    /// Puts a layout in place of none.
+    /// Puts in a layout; there was none.
     pub(crate) fn put(&mut self, world: Box<World, Global>)
         requires none { self.old.made ≡ false }
         ensures made { self.new.made ≡ true }

@@ -1,6 +1,8 @@
 //! A layout for programs in C, and in languages that call C.
 //!
-//! Each function is exported under its name. `bindings/station.h` says what its caller owes.
+//! A program keeps a [`Layout`], zeroed at first. [`station_new`] makes the layout, [`station_run`]
+//! runs a list of events, and [`station_free`] ends it. Each function is exported under its name;
+//! `bindings/station.h` states the obligations of the caller.
 #![tactic(auto)]
 
 ghost use Rattle.std.specs.Prelude.{◌≡◌, ◌≢◌, ◌⊎◌, ◌==◌, ◌&&◌, nat_lt, if◌then◌else◌, Some, None, IfSome, true, false, length, map, is_some, option_map};
@@ -16,7 +18,7 @@ ghost use Rattle.station_c.specs.Answer.{answered};
 ghost use Rattle.station_c.specs.Decoder.{nodes_of as decoders_of};
 ghost use Rattle.station_c.specs.Event.{event_of, is_one};
 ghost use Rattle.station_c.specs.Layout.{IsFaultyNode, IsNew, IsStatus, IsUnchanged, lines_of, nodes_of, refusal, specs_in, station_of};
-ghost use Rattle.station_c.specs.Motion.{told};
+ghost use Rattle.station_c.specs.Motion.{driven};
 
 mod answer;
 mod decoder;
@@ -37,9 +39,9 @@ use decoder_node::NodeList;
 pub use event::EventFields;
 use event::are_events;
 pub use layout::Layout;
-use layout_core::{Event, Standing, World};
+use layout_core::{DecoderState, Event, World};
 pub use motion::Motion;
-use motion::told;
+use motion::driven;
 use roster::Why;
 use run::run;
 use station_core::StationFault;
@@ -51,19 +53,20 @@ const MADE: u8 = 0;
 /// The lines are not 1 to 8.
 const BAD_LINES: u8 = 1;
 
-/// A decoder is none, there are more than 64, or the roster has a fault.
+/// A decoder is invalid, there are more than 64, or the roster has a fault.
 const BAD_DECODERS: u8 = 2;
 
-/// There is no memory.
+/// Out of memory.
 const NO_MEMORY: u8 = 3;
 
 /// There is a layout already.
 const ALREADY_MADE: u8 = 4;
 
-/// Makes a layout with so many lines and these decoders, in place of none.
+/// Makes a layout with `lines` lines and these decoders; there must be none yet.
 ///
-/// 0 where it is made. Else the layout is as it was: 4 where there is one already, 2 where a decoder is none or there are
-/// more than 64, 1 unless the lines are 1 to 8, and 3 where there is no memory.
+/// Returns 0 if it was made. Otherwise the layout is unchanged: 4 if there is one already, 2 if a
+/// decoder is invalid or there are more than 64, 1 unless `lines` is 1 to 8, and 3 if out of
+/// memory.
 #[unsafe(no_mangle)]
 pub extern "C" fn station_new(
     alloc: Global,
@@ -72,7 +75,8 @@ pub extern "C" fn station_new(
     decoders: &[Decoder],
 ) -> u8
     ensures status { IsStatus (refusal layout.old.made (decoders_of decoders.now) lines) result }
-    ensures made { result ≡ 0 → IfSome (decoders_of decoders.now) (λ specs. IsNew lines specs layout.new) }
+    ensures made { result ≡ 0
+        → IfSome (decoders_of decoders.now) (λ specs. IsNew lines specs layout.new) }
     ensures untouched { result ≢ 0 → layout.new ≡ layout.old }
 {
     if layout.made {
@@ -84,11 +88,12 @@ pub extern "C" fn station_new(
     make(alloc, layout, lines, nodes)
 }
 
-/// Makes a layout with so many lines and the decoders of a roster, in place of none.
+/// Makes a layout with `lines` lines and the decoders of a roster; there must be none yet.
 ///
-/// 0 where it is made. Else the layout is as it was: 4 where there is one already, 2 where the roster has a fault, 1 unless
-/// the lines are 1 to 8, and 3 where there is no memory. Where the roster has a fault, `node` is then the decoder at fault,
-/// counted from 1, or 0 for the whole; else it is as it was.
+/// Returns 0 if it was made. Otherwise the layout is unchanged: 4 if there is one already, 2 if the
+/// roster has a fault, 1 unless `lines` is 1 to 8, and 3 if out of memory. If the roster has a
+/// fault, `node` is set to the decoder at fault, counted from 1, or to 0 for the whole roster;
+/// otherwise it is unchanged.
 #[unsafe(no_mangle)]
 pub extern "C" fn station_read(
     alloc: Global,
@@ -97,8 +102,10 @@ pub extern "C" fn station_read(
     text: &[u8],
     node: &mut u8,
 ) -> u8
-    ensures status { (result ≡ refusal layout.old.made (specs_in (roster_in text.now)) lines) ⊎ ((layout.old.made ≡ false) × (result ≡ 3)) }
-    ensures made { result ≡ 0 → IfSome (specs_in (roster_in text.now)) (λ specs. IsNew lines specs layout.new) }
+    ensures status { (result ≡ refusal layout.old.made (specs_in (roster_in text.now)) lines)
+        ⊎ ((layout.old.made ≡ false) × (result ≡ 3)) }
+    ensures made { result ≡ 0
+        → IfSome (specs_in (roster_in text.now)) (λ specs. IsNew lines specs layout.new) }
     ensures untouched { result ≢ 0 → layout.new ≡ layout.old }
     ensures fault { result ≡ 2 → IsFaultyNode (roster_in text.now) node.new }
     ensures no_fault { result ≢ 2 → node.new ≡ node.old }
@@ -116,7 +123,7 @@ pub extern "C" fn station_read(
     }
 }
 
-/// Makes a layout in place of none, or says why not.
+/// Makes a layout where there is none, or returns the status of the failure.
 fn make(alloc: Global, layout: &mut Layout, lines: u8, nodes: NodeList) -> u8
     requires none { layout.old.made ≡ false }
     ensures status { IsStatus (refusal false (Some nodes.items) lines) result }
@@ -136,7 +143,7 @@ fn make(alloc: Global, layout: &mut Layout, lines: u8, nodes: NodeList) -> u8
     }
 }
 
-/// Ends a layout, if there is one. Then there is none.
+/// Ends a layout, if there is one. Afterwards there is none.
 #[unsafe(no_mangle)]
 pub extern "C" fn station_free(alloc: Global, layout: &mut Layout)
     ensures { layout.new.made ≡ false }
@@ -144,9 +151,9 @@ pub extern "C" fn station_free(alloc: Global, layout: &mut Layout)
     let _ = layout.take(alloc);
 }
 
-/// A byte comes on a line. The answer is a reply, or quiet.
+/// Passes a byte to a line. The answer is a reply, or quiet.
 ///
-/// False, and nothing is done, where there is no layout or no such line.
+/// Returns false, and does nothing, if there is no layout or no such line.
 #[unsafe(no_mangle)]
 pub extern "C" fn station_byte(
     alloc: Global,
@@ -157,10 +164,13 @@ pub extern "C" fn station_byte(
 ) -> bool
     ensures done { result ≡ (layout.old.made && nat_lt line (lines_of layout.old)) }
     ensures made { layout.new.made ≡ layout.old.made }
-    ensures station { result ≡ true → station_of layout.new ≡ after_event (station_of layout.old) (Event.Byte line byte) }
-    ensures answer { result ≡ true → answer.new ≡ answered (answer_to (station_of layout.old) (Event.Byte line byte)) }
+    ensures station { result ≡ true
+        → station_of layout.new ≡ after_event (station_of layout.old) (Event.Byte line byte) }
+    ensures answer { result ≡ true
+        → answer.new ≡ answered (answer_to (station_of layout.old) (Event.Byte line byte)) }
     ensures nodes { result ≡ true → nodes_of layout.new ≡ nodes_of layout.old }
-    ensures untouched { result ≡ false → IsUnchanged layout.old layout.new × (answer.new ≡ answer.old) }
+    ensures untouched { result ≡ false → IsUnchanged layout.old layout.new
+        × (answer.new ≡ answer.old) }
 {
     let Some(mut world) = layout.take(alloc) else {
         return false;
@@ -174,10 +184,10 @@ pub extern "C" fn station_byte(
     is_line
 }
 
-/// The track has room for a packet, which decoder i misses where bit i of `missed` is set. The answer is a packet, or off
-/// where the track has no power.
+/// Runs a turn: the track has room for a packet, which decoder i misses if bit i of `missed` is
+/// set. The answer is a packet, or off if the track has no power.
 ///
-/// False, and nothing is done, where there is no layout.
+/// Returns false, and does nothing, if there is no layout.
 #[unsafe(no_mangle)]
 pub extern "C" fn station_turn(
     alloc: Global,
@@ -187,10 +197,15 @@ pub extern "C" fn station_turn(
 ) -> bool
     ensures done { result ≡ layout.old.made }
     ensures made { layout.new.made ≡ layout.old.made }
-    ensures station { result ≡ true → station_of layout.new ≡ after_event (station_of layout.old) (Event.Turn missed) }
-    ensures answer { result ≡ true → answer.new ≡ answered (answer_to (station_of layout.old) (Event.Turn missed)) }
-    ensures nodes { result ≡ true → AfterEvent (Event.Turn missed) (answer_to (station_of layout.old) (Event.Turn missed)) (nodes_of layout.old) (nodes_of layout.new) }
-    ensures untouched { result ≡ false → IsUnchanged layout.old layout.new × (answer.new ≡ answer.old) }
+    ensures station { result ≡ true
+        → station_of layout.new ≡ after_event (station_of layout.old) (Event.Turn missed) }
+    ensures answer { result ≡ true
+        → answer.new ≡ answered (answer_to (station_of layout.old) (Event.Turn missed)) }
+    ensures nodes { result ≡ true
+        → AfterEvent (Event.Turn missed) (answer_to (station_of layout.old) (Event.Turn missed))
+        (nodes_of layout.old) (nodes_of layout.new) }
+    ensures untouched { result ≡ false → IsUnchanged layout.old layout.new
+        × (answer.new ≡ answer.old) }
 {
     let Some(mut world) = layout.take(alloc) else {
         return false;
@@ -201,10 +216,11 @@ pub extern "C" fn station_turn(
     true
 }
 
-/// Each event in order, its answer at its place. A list of events may be cut anywhere.
+/// Runs the events in order, and writes each answer at the same index. A list of events may be
+/// divided into calls anywhere.
 ///
-/// False, and nothing is done, where there is no layout, where the answers are more or fewer than the events, and where
-/// one of the events is none of this layout.
+/// Returns false, and does nothing, if there is no layout, if the numbers of events and answers
+/// differ, or if one of the events is not valid for this layout.
 #[unsafe(no_mangle)]
 pub extern "C" fn station_run(
     alloc: Global,
@@ -212,16 +228,28 @@ pub extern "C" fn station_run(
     events: &[EventFields],
     answers: &mut [Answer],
 ) -> bool
-    ensures done { result ≡ (layout.old.made && (length events.now == length answers.old) && list_all (is_one (lines_of layout.old) (length (nodes_of layout.old))) events.now) }
+    ensures done { result
+        ≡ (layout.old.made && (length events.now == length answers.old) && list_all
+        (is_one (lines_of layout.old) (length (nodes_of layout.old))) events.now) }
     ensures made { layout.new.made ≡ layout.old.made }
-    ensures station { result ≡ true → station_of layout.new ≡ after_events (station_of layout.old) (map event_of events.now) }
-    ensures answers { result ≡ true → answers.new ≡ map answered (answers_to (station_of layout.old) (map event_of events.now)) }
-    ensures nodes { result ≡ true → HaveHeard (station_of layout.old) (map event_of events.now) (nodes_of layout.old) (nodes_of layout.new) }
+    ensures station { result ≡ true
+        → station_of layout.new ≡ after_events (station_of layout.old) (map event_of events.now) }
+    ensures answers { result ≡ true
+        → answers.new
+        ≡ map answered (answers_to (station_of layout.old) (map event_of events.now)) }
+    ensures nodes { result ≡ true
+        → HaveHeard (station_of layout.old) (map event_of events.now) (nodes_of layout.old)
+        (nodes_of layout.new) }
     // A locomotive that hears a full refresh cycle runs as its slot says.
-    ensures headline { result ≡ true → RunsAsWanted (known_of (station_of layout.old)) (map event_of events.now) (nodes_of layout.old) (nodes_of layout.new) }
-    // So does one whose receiver noise left anywhere, where it hears one turn more.
-    ensures after_noise { result ≡ true → RunsAfterNoise (known_of (station_of layout.old)) (map event_of events.now) (nodes_of layout.old) (nodes_of layout.new) }
-    ensures untouched { result ≡ false → IsUnchanged layout.old layout.new × (answers.new ≡ answers.old) }
+    ensures headline { result ≡ true
+        → RunsAsWanted (known_of (station_of layout.old)) (map event_of events.now)
+        (nodes_of layout.old) (nodes_of layout.new) }
+    // The same holds after any noise, given one more turn.
+    ensures after_noise { result ≡ true
+        → RunsAfterNoise (known_of (station_of layout.old)) (map event_of events.now)
+        (nodes_of layout.old) (nodes_of layout.new) }
+    ensures untouched { result ≡ false → IsUnchanged layout.old layout.new
+        × (answers.new ≡ answers.old) }
 {
     let Some(mut world) = layout.take(alloc) else {
         return false;
@@ -237,28 +265,36 @@ pub extern "C" fn station_run(
     true
 }
 
-/// How decoder i stands. Where there is no such decoder or no layout, it neither runs nor has outputs.
-fn standing(alloc: Global, layout: &mut Layout, i: usize) -> Standing
-    ensures running { (none : NodeValue) → result.running ≡ (if layout.old.made && nat_lt i (length (nodes_of layout.old)) then running_of (slice_index_or (nodes_of layout.old) i none) else None) }
-    ensures outputs { (none : NodeValue) → result.outputs ≡ (if layout.old.made && nat_lt i (length (nodes_of layout.old)) then outputs_of (slice_index_or (nodes_of layout.old) i none) else None) }
+/// Returns the state of decoder i. If there is no such decoder or no layout, both of its parts are
+/// `None`.
+fn decoder_state(alloc: Global, layout: &mut Layout, i: usize) -> DecoderState
+    ensures running { (none : NodeValue)
+        → result.running
+        ≡ (if layout.old.made && nat_lt i (length (nodes_of layout.old)) then running_of
+        (slice_index_or (nodes_of layout.old) i none) else None) }
+    ensures outputs { (none : NodeValue)
+        → result.outputs
+        ≡ (if layout.old.made && nat_lt i (length (nodes_of layout.old)) then outputs_of
+        (slice_index_or (nodes_of layout.old) i none) else None) }
     ensures untouched { IsUnchanged layout.old layout.new }
 {
-    let mut standing = Standing {
+    let mut decoder_state = DecoderState {
         running: None,
         outputs: None,
     };
     if let Some(world) = layout.take(alloc) {
         if i < world.nodes() {
-            standing = world.standing(i);
+            decoder_state = world.decoder_state(i);
         }
         layout.put(world);
     }
-    standing
+    decoder_state
 }
 
-/// How decoder i runs, which is written into `motion`.
+/// Writes how decoder i runs to `motion`.
 ///
-/// False, and nothing is written, for an accessory decoder, and where there is no such decoder or no layout.
+/// Returns false, and writes nothing, for an accessory decoder, or if there is no such decoder or
+/// no layout.
 #[unsafe(no_mangle)]
 pub extern "C" fn station_running(
     alloc: Global,
@@ -266,21 +302,26 @@ pub extern "C" fn station_running(
     i: usize,
     motion: &mut Motion,
 ) -> bool
-    ensures done { (none : NodeValue) → result ≡ (layout.old.made && nat_lt i (length (nodes_of layout.old)) && is_some (running_of (slice_index_or (nodes_of layout.old) i none))) }
-    ensures told { (none : NodeValue) → result ≡ true → option_map told (running_of (slice_index_or (nodes_of layout.old) i none)) ≡ Some motion.new }
+    ensures done { (none : NodeValue)
+        → result ≡ (layout.old.made && nat_lt i (length (nodes_of layout.old)) && is_some
+        (running_of (slice_index_or (nodes_of layout.old) i none))) }
+    ensures driven { (none : NodeValue) → result ≡ true
+        → option_map driven (running_of (slice_index_or (nodes_of layout.old) i none))
+        ≡ Some motion.new }
     ensures untold { result ≡ false → motion.new ≡ motion.old }
     ensures untouched { IsUnchanged layout.old layout.new }
 {
-    let Some(running) = standing(alloc, layout, i).running else {
+    let Some(running) = decoder_state(alloc, layout, i).running else {
         return false;
     };
-    *motion = told(running);
+    *motion = driven(running);
     true
 }
 
-/// The outputs of decoder i, bit j for output j, which are written into `outputs`.
+/// Writes the outputs of decoder i, bit j for output j, to `outputs`.
 ///
-/// False, and nothing is written, for a locomotive decoder, and where there is no such decoder or no layout.
+/// Returns false, and writes nothing, for a locomotive decoder, or if there is no such decoder or
+/// no layout.
 #[unsafe(no_mangle)]
 pub extern "C" fn station_outputs(
     alloc: Global,
@@ -288,12 +329,15 @@ pub extern "C" fn station_outputs(
     i: usize,
     outputs: &mut u8,
 ) -> bool
-    ensures done { (none : NodeValue) → result ≡ (layout.old.made && nat_lt i (length (nodes_of layout.old)) && is_some (outputs_of (slice_index_or (nodes_of layout.old) i none))) }
-    ensures told { (none : NodeValue) → result ≡ true → outputs_of (slice_index_or (nodes_of layout.old) i none) ≡ Some outputs.new }
+    ensures done { (none : NodeValue)
+        → result ≡ (layout.old.made && nat_lt i (length (nodes_of layout.old)) && is_some
+        (outputs_of (slice_index_or (nodes_of layout.old) i none))) }
+    ensures driven { (none : NodeValue) → result ≡ true
+        → outputs_of (slice_index_or (nodes_of layout.old) i none) ≡ Some outputs.new }
     ensures untold { result ≡ false → outputs.new ≡ outputs.old }
     ensures untouched { IsUnchanged layout.old layout.new }
 {
-    let Some(found) = standing(alloc, layout, i).outputs else {
+    let Some(found) = decoder_state(alloc, layout, i).outputs else {
         return false;
     };
     *outputs = found;

@@ -1,11 +1,11 @@
-//! How a locomotive runs, as C sees it.
+//! How a locomotive runs, for C.
 ghost use Rattle.std.specs.Prelude.{◌≡◌};
-ghost use Rattle.station_c.specs.Motion.{told};
+ghost use Rattle.station_c.specs.Motion.{driven};
 
 use dcc_packet::{Motion as Asked, Steps};
 use decoder_node::Running;
 
-/// It stands, or brakes to stand.
+/// It is stopped, or brakes to a stop.
 const STOP: u8 = 0;
 
 /// It was stopped at once.
@@ -20,19 +20,19 @@ const STEP: u8 = 2;
 pub struct Motion {
     /// Bit k is function Fk.
     pub functions: u16,
-    /// 0 where it stands, 1 where it was stopped at once, 2 where it runs.
+    /// 0 if it is stopped, 1 if it was stopped at once, 2 if it runs.
     pub kind: u8,
-    /// The speed step, from 1, where it runs, and else 0.
+    /// The speed step, from 1, if it runs, otherwise 0.
     pub step: u8,
-    /// How many steps there are, 14, 28 or 126, where it runs, and else 0.
+    /// The number of steps, 14, 28 or 126, if it runs, otherwise 0.
     pub steps: u8,
     /// Its direction in its own sense.
     pub forward: bool,
 }
 
-/// How a locomotive runs, for C.
-pub(crate) fn told(running: Running) -> Motion
-    ensures { result ≡ told running }
+/// Converts how a locomotive runs for C.
+pub(crate) fn driven(running: Running) -> Motion
+    ensures { result ≡ driven running }
 {
     let (kind, step, steps) = match running.motion {
         Asked::Stop => (STOP, 0, 0),

@@ -4,10 +4,10 @@ use crate::{
     Answer, Decoder, EventFields, Layout, Motion, station_byte, station_free, station_new,
     station_outputs, station_read, station_run, station_running, station_turn,
 };
-use test_support::take_all_but;
 use std::alloc::Global;
 use std::mem::size_of;
 use std::test::Fail;
+use test_support::take_all_but;
 
 const QUIET: Answer = Answer {
     kind: 0,
@@ -17,7 +17,7 @@ const QUIET: Answer = Answer {
 
 const OFF: Answer = Answer { kind: 3, ..QUIET };
 
-/// A packet of so many bytes, with zeros behind them.
+/// A packet of `size` bytes, followed by zeros.
 fn packet(size: u8, bytes: [u8; 14]) -> Answer {
     Answer {
         kind: 2,
@@ -26,7 +26,7 @@ fn packet(size: u8, bytes: [u8; 14]) -> Answer {
     }
 }
 
-/// The idle packet, before anything is in use.
+/// The idle packet, before any slot is in use.
 fn idle() -> Answer {
     packet(3, [0xFF, 0x00, 0xFF, 0, 0, 0, 0, 0, 0, 0, 0, 0, 0, 0])
 }
@@ -36,7 +36,7 @@ fn drive() -> Answer {
     packet(4, [0x03, 0x3F, 0xC0, 0xFC, 0, 0, 0, 0, 0, 0, 0, 0, 0, 0])
 }
 
-/// The reply to OPC_LOCO_ADR for address 3: slot 1, idle, and nothing asked of it yet.
+/// The reply to OPC_LOCO_ADR for address 3: slot 1, idle, with no earlier requests.
 const LOADED: Answer = Answer {
     kind: 1,
     size: 14,
@@ -45,7 +45,7 @@ const LOADED: Answer = Answer {
     ],
 };
 
-/// Address 0 is none of a locomotive: OPC_LONG_ACK of BF with 0.
+/// Address 0 is not a locomotive's: OPC_LONG_ACK of BF with 0.
 const REFUSED: Answer = Answer {
     kind: 1,
     size: 4,
@@ -78,7 +78,7 @@ const STANDING: Motion = Motion {
     forward: true,
 };
 
-/// Loads slot 1, turns the power on, takes the slot into use and asks for speed 64.
+/// Loads slot 1, turns the power on, takes the slot into use and requests speed 64.
 const DRIVING: [u8; 14] = [
     0xBF, 0x00, 0x03, 0x43, 0x83, 0x7C, 0xBA, 0x01, 0x01, 0x45, 0xA0, 0x01, 0x40, 0x1E,
 ];
@@ -119,7 +119,7 @@ fn is_turn(alloc: Global, layout: &mut Layout, missed: u64, wanted: &Answer) -> 
     station_turn(alloc, layout, missed, &mut answer) && answer == *wanted
 }
 
-/// Whether a change is sent as soon as it may be: in this turn or the next.
+/// Whether a change is sent as soon as possible: in this turn or the next.
 fn is_driven(alloc: Global, layout: &mut Layout, missed: u64) -> bool {
     let mut answer = LOADED;
     station_turn(alloc, layout, missed, &mut answer)
@@ -134,7 +134,7 @@ fn is_running(alloc: Global, layout: &mut Layout, wanted: &Motion) -> bool {
     station_running(alloc, layout, 0, &mut motion) && motion == *wanted
 }
 
-/// Whether byte i of [`DRIVING`] is answered as it should be.
+/// Whether byte i of [`DRIVING`] has the expected answer.
 fn is_heard(alloc: Global, layout: &mut Layout, i: usize, byte: u8) -> bool {
     let mut answer = OFF;
     let heard = station_byte(alloc, layout, 0, byte, &mut answer);
@@ -154,7 +154,7 @@ fn plays_a_layout(rt: HostRuntime) -> Result<(), Fail> {
     for (i, byte) in DRIVING.iter().enumerate() {
         assert!(rt; is_heard(alloc, &mut layout, i, *byte), "byte {i}");
     }
-    // The change is sent as soon as it may be, and once again.
+    // The change is sent as soon as possible, and once again.
     for missed in [1, 0] {
         assert!(rt; is_running(alloc, &mut layout, &STANDING));
         assert!(rt; is_driven(alloc, &mut layout, missed));
@@ -172,7 +172,7 @@ fn plays_a_layout(rt: HostRuntime) -> Result<(), Fail> {
     Ok(())
 }
 
-/// Whether the events of [`DRIVING`], and turns behind them, are answered as they should be.
+/// Whether the events of [`DRIVING`], and turns after them, have the expected answers.
 fn is_list_of_driving(alloc: Global, layout: &mut Layout) -> bool {
     let mut events = [turn_missed_by(0); 30];
     for (event, byte) in events.iter_mut().zip(DRIVING.iter()) {
@@ -255,7 +255,7 @@ fn says_no_where_there_is_none(rt: HostRuntime) -> Result<(), Fail> {
         assert!(rt; !station_run(alloc, &mut layout, &[], &mut []));
         assert!(rt; has_no_motion(alloc, &mut layout, 0));
         assert!(rt; has_no_outputs(alloc, &mut layout, 0));
-        // A layout that was ended is none, and may be ended again.
+        // A layout that was ended is no layout, and may be ended again.
         station_free(alloc, &mut layout);
         layout = made(alloc)?;
         station_free(alloc, &mut layout);
@@ -368,7 +368,7 @@ fn runs_no_list_with_a_wrong_event(rt: HostRuntime) -> Result<(), Fail> {
     for wrong in [no_line, no_kind, no_node] {
         assert!(rt; is_refused(alloc, &mut layout, &[on, byte_of(0x7C), wrong]));
     }
-    // No byte of them came: the power is off.
+    // None of these bytes was received: the power is off.
     assert!(rt; is_turn(alloc, &mut layout, 0, &OFF));
     station_free(alloc, &mut layout);
     Ok(())
@@ -384,7 +384,8 @@ fn structs_are_as_large_as_in_c(rt: HostRuntime) {
     assert!(rt; size_of::<Motion>() == 6);
 }
 
-/// What comes of making a layout and of reading one with so much memory left, if it is right.
+/// The statuses of making a layout and of reading one with this much memory left, if each is
+/// correct.
 fn made_with(alloc: Global, layout: &mut Layout, room: usize) -> Option<(u8, u8)> {
     let mut node = 7;
     let taken = take_all_but(alloc, room).ok()?;
@@ -420,7 +421,8 @@ fn says_that_there_is_no_memory(rt: HostRuntime) -> Result<(), Fail> {
     Err("it is never made".into())
 }
 
-/// How many of a thousand layouts were made, each ended before the next, where so much memory is left.
+/// How many of a thousand layouts were made, each ended before the next, with this much memory
+/// left.
 fn made_in_turn(alloc: Global, layout: &mut Layout, room: usize) -> Result<u32, Fail> {
     let taken = take_all_but(alloc, room)?;
     let mut made = 0u32;
@@ -434,7 +436,8 @@ fn made_in_turn(alloc: Global, layout: &mut Layout, room: usize) -> Result<u32, 
     Ok(made)
 }
 
-/// A layout takes some ten thousand bytes, so that few stand in this room side by side, and a thousand only in turn.
+/// A layout takes some ten thousand bytes, so that few fit into this memory together, and a
+/// thousand only in turn.
 #[test]
 fn what_is_ended_leaves_its_memory(rt: HostRuntime) -> Result<(), Fail> {
     let alloc = rt.alloc();

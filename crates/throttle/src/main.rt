@@ -1,5 +1,5 @@
-//! A throttle by the library alone: it takes a locomotive, drives it over a track that loses two packets of three, and
-//! looks at its decoder until that runs as it was told.
+//! A throttle that uses only the library: it takes a locomotive, drives it over a track that loses
+//! two packets of three, and reads its decoder until that runs as requested.
 #![tactic(auto)]
 
 ghost use Rattle.std.specs.Prelude.{◌<◌, length};
@@ -13,7 +13,7 @@ use std::io;
 use std::process::ExitCode;
 
 /// How the locomotive is to run: step 63 of 128, forward, with F0 on.
-const TOLD: Running = Running {
+const REPORTED: Running = Running {
     motion: Motion::Step {
         of: Steps::S128,
         n: 63,
@@ -29,7 +29,7 @@ fn main(rt: HostRuntime) -> ExitCode {
     }
 }
 
-/// Whether there is a layout, locomotive 3 was taken, and it settled.
+/// Returns true if there is a layout, locomotive 3 was taken, and it settled.
 fn run(rt: &HostRuntime) -> io::Result<bool> {
     let Ok(settings) = CvSet::new(3, 192, 0, 2) else {
         return Ok(false);
@@ -57,7 +57,7 @@ fn run(rt: &HostRuntime) -> io::Result<bool> {
     Ok(settled)
 }
 
-/// The slot that a reply tells of.
+/// Returns the slot of a reply.
 fn slot_in(reply: &Option<Reply>) -> Option<u8> {
     match reply {
         Some(Reply::SlotData(slot)) => Some(slot.slot),
@@ -86,7 +86,8 @@ fn say(rt: &HostRuntime, world: &mut World, body: &[u8]) -> io::Result<Option<Re
     Ok(answered)
 }
 
-/// Up to 100 turns, of which the locomotive hears every third, until it runs as it was told. Whether it does.
+/// Runs up to 100 turns, of which the locomotive hears every third, until it runs as requested.
+/// Returns whether it does.
 fn drive(rt: &HostRuntime, world: &mut World) -> io::Result<bool>
     requires { 0 < length world.old.nodes }
     ensures same { IsSameLayout world.old world.new }
@@ -98,7 +99,7 @@ fn drive(rt: &HostRuntime, world: &mut World) -> io::Result<bool>
             let end = if is_lost { " lost" } else { "" };
             println!(rt; "{}{end}", track_line(turn, packet).as_str())?;
         }
-        if world.running(0) == Some(TOLD) {
+        if world.running(0) == Some(REPORTED) {
             println!(rt; "settled after {turn} turns")?;
             return Ok(true);
         }

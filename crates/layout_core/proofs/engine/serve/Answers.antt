@@ -10,7 +10,7 @@ use Rattle.layout_core.specs.Faults.{HasFaulted, StopsWithin, is_read}
 use Rattle.layout_core.specs.Served.{Input, Moment, input_of, moment_of, served_events, turns_in}
 use Rattle.layout_core.specs.Played.{answers_to}
 use Rattle.layout_core.proofs.Counting.{chunk_fits, counted_more, few_of, room_behind, served_length}
-use Rattle.layout_core.proofs.Serving.{reads_chunk, reads_end, reads_failed, reads_none, served-append, serves_none, serves_then, turns_served}
+use Rattle.layout_core.proofs.ServeSteps.{reads_chunk, reads_end, reads_failed, reads_none, served-append, serves_none, serves_then, turns_served}
 use Rattle.layout_core.proofs.Stopping.{ended_passed_up, no_limit_stops, no_read_stops, passed_up, same_passed_up, stop_heard, stops_leave, stops_then}
 use Rattle.layout_core.proofs.engine.serve.Goals as goal
 

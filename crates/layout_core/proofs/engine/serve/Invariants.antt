@@ -1,6 +1,6 @@
 use Rattle.std.proofs.Common.{◌≡◌, false, length}
 use Rattle.layout_core.specs.Served.{input_of, moment_of}
-use Rattle.layout_core.proofs.Serving.{IsServedSoFar}
+use Rattle.layout_core.proofs.ServeSteps.{IsServedSoFar}
 use Rattle.layout_core.proofs.engine.serve.Given as goal
 
 abbrev pub invariant-loop-reads : goal.invariant-loop-reads

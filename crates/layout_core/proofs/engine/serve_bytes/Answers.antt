@@ -2,7 +2,7 @@ use Rattle.std.proofs.Common.{◌*◌, ◌+◌, ◌++◌, arith, drop, get_or, l
 use Rattle.layout_core.specs.declared.event.Event.TheVariants.{Turn}
 use Rattle.layout_core.specs.Served.{byte_events, served_events}
 use Rattle.layout_core.proofs.Counting.{byte_fits, room_behind, turn_fits}
-use Rattle.layout_core.proofs.Serving.{all_served, all_turned, serves_none, serves_then, turn_more}
+use Rattle.layout_core.proofs.ServeSteps.{all_served, all_turned, serves_none, serves_then, turn_more}
 use Rattle.layout_core.proofs.Stopping.{served_parts, stopped, turn_parts}
 use Rattle.layout_core.proofs.engine.serve_bytes.Goals as goal
 

@@ -1,4 +1,4 @@
-use Rattle.layout_core.proofs.Serving.{serves_event}
+use Rattle.layout_core.proofs.ServeSteps.{serves_event}
 use Rattle.layout_core.proofs.Stopping.{handed_on, stops_at_event}
 use Rattle.layout_core.proofs.engine.serve_event.Goals as goal
 

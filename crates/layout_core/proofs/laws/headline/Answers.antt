@@ -5,7 +5,7 @@ pub returns : goal.returns
 returns c =
     let laws : Laws = record {
       turns = c.calls_are_moves.ensures.to_turn;
-      told = c.desk_of_messages.ensures;
+      reported = c.desk_of_messages.ensures;
       desks = c.stays_a_desk.ensures;
       coverage = c.coverage.ensures;
       packets = c.packets_of_the_desk.ensures;

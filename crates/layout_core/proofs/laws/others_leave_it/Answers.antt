@@ -1,4 +1,4 @@
-use Rattle.layout_core.proofs.Told.{Spelling}
+use Rattle.layout_core.proofs.Requests.{Spelling}
 use Rattle.layout_core.proofs.Others.{silent, not_for_it, idle_leaves, switch_leaves}
 use Rattle.layout_core.proofs.laws.others_leave_it.Goals as goal
 

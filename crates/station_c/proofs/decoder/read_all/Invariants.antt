@@ -3,7 +3,7 @@ use Rattle.decoder_node.specs.declared.node.NodeSpec.{NodeSpec}
 use Rattle.station_c.specs.Decoder.{specs_of}
 use Rattle.station_c.proofs.decoder.read_all.Given as goal
 
--- the decoders so far and those that the others describe are all that are described
+-- the decoders so far and those of the other descriptions are those of all descriptions
 abbrev pub invariant-loop-decoder : goal.invariant-loop-decoder
 invariant-loop-decoder l = record {
   count : length l.nodes.items ≡ l.decoder-index;

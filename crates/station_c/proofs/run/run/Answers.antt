@@ -33,7 +33,7 @@ loop-i-preserved c =
     ap (λ (fields : List EventFields). map event_of fields) (drop_more c.args.events.now i _ c.loop-i-test.true) ∙ ap (λ (e : Event). e ∷ later) (sym c.read.ensures) in
     let turned : AfterEvent event (answer_to before event) c.loop-i.world.nodes c.step-step.new.self.nodes =
     subst (λ (step : Step). AfterEvent event step c.loop-i.world.nodes c.step-step.new.self.nodes) c.step-step.ensures.answer c.step-step.ensures.nodes in
-    let told : c.answered.result ≡ answered (answer_to before event) = c.answered.ensures ∙ ap answered c.step-step.ensures.answer in
+    let driven : c.answered.result ≡ answered (answer_to before event) = c.answered.ensures ∙ ap answered c.step-step.ensures.answer in
     let written : List Answer = take i c.loop-i.answers in
     record {
       rest =
@@ -43,7 +43,7 @@ loop-i-preserved c =
       written =
           ap (λ (answers : List Answer). answers ++ map answered (answers_to after later)) (take_more_set c.loop-i.answers i c.answered.result (omega (arith, c.loop-i-test.true, c.loop-i.invariant.same_length)))
           ∙ append_assoc written (c.answered.result ∷ []) (map answered (answers_to after later))
-          ∙ ap (λ (answer : Answer). written ++ answer ∷ map answered (answers_to after later)) told
+          ∙ ap (λ (answer : Answer). written ++ answer ∷ map answered (answers_to after later)) driven
           ∙ ap (λ (s : Seen). written ++ answered (answer_to before event) ∷ map answered (answers_to s later)) c.step-step.ensures.station
           ∙ ap (λ (events : List Event). written ++ map answered (answers_to before events)) (sym more)
           ∙ c.loop-i.invariant.written;

@@ -1,4 +1,4 @@
--- The pointer and the allocator are moved, and what they own goes with them.
+-- The pointer and the allocator are moved with all that they own.
 use Rattle.station_c.proofs.Steps.{List, [], ◌∷◌, ◌++◌, refl, sym, subst, proved_at, B, D, word, box_typed, box_out, box_in, Val, WpFn, SProp, ent, emp, id⊢, ftrue, fsep, ‵, raw, ◌⊛◌, ◌$◌, ◌∵◌, !, qed, move, keep, split, join, fsplit, fjoin, use1, suffices, stop, fld, of_opd, no_more, and_then, returns, enter, whole, sub, agg, alloc_all, pass_all, free_all, look_at, get, get_in, sets, tables, Stays, stay_dropped, walk_of, says, ends_at, done, nothing}
 use Rattle.std.proofs.Common.{true}
 use denote.Exit.{yes}

@@ -10,12 +10,12 @@ use Rattle.layout_core.specs.Faults.{AppendsFront}
 pub Consumes-end : (a b c : Option (List ℕ)) (xs : List ℕ) → Consumes a b xs → Consumes b c [] → Consumes a c xs
 Consumes-end a b c xs h k = subst (λ (bs : List ℕ). Consumes a c bs) (append-nil xs) (Consumes-trans a b c xs [] h k)
 
--- a front of more, behind what was appended whole
+-- a prefix of more, after what was appended whole
 pub front_behind : (a b c : Option (List ℕ)) (xs whole cut : List ℕ) → Appends a b xs → AppendsFront b c whole cut → AppendsFront a c (xs ++ whole) cut
 front_behind a b c xs whole cut h front =
     (front.0, front.1, subst (λ (bs : List ℕ). Appends a c bs) (sym (append_assoc xs whole (take front.0 cut))) (Appends-trans a b c xs (whole ++ take front.0 cut) h front.2))
 
--- a front of a list is one of that list and more
+-- a prefix of a list is a prefix of that list and more
 pub front_of_first : (a b : Option (List ℕ)) (xs ys : List ℕ) → AppendsFront a b [] xs → AppendsFront a b [] (xs ++ ys)
 front_of_first a b xs ys front = (
   front.0,

@@ -11,11 +11,11 @@ use Rattle.station_core.specs.Runs.{answer_of, state_of}
 use Rattle.station_core.specs.Seen.{Seen}
 use Rattle.layout_core.specs.declared.event.Event.{Event}
 use Rattle.layout_core.specs.declared.event.Event.TheVariants.{Byte, Turn}
-use Rattle.layout_core.specs.Served.{HasRead, Input, Moment, Serves, byte_events, bytes_of_answer, line_of_answer, replies_in, replies_of_answer, served_events, traced_from, turns_in, turns_of_answer, written_for}
+use Rattle.layout_core.specs.Served.{HasRead, Input, Moment, ServesEvents, byte_events, bytes_of_answer, line_of_answer, replies_in, replies_of_answer, served_events, traced_from, turns_in, turns_of_answer, written_for}
 use Rattle.layout_core.specs.Played.{after_event, after_events, answer_to, answers_to}
 use Rattle.layout_core.specs.World.{AfterEvent, HaveHeard, IsSameLayout}
 use Rattle.layout_core.proofs.Counting.{few_of}
-use Rattle.layout_core.proofs.Known.{Consumes-end}
+use Rattle.layout_core.proofs.ThrottleView.{Consumes-end}
 use Rattle.layout_core.proofs.Played.{both_heard, next_heard, nothing_heard}
 use Rattle.layout_core.proofs.Same.{same_still, same_then}
 
@@ -52,7 +52,7 @@ turns-append (step ∷ steps) more =
     let rest : turns_in (steps ++ more) ≡ turns_in steps + turns_in more = turns-append steps more in
     omega (arith, rest)
 
-pub serves_none : (line : ℕ) (moment : Moment) → Serves line [] moment moment
+pub serves_none : (line : ℕ) (moment : Moment) → ServesEvents line [] moment moment
 serves_none line moment = record {
   station = refl;
   nodes = nothing_heard moment.world.station moment.world.nodes;
@@ -63,10 +63,10 @@ serves_none line moment = record {
   same = same_still moment.world;
 }
 
--- one event, whose answer is put out and counted
+-- one event, whose answer is written and counted
 pub serves_event : (line : ℕ) (event : Event) (step : Step) (old new : Moment) → new.world.station ≡ after_event old.world.station event → step ≡ answer_to old.world.station event
     → AfterEvent event step old.world.nodes new.world.nodes → Appends old.written new.written (bytes_of_answer step) → Appends old.traced new.traced (line_of_answer line (old.turns + 1) step)
-    → new.replies ≡ old.replies + replies_of_answer step → new.turns ≡ old.turns + turns_of_answer step → IsSameLayout old.world new.world → Serves line (event ∷ []) old new
+    → new.replies ≡ old.replies + replies_of_answer step → new.turns ≡ old.turns + turns_of_answer step → IsSameLayout old.world new.world → ServesEvents line (event ∷ []) old new
 serves_event line event step old new moves answers after written traced replies turns same =
     let seen : Seen = old.world.station in
     let turned : AfterEvent event (answer_to seen event) old.world.nodes new.world.nodes = subst (λ (s : Step). AfterEvent event s old.world.nodes new.world.nodes) answers after in
@@ -85,7 +85,7 @@ serves_event line event step old new moves answers after written traced replies 
     }
 
 -- events, and then more
-pub serves_more : (line : ℕ) (events later : List Event) (old mid new : Moment) → Serves line events old mid → Serves line later mid new → Serves line (events ++ later) old new
+pub serves_more : (line : ℕ) (events later : List Event) (old mid new : Moment) → ServesEvents line events old mid → ServesEvents line later mid new → ServesEvents line (events ++ later) old new
 serves_more line events later old mid new first second =
     let seen : Seen = old.world.station in
     let after : Seen = after_events seen events in
@@ -123,9 +123,9 @@ serves_more line events later old mid new first second =
     }
 
 -- the same, where all of the events are these two parts
-pub serves_then : (line : ℕ) (all events later : List Event) (old mid new : Moment) → all ≡ events ++ later → Serves line events old mid → Serves line later mid new → Serves line all old new
+pub serves_then : (line : ℕ) (all events later : List Event) (old mid new : Moment) → all ≡ events ++ later → ServesEvents line events old mid → ServesEvents line later mid new → ServesEvents line all old new
 serves_then line all events later old mid new parts first second =
-    subst (λ (es : List Event). Serves line es old new) (sym parts) (serves_more line events later old mid new first second)
+    subst (λ (es : List Event). ServesEvents line es old new) (sym parts) (serves_more line events later old mid new first second)
 
 pub served-append : (line turns : ℕ) (bytes more : List ℕ) → served_events line turns (bytes ++ more) ≡ served_events line turns bytes ++ served_events line turns more
 served-append line turns [] more = refl
@@ -141,11 +141,11 @@ served_more line turns i bytes below =
     ∙ ap (λ (events : List Event). served_events line turns (take i bytes) ++ events) (append-nil (byte_events line turns (get_or bytes i 0)))
 
 -- all of the bytes
-pub all_served : (line turns i : ℕ) (bytes : List ℕ) → length bytes ≤ i → (old new : Moment) → Serves line (served_events line turns (take i bytes)) old new → Serves line (served_events line turns bytes) old new
+pub all_served : (line turns i : ℕ) (bytes : List ℕ) → length bytes ≤ i → (old new : Moment) → ServesEvents line (served_events line turns (take i bytes)) old new → ServesEvents line (served_events line turns bytes) old new
 all_served line turns i bytes past old new serves =
-    subst (λ (bs : List ℕ). Serves line (served_events line turns bs) old new) (take_all i bytes past) serves
+    subst (λ (bs : List ℕ). ServesEvents line (served_events line turns bs) old new) (take_all i bytes past) serves
 
--- a turn more behind the last byte
+-- one more turn after the last byte
 pub turn_more : (front : List Event) (line turns byte : ℕ) → front ++ byte_events line (turns + 1) byte ≡ (front ++ byte_events line turns byte) ++ Turn 0 ∷ []
 turn_more front line turns byte =
     ap (λ (events : List Event). front ++ Byte line byte ∷ events) (sym (replicate_more turns (Turn 0)))
@@ -153,17 +153,17 @@ turn_more front line turns byte =
 
 -- the byte and all of its turns
 pub all_turned : (line turn turns i : ℕ) (bytes : List ℕ) → turn ≤ turns → turns ≤ turn → i < length bytes → (old new : Moment)
-    → Serves line (served_events line turns (take i bytes) ++ byte_events line turn (get_or bytes i 0)) old new → Serves line (served_events line turns (take (i + 1) bytes)) old new
+    → ServesEvents line (served_events line turns (take i bytes) ++ byte_events line turn (get_or bytes i 0)) old new → ServesEvents line (served_events line turns (take (i + 1) bytes)) old new
 all_turned line turn turns i bytes most least below old new serves =
     let all : turn ≡ turns = omega arith in
     let front : List Event = served_events line turns (take i bytes) in
-    subst (λ (events : List Event). Serves line events old new)
+    subst (λ (events : List Event). ServesEvents line events old new)
     (ap (λ (n : ℕ). front ++ byte_events line n (get_or bytes i 0)) all ∙ sym (served_more line turns i bytes below)) serves
 
 -- these bytes were read so far, and they were served
 abbrev pub IsServedSoFar : (line turns reads count : ℕ) → (input input' : Input) → (old new : Moment) → Type 0
 IsServedSoFar line turns reads count input input' old new =
-    (bytes : List ℕ) × HasRead reads bytes input input' × (count ≡ length bytes) × Serves line (served_events line turns bytes) old new
+    (bytes : List ℕ) × HasRead reads bytes input input' × (count ≡ length bytes) × ServesEvents line (served_events line turns bytes) old new
 
 -- nothing is read so far
 pub reads_none : (input : Input) → HasRead 0 [] input input
@@ -219,7 +219,7 @@ module _ (to_byte : (seen : Seen) (line byte : ℕ) → answer_of seen (ByteCall
   so_many_turns zero seen = refl
   so_many_turns (suc turns) seen = ap₂ (λ (one more : ℕ). one + more) (one_turn seen) (so_many_turns turns (state_of seen TurnCall)) ∙ omega arith
 
-  -- so many turns for each byte
+  -- a number of turns for each byte
   pub turns_served : (line turns : ℕ) (bytes : List ℕ) (seen : Seen) → turns_in (answers_to seen (served_events line turns bytes)) ≡ turns * length bytes
   turns_served line turns [] seen = omega arith
   turns_served line turns (byte ∷ bytes) seen =

@@ -1,4 +1,4 @@
--- What the packets of a station tell a decoder, by the laws of the crate of packets.
+-- The effect of a station's packets on a decoder, by the laws of the crate of packets.
 use Rattle.std.proofs.Common.{◌≡◌, IsTrue, ◌↔◌, ℕ, ◌+◌, ◌*◌, ◌/◌, ◌%◌, ◌<◌, ◌≤◌, ◌==◌, ◌&&◌, nat_le, nat_lt, Bool, true, false, if◌then◌else◌, List, Some, refl, sym, ap, ◌∙◌, arith, inl, inr}
 use Rattle.std.proofs.lemmas.Bool.{and_from, and_right, cases_lt, cases_eq, cond-true, cond-false, cond_both, lt-ltb, le-ltb, ltb-true, le-leb, lt-leb, eq-eqb, ne_eqb, eqb-false}
 use Rattle.dcc_packet.specs.declared.address.Address.{Address}
@@ -26,7 +26,7 @@ use Rattle.decoder_node.specs.Bits.{with_bits}
 use Rattle.decoder_node.specs.Heard.{after_receipt}
 use Rattle.decoder_node.specs.Obey.{is_own, own_forward, driven, lit, obeyed, obey}
 
--- what the crate of packets promises: how packets are read, and what those of an address spell
+-- the laws of the crate of packets: how packets are read, and what those of an address spell
 pub record Spelling : Type 0 where
   pub read : (bytes : List ℕ) (i : Instr) → (instruction_of bytes ≡ Some i) ↔ Spells bytes i
   pub speed : (address : Address) (steps : Steps) (motion : Motion) (forward f0 : Bool) → IsTrue (is_legal address) → IsTrue (is_motion steps motion) → Spells (speed_bytes address steps motion forward f0) (speed_instr address steps motion forward f0)
@@ -34,7 +34,7 @@ pub record Spelling : Type 0 where
   pub group_two : (address : Address) (functions : ℕ) → IsTrue (is_legal address) → Spells (group_two_bytes address functions) (group_two_instr address functions)
   pub group_three : (address : Address) (functions : ℕ) → IsTrue (is_legal address) → Spells (group_three_bytes address functions) (group_three_instr address functions)
 
--- and which motion a decoder makes of its number
+-- and the motion that a decoder takes from its number
 pub record Speeds : Type 0 where
   pub fourteen : (motion : Motion) (f0 : Bool) → IsTrue (is_motion S14 motion) → (motion_of_number S14 (low_14 motion f0 % 16) ≡ motion) × (low_14 motion f0 / 16 ≡ bit f0)
   pub twenty_eight : (motion : Motion) → IsTrue (is_motion S28 motion) → motion_of_number S28 (number_28 (low_28 motion)) ≡ motion
@@ -45,23 +45,23 @@ abbrev pub run_by : Settings → Motion → Bool → ℕ → Running
 run_by cv motion forward functions = record { motion = motion; forward = own_forward cv forward; functions = functions }
 
 -- a packet does what the instruction does that it spells
-pub obey-told : Spelling → (cv : Settings) (r : Running) (packet : List ℕ) (i : Instr) → Spells packet i → obey cv r packet ≡ obeyed cv r i
+pub obey-reported : Spelling → (cv : Settings) (r : Running) (packet : List ℕ) (i : Instr) → Spells packet i → obey cv r packet ≡ obeyed cv r i
 unfolding obey
-obey-told laws cv r packet i s = ap (after_receipt (obeyed cv) r) ((laws.read packet i).1 s)
+obey-reported laws cv r packet i s = ap (after_receipt (obeyed cv) r) ((laws.read packet i).1 s)
 
 -- SPD below 128 is a motion of each kind of steps
 motion-by : (steps : Steps) (spd : ℕ) → (2 ≤ spd → IsTrue (is_motion steps (Step steps (step_of steps spd)))) → IsTrue (is_motion steps (motion_of steps spd))
 motion-by steps spd h =
     cond_both (spd == 0) Stop (if spd == 1 then Emergency else Step steps (step_of steps spd)) (λ (m : Motion). IsTrue (is_motion steps m))
-    (λ _. standing steps)
+    (λ _. decoder_state steps)
     (λ none. cond_both (spd == 1) Emergency (Step steps (step_of steps spd)) (λ (m : Motion). IsTrue (is_motion steps m))
     (λ _. at_once steps)
     (λ one. let n : spd ≡ 0 → ⊥ = eqb-false spd 0 none in let o : spd ≡ 1 → ⊥ = eqb-false spd 1 one in h (omega arith)))
   where
-    standing : (s : Steps) → IsTrue (is_motion s Stop)
-    standing S14 = refl
-    standing S28 = refl
-    standing S128 = refl
+    decoder_state : (s : Steps) → IsTrue (is_motion s Stop)
+    decoder_state S14 = refl
+    decoder_state S28 = refl
+    decoder_state S128 = refl
 
     at_once : (s : Steps) → IsTrue (is_motion s Emergency)
     at_once S14 = refl
@@ -77,7 +77,7 @@ and-true : (x y : Bool) → y ≡ true → (x && y) ≡ x
 and-true true y e = e
 and-true false y e = refl
 
--- an address of a slot is the decoder's own exactly where the decoder answers to it
+-- an address of a slot is the decoder's exactly if the decoder answers to it
 pub own-sent : (own : Address) (a : ℕ) → is_own own (address_sent a) ≡ is_at own a
 own-sent (Short n) a = elim (cases_lt a 128) [
   | inl h ↦ ap (is_own (Short n)) (cond-true (nat_lt a 128) (Short a) (Long a) (lt-ltb a 128 h)) ∙ sym (and-true (n == a) (nat_le a 127) (le-leb a 127 (omega arith)))
@@ -104,11 +104,11 @@ bit-low : (b : Bool) → bit b % 2 ≡ bit b
 bit-low true = refl
 bit-low false = refl
 
--- the packets of an address, to a decoder whose own it is, or is not
+-- the packets of an address, to a decoder that has that address, or has not
 module _ (laws : Spelling) (cv : Settings) (address : Address) (legal : IsTrue (is_legal address)) (r : Running) where
   module _ (mine : is_own cv.address address ≡ true) where
     to-own : (packet : List ℕ) (i : Instr) (t : Running) → Spells packet i → obeyed cv r i ≡ (if is_own cv.address address then t else r) → obey cv r packet ≡ t
-    to-own packet i t spelled e = obey-told laws cv r packet i spelled ∙ e ∙ cond-true (is_own cv.address address) t r mine
+    to-own packet i t spelled e = obey-reported laws cv r packet i spelled ∙ e ∙ cond-true (is_own cv.address address) t r mine
 
     pub own-group_one : (functions : ℕ) → obey cv r (group_one_bytes address functions) ≡ record r { functions = lit cv r.functions (16 * (functions % 2) + functions / 2 % 16) }
     own-group_one functions =
@@ -128,12 +128,12 @@ module _ (laws : Spelling) (cv : Settings) (address : Address) (legal : IsTrue (
     module _ (speeds : Speeds) (forward f0 : Bool) where
       pub own-speed_14 : (motion : Motion) → IsTrue (is_motion S14 motion) → cv.fourteen ≡ true → obey cv r (speed_bytes address S14 motion forward f0) ≡ run_by cv motion forward (with_bits r.functions 0 1 (bit f0))
       own-speed_14 motion fits fourteen =
-          let told = speeds.fourteen motion f0 fits in
-          let light : low_14 motion f0 / 16 % 2 ≡ bit f0 = ap (λ n. n % 2) told.1 ∙ bit-low f0 in
+          let reported = speeds.fourteen motion f0 fits in
+          let light : low_14 motion f0 / 16 % 2 ≡ bit f0 = ap (λ n. n % 2) reported.1 ∙ bit-low f0 in
           to-own (speed_bytes address S14 motion forward f0) (speed_instr address S14 motion forward f0)
           (driven cv r forward (low_14 motion f0)) (laws.speed address S14 motion forward f0 legal fits) refl
           ∙ cond-true cv.fourteen (run_by cv (motion_of_number S14 (low_14 motion f0 % 16)) forward (with_bits r.functions 0 1 (low_14 motion f0 / 16 % 2))) (run_by cv (motion_of_number S28 (number_28 (low_14 motion f0))) forward r.functions) fourteen
-          ∙ ap (λ (m : Motion). run_by cv m forward (with_bits r.functions 0 1 (low_14 motion f0 / 16 % 2))) told.0
+          ∙ ap (λ (m : Motion). run_by cv m forward (with_bits r.functions 0 1 (low_14 motion f0 / 16 % 2))) reported.0
           ∙ ap (λ (n : ℕ). run_by cv motion forward (with_bits r.functions 0 1 n)) light
 
       pub own-speed_28 : (motion : Motion) → IsTrue (is_motion S28 motion) → cv.fourteen ≡ false → obey cv r (speed_bytes address S28 motion forward f0) ≡ run_by cv motion forward r.functions
@@ -151,7 +151,7 @@ module _ (laws : Spelling) (cv : Settings) (address : Address) (legal : IsTrue (
 
   module _ (other : is_own cv.address address ≡ false) where
     to-other : (packet : List ℕ) (i : Instr) (t : Running) → Spells packet i → obeyed cv r i ≡ (if is_own cv.address address then t else r) → obey cv r packet ≡ r
-    to-other packet i t spelled e = obey-told laws cv r packet i spelled ∙ e ∙ cond-false (is_own cv.address address) t r other
+    to-other packet i t spelled e = obey-reported laws cv r packet i spelled ∙ e ∙ cond-false (is_own cv.address address) t r other
 
     pub other-speed : (steps : Steps) (motion : Motion) (forward f0 : Bool) → IsTrue (is_motion steps motion) → obey cv r (speed_bytes address steps motion forward f0) ≡ r
     other-speed S14 motion forward f0 fits =
