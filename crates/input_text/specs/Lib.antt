@@ -1,5 +1,5 @@
 pub mod Fault
-pub mod Noting
+pub mod TrackedReader
 pub mod Read
 pub mod TrackedWriter
 pub mod Write

@@ -1,4 +1,4 @@
--- What a clause reads of a writer whose failures are tracked.
+-- The parts of a tracked writer that clauses use.
 use Rattle.std.specs.Prelude.{Bool}
 use Rattle.input_text.specs.declared.tracked_writer.TrackedWriter.{TrackedWriter}
 

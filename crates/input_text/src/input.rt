@@ -1,20 +1,20 @@
-//! What is read, and why it was not.
+//! Byte inputs, and why reading failed.
 ghost use Rattle.std.specs.Prelude.{◌≡◌, ◌<◌, ◌≤◌, ◌+◌, ◌^◌, ℕ, Bool, false, Option, List, length, IfOk};
 ghost use Rattle.std.specs.Io.KnownBytes.{ReadConsumes};
 ghost use Rattle.input_text.specs.Fault.{either};
 ghost use Rattle.input_text.specs.Read.{count_in, has_failed};
 
-/// Why bytes were not read.
+/// Why reading failed.
 #[derive(Clone, Copy, Debug, PartialEq, Eq)]
 pub enum ReadFault {
-    /// A file was not opened, or a read failed.
+    /// A file could not be opened, or a read failed.
     Failed,
-    /// Want of memory.
+    /// Out of memory.
     NoMemory,
 }
 
 impl ReadFault {
-    /// What a program makes of it, where it has a fault of its own for each of the two.
+    /// Maps each of the two faults to a fault of the caller.
     pub fn choose<F: Drop>(self, failed: F, no_memory: F) -> F
         ensures { result ≡ either failed no_memory self }
     {
@@ -25,19 +25,20 @@ impl ReadFault {
     }
 }
 
-/// What bytes are read from. Proofs see whether a read of it failed.
+/// A source of bytes. Proofs see whether a read of it failed.
 pub trait Input {
-    /// The bytes that it has left, where it tells them.
+    /// The bytes not yet read, if they are known.
     ghost left: { Self → Option (List ℕ) };
 
-    /// Whether a read failed, for another reason than want of memory.
+    /// Whether a read failed for a reason other than memory.
     ghost failed: { Self → Bool };
 
-    /// How many bytes it gave.
+    /// The number of bytes read so far.
     ghost given: { Self → ℕ };
 
-    /// Reads bytes to the front of a slice that is not empty, and tells how many: 0 only at the end. It gives less than
-    /// 2^64 bytes in all. An error takes no byte, and after `Failed` nothing more is read.
+    /// Reads bytes into the front of `buf`, which is not empty, and returns the number of bytes
+    /// read: 0 only at the end. An input delivers fewer than 2^64 bytes in all. An error consumes
+    /// no byte; after `Failed` nothing more may be read.
     fn get(&mut self, buf: &mut [u8]) -> Result<usize, ReadFault>
         requires room { 0 < length buf.old }
         requires works { failed self.old ≡ false }

@@ -1,18 +1,29 @@
-//! Inputs that are read whole, to a limit, and that note whether a read of them failed; and outputs, which note whether a
-//! write or a flush of them failed.
+//! Bounded reading and complete writing of bytes.
+//!
+//! An [`Input`] is read to its end or to a limit by [`read_limited`]; [`TrackedReader`] makes one of any
+//! reader. An [`Output`] is written by [`put_all`] and flushed; [`TrackedWriter`] makes one of any
+//! writer. Both record whether a call of theirs failed.
+//!
+//! ```ignore
+//! let mut input = TrackedReader::new(reader);
+//! let bytes = read_limited(alloc, &mut input, 65_536)?;
+//! let mut output = TrackedWriter::new(writer);
+//! put_all(&mut output, bytes.as_slice())?;
+//! output.flush()?;
+//! ```
 #![tactic(auto)]
 
 mod input;
 pub mod laws;
-mod noting;
 mod output;
 mod reading;
+mod tracked_reader;
 mod tracked_writer;
 mod writing;
 
 pub use input::{Input, ReadFault};
-pub use noting::Noting;
 pub use output::{Broken, Output, Sink};
-pub use reading::read_most;
+pub use reading::read_limited;
+pub use tracked_reader::TrackedReader;
 pub use tracked_writer::TrackedWriter;
 pub use writing::put_all;

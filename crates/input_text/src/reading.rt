@@ -1,22 +1,28 @@
-//! Reading no further than a limit.
+//! Reading an input up to a limit.
 ghost use Rattle.std.specs.Prelude.{◌≡◌, ◌<◌, ◌^◌, false, IfOk};
 ghost use Rattle.input_text.specs.Read.{ReadsMost, has_failed};
 
 use crate::input::{Input, ReadFault};
 use std::alloc::Global;
 
-/// How many bytes are asked of an input at a time.
+/// The number of bytes requested of an input at a time.
 const CHUNK: usize = 4096;
 
-/// What an input gives, to its end or to so many bytes, below 2^32, and no byte more is taken of it.
+/// Reads an input to its end, or to `limit` bytes, below 2^32. No byte beyond the limit is read.
 ///
 /// # Errors
 ///
-/// `Failed` exactly where a read failed, and `NoMemory`. How much was taken of the input then is not known.
-pub fn read_most<I: Input>(alloc: Global, input: &mut I, limit: usize) -> Result<Vec<u8>, ReadFault>
+/// `Failed` if a read failed; `NoMemory` if out of memory. In both cases the number of bytes
+/// consumed is not known.
+pub fn read_limited<I: Input>(
+    alloc: Global,
+    input: &mut I,
+    limit: usize,
+) -> Result<Vec<u8>, ReadFault>
     requires limit { limit < 2 ^ 32 }
     requires works { I.failed input.old ≡ false }
-    ensures read { IfOk result (λ v. ReadsMost (I.left input.old) (I.left input.new) limit v.items) }
+    ensures read { IfOk result
+        (λ v. ReadsMost (I.left input.old) (I.left input.new) limit v.items) }
     ensures failed { I.failed input.new ≡ has_failed result }
 {
     let mut bytes = Vec::new(alloc);

@@ -1,4 +1,4 @@
-//! A writer as an output.
+//! A writer as an [`Output`].
 ghost use Rattle.std.specs.Prelude.{◌≡◌, ◌<◌, ◌≤◌, false, length, IfOk};
 ghost use Rattle.std.specs.Io.KnownBytes.{Keeps, WriteAppends};
 
@@ -6,7 +6,7 @@ use crate::output::{Broken, Output, Sink};
 use std::io;
 use std::io::{ErrorKind, Write};
 
-/// A writer that records whether a write or a flush of it failed. A call that was only interrupted is tried again.
+/// A writer that records whether a write or a flush of it failed. An interrupted call is repeated.
 #[derive(Drop)]
 pub struct TrackedWriter<W> {
     writer: W,
@@ -16,7 +16,7 @@ pub struct TrackedWriter<W> {
 impl<W> TrackedWriter<W> {
     ghost use Rattle.input_text.specs.TrackedWriter.{tracked_writer, write_failed};
 
-    /// An output over this writer, of which no write has failed.
+    /// Creates an output over this writer, with no failed write.
     pub fn new(writer: W) -> TrackedWriter<W>
         ensures writer { tracked_writer result ≡ writer }
         ensures failed { write_failed result ≡ false }
@@ -34,7 +34,7 @@ impl<W> TrackedWriter<W> {
         self.failed
     }
 
-    /// The writer.
+    /// Returns the writer.
     pub fn into_inner(self) -> W
         ensures { result ≡ tracked_writer self }
     {
@@ -42,12 +42,12 @@ impl<W> TrackedWriter<W> {
     }
 }
 
-/// Whether a call of a writer is to be made again.
+/// Whether the call was interrupted and is to be repeated.
 fn is_interrupted(error: &io::Error) -> bool {
     error.kind() == ErrorKind::Interrupted
 }
 
-/// Writes as many bytes as are taken at once, at least 1. A write of no byte is a failure.
+/// Writes the bytes that the writer accepts at once, at least 1. Accepting no byte is a failure.
 fn write_some<W: Write>(writer: &mut W, bytes: &[u8]) -> Result<usize, Broken>
     requires room { 0 < length bytes.now }
     ensures bound { IfOk result (λ n. (0 < n) × (n ≤ length bytes.now)) }
@@ -67,7 +67,7 @@ fn write_some<W: Write>(writer: &mut W, bytes: &[u8]) -> Result<usize, Broken>
     Err(Broken)
 }
 
-/// Lets the bytes of a writer go out.
+/// Flushes a writer.
 fn flush_all<W: Write>(writer: &mut W) -> Result<(), Broken>
     ensures { Keeps (W.contents writer.old) (W.contents writer.new) }
 {

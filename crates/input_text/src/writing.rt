@@ -1,4 +1,4 @@
-//! Writing bytes whole.
+//! Writing all bytes of a text.
 ghost use Rattle.std.specs.Prelude.{◌≡◌, OnErr, OnOk};
 ghost use Rattle.std.specs.Io.KnownBytes.{Appends};
 ghost use Rattle.input_text.specs.Write.{AppendsFront, failed_after};
@@ -9,7 +9,7 @@ use crate::output::{Broken, Sink};
 ///
 /// # Errors
 ///
-/// `Broken` exactly where a write failed. Then a front of the bytes is written, and not all of them.
+/// `Broken` if a write failed. Then a proper prefix of the bytes has been written.
 pub fn put_all<O: Sink>(output: &mut O, bytes: &[u8]) -> Result<(), Broken>
     ensures all { OnOk result (Appends (O.held output.old) (O.held output.new) bytes.now) }
     ensures front { OnErr result (AppendsFront (O.held output.old) (O.held output.new) bytes.now) }

@@ -40,7 +40,7 @@ pub record AreNamed (entries : List Entry) : Type 0 where
   pub named : All IsNamed entries
   pub distinct : IsDistinct bytes_eq (map name_of entries)
 
--- what a roster is: 1 to 64 entries with names of their own
+-- what a roster is: 1 to 64 entries with different names
 pub record IsRoster (entries : List Entry) : Type 0 where
   pub some : 1 ≤ length entries
   pub most : length entries ≤ 64

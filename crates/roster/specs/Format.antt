@@ -1,5 +1,6 @@
--- The format of a roster, versions 1 and 2. Each part is read in the order in which its faults count, and the first
--- decides. The versions differ in how the variables of a locomotive are given, and in nothing else.
+-- The format of a roster, versions 1 and 2. Each part is read in the order in which its faults
+-- count, and the first decides. The versions differ in how the variables of a locomotive are given,
+-- and in nothing else.
 use Rattle.std.specs.Prelude.{ℕ, ◌+◌, ◌==◌, nat_lt, if◌then◌else◌, List, [], ◌∷◌, ◌++◌, length, map, Option, Some, None, Result, Ok, Err, ℤ, pos, negsuc, codes}
 use Rattle.std.specs.List.{list_all}
 use Rattle.std.specs.Str.{bytes_eq}
@@ -24,9 +25,11 @@ use Rattle.roster.specs.Pairs.{cv_pair_of, cvs_of, has_byte, has_word}
 use Rattle.roster.specs.Steps.{◌>>=◌, or_fault}
 use Rattle.roster.specs.Toml.{table_in, items_len, knows_only, text_at, integer_at, integer_or}
 
--- Node by node. First the shape of its table: which keys it has, and of which types their values are.
+-- Node by node. First the shape of its table: which keys it has, and of which types their values
+-- are.
 
--- version 1: the four variables, each at a key of its own; 17 and 18 may be left out, and are 192 and 0 then
+-- version 1: the four variables, each at a separate key; 17 and 18 may be left out, and are 192 and
+-- 0 then
 abbrev pub variables_in : Members → Result Described Why
 variables_in table = do
   cv1 ← integer_at (codes "cv1") table
@@ -73,7 +76,8 @@ described_as version kind table =
 abbrev pub name_after : List Entry → List ℕ → Result (List ℕ) Why
 name_after earlier name = if is_free earlier name then Ok name else Err BadName
 
--- Then its values: those of variables are bytes that make a locomotive decoder, and a module is 1 to 510.
+-- Then its values: those of variables are bytes that make a locomotive decoder, and a module is 1
+-- to 510.
 
 abbrev pub byte_of : ℤ → Result ℕ Why
 byte_of (pos n) = if nat_lt n 256 then Ok n else Err BadCv
@@ -89,7 +93,8 @@ abbrev pub loco_of : Result Settings CvFault → Result NodeSpec Why
 loco_of (Ok cv) = Ok (node.Loco cv)
 loco_of (Err fault) = Err (fault_of fault)
 
--- Of a list all values are looked at first, then whether 16 bits hold the numbers, and then the list as a whole.
+-- Of a list all values are looked at first, then whether 16 bits hold the numbers, and then the
+-- list as a whole.
 abbrev pub loco_listed : List Pair → Result NodeSpec Why
 loco_listed pairs =
     if list_all has_byte pairs then
@@ -137,7 +142,8 @@ entries_after version earlier no_items = Ok earlier
 entries_after version earlier (item value items) =
     at_node (length earlier + 1) (entry_of version earlier value) >>= (λ entry. entries_after version (earlier ++ entry ∷ []) items)
 
--- The top level: `version`, which is 1 or 2, and `node`, an array of 1 to 64 members, counted before they are looked at.
+-- The top level: `version`, which is 1 or 2, and `node`, an array of 1 to 64 members, counted
+-- before they are looked at.
 
 abbrev pub version_of : ℤ → Result Version Why
 version_of (pos n) = if n == 1 then Ok One else (if n == 2 then Ok Two else Err BadShape)

@@ -80,7 +80,8 @@ impl Entry {
 
 /// The name of the next entry, or `BadName`.
 fn read_name(earlier: &[Entry], name: &str) -> Result<Name, Why>
-    ensures answer { MatchResult result (λ text. name_after earlier.now name.now ≡ Ok text.bytes) (λ why. name_after earlier.now name.now ≡ Err why) }
+    ensures answer { MatchResult result (λ text. name_after earlier.now name.now ≡ Ok text.bytes)
+        (λ why. name_after earlier.now name.now ≡ Err why) }
     ensures free { IfOk result (λ text. IsTrue (is_free earlier.now text.bytes)) }
 {
     if !is_name(name) || is_taken(earlier, name) {

@@ -1,6 +1,6 @@
 //! The decoders of a layout, read from a roster: a text in TOML.
 //!
-//! Its tests stand in `layout_tests/src/test_roster.rt`.
+//! The tests are in `layout_tests/src/test_roster.rt`.
 #![tactic(auto)]
 
 mod decoder;

@@ -30,7 +30,9 @@ impl Pair {
 
     /// The variable with its value, if a `u16` holds the number and a `u8` the value.
     pub(crate) fn cv_pair(&self) -> Option<CvPair>
-        ensures { result ≡ (if has_word self.now && has_byte self.now then Some (cv_pair_of self.now) else None) }
+        ensures { result
+            ≡ (if has_word self.now && has_byte self.now then Some
+            (cv_pair_of self.now) else None) }
     {
         match (self.number, self.value) {
             (0..=65_535, 0..=255) => Some(CvPair {

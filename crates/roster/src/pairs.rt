@@ -15,7 +15,7 @@ use decoder_node::NodeSpec;
 use std::marker::Model;
 use toml::Value;
 
-/// The most variables that there are: a longer list names one twice.
+/// The most variables: a longer list names one twice.
 const MOST_VARIABLES: usize = 1024;
 
 /// Variables with their values, in order.
@@ -90,7 +90,9 @@ fn are_pairs(values: &[Value]) -> bool
 
 /// Whether the value of each pair is a byte.
 fn have_bytes(values: &[Value]) -> bool
-    ensures { result ≡ list_all (λ value. unwrap_or (option_map has_byte (pair_of (view value))) true) values.now }
+    ensures { result
+        ≡ list_all (λ value. unwrap_or (option_map has_byte (pair_of (view value))) true)
+        values.now }
 {
     values.iter().all(has_byte)
 }
@@ -107,7 +109,8 @@ fn has_byte(value: &Value) -> bool
 
 /// The pairs as variables, if there are not too many and a `u16` holds each number.
 fn cv_pairs(values: &[Value]) -> Option<CvPairs>
-    ensures { option_map (λ pairs. pairs.items) result ≡ cv_pairs_after [] (pairs_of (map view values.now)) }
+    ensures { option_map (λ pairs. pairs.items) result
+        ≡ cv_pairs_after [] (pairs_of (map view values.now)) }
 {
     let mut pairs = CvPairs::new();
     for value in values {

@@ -8,9 +8,10 @@ ghost use Rattle.roster.specs.Toml.{table_in};
 
 use crate::entry::Entry;
 use crate::fault::{RosterFault, Why};
-use crate::roster::{Entries, MOST_NODES, Roster};
+use crate::roster::{Entries, Roster};
 use crate::table::{integer_at, knows_only, value_at};
 use crate::version::Version;
+use decoder_node::MAX_NODES;
 use std::alloc::Global;
 use std::str;
 use toml::{Table, Value};
@@ -44,7 +45,7 @@ fn of_all(why: Why) -> RosterFault
 /// have `cv17` and `cv18`. Where 17 is left out it is 192, where 18 is, 0. An `accessory` has its `module`. There are no
 /// other keys.
 ///
-/// The first fault is told: `NotToml`, `BadShape` of the top level, `Empty` and `TooMany`, all four at node 0; then
+/// The first fault is reported: `NotToml`, `BadShape` of the top level, `Empty` and `TooMany`, all four at node 0; then
 /// node after node, counted from 1, `BadShape`, `BadName`, and `BadModule` or `BadCv`; in version 2 `BadCv` for a value
 /// outside 0 to 255, `BadCvList`, and `BadCv` for values that make no locomotive decoder. `NoMemory`, at node 0, comes
 /// where a growth is refused before that.
@@ -54,7 +55,8 @@ pub fn read(alloc: Global, text: &[u8]) -> Result<Roster, RosterFault>
     ensures ok { IfOk result (λ roster. roster_in text.now ≡ Ok roster) }
     // The fault is the first of the text, unless memory ran out.
     ensures fault { IfErr result (λ fault. fault.why ≢ NoMemory → roster_in text.now ≡ Err fault) }
-    ensures memory { IfErr result (λ fault. fault.why ≡ NoMemory → (fault.node ≡ 0) × IsUtf8 text.now) }
+    ensures memory { IfErr result
+        (λ fault. fault.why ≡ NoMemory → (fault.node ≡ 0) × IsUtf8 text.now) }
     ensures roster { IfOk result IsRoster }
 {
     match read_toml(alloc, text) {
@@ -66,7 +68,8 @@ pub fn read(alloc: Global, text: &[u8]) -> Result<Roster, RosterFault>
 /// The table of a text, or `NotToml` or `NoMemory`.
 fn read_toml(alloc: Global, text: &[u8]) -> Result<Table, Why>
     ensures ok { IfOk result (λ table. table_in text.now ≡ Some (table_view table)) }
-    ensures refused { IfErr result (λ why. why ≢ NoMemory → (why ≡ NotToml) × (table_in text.now ≡ None)) }
+    ensures refused { IfErr result
+        (λ why. why ≢ NoMemory → (why ≡ NotToml) × (table_in text.now ≡ None)) }
     ensures memory { IfErr result (λ why. why ≡ NoMemory → IsUtf8 text.now) }
 {
     let text = match str::from_utf8(text) {
@@ -82,7 +85,8 @@ fn read_toml(alloc: Global, text: &[u8]) -> Result<Table, Why>
 
 /// The roster of a text's table, or its first fault.
 fn read_table(table: &Table) -> Result<Roster, RosterFault>
-    ensures answer { MatchResult result (λ roster. roster_of (table_view table.now) ≡ Ok roster) (λ fault. roster_of (table_view table.now) ≡ Err fault) }
+    ensures answer { MatchResult result (λ roster. roster_of (table_view table.now) ≡ Ok roster)
+        (λ fault. roster_of (table_view table.now) ≡ Err fault) }
     ensures roster { IfOk result IsRoster }
     ensures memory { IfErr result (λ fault. fault.why ≢ NoMemory) }
 {
@@ -109,7 +113,9 @@ fn read_version(table: &Table) -> Result<Version, Why>
 /// The members of `node`, 1 to 64, or `BadShape`, `Empty` or `TooMany`.
 #[tactic(auto, using(crate::proofs::Keys::items_len_view))]
 fn read_nodes(table: &Table) -> Result<&[Value], Why>
-    ensures answer { MatchResult result (λ values. nodes_in (table_view table.now) ≡ Ok (items_view values.now)) (λ why. nodes_in (table_view table.now) ≡ Err why) }
+    ensures answer { MatchResult result
+        (λ values. nodes_in (table_view table.now) ≡ Ok (items_view values.now))
+        (λ why. nodes_in (table_view table.now) ≡ Err why) }
     ensures some { IfOk result (λ values. 1 ≤ length values.now) }
     ensures most { IfOk result (λ values. length values.now ≤ 64) }
     ensures memory { IfErr result (λ why. why ≢ NoMemory) }
@@ -117,14 +123,17 @@ fn read_nodes(table: &Table) -> Result<&[Value], Why>
     let values = read_array(value_at(table, "node"))?;
     match values.len() {
         0 => Err(Why::Empty),
-        1..=MOST_NODES => Ok(values),
+        1..=MAX_NODES => Ok(values),
         _ => Err(Why::TooMany),
     }
 }
 
 /// The members of an array, and none where there is no value; or `BadShape`.
 fn read_array(value: Option<&Value>) -> Result<&[Value], Why>
-    ensures { MatchResult result (λ values. array_or_none (option_map (λ value. view value.now) value.entry) ≡ Ok (items_view values.now)) (λ why. array_or_none (option_map (λ value. view value.now) value.entry) ≡ Err why) }
+    ensures { MatchResult result
+        (λ values. array_or_none (option_map (λ value. view value.now) value.entry)
+        ≡ Ok (items_view values.now))
+        (λ why. array_or_none (option_map (λ value. view value.now) value.entry) ≡ Err why) }
 {
     let Some(value) = value else {
         return Ok(&[]);
@@ -140,7 +149,9 @@ fn read_array(value: Option<&Value>) -> Result<&[Value], Why>
 fn read_entries(version: Version, values: &[Value]) -> Result<Entries, RosterFault>
     requires some { 1 ≤ length values.now }
     requires most { length values.now ≤ 64 }
-    ensures answer { MatchResult result (λ entries. entries_after version [] (items_view values.now) ≡ Ok entries.items) (λ fault. entries_after version [] (items_view values.now) ≡ Err fault) }
+    ensures answer { MatchResult result
+        (λ entries. entries_after version [] (items_view values.now) ≡ Ok entries.items)
+        (λ fault. entries_after version [] (items_view values.now) ≡ Err fault) }
     ensures roster { IfOk result (λ entries. IsRoster entries.items) }
     ensures memory { IfErr result (λ fault. fault.why ≢ NoMemory) }
 {

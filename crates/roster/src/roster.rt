@@ -5,16 +5,13 @@ ghost use Rattle.roster.specs.Entry.{is_name, name_of, spec_of, Entry as EntryVa
 
 use crate::entry::Entry;
 use arrayvec::ArrayVec;
-use decoder_node::NodeList;
+use decoder_node::{MAX_NODES, NodeList};
 use std::marker::Model;
 
-/// The most decoders of a roster.
-pub(crate) const MOST_NODES: usize = 64;
-
 /// The entries of a roster, in order.
-pub(crate) type Entries = ArrayVec<Entry, MOST_NODES>;
+pub(crate) type Entries = ArrayVec<Entry, MAX_NODES>;
 
-/// The decoders of a layout, 1 to 64 in order, each with a name of its own.
+/// The decoders of a layout, 1 to 64 in order, each with a different name.
 ///
 /// Contracts see it as the list of its entries.
 #[derive(Debug, Drop)]
@@ -67,7 +64,8 @@ impl Roster {
     /// The name of decoder i, counted from 0: 1 to 16 ASCII letters, digits, `-` or `_`.
     pub fn name(&self, i: usize) -> &str
         requires { i < length self.now }
-        ensures value { (none : EntryValue) → result.now ≡ name_of (slice_index_or self.now i none) }
+        ensures value { (none : EntryValue)
+            → result.now ≡ name_of (slice_index_or self.now i none) }
         ensures legal { IsTrue (is_name result.now) }
         ensures most { length result.now ≤ 16 }
     {

@@ -20,7 +20,9 @@ fn is_one_of(known: &[&str], key: &str) -> bool
 
 /// Whether each key of the map is one of these.
 fn keys_are(table: &Table, known: &[&str]) -> bool
-    ensures { result ≡ list_all (λ key. list_any (λ word. bytes_eq word.now (string_bytes key)) known.now) (keys table.now) }
+    ensures { result
+        ≡ list_all (λ key. list_any (λ word. bytes_eq word.now (string_bytes key)) known.now)
+        (keys table.now) }
 {
     table.keys().all(|key| is_one_of(known, key.as_str()))
 }
@@ -34,14 +36,16 @@ pub(crate) fn knows_only(table: &Table, known: &[&str]) -> bool
 
 /// The value at a key.
 pub(crate) fn value_at<'a>(table: &'a Table, key: &str) -> Option<&'a Value>
-    ensures { option_map (λ value. view value.now) result ≡ get_member key.now (table_view table.now) }
+    ensures { option_map (λ value. view value.now) result
+        ≡ get_member key.now (table_view table.now) }
 {
     table.get(key)
 }
 
 /// The text at a key, if there is one.
 pub(crate) fn text_at<'a>(table: &'a Table, key: &str) -> Option<&'a str>
-    ensures { or_fault (option_map (λ text. text.now) result) BadShape ≡ text_at key.now (table_view table.now) }
+    ensures { or_fault (option_map (λ text. text.now) result) BadShape
+        ≡ text_at key.now (table_view table.now) }
 {
     value_at(table, key).and_then(Value::as_str)
 }
@@ -55,7 +59,8 @@ pub(crate) fn integer_at(table: &Table, key: &str) -> Option<i64>
 
 /// The integer at a key, if there is one, or `default` where the key is left out.
 pub(crate) fn integer_or(table: &Table, key: &str, default: i64) -> Option<i64>
-    ensures { or_fault result BadShape ≡ integer_or (get_member key.now (table_view table.now)) default }
+    ensures { or_fault result BadShape
+        ≡ integer_or (get_member key.now (table_view table.now)) default }
 {
     match value_at(table, key) {
         Some(value) => value.as_integer(),

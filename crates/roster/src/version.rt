@@ -7,7 +7,7 @@ use crate::fault::Why;
 /// A version of the format. They differ in how a locomotive's variables are given.
 #[derive(Clone, Copy)]
 pub(crate) enum Version {
-    /// By keys of their own: `cv1`, `cv17`, `cv18` and `cv29`.
+    /// By separate keys: `cv1`, `cv17`, `cv18` and `cv29`.
     One,
     /// As a list of pairs: `cvs`.
     Two,

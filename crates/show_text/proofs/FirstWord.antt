@@ -37,7 +37,8 @@ head_onto : (b : ℕ) (pieces : List (List ℕ)) → head (onto_first b pieces) 
 head_onto b [] = refl
 head_onto b (piece ∷ pieces) = refl
 
--- the first piece is the one of that name where the text begins with it, and a blank or nothing follows
+-- the first piece is the one of that name where the text begins with it, and a blank or nothing
+-- follows
 first_piece : (name text : List ℕ) → list_all (λ b. not (is_blank b)) name ≡ true
     → bytes_eq (head (slice_split is_blank text)) name ≡ (bytes_eq (take (length name) text) name && ends_word (drop (length name) text))
 first_piece [] [] h = refl

@@ -30,7 +30,7 @@ piece_first text i h at =
 
 pub ruleset piece_cuts = (piece_whole, piece_first, take_rest)
 
--- what a cut says of the pieces of a text, wherever it begins
+-- what splitting shows of the pieces of a text, wherever it begins
 abbrev IsCut : List ℕ → List ℕ → List ℕ → Type 0
 IsCut text piece after = (at : ℕ) → pieces_of at (slice_split is_space text) ≡ followed_by (piece_of at piece) (pieces_of (at + (length text - length after)) (slice_split is_space after))
 
@@ -44,7 +44,7 @@ cut_on total bytes rest piece after cut shorter within =
     let at : total - length rest + (length rest - length after) ≡ total - length after = omega arith in
     ap (before bytes) (cut (total - length rest)) ∙ ap (λ n. before bytes (followed_by (piece_of (total - length rest) piece) (pieces_of n (slice_split is_space after)))) at
 
--- an empty piece says nothing
+-- an empty piece writes nothing
 pub empty_piece : (total : ℕ) (bytes rest piece after : List ℕ) (all : Result (List ℕ) HexFault) → IsCut rest piece after → length after < length rest → length rest ≤ total
     → length piece ≡ 0 → read_on total bytes rest ≡ all → read_on total bytes after ≡ all
 empty_piece total bytes rest [] after all cut shorter within none so_far =

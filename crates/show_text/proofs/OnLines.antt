@@ -15,7 +15,7 @@ use Rattle.show_text.specs.Words.{is_empty}
 use Rattle.show_text.specs.Script.{◌>>=◌, number_of, below, is_count, count_of, byte_of, byte_command, bytes_of, some_bytes, line_of, missed_of, turn_of, show_of, after_word, command_of, line_commands, fault_at, at_line, commands_of, script_of, is_on_line, AreOnLines, is_counted, AreCounted}
 
 -- what each kind of command is to pass
-record Passes (count : ℕ) (p : Command → Bool) : Type 0 where
+record AcceptsLine (count : ℕ) (p : Command → Bool) : Type 0 where
   byte : (l b : ℕ) → l < count → p (Byte l b) ≡ true
   turns : (n missed : ℕ) → is_count n ≡ true → p (Turns n missed) ≡ true
   show : p Show ≡ true
@@ -48,41 +48,41 @@ tested test n why (Err e) h = cc
 below-small : (limit n : ℕ) (why : Why) (word : List ℕ) → below limit why word ≡ Ok n → n < limit
 below-small limit n why word h = ltb-true n limit (tested (λ m. nat_lt m limit) n why (number_of word) h)
 
-one_byte : (count l : ℕ) (p : Command → Bool) (word : List ℕ) → Passes count p → l < count → Read p (byte_command l word)
+one_byte : (count l : ℕ) (p : Command → Bool) (word : List ℕ) → AcceptsLine count p → l < count → Read p (byte_command l word)
 one_byte count l p word passes h = bound p (byte_of word) (λ b. Ok (Byte l b ∷ [])) (λ b e. and_from (p (Byte l b)) true (passes.byte l b h) refl)
 
-bytes : (count l : ℕ) (p : Command → Bool) (words : List (List ℕ)) → Passes count p → l < count → Read p (bytes_of l words)
+bytes : (count l : ℕ) (p : Command → Bool) (words : List (List ℕ)) → AcceptsLine count p → l < count → Read p (bytes_of l words)
 unfolding bytes_of
 bytes count l p [] passes h = refl
 bytes count l p (word ∷ words) passes h = followed p (byte_command l word) (bytes_of l words) (one_byte count l p word passes h) (bytes count l p words passes h)
 
-line : (count : ℕ) (p : Command → Bool) (words : List (List ℕ)) → Passes count p → Read p (line_of count words)
+line : (count : ℕ) (p : Command → Bool) (words : List (List ℕ)) → AcceptsLine count p → Read p (line_of count words)
 line count p [] passes = tt
 line count p (word ∷ words) passes =
     bound p (below count BadLine word) (λ l. some_bytes l words) (λ l e.
     cond_both (is_empty words) (Err BadWord) (bytes_of l words) (Read p) (λ _. tt) (λ _. bytes count l p words passes (below-small count l BadLine word e)))
 
-turn : (count nodes : ℕ) (p : Command → Bool) (words : List (List ℕ)) → Passes count p → Read p (turn_of nodes words)
+turn : (count nodes : ℕ) (p : Command → Bool) (words : List (List ℕ)) → AcceptsLine count p → Read p (turn_of nodes words)
 turn count nodes p [] passes = tt
 turn count nodes p (word ∷ words) passes =
     bound p (count_of word) (λ n. missed_of nodes words >>= (λ missed. Ok (Turns n missed ∷ []))) (λ n e.
     bound p (missed_of nodes words) (λ missed. Ok (Turns n missed ∷ [])) (λ missed _.
     and_from (p (Turns n missed)) true (passes.turns n missed (tested is_count n BadNumber (number_of word) e)) refl))
 
-show : (count : ℕ) (p : Command → Bool) (words : List (List ℕ)) → Passes count p → Read p (show_of words)
+show : (count : ℕ) (p : Command → Bool) (words : List (List ℕ)) → AcceptsLine count p → Read p (show_of words)
 show count p words passes = cond_both (is_empty words) (Ok (Show ∷ [])) (Err BadWord) (Read p) (λ _. and_from (p Show) true passes.show refl) (λ _. tt)
 
-after : (count nodes : ℕ) (p : Command → Bool) (word : List ℕ) (words : List (List ℕ)) → Passes count p → Read p (after_word count nodes word words)
+after : (count nodes : ℕ) (p : Command → Bool) (word : List ℕ) (words : List (List ℕ)) → AcceptsLine count p → Read p (after_word count nodes word words)
 after count nodes p word words passes =
     cond_both (bytes_eq word (codes "line")) (line_of count words) _ (Read p) (λ _. line count p words passes) (λ _.
     cond_both (bytes_eq word (codes "turn")) (turn_of nodes words) _ (Read p) (λ _. turn count nodes p words passes) (λ _.
     cond_both (bytes_eq word (codes "show")) (show_of words) (Err BadWord) (Read p) (λ _. show count p words passes) (λ _. tt)))
 
-command : (count nodes : ℕ) (p : Command → Bool) (words : List (List ℕ)) → Passes count p → Read p (command_of count nodes words)
+command : (count nodes : ℕ) (p : Command → Bool) (words : List (List ℕ)) → AcceptsLine count p → Read p (command_of count nodes words)
 command count nodes p [] passes = refl
 command count nodes p (word ∷ words) passes = after count nodes p word words passes
 
-one_line : (count nodes : ℕ) (p : Command → Bool) (text : List ℕ) → Passes count p → Read p (line_commands count nodes text)
+one_line : (count nodes : ℕ) (p : Command → Bool) (text : List ℕ) → AcceptsLine count p → Read p (line_commands count nodes text)
 one_line count nodes p text passes =
     cond_both (starts_with nat_eq text (codes "#")) (Ok []) (command_of count nodes (words_of text)) (Read p) (λ _. refl) (λ _. command count nodes p (words_of text) passes)
 
@@ -90,13 +90,13 @@ at : (n : ℕ) (p : Command → Bool) (r : Result (List Command) Why) → Read p
 at n p (Ok cs) h = h
 at n p (Err e) h = tt
 
-all_lines : (count nodes n : ℕ) (p : Command → Bool) (texts : List (List ℕ)) → Passes count p → Read p (commands_of count nodes n texts)
+all_lines : (count nodes n : ℕ) (p : Command → Bool) (texts : List (List ℕ)) → AcceptsLine count p → Read p (commands_of count nodes n texts)
 unfolding commands_of
 all_lines count nodes n p [] passes = refl
 all_lines count nodes n p (text ∷ more) passes =
     followed p (at_line n (line_commands count nodes text)) (commands_of count nodes (n + 1) more) (at n p (line_commands count nodes text) (one_line count nodes p text passes)) (all_lines count nodes (n + 1) p more passes)
 
-script : (count nodes : ℕ) (p : Command → Bool) (text : List ℕ) → Passes count p → Read p (script_of count nodes text)
+script : (count nodes : ℕ) (p : Command → Bool) (text : List ℕ) → AcceptsLine count p → Read p (script_of count nodes text)
 script count nodes p text passes =
     cond_both (nat_lt 1048576 (length text)) (Err (fault_at TooLong 0)) (commands_of count nodes 1 (lines text)) (Read p) (λ _. tt) (λ _. all_lines count nodes 1 p (lines text) passes)
 
@@ -106,10 +106,10 @@ given p (Ok cs) commands h e =
     rw (← same) h
 given p (Err f) commands h e = cc
 
-on_line : (count : ℕ) → Passes count (is_on_line count)
+on_line : (count : ℕ) → AcceptsLine count (is_on_line count)
 on_line count = record { byte = λ l b h. lt-ltb l count h; turns = λ n missed _. refl; show = refl }
 
-counted : (count : ℕ) → Passes count is_counted
+counted : (count : ℕ) → AcceptsLine count is_counted
 counted count = record { byte = λ l b _. refl; turns = λ n missed h. h; show = refl }
 
 pub on_lines : (count nodes : ℕ) (text : List ℕ) (commands : List Command) → script_of count nodes text ≡ Ok commands → AreOnLines count commands

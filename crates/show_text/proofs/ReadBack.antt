@@ -14,13 +14,14 @@ use Rattle.std.proofs.lemmas.List.Splits.{slice_split-cons_no, slice_split-cons_
 use Rattle.std.proofs.lemmas.Nat.{mod-pow-add, or_block, pow_pos}
 use Rattle.std.proofs.lemmas.Nat.Bits.{bit_at-lt}
 use Rattle.std.proofs.Math.Nat.{mod-eq_of_lt, mod-lt}
+use Rattle.ascii_words.specs.Words.{hex_char}
 use Rattle.show_text.specs.declared.command.Command.{Command}
 use Rattle.show_text.specs.declared.command.Command.TheVariants.{Byte, Turns, Show}
 use Rattle.show_text.specs.declared.command.ScriptFault.{ScriptFault}
 use Rattle.show_text.specs.declared.command.Why.{Why}
 use Rattle.show_text.specs.declared.command.Why.TheVariants.{BadNumber, BadNode, BadLine}
 use Rattle.show_text.specs.Hex.{hex_of, is_space, one_byte, pieces_of}
-use Rattle.show_text.specs.Lines.{hex_byte, hex_words}
+use Rattle.show_text.specs.Lines.{hex_words}
 use Rattle.show_text.specs.Script.{◌>>=◌, at_line, below, bytes_of, command_of, commands_of, count_of, is_count, line_commands, missed_of, nodes_of, or_fault, script_of, set_with, some_nodes, with_node}
 use Rattle.show_text.specs.Sequence.{followed_by}
 use Rattle.ascii_words.specs.Words.{digit_of, is_blank, is_word, pair_of, words_of}
@@ -174,28 +175,28 @@ count-back n is small =
     ∙ ap (λ (b : Bool). if b then Ok n else Err BadNumber) is
 
 abbrev two : ℕ → List ℕ
-two b = hex_byte (b / 16) ∷ hex_byte (b % 16) ∷ []
+two b = hex_char (b / 16) ∷ hex_char (b % 16) ∷ []
 
-digit-back : (d : ℕ) → d < 16 → digit_of (hex_byte d) ≡ Some d
+digit-back : (d : ℕ) → d < 16 → digit_of (hex_char d) ≡ Some d
 digit-back d h = grind (arith, nat_tests)
 
-hex-mark : (d : ℕ) → d < 16 → is_mark (hex_byte d) ≡ true
+hex-mark : (d : ℕ) → d < 16 → is_mark (hex_char d) ≡ true
 hex-mark d h = grind (arith, nat_tests)
 
 pair-word : (b : ℕ) → b < 256 → IsWord (two b)
 pair-word b h =
     let high : b / 16 < 16 = omega arith in
     let low : b % 16 < 16 = omega arith in
-    (refl, and_from (is_mark (hex_byte (b / 16))) _ (hex-mark (b / 16) high) (and_from (is_mark (hex_byte (b % 16))) true (hex-mark (b % 16) low) refl))
+    (refl, and_from (is_mark (hex_char (b / 16))) _ (hex-mark (b / 16) high) (and_from (is_mark (hex_char (b % 16))) true (hex-mark (b % 16) low) refl))
 
 -- ---- hex text
 
-piece-back : (b : ℕ) (rest : List ℕ) (parts : List (List ℕ)) → b < 256 → slice_split is_space rest ≡ [] ∷ parts → slice_split is_space (hex_byte (b / 16) ∷ hex_byte (b % 16) ∷ rest) ≡ two b ∷ parts
+piece-back : (b : ℕ) (rest : List ℕ) (parts : List (List ℕ)) → b < 256 → slice_split is_space rest ≡ [] ∷ parts → slice_split is_space (hex_char (b / 16) ∷ hex_char (b % 16) ∷ rest) ≡ two b ∷ parts
 piece-back b rest parts h e =
     let high : b / 16 < 16 = omega arith in
     let low : b % 16 < 16 = omega arith in
-    slice_split-cons_no is_space (hex_byte (b / 16)) (hex_byte (b % 16) ∷ rest) (mark-not_space (hex_byte (b / 16)) (hex-mark (b / 16) high))
-    ∙ ap (onto_first (hex_byte (b / 16))) (slice_split-cons_no is_space (hex_byte (b % 16)) rest (mark-not_space (hex_byte (b % 16)) (hex-mark (b % 16) low)) ∙ ap (onto_first (hex_byte (b % 16))) e)
+    slice_split-cons_no is_space (hex_char (b / 16)) (hex_char (b % 16) ∷ rest) (mark-not_space (hex_char (b / 16)) (hex-mark (b / 16) high))
+    ∙ ap (onto_first (hex_char (b / 16))) (slice_split-cons_no is_space (hex_char (b % 16)) rest (mark-not_space (hex_char (b % 16)) (hex-mark (b % 16) low)) ∙ ap (onto_first (hex_char (b % 16))) e)
 
 abbrev AreBytes : List ℕ → Type 0
 AreBytes bytes = list_all (λ byte. nat_lt byte 256) bytes ≡ true
@@ -214,7 +215,7 @@ unfolding pieces_of
 pieces-back at [] h = refl
 pieces-back at (b ∷ bytes) h =
     let k = each b bytes h in
-    ap₂ (λ (o : Option ℕ) r. followed_by (one_byte at o) r) (pair-back hex_byte digit-back b k.0) (pieces-back (at + 2 + 1) bytes k.1)
+    ap₂ (λ (o : Option ℕ) r. followed_by (one_byte at o) r) (pair-back hex_char digit-back b k.0) (pieces-back (at + 2 + 1) bytes k.1)
 
 first_piece : (bytes : List ℕ) → AreBytes bytes → pieces_of 0 ([] ∷ map two bytes) ≡ Ok bytes
 unfolding pieces_of
@@ -304,7 +305,7 @@ numbers-are_words limit (n ∷ ns) h k =
     let small : n < 10000000 = omega (arith, h, k.0) in
     (decimal-word n small, numbers-are_words limit ns h k.1)
 
--- ---- what is behind the number of a turn
+-- ---- the text after the number of turns
 
 abbrev missed_words : (nodes missed : ℕ) → List (List ℕ)
 missed_words nodes missed = if missed == 0 then [] else codes "miss" ∷ map decimal (named_below nodes missed)
@@ -379,7 +380,7 @@ byte-reads count nodes line byte h low small =
     record {
       shown = line_shown (command_text nodes (Byte line byte)) (codes "line") (decimal line ∷ two byte ∷ []) text;
       says = ap (command_of count nodes) (line_words (command_text nodes (Byte line byte)) (codes "line") (decimal line ∷ two byte ∷ []) text)
-          ∙ byte_by count line byte (decimal line) (two byte) (below-back count line BadLine low fits) (pair-back hex_byte digit-back byte small);
+          ∙ byte_by count line byte (decimal line) (two byte) (below-back count line BadLine low fits) (pair-back hex_char digit-back byte small);
     }
 
 show-reads : (count nodes : ℕ) → Reads count nodes (codes "show") Show

@@ -13,12 +13,12 @@ use Rattle.show_text.proofs.Cuts.{few_lines}
 use Rattle.show_text.proofs.Sequences.{after_none, goes_on, stops, ends}
 use Rattle.show_text.specs.Script.{◌>>=◌, byte_of, first_byte_of, bytes_of, line_commands, at_line, fault_at, commands_of, script_of}
 
-told : (line byte : ℕ) (old : List Command) (r : Result ℕ Why) (more : Result (List Command) Why) → (r >>= (λ b. Ok (Some b))) ≡ Ok (Some byte)
+read_to : (line byte : ℕ) (old : List Command) (r : Result ℕ Why) (more : Result (List Command) Why) → (r >>= (λ b. Ok (Some b))) ≡ Ok (Some byte)
     → before old (followed_by (r >>= (λ b. Ok (Byte line b ∷ []))) more) ≡ before (old ++ Byte line byte ∷ []) more
-told line byte old (Ok b) more h =
+read_to line byte old (Ok b) more h =
     let same : b ≡ byte = cc in
     rw same (goes_on old (old ++ Byte line byte ∷ []) (Ok (Byte line byte ∷ [])) more refl)
-told line byte old (Err why) more h = cc
+read_to line byte old (Err why) more h = cc
 
 not_told : (line : ℕ) (old : List Command) (why : Why) (r : Result ℕ Why) (more : Result (List Command) Why) → (r >>= (λ b. Ok (Some b))) ≡ Err why
     → before old (followed_by (r >>= (λ b. Ok (Byte line b ∷ []))) more) ≡ Err why
@@ -30,7 +30,7 @@ pub byte_goes_on : (line byte : ℕ) (old : List Command) (words : List (List �
     → before old (bytes_of line words) ≡ before (old ++ Byte line byte ∷ []) (bytes_of line (drop 1 words))
 unfolding bytes_of
 byte_goes_on line byte old [] h = cc
-byte_goes_on line byte old (word ∷ words) h = told line byte old (byte_of word) (bytes_of line words) h
+byte_goes_on line byte old (word ∷ words) h = read_to line byte old (byte_of word) (bytes_of line words) h
 
 -- the first fault is that of this byte
 pub byte_stops : (line : ℕ) (old : List Command) (words : List (List ℕ)) (why : Why) → first_byte_of words ≡ Err why → before old (bytes_of line words) ≡ Err why

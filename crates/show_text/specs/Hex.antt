@@ -1,4 +1,4 @@
--- What hex text says.
+-- The bytes of hex text.
 use Rattle.std.specs.Prelude.{ℕ, ◌+◌, Bool, ◌==◌, ◌||◌, List, [], ◌∷◌, Option, Some, None, Result, Ok, Err, nat_lt, if◌then◌else◌, length}
 use Rattle.std.specs.List.{slice_split}
 use Rattle.show_text.specs.declared.hex.HexWhy.{HexWhy}
@@ -18,7 +18,7 @@ abbrev pub one_byte : ℕ → Option ℕ → Result (List ℕ) HexFault
 one_byte at (Some byte) = Ok (byte ∷ [])
 one_byte at None = Err (hex_fault BadHex at)
 
--- The piece at this offset, between two spaces. An empty one says nothing.
+-- The piece at this offset, between two spaces. An empty one writes nothing.
 abbrev pub piece_of : ℕ → List ℕ → Result (List ℕ) HexFault
 piece_of at [] = Ok []
 piece_of at (b ∷ bs) = one_byte at (pair_of (b ∷ bs))

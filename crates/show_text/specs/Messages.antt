@@ -8,7 +8,7 @@ use Rattle.ln_ops.specs.declared.op.Op.{Op}
 use Rattle.ln_ops.specs.declared.op.Op.TheVariants.{PowerOff, PowerOn, ForceIdle, Speed, Dirf, Snd, SwReq, SwAck, LongAck, SlotStat, Move, SlotRead, LocoAddr, SlotData, SlotWrite, Imm, Other}
 use Rattle.show_text.specs.Lines.{hex_words}
 
--- two labels, each with a number behind it
+-- two labels, each with a number after it
 abbrev pub pair_text : List ℕ → ℕ → List ℕ → ℕ → List ℕ
 pair_text label n other m = label ++ decimal n ++ other ++ decimal m
 
@@ -24,11 +24,11 @@ fields_text f =
     ++ pair_text (codes " spd ") f.spd (codes " dirf ") f.dirf ++ pair_text (codes " trk ") f.trk (codes " ss2 ") f.ss2
     ++ codes " snd " ++ decimal f.snd ++ pair_text (codes " ids ") f.id1 (codes " ") f.id2
 
--- how many bytes of a packet are meant, and all five that the message has
+-- the number of packet bytes that count, and all five that the message has
 abbrev pub packet_text : ℕ → List ℕ → List ℕ
 packet_text count bytes = codes "imm " ++ decimal count ++ hex_words bytes
 
--- an operation that is told as two labels, each with a number behind it
+-- an operation written as two labels, each with a number after it
 abbrev pub is_pair : Op → Bool
 is_pair (Speed slot spd) = true
 is_pair (Dirf slot dirf) = true
@@ -38,7 +38,7 @@ is_pair (SlotStat slot stat) = true
 is_pair (Move src dest) = true
 is_pair op = false
 
--- what an operation asks or tells
+-- the text of an operation
 abbrev pub op_text : Op → List ℕ
 op_text PowerOff = codes "power off"
 op_text PowerOn = codes "power on"

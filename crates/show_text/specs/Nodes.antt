@@ -17,7 +17,7 @@ abbrev pub address_text : Address → List ℕ
 address_text (Short number) = codes "short " ++ decimal number
 address_text (Long number) = codes "long " ++ decimal number
 
--- what the steps are called: those of seven bits are 126, which the standards call 128
+-- the name of the steps: those of seven bits are 126, which the standards call 128
 abbrev pub number_of : Steps → ℕ
 number_of S14 = 14
 number_of S28 = 28
@@ -41,21 +41,21 @@ loco_text cv running =
 abbrev pub accessory_text : ℕ → ℕ → List ℕ
 accessory_text number outputs = codes " module " ++ decimal number ++ codes " outputs " ++ bits_text 8 outputs
 
--- of a locomotive it is told how it runs, of an accessory decoder its outputs, and not the other
-abbrev pub is_told_of : NodeSpec → Option Running → Option ℕ → Bool
-is_told_of (Loco cv) running outputs = is_some running && is_none outputs
-is_told_of (Accessory number) running outputs = is_none running && is_some outputs
+-- how a locomotive runs, or the outputs of an accessory decoder, never both
+abbrev pub is_state_of : NodeSpec → Option Running → Option ℕ → Bool
+is_state_of (Loco cv) running outputs = is_some running && is_none outputs
+is_state_of (Accessory number) running outputs = is_none running && is_some outputs
 
-abbrev pub IsToldOf : NodeSpec → Option Running → Option ℕ → Type 0
-IsToldOf spec running outputs = IsTrue (is_told_of spec running outputs)
+abbrev pub IsStateOf : NodeSpec → Option Running → Option ℕ → Type 0
+IsStateOf spec running outputs = IsTrue (is_state_of spec running outputs)
 
--- how a decoder stands; of nothing else is there a text
+-- the state of a decoder; nothing else has a text
 abbrev pub stand_text : NodeSpec → Option Running → Option ℕ → List ℕ
 stand_text (Loco cv) (Some running) outputs = loco_text cv running
 stand_text (Loco cv) None outputs = []
 stand_text (Accessory number) running (Some outputs) = accessory_text number outputs
 stand_text (Accessory number) running None = []
 
--- `node NAME` and how it stands
+-- `node NAME` and its state
 abbrev pub node_text : List ℕ → NodeSpec → Option Running → Option ℕ → List ℕ
 node_text name spec running outputs = codes "node " ++ name ++ stand_text spec running outputs

@@ -1,4 +1,4 @@
--- What a script says. Each part is read from left to right, and the first fault decides.
+-- The commands of a script. Each part is read from left to right, and the first fault is reported.
 use Rattle.std.specs.Prelude.{ℕ, ◌+◌, ◌^◌, ◌≡◌, ◌≢◌, ◌&&◌, Bool, true, IsTrue, List, [], ◌∷◌, Option, Some, None, Result, Ok, Err, nat_eq, nat_lt, nat_le, if◌then◌else◌, length, codes, bit_or, fold}
 use Rattle.std.specs.Str.{bytes_eq}
 use Rattle.std.specs.Str.Lines.{lines}
@@ -66,7 +66,7 @@ unfoldable pub bytes_of : ℕ → List (List ℕ) → Result (List Command) Why
 bytes_of l [] = Ok []
 bytes_of l (word ∷ words) = followed_by (byte_command l word) (bytes_of l words)
 
--- at least one is wanted
+-- at least one is required
 abbrev pub some_bytes : ℕ → List (List ℕ) → Result (List Command) Why
 some_bytes l words = if is_empty words then Err BadWord else bytes_of l words
 
@@ -97,7 +97,7 @@ set_with set read = do
   named ← read
   Ok (fold with_node set named)
 
--- at least one is wanted
+-- at least one is required
 abbrev pub some_nodes : ℕ → List (List ℕ) → Result ℕ Why
 some_nodes nodes words = if is_empty words then Err BadWord else set_with 0 (nodes_of nodes words)
 
@@ -124,12 +124,12 @@ after_word lines nodes word words =
     else if bytes_eq word (codes "show") then show_of words
     else Err BadWord
 
--- A line without words says nothing.
+-- A line without words has no command.
 abbrev pub command_of : ℕ → ℕ → List (List ℕ) → Result (List Command) Why
 command_of lines nodes [] = Ok []
 command_of lines nodes (word ∷ words) = after_word lines nodes word words
 
--- Nor does a line whose first character is '#'.
+-- A line whose first character is '#' has none either.
 abbrev pub line_commands : ℕ → ℕ → List ℕ → Result (List Command) Why
 line_commands lines nodes line = if starts_with nat_eq line (codes "#") then Ok [] else command_of lines nodes (words_of line)
 
@@ -150,7 +150,7 @@ commands_of lines nodes n (line ∷ more) = followed_by (at_line n (line_command
 abbrev pub script_of : ℕ → ℕ → List ℕ → Result (List Command) ScriptFault
 script_of count nodes text = if nat_lt 1048576 (length text) then Err (fault_at TooLong 0) else commands_of count nodes 1 (lines text)
 
--- each byte comes on one of the lines
+-- each byte is received on one of the lines
 abbrev pub is_on_line : ℕ → Command → Bool
 is_on_line lines (Byte line byte) = nat_lt line lines
 is_on_line lines (Turns count missed) = true
@@ -168,7 +168,7 @@ is_counted Show = true
 abbrev pub AreCounted : List Command → Type 0
 AreCounted commands = IsTrue (list_all is_counted commands)
 
--- What a function answers that puts commands after the old ones: what reading gives, unless memory runs out.
+-- The result of a function that appends commands: those read, unless memory is out.
 abbrev pub Adds : {Y : Type 0} → List Command → List Command → Result Y Why → Result (List Command) Why → Type 0
 Adds old new (Ok y) read = before old read ≡ Ok new
 Adds old new (Err why) read = why ≢ NoMemory → before old read ≡ Err why

@@ -1,4 +1,4 @@
--- The plainest script that asks for commands, each on a line of its own (own).
+-- The plainest script that requests commands, each on a separate line (own).
 use Rattle.std.specs.Prelude.{ℕ, zero, suc, ◌^◌, ◌==◌, ◌&&◌, Bool, true, if◌then◌else◌, nat_lt, List, [], ◌∷◌, ◌++◌, codes}
 use Rattle.std.specs.Fmt.{decimal}
 use Rattle.std.specs.Int.{bit_at}
@@ -17,7 +17,7 @@ abbrev pub number_words : List ℕ → List ℕ
 number_words [] = []
 number_words (n ∷ ns) = 32 ∷ (decimal n ++ number_words ns)
 
--- the nodes of a set, of so many, behind `miss`; nothing where there is none
+-- the nodes of a set, of `count` nodes, after `miss`; nothing if there is none
 abbrev pub missed_text : (nodes missed : ℕ) → List ℕ
 missed_text nodes missed = if missed == 0 then [] else codes " miss" ++ number_words (named_below nodes missed)
 

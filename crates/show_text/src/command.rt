@@ -1,24 +1,24 @@
-//! What a script holds, and why a text is none.
+//! The commands of a script, and the faults of a text that is not a script.
 ghost use Rattle.std.specs.Prelude.{◌≡◌};
 ghost use Rattle.show_text.specs.declared.command.Why.TheVariants.{NoMemory};
 
 use std::alloc::AllocFailed;
 
-/// What a script asks for.
+/// A command of a script.
 #[derive(Clone, Copy, Debug, PartialEq, Eq)]
 pub enum Command {
-    /// A byte comes on a line.
+    /// A byte is received on a line.
     Byte { line: u8, byte: u8 },
-    /// So many turns, 1 to 1,000,000. Node i misses them where bit i of `missed` is set.
+    /// `count` turns, 1 to 1,000,000. Node i misses them if bit i of `missed` is set.
     Turns { count: u32, missed: u64 },
-    /// How each node stands is to be printed.
+    /// The state of each node is to be printed.
     Show,
 }
 
 /// What is wrong with a script.
 #[derive(Clone, Copy, Debug, PartialEq, Eq)]
 pub enum Why {
-    /// Another first word, or a missing or superfluous word.
+    /// An unknown first word, or a missing or superfluous word.
     BadWord,
     /// Not two hexadecimal digits.
     BadHex,
@@ -30,11 +30,11 @@ pub enum Why {
     BadNode,
     /// More than 1,048,576 bytes.
     TooLong,
-    /// A growth was refused.
+    /// Out of memory.
     NoMemory,
 }
 
-/// The first fault of a script, and its line, from 1. `TooLong` and `NoMemory` have line 0.
+/// The first fault of a script, and its line, counted from 1. `TooLong` and `NoMemory` have line 0.
 #[derive(Clone, Copy, Debug, PartialEq, Eq)]
 pub struct ScriptFault {
     pub why: Why,

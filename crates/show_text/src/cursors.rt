@@ -23,11 +23,13 @@ fn without_carriage_return(line: &[u8]) -> &[u8]
     line.strip_suffix(b"\r").unwrap_or(line)
 }
 
-/// The first line and what follows it.
+/// The first line of a text that is not empty, and what follows it. A line ends with a line feed, which the last may
+/// lack, and one carriage return before it is dropped.
 #[tactic(auto, using(crate::proofs::Cuts::line_cuts))]
-fn cut_line(text: &[u8]) -> (&[u8], &[u8])
+pub fn cut_line(text: &[u8]) -> (&[u8], &[u8])
     requires { 0 < length text.now }
-    ensures { lines text.now ≡ result.0.now ∷ lines result.1.now }
+    ensures lines { lines text.now ≡ result.0.now ∷ lines result.1.now }
+    ensures shorter { length result.1.now < length text.now }
 {
     match line_feed_at(text) {
         None => (text, &[]),
@@ -57,10 +59,13 @@ fn from_word(text: &[u8]) -> &[u8]
     rest
 }
 
-/// What follows the blank behind a word, and nothing behind the last word. `None` where the word goes on.
+/// Returns the text after the blank that ends a word, and an empty text after the last word. `None`
+/// if the word has not ended.
 #[tactic(auto, using(crate::proofs::FirstWord::word_ends))]
 fn behind_blank(text: &[u8]) -> Option<&[u8]>
-    ensures { MatchOption result (ends_word text.now ≡ false) (λ rest. (word : List ℕ) → is_name word ≡ true → words_of (word ++ text.now) ≡ word ∷ words_of rest.now) }
+    ensures { MatchOption result (ends_word text.now ≡ false)
+        (λ rest. (word : List ℕ) → is_name word ≡ true
+        → words_of (word ++ text.now) ≡ word ∷ words_of rest.now) }
 {
     match text {
         [] => Some(text),
@@ -69,18 +74,22 @@ fn behind_blank(text: &[u8]) -> Option<&[u8]>
     }
 }
 
-/// What follows a word of that name that the text begins with, and the blank behind it.
+/// Returns the text after the word `name` and its blank, if the text begins with that word.
 fn behind_word<'a>(text: &'a [u8], name: &str) -> Option<&'a [u8]>
     requires name { is_name name.now ≡ true }
     requires first { begins_blank text.now ≡ false }
-    ensures { MatchOption result (is_first name.now (words_of text.now) ≡ false) (λ rest. words_of text.now ≡ name.now ∷ words_of rest.now) }
+    ensures { MatchOption result (is_first name.now (words_of text.now) ≡ false)
+        (λ rest. words_of text.now ≡ name.now ∷ words_of rest.now) }
 {
     behind_blank(text.strip_prefix(name.as_bytes())?)
 }
 
-/// The byte of a pair of digits that the text begins with, and what follows it and the blank behind it.
+/// Returns the byte of the pair of digits at the beginning of the text, and the text after it and
+/// its blank.
 fn cut_byte(text: &[u8]) -> Option<(u8, &[u8])>
-    ensures { IfSome result (λ cut. (word : List ℕ) × (words_of text.now ≡ word ∷ words_of cut.1.now) × (pair_of word ≡ Some cut.0)) }
+    ensures { IfSome result
+        (λ cut. (word : List ℕ) × (words_of text.now ≡ word ∷ words_of cut.1.now)
+        × (pair_of word ≡ Some cut.0)) }
 {
     let [high, low, behind @ ..] = text else {
         return None;
@@ -89,9 +98,12 @@ fn cut_byte(text: &[u8]) -> Option<(u8, &[u8])>
     Some((byte, behind_blank(behind)?))
 }
 
-/// The number of a single digit that the text begins with, and what follows it and the blank behind it.
+/// Returns the number of the single digit at the beginning of the text, and the text after it and
+/// its blank.
 fn cut_digit(text: &[u8]) -> Option<(u32, &[u8])>
-    ensures { IfSome result (λ cut. (word : List ℕ) × (words_of text.now ≡ word ∷ words_of cut.1.now) × (decimal_of word ≡ Some cut.0)) }
+    ensures { IfSome result
+        (λ cut. (word : List ℕ) × (words_of text.now ≡ word ∷ words_of cut.1.now)
+        × (decimal_of word ≡ Some cut.0)) }
 {
     let [digit, behind @ ..] = text else {
         return None;
@@ -102,7 +114,7 @@ fn cut_digit(text: &[u8]) -> Option<(u32, &[u8])>
     Some((u32::from(*digit - b'0'), behind_blank(behind)?))
 }
 
-/// The lines still to come. Each ends with a line feed, but for the last, which may lack it.
+/// The remaining lines. Each ends with a line feed, which the last may lack.
 #[derive(Drop)]
 pub(crate) struct Lines<'a>(pub(crate) &'a [u8]);
 
@@ -123,7 +135,7 @@ impl<'a> Iterator for Lines<'a> {
     }
 }
 
-/// The words still to come, separated by spaces and tabs.
+/// The remaining words, separated by spaces and tabs.
 #[derive(Drop)]
 pub(crate) struct Words<'a>(pub(crate) &'a [u8]);
 
@@ -135,10 +147,11 @@ impl<'a> Words<'a> {
         are_blank(self.0)
     }
 
-    /// Takes the next word where it is the one of that name.
+    /// Takes the next word if it is `name`.
     pub(crate) fn take_word(&mut self, name: &str) -> bool
         requires { is_name name.now ≡ true }
-        ensures taken { result ≡ true → words_of self.old.0.now ≡ name.now ∷ words_of self.new.0.now }
+        ensures taken { result ≡ true
+            → words_of self.old.0.now ≡ name.now ∷ words_of self.new.0.now }
         ensures left { result ≡ false → words_of self.new.0.now ≡ words_of self.old.0.now }
         ensures other { result ≡ false → is_first name.now (words_of self.old.0.now) ≡ false }
     {
@@ -151,12 +164,12 @@ impl<'a> Words<'a> {
         }
     }
 
-    /// The number of the next word.
+    /// Takes the next word as a number.
     pub(crate) fn next_number(&mut self) -> Result<u32, Why>
         ensures number { result ≡ first_number_of (words_of self.old.0.now) }
         ensures rest { words_of self.new.0.now ≡ drop 1 (words_of self.old.0.now) }
     {
-        // Nearly all numbers are one digit with one space behind it: they need no search for their end.
+        // Nearly all numbers are one digit and one space: these need no search for their end.
         if let Some((number, rest)) = cut_digit(self.0) {
             self.0 = rest;
             return Ok(number);
@@ -170,12 +183,12 @@ impl<'a> Words<'a> {
         }
     }
 
-    /// The byte of the next word, or `None` behind the last.
+    /// Takes the next word as a byte, or returns `None` after the last word.
     pub(crate) fn next_byte(&mut self) -> Result<Option<u8>, Why>
         ensures byte { result ≡ first_byte_of (words_of self.old.0.now) }
         ensures rest { words_of self.new.0.now ≡ drop 1 (words_of self.old.0.now) }
     {
-        // Nearly all words are a pair with one space behind it: they need no search for their end.
+        // Nearly all words are a pair and one space: these need no search for their end.
         if let Some((byte, rest)) = cut_byte(self.0) {
             self.0 = rest;
             return Ok(Some(byte));

@@ -12,15 +12,16 @@ use std::alloc::{AllocFailed, Global};
 /// What is wrong with hex text.
 #[derive(Clone, Copy, Debug, PartialEq, Eq)]
 pub enum HexWhy {
-    /// A word that is no two hexadecimal digits.
+    /// A word that is not two hexadecimal digits.
     BadHex,
     /// More than 1,048,576 bytes.
     TooLong,
-    /// A growth was refused.
+    /// Out of memory.
     NoMemory,
 }
 
-/// The first fault of hex text, and where its word begins, in bytes from 0. `TooLong` and `NoMemory` stand at 0.
+/// The first fault of hex text, and the offset of its word in bytes from 0. `TooLong` and
+/// `NoMemory` have offset 0.
 #[derive(Clone, Copy, Debug, PartialEq, Eq)]
 pub struct HexFault {
     pub why: HexWhy,
@@ -54,7 +55,11 @@ fn space_at(bytes: &[u8]) -> Option<usize>
 #[tactic(auto, using(crate::proofs::HexPieces::piece_cuts))]
 fn cut_piece(text: &[u8]) -> (&[u8], &[u8])
     requires { 0 < length text.now }
-    ensures pieces { (at : ℕ) → pieces_of at (slice_split is_space text.now) ≡ followed_by (piece_of at result.0.now) (pieces_of (at + (length text.now - length result.1.now)) (slice_split is_space result.1.now)) }
+    ensures pieces { (at : ℕ)
+        → pieces_of at (slice_split is_space text.now)
+        ≡ followed_by (piece_of at result.0.now)
+        (pieces_of (at + (length text.now - length result.1.now))
+        (slice_split is_space result.1.now)) }
     ensures shorter { length result.1.now < length text.now }
 {
     match space_at(text) {
@@ -63,13 +68,13 @@ fn cut_piece(text: &[u8]) -> (&[u8], &[u8])
     }
 }
 
-/// The bytes of hex text: pairs of hexadecimal digits of either case, with spaces, tabs, carriage returns and line feeds
-/// between them, one or more, and at both ends, any number.
+/// Returns the bytes of hex text: pairs of hexadecimal digits of either case, separated by one or
+/// more spaces, tabs, carriage returns and line feeds, which may also be at both ends.
 ///
-/// The first fault decides: a text longer than [`LONGEST_TEXT`], and then the first word that is no pair, with the
-/// offset from 0 of its first byte.
+/// The first fault is reported: a text longer than [`LONGEST_TEXT`], and then the first word that
+/// is not a pair, with the offset from 0 of its first byte.
 pub fn read_hex(alloc: Global, text: &[u8]) -> Result<Vec<u8>, HexFault>
-    // The bytes are those that the text says.
+    // The bytes are those of the text.
     ensures bytes { IfOk result (λ v. hex_of text.now ≡ Ok v.items) }
     // The fault is the first of the text, unless memory ran out.
     ensures fault { IfErr result (λ e. e.why ≢ NoMemory → hex_of text.now ≡ Err e) }

@@ -1,6 +1,15 @@
-//! The texts of the program: scripts and hex text that are read, and lines that are printed.
+//! The texts of the programs: scripts and hex text to read, and lines to print.
 //!
-//! Its tests stand in `library_tests/src/test_show_text.rt`.
+//! [`read_script`] parses a script into [`Command`]s, [`read_hex`] parses hex text into bytes. A
+//! [`Line`] is a line of output; [`message_line`], [`reply_line`], [`track_line`] and [`node_line`]
+//! return one.
+//!
+//! ```ignore
+//! for command in read_script(alloc, text, 1, 2)? { /* run it */ }
+//! let line = message_line(&message);  // "msg 83 7C power on"
+//! ```
+//!
+//! The tests are in `library_tests/src/test_show_text.rt`.
 #![tactic(auto)]
 
 mod command;
@@ -15,6 +24,7 @@ mod traffic;
 mod words;
 
 pub use command::{Command, ScriptFault, Why};
+pub use cursors::cut_line;
 pub use hex::{HexFault, HexWhy, read_hex};
 pub use laws::written_is_read;
 pub use line::Line;

@@ -1,16 +1,14 @@
-//! A line of text, and what is appended to it.
+//! A line of text, and the functions that append to it.
 ghost use Rattle.std.specs.Prelude.{◌≡◌, ◌≤◌, ◌+◌, ◌<◌, ◌*◌, ◌/◌, ◌%◌, ◌++◌, length, [], ◌∷◌};
 ghost use Rattle.std.specs.Fmt.{decimal};
 ghost use Rattle.arrayvec.specs.ArrayString.{array_string_len};
-ghost use Rattle.show_text.specs.Lines.{hex_byte, hex_word, hex_words, bits_text};
+ghost use Rattle.show_text.specs.Lines.{hex_word, hex_words, bits_text};
 
 use arrayvec::ArrayString;
+use ascii_words::hex_char;
 
 /// A line of text, without its line feed.
 pub type Line = ArrayString<640>;
-
-/// The digits of the numbers below 16.
-const HEX_DIGITS: [u8; 16] = *b"0123456789ABCDEF";
 
 /// Appends one ASCII byte.
 fn push_byte(line: &mut Line, byte: u8)
@@ -66,22 +64,14 @@ pub(crate) fn push_field(line: &mut Line, label: &str, n: u16)
     push_digits(line, u64::from(n));
 }
 
-fn hex_digit(n: u8) -> u8
-    requires { n < 16 }
-    ensures digit { result ≡ hex_byte n }
-    ensures ascii { result < 128 }
-{
-    HEX_DIGITS[n as usize]
-}
-
 /// Appends a byte as a space and two digits.
 fn push_hex(line: &mut Line, byte: u8)
     requires { array_string_len line.old + 3 ≤ 640 }
     ensures { line.new.bytes ≡ line.old.bytes ++ hex_word byte }
 {
     push_byte(line, b' ');
-    push_byte(line, hex_digit(byte / 16));
-    push_byte(line, hex_digit(byte % 16));
+    push_byte(line, hex_char(byte / 16));
+    push_byte(line, hex_char(byte % 16));
 }
 
 /// Appends each byte as a space and two digits.
@@ -95,7 +85,7 @@ pub(crate) fn push_bytes(line: &mut Line, bytes: &[u8])
     }
 }
 
-/// Appends the lowest bits of a number, as many as that, each as a digit, bit 0 first.
+/// Appends the lowest `count` bits of a number, each as a digit, bit 0 first.
 pub(crate) fn push_bits(line: &mut Line, bits: u16, count: u8)
     requires range { count ≤ 16 }
     requires room { array_string_len line.old + count ≤ 640 }

@@ -9,7 +9,7 @@ use crate::line::{Line, push_bytes, push_field};
 use ln_frame::Msg;
 use ln_ops::{Op, SlotFields, read};
 
-/// A label with a byte behind it.
+/// A label and a byte after it.
 fn push_byte_field(line: &mut Line, label: &str, n: u8)
     requires label { length label.now ≤ 20 }
     requires room { array_string_len line.old ≤ 615 }
@@ -19,23 +19,25 @@ fn push_byte_field(line: &mut Line, label: &str, n: u8)
     push_field(line, label, u16::from(n));
 }
 
-/// A label with an address behind it, of which a message has two halves.
+/// A label and an address after it, of which a message has two halves.
 fn push_address(line: &mut Line, label: &str, high: u8, low: u8)
     requires label { length label.now ≤ 20 }
     requires room { array_string_len line.old ≤ 615 }
-    ensures text { line.new.bytes ≡ line.old.bytes ++ (label.now ++ decimal (address_with high low)) }
+    ensures text { line.new.bytes
+        ≡ line.old.bytes ++ (label.now ++ decimal (address_with high low)) }
     ensures len { array_string_len line.new ≤ array_string_len line.old + length label.now + 5 }
 {
     push_field(line, label, u16::from(high) * 128 + u16::from(low));
 }
 
-/// Two labels, each with a byte behind it.
+/// Two labels, each with a byte after it.
 fn push_pair(line: &mut Line, first: &str, n: u8, second: &str, m: u8)
     requires first { length first.now ≤ 20 }
     requires second { length second.now ≤ 20 }
     requires room { array_string_len line.old ≤ 590 }
     ensures text { line.new.bytes ≡ line.old.bytes ++ pair_text first.now n second.now m }
-    ensures len { array_string_len line.new ≤ array_string_len line.old + length first.now + length second.now + 10 }
+    ensures len { array_string_len line.new
+        ≤ array_string_len line.old + length first.now + length second.now + 10 }
 {
     push_byte_field(line, first, n);
     push_byte_field(line, second, m);
@@ -52,7 +54,7 @@ fn push_switch(line: &mut Line, label: &str, number: u16, closed: bool, on: bool
     line.push_str(if on { " on" } else { " off" });
 }
 
-/// The bytes of a slot, each behind its name, but for the address, which ADR2 and ADR spell.
+/// The bytes of a slot, each after its name, except the address, which ADR2 and ADR hold.
 fn push_fields(line: &mut Line, fields: &SlotFields)
     requires { array_string_len line.old ≤ 400 }
     ensures { line.new.bytes ≡ line.old.bytes ++ fields_text fields.now }
@@ -65,7 +67,7 @@ fn push_fields(line: &mut Line, fields: &SlotFields)
     push_pair(line, " ids ", fields.id1, " ", fields.id2);
 }
 
-/// `imm C` and the bytes that the message has for a packet, of which C are meant.
+/// `imm C` and the packet bytes of the message, of which the first C count.
 fn push_packet(line: &mut Line, count: u8, bytes: [u8; 5])
     requires { array_string_len line.old ≤ 590 }
     ensures { line.new.bytes ≡ line.old.bytes ++ packet_text count bytes }
@@ -74,7 +76,7 @@ fn push_packet(line: &mut Line, count: u8, bytes: [u8; 5])
     push_bytes(line, &bytes);
 }
 
-/// What an operation of two numbers asks or tells.
+/// Appends the text of an operation of two numbers.
 fn push_pair_op(line: &mut Line, op: Op)
     requires pair { is_pair op ≡ true }
     requires room { array_string_len line.old ≤ 590 }
@@ -91,7 +93,7 @@ fn push_pair_op(line: &mut Line, op: Op)
     }
 }
 
-/// What the message asks or tells.
+/// Appends the text of the message's operation.
 fn push_op(line: &mut Line, op: Op)
     requires { array_string_len line.old ≤ 385 }
     ensures { line.new.bytes ≡ line.old.bytes ++ op_text op }
@@ -125,8 +127,8 @@ fn push_op(line: &mut Line, op: Op)
     }
 }
 
-/// `msg`, the bytes of the message in upper-case hexadecimal digits, and what it asks or tells, in words and decimal
-/// numbers, or `other` where it is no known message.
+/// Returns `msg`, the bytes of the message in upper-case hexadecimal digits, and its operation in
+/// words and decimal numbers, or `other` if the message is unknown.
 pub fn message_line(message: &Msg) -> Line
     ensures { result.bytes ≡ message_text message.now }
 {

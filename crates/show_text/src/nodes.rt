@@ -1,7 +1,7 @@
 //! Lines of decoders.
 ghost use Rattle.std.specs.Prelude.{◌≡◌, ◌≤◌, ◌+◌, ◌++◌, length, codes};
 ghost use Rattle.arrayvec.specs.ArrayString.{array_string_len};
-ghost use Rattle.show_text.specs.Nodes.{IsToldOf, number_of, address_text, motion_text, direction_text, loco_text, accessory_text, node_text};
+ghost use Rattle.show_text.specs.Nodes.{IsStateOf, number_of, address_text, motion_text, direction_text, loco_text, accessory_text, node_text};
 
 use crate::line::{Line, push_bits, push_field};
 use dcc_packet::{Address, Module, Motion, Steps};
@@ -26,7 +26,7 @@ fn push_address(line: &mut Line, address: Address)
     }
 }
 
-/// How many steps they are called.
+/// The number of steps that is printed.
 fn number_of(steps: Steps) -> u16
     ensures { result ≡ number_of steps }
 {
@@ -80,15 +80,16 @@ fn push_accessory(line: &mut Line, own: Module, outputs: u8)
     push_bits(line, u16::from(outputs), OUTPUTS);
 }
 
-/// `node NAME` and how the decoder of that name stands: `short A MOTION DIR F fffffffffffff` for a locomotive, or `long A`
-/// with a long address, and `module M outputs oooooooo` for an accessory decoder.
+/// Returns `node NAME` and the state of the decoder of that name:
+/// `short A MOTION DIR F fffffffffffff` for a locomotive, or `long A` with a long address, and
+/// `module M outputs oooooooo` for an accessory decoder.
 ///
-/// The name has at most 16 bytes. Of a locomotive `running` is given, of an accessory decoder `outputs`, and not the
-/// other. MOTION is `stop`, `emergency` or `step N of M`, DIR is `forward` or `reverse`; the digits are the functions F0
-/// to F12 and the outputs 0 to 7, 1 for one that is on.
+/// The name has at most 16 bytes. `running` is given for a locomotive and `outputs` for an
+/// accessory decoder, never both. MOTION is `stop`, `emergency` or `step N of M`, DIR is `forward`
+/// or `reverse`; the digits are the functions F0 to F12 and the outputs 0 to 7, 1 if on.
 pub fn node_line(name: &str, spec: &NodeSpec, running: Option<Running>, outputs: Option<u8>) -> Line
     requires name { length name.now ≤ 16 }
-    requires told { IsToldOf spec.now running outputs }
+    requires kind { IsStateOf spec.now running outputs }
     ensures { result.bytes ≡ node_text name.now spec.now running outputs }
 {
     let mut line = Line::new();

@@ -12,7 +12,7 @@ use std::alloc::Global;
 /// The longest script or hex text, in bytes.
 pub const LONGEST_TEXT: usize = 1_048_576;
 
-/// The most turns that one line may ask for.
+/// The most turns that one line may request.
 const MOST_TURNS: u32 = 1_000_000;
 
 /// A number of turns.
@@ -25,7 +25,7 @@ fn count(number: u32) -> Result<u32, Why>
     }
 }
 
-/// A number below `limit`, which else is `why`.
+/// Returns a number below `limit`, or the fault `why`.
 fn number_below(number: u32, limit: u8, why: Why) -> Result<u8, Why>
     ensures { result ≡ (if nat_lt number limit then Ok number else Err why) }
 {
@@ -46,7 +46,7 @@ fn node_number(word: &[u8], nodes: u8) -> Result<u8, Why>
     number_below(number, nodes, Why::BadNode)
 }
 
-/// Puts a command after the others.
+/// Appends a command.
 fn push_command(commands: &mut Vec<Command>, command: Command) -> Result<(), Why>
     ensures { Adds commands.old.items commands.new.items result (Ok (command ∷ [])) }
 {
@@ -56,7 +56,8 @@ fn push_command(commands: &mut Vec<Command>, command: Command) -> Result<(), Why
 /// The bytes that the words write.
 #[tactic(auto, using(crate::proofs::Reading::byte_steps), unfolding(crate::specs::Script::bytes_of))]
 fn push_bytes(line: u8, mut words: Words<'_>, commands: &mut Vec<Command>) -> Result<(), Why>
-    ensures { Adds commands.old.items commands.new.items result (bytes_of line (words_of words.entry.0.now)) }
+    ensures { Adds commands.old.items commands.new.items result
+        (bytes_of line (words_of words.entry.0.now)) }
 {
     while let Some(byte) = words.next_byte()? {
         push_command(commands, Command::Byte { line, byte })?;
@@ -66,7 +67,8 @@ fn push_bytes(line: u8, mut words: Words<'_>, commands: &mut Vec<Command>) -> Re
 
 /// The bytes of a line, one or more.
 fn push_some_bytes(line: u8, words: Words<'_>, commands: &mut Vec<Command>) -> Result<(), Why>
-    ensures { Adds commands.old.items commands.new.items result (some_bytes line (words_of words.entry.0.now)) }
+    ensures { Adds commands.old.items commands.new.items result
+        (some_bytes line (words_of words.entry.0.now)) }
 {
     if words.is_empty() {
         return Err(Why::BadWord);
@@ -77,7 +79,8 @@ fn push_some_bytes(line: u8, words: Words<'_>, commands: &mut Vec<Command>) -> R
 /// The number of a line, and its bytes.
 #[tactic(auto, using(crate::proofs::FirstWord::line_steps))]
 fn push_line(mut words: Words<'_>, lines: u8, commands: &mut Vec<Command>) -> Result<(), Why>
-    ensures { Adds commands.old.items commands.new.items result (line_of lines (words_of words.entry.0.now)) }
+    ensures { Adds commands.old.items commands.new.items result
+        (line_of lines (words_of words.entry.0.now)) }
 {
     let line = number_below(words.next_number()?, lines, Why::BadLine)?;
     push_some_bytes(line, words, commands)
@@ -96,7 +99,7 @@ fn named_nodes(words: Words<'_>, nodes: u8) -> Result<u64, Why>
     Ok(named)
 }
 
-/// The nodes that the words behind a number of turns name.
+/// Returns the set of the nodes named by the words after a number of turns.
 #[tactic(auto, using(crate::proofs::FirstWord::missed_steps))]
 fn missing_nodes(mut words: Words<'_>, nodes: u8) -> Result<u64, Why>
     requires { nodes ≤ 64 }
@@ -116,7 +119,8 @@ fn missing_nodes(mut words: Words<'_>, nodes: u8) -> Result<u64, Why>
 #[tactic(auto, using(crate::proofs::FirstWord::turn_steps))]
 fn push_turns(mut words: Words<'_>, nodes: u8, commands: &mut Vec<Command>) -> Result<(), Why>
     requires { nodes ≤ 64 }
-    ensures { Adds commands.old.items commands.new.items result (turn_of nodes (words_of words.entry.0.now)) }
+    ensures { Adds commands.old.items commands.new.items result
+        (turn_of nodes (words_of words.entry.0.now)) }
 {
     let number = words.next_number()?;
     match (count(number), missing_nodes(words, nodes)) {
@@ -125,9 +129,10 @@ fn push_turns(mut words: Words<'_>, nodes: u8, commands: &mut Vec<Command>) -> R
     }
 }
 
-/// Nothing more.
+/// Fails if there is a further word.
 fn push_show(words: Words<'_>, commands: &mut Vec<Command>) -> Result<(), Why>
-    ensures { Adds commands.old.items commands.new.items result (show_of (words_of words.entry.0.now)) }
+    ensures { Adds commands.old.items commands.new.items result
+        (show_of (words_of words.entry.0.now)) }
 {
     if !words.is_empty() {
         return Err(Why::BadWord);
@@ -135,7 +140,7 @@ fn push_show(words: Words<'_>, commands: &mut Vec<Command>) -> Result<(), Why>
     push_command(commands, Command::Show)
 }
 
-/// Puts what a line says after the commands, by its first word.
+/// Appends the commands of a line, by its first word.
 #[tactic(auto, using(crate::proofs::FirstWord::command_steps))]
 fn push_commands(
     mut words: Words<'_>,
@@ -144,7 +149,8 @@ fn push_commands(
     commands: &mut Vec<Command>,
 ) -> Result<(), Why>
     requires { nodes ≤ 64 }
-    ensures { Adds commands.old.items commands.new.items result (command_of lines nodes (words_of words.entry.0.now)) }
+    ensures { Adds commands.old.items commands.new.items result
+        (command_of lines nodes (words_of words.entry.0.now)) }
 {
     if words.take_word("line") {
         push_line(words, lines, commands)
@@ -166,7 +172,8 @@ fn push_line_commands(
     commands: &mut Vec<Command>,
 ) -> Result<(), Why>
     requires { nodes ≤ 64 }
-    ensures { Adds commands.old.items commands.new.items result (line_commands lines nodes line.now) }
+    ensures { Adds commands.old.items commands.new.items result
+        (line_commands lines nodes line.now) }
 {
     if line.starts_with(b"#".as_slice()) {
         return Ok(());
@@ -184,12 +191,14 @@ fn fault_at(why: Why, line: u64) -> ScriptFault
     }
 }
 
-/// The commands of a script, for a station with so many lines and a layout with so many nodes, at most 64.
+/// Returns the commands of a script, for a station with `lines` lines and a layout with `nodes`
+/// nodes, at most 64.
 ///
-/// A line of the script is `line L HH HH ..`, one or more bytes on line L, `turn N`, N turns, `turn N miss I I ..`, N
-/// turns that the named nodes miss, one or more, or `show`. Lines without words and lines that begin with `#` say
-/// nothing. The first fault decides: a text longer than [`LONGEST_TEXT`], then each word from left to right, where a
-/// missing word counts at the end of its line.
+/// A line of the script is `line L HH HH ..`, one or more bytes on line L; `turn N`, N turns;
+/// `turn N miss I I ..`, N turns that the one or more named nodes miss; or `show`. Lines without
+/// words and lines that begin with `#` are ignored. The first fault is reported: a text longer than
+/// [`LONGEST_TEXT`], then each word from left to right, where a missing word is reported at the end
+/// of its line.
 pub fn read_script(
     alloc: Global,
     text: &[u8],
@@ -197,7 +206,7 @@ pub fn read_script(
     nodes: u8,
 ) -> Result<Vec<Command>, ScriptFault>
     requires { nodes ≤ 64 }
-    // The commands are those that the text says.
+    // The commands are those of the text.
     ensures commands { IfOk result (λ v. script_of lines nodes text.now ≡ Ok v.items) }
     // The fault is the first of the text, unless memory ran out.
     ensures fault { IfErr result (λ e. e.why ≢ NoMemory → script_of lines nodes text.now ≡ Err e) }

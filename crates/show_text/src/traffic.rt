@@ -31,8 +31,8 @@ fn push_turn(text: &mut Line, turn: u64)
     push_count(text, turn);
 }
 
-/// Appends `track T` and the bytes of the packet that turn T sent, in upper-case hexadecimal digits. There must be room
-/// for the longest such text, of 44 bytes.
+/// Appends `track T` and the bytes of the packet that turn T sent, in upper-case hexadecimal
+/// digits. There must be room for the longest such text, of 44 bytes.
 pub fn push_track(text: &mut Line, turn: u64, packet: &Packet)
     requires { array_string_len text.old + 44 ≤ 640 }
     ensures text { text.new.bytes ≡ text.old.bytes ++ track_text turn packet.now }
@@ -51,8 +51,8 @@ pub fn track_line(turn: u64, packet: &Packet) -> Line
     text
 }
 
-/// Appends `track T off`: turn T sent nothing, as the power is off. There must be room for the longest such text, of 30
-/// bytes.
+/// Appends `track T off`: turn T sent nothing, as the power is off. There must be room for the
+/// longest such text, of 30 bytes.
 pub fn push_off(text: &mut Line, turn: u64)
     requires { array_string_len text.old + 30 ≤ 640 }
     ensures text { text.new.bytes ≡ text.old.bytes ++ off_text turn }

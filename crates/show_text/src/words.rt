@@ -1,4 +1,4 @@
-//! What single words say.
+//! The values of single words.
 ghost use Rattle.std.specs.Prelude.{◌≡◌, true};
 ghost use Rattle.std.specs.Char.{is_ascii_digit};
 ghost use Rattle.std.specs.List.{list_all};
@@ -30,7 +30,7 @@ fn decimal_value(word: &[u8]) -> u32
     value
 }
 
-/// The number that one to seven decimal digits write.
+/// Returns the number written by one to seven decimal digits.
 pub fn decimal(word: &[u8]) -> Option<u32>
     ensures { result ≡ decimal_of word.now }
 {

@@ -2,7 +2,7 @@ use Rattle.std.proofs.Common.{◌≡◌, length}
 use Rattle.input_text.proofs.Fronts.{HasWritten}
 use Rattle.input_text.proofs.writing.put_all.Given as goal
 
--- a front was written, the rest is to come, and nothing failed
+-- a prefix has been written, the rest is still to be written, and no write has failed
 abbrev pub invariant-loop-rest : goal.invariant-loop-rest
 invariant-loop-rest g l = record {
   written : HasWritten (g.O.Sink.held l.initial.output) (g.O.Sink.held l.output) l.bytes l.rest;

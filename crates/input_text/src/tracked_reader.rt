@@ -1,4 +1,4 @@
-//! A reader as an input.
+//! A reader as an [`Input`].
 ghost use Rattle.std.specs.Prelude.{◌≡◌, ◌<◌, ◌≤◌, ◌+◌, ◌^◌, false, length, IfOk};
 ghost use Rattle.std.specs.Io.KnownBytes.{ReadConsumes};
 ghost use Rattle.input_text.specs.Read.{count_in, has_failed};
@@ -6,23 +6,23 @@ ghost use Rattle.input_text.specs.Read.{count_in, has_failed};
 use crate::input::{Input, ReadFault};
 use std::io::{ErrorKind, Read};
 
-/// A reader that notes whether a read of it failed.
+/// A reader that records whether a read of it failed.
 #[derive(Drop)]
-pub struct Noting<R> {
+pub struct TrackedReader<R> {
     reader: R,
     given: u64,
     failed: bool,
 }
 
-impl<R> Noting<R> {
-    ghost use Rattle.input_text.specs.Noting.{noting_failed, noting_reader};
+impl<R> TrackedReader<R> {
+    ghost use Rattle.input_text.specs.TrackedReader.{read_failed, tracked_reader_of};
 
-    /// An input over this reader, of which no read failed.
-    pub fn new(reader: R) -> Noting<R>
-        ensures reader { noting_reader result ≡ reader }
-        ensures failed { noting_failed result ≡ false }
+    /// Creates an input over this reader, with no failed read.
+    pub fn new(reader: R) -> TrackedReader<R>
+        ensures reader { tracked_reader_of result ≡ reader }
+        ensures failed { read_failed result ≡ false }
     {
-        Noting {
+        TrackedReader {
             reader,
             given: 0,
             failed: false,
@@ -30,7 +30,7 @@ impl<R> Noting<R> {
     }
 }
 
-/// What one read gives, as much as comes at once. A read that was only interrupted is tried again.
+/// Reads the bytes available, in one read. An interrupted read is repeated.
 fn read_some<R: Read>(reader: &mut R, buf: &mut [u8]) -> Result<usize, ReadFault>
     requires room { 0 < length buf.old }
     ensures bound { IfOk result (λ n. n ≤ length buf.new) }
@@ -49,7 +49,7 @@ fn read_some<R: Read>(reader: &mut R, buf: &mut [u8]) -> Result<usize, ReadFault
     Err(ReadFault::Failed)
 }
 
-/// Whether a read failed, for another reason than want of memory.
+/// Whether a read failed for a reason other than memory.
 fn is_failure(answer: &Result<usize, ReadFault>) -> bool
     ensures { result ≡ has_failed answer.now }
 {
@@ -59,12 +59,13 @@ fn is_failure(answer: &Result<usize, ReadFault>) -> bool
     }
 }
 
-impl<R: Read> Noting<R> {
-    /// One read, which is counted. It fails where the count might come to 2^64.
+impl<R: Read> TrackedReader<R> {
+    /// Reads once and counts the bytes. Fails if the count could reach 2^64.
     fn read_counted(&mut self, buf: &mut [u8]) -> Result<usize, ReadFault>
         requires room { 0 < length buf.old }
         ensures bound { IfOk result (λ n. n ≤ length buf.new) }
-        ensures bytes { ReadConsumes (R.remaining self.old.reader) (R.remaining self.new.reader) result buf.new }
+        ensures bytes { ReadConsumes (R.remaining self.old.reader) (R.remaining self.new.reader)
+            result buf.new }
         ensures counted { self.new.given ≡ self.old.given + count_in result }
         ensures within { IfOk result (λ _. self.new.given < 2 ^ 64) }
     {
@@ -77,7 +78,7 @@ impl<R: Read> Noting<R> {
     }
 }
 
-impl<R: Read> Input for Noting<R> {
+impl<R: Read> Input for TrackedReader<R> {
     ghost left = { λ n. R.remaining n.reader };
 
     ghost failed = { λ n. n.failed };

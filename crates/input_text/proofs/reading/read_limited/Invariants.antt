@@ -1,8 +1,8 @@
 use Rattle.std.proofs.Common.{◌≡◌, ◌≤◌, ◌-◌, vec_len, false}
 use Rattle.std.specs.Io.KnownBytes.{Consumes}
-use Rattle.input_text.proofs.reading.read_most.Given as goal
+use Rattle.input_text.proofs.reading.read_limited.Given as goal
 
--- what was taken so far, and no read failed
+-- the bytes read so far; no read has failed
 abbrev pub invariant-loop-chunk : goal.invariant-loop-chunk
 invariant-loop-chunk g l = record {
   most : vec_len l.bytes ≤ l.limit;
