@@ -1,4 +1,4 @@
--- What stands for the options of `lbserver` where none is given.
+-- The defaults of the options of `lbserver`.
 use Rattle.std.proofs.Common.{◌≡◌, ℕ, Bool, true, false, List, [], ◌∷◌, Option, Some, None, codes, refl, ap, sym, subst, ◌∙◌, map, lit<, lit≤, decimal, ◌++◌}
 use Rattle.std.specs.Prelude.{Result, Ok, Err, IfOk}
 use Rattle.std.specs.Borrow.{Bor}
@@ -14,7 +14,7 @@ use Rattle.command_line.specs.CommandLine.{roster_rule}
 use Rattle.command_line.specs.Order.{IsNumber, Writes, number_of}
 use Rattle.command_line.specs.ServerLine.{IsAddress, IsDefaultOrder, IsFlag, IsNumberIfGiven, IsServerOrder, address_rule, port_rule, turns_rule, clients_rule, track_rule, page_rule, page_file_rule, lose_rule, seed_rule, bare_server_app, listening_app, paced_app, shown_app, server_app}
 
--- what clap's matches hold where there are no words
+-- clap's matches of no arguments
 record HasDefaults (rows : List Row) : Type 0 where
   pub address : one_of (codes "address") rows ≡ Some (codes "127.0.0.1")
   pub port : one_of (codes "port") rows ≡ Some (codes "1234")

@@ -1,4 +1,4 @@
--- Why words are no order.
+-- Why arguments are not an order.
 use Rattle.std.proofs.Common.{◌≡◌, ◌≢◌, ◌⊎◌, ◌↔◌, inl, inr, ◌==◌, ℕ, false, List, [], ◌∷◌, Option, Some, None, Result, Ok, Err, length, map, refl, sym, subst}
 use Rattle.std.specs.Prelude.{IfErr, IsErrAnd, bytes_eq, is_none, find, option_and_then, option_map, slice_get}
 use Rattle.std.specs.Borrow.{Bor}
@@ -21,7 +21,7 @@ is_memory : (kind : ErrorKind) → (kind ≡ OutOfMemory) ⊎ (kind ≢ OutOfMem
 is_memory OutOfMemory = inl refl
 is_memory _ = inr (λ e. cc)
 
--- what is made of an error of clap
+-- the fault of an error of clap
 of_clap : {A : Type 0} (kinds : Kinds) (Is : A → Type 0) (error : Error) (fault : OrderFault) → IsOfClap error fault → HasKind kinds error → IsFaultOf kinds Is fault
 of_clap {A} kinds Is error fault made has = elim (is_memory (kind_of error)) [
   | inl memory ↦ subst (IsFaultOf kinds Is) (sym (made.0 memory)) tt
@@ -35,13 +35,13 @@ pub of_refusal : {A : Type 0} (kinds : Kinds) (Is : A → Type 0) (error : Error
 of_refusal {A} kinds Is error (Ok a) made has = tt
 of_refusal {A} kinds Is error (Err fault) made has = of_clap kinds Is error fault made has
 
--- where there is none of what the matches are to hold
+-- if the matches lack a required value
 pub of_matches : {A : Type 0} (kinds : Kinds) (Is Matched : A → Type 0) (r : Result A OrderFault) → ((a : A) → Is a → Matched a) → IfErr r (IsUnmatched Matched) → IfErr r (IsFaultOf kinds Is)
 of_matches {A} kinds Is Matched (Ok a) matched none = tt
 of_matches {A} kinds Is Matched (Err NoMemory) matched none = tt
 of_matches {A} kinds Is Matched (Err (Usage error)) matched none = inr (λ a is. none a (matched a is))
 
--- some words are put to clap, and their order is what its matches hold
+-- arguments are passed to clap, and their order is what its matches hold
 pub put_to_clap : (words : List (Bor Text)) → (length words == 0) ≡ false → fault_of station_app (map (λ word. word.now) words) ≡ refusals (map (λ word. word.now) words)
 put_to_clap [] some = cc
 put_to_clap (word ∷ words) some = refl
@@ -67,7 +67,7 @@ pub text_is_one : (id : Text) (rows : List Row) (r : Option (Bor Text)) → is_n
 text_is_one id rows None some same = cc
 text_is_one id rows (Some text) some same = first_is_one id rows text.now (sym same)
 
--- an option that is given and is no number in its range
+-- an option that is given and is not a number in its range
 pub none_given : (o : Option Text) (least most : ℕ) (fault : OrderFault) → o ≢ None → HasNone (IsNumber o least most) → IsUnmatched (IsNumberIfGiven o least most) fault
 none_given o least most NoMemory some none = tt
 none_given None least most (Usage error) some none = absurd (some refl)
@@ -77,8 +77,8 @@ none_given (Some text) least most (Usage error) some none = by_given
     by_given None is = is
     by_given (Some n) is = none n is
 
--- where there is none of a part, there is none of the whole
-pub none_of_part : {A B : Type 0} (Part : A → Type 0) (Whole : B → Type 0) (r : Result B OrderFault) (fault : OrderFault) → IsErrAnd r (λ passed. passed ≡ fault) → ((b : B) → Whole b → (a : A) × Part a) → IsUnmatched Part fault → IfErr r (IsUnmatched Whole)
+-- if a part is missing, the whole is missing
+pub none_of_part : {A B : Type 0} (Part : A → Type 0) (Whole : B → Type 0) (r : Result B OrderFault) (fault : OrderFault) → IsErrAnd r (λ actual. actual ≡ fault) → ((b : B) → Whole b → (a : A) × Part a) → IsUnmatched Part fault → IfErr r (IsUnmatched Whole)
 none_of_part {A} {B} Part Whole (Ok b) fault same part none = tt
 none_of_part {A} {B} Part Whole (Err NoMemory) fault same part none = tt
 none_of_part {A} {B} Part Whole (Err (Usage error)) NoMemory same part none = absurd cc

@@ -1,4 +1,4 @@
--- What clap's getters read, as what its matches hold.
+-- The results of clap's getters, by what its matches hold.
 use Rattle.std.specs.Prelude.{◌≡◌, ℕ, List, refl, MatchOption, Option, None, Some, Result, Ok, Err}
 use Rattle.clap.specs.declared.parser.matches.Found.{Found}
 use Rattle.clap.specs.Words.{ReadsOne, Text, first_of, first_value, rows_of}
@@ -8,7 +8,7 @@ use Rattle.command_line.specs.Order.{HasNone}
 pub first_in_rows : (found : Found) (id : Text) → first_value found id ≡ first_of id (rows_of found)
 first_in_rows = first_value-rows
 
--- what a getter reads of a text, by cases on what it answers
+-- the result of a getter for a text, by cases
 pub read_one : {T E : Type 0} (gives : List ℕ → Result T E → Type 0) (Holds : Option Text → T → Type 0) (o : Option Text) (r : Option T)
     → (o ≡ None → r ≡ None) → ((t : Text) → o ≡ Some t → ReadsOne gives t r)
     → ((t : Text) (v : T) → gives t (Ok v) → Holds (Some t) v) → ((t : Text) (e : E) → gives t (Err e) → HasNone (Holds (Some t))) → HasNone (Holds None)

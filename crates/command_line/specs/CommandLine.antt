@@ -7,7 +7,7 @@ use Rattle.clap.specs.declared.builder.ArgAction.TheVariants.{Set}
 use Rattle.clap.specs.declared.builder.value_parser.ValueParser.TheVariants as vp
 use Rattle.clap.specs.declared.parser.matches.ArgMatches.{ArgMatches}
 
--- a value that stands at its place
+-- a value at its position
 abbrev pub value : Text → Rule
 value id = record (new_rule id) { value_names = 1; action = Some Set }
 
@@ -19,7 +19,7 @@ option id = record (value id) { long = Some id }
 abbrev pub number : Text → ℕ → ℕ → Rule
 number id least most = record (option id) { parser = Some (vp.Signed (pos least) (pos most)) }
 
--- what stands for an option that is not given
+-- the default of an option
 abbrev pub or_else : Rule → Text → Rule
 or_else rule text = record rule { defaults = text ∷ [] }
 
@@ -49,7 +49,7 @@ reads_rule = or_else (number (codes "reads") 1 4294967295) (codes "100000")
 unfoldable pub connections_rule : Rule
 connections_rule = or_else (number (codes "connections") 1 1000) (codes "1")
 
--- What is said of a command that is being built: nothing, if memory gave out.
+-- The fact about a command being built: none if memory ran out.
 
 abbrev pub HasApp : {E : Type 0} → Result Command E → App → Type 0
 HasApp draft app = IfOk draft (λ c. app_of c ≡ app)
@@ -57,7 +57,7 @@ HasApp draft app = IfOk draft (λ c. app_of c ≡ app)
 abbrev pub HasNoGlobals : {E : Type 0} → Result Command E → Type 0
 HasNoGlobals draft = IfOk draft (λ c. (fields_of c).has_globals ≡ false)
 
--- what clap's matches of the words hold, of the command and of the subcommand that they enter
+-- clap's matches of the arguments: those of the command and of its subcommand
 abbrev pub HasRows : App → List Text → ArgMatches → Type 0
 HasRows app words m = (rows_of (found_of m) ≡ matches_of app words) × (subcommand_rows_of m ≡ subcommand_of app words)
 
@@ -75,7 +75,7 @@ served_app = with_rule (with_rule (new_app (codes "serve")) port_rule) roster_ru
 unfoldable pub serve_app : App
 serve_app = with_rule (with_rule (with_rule served_app turns_rule) reads_rule) connections_rule
 
--- the program's own words come without its name, and a command is wanted
+-- the program's arguments do not include its name, and a command is required
 unfoldable pub bare_app : App
 bare_app = record (new_app (codes "station")) { top = record (new_app (codes "station")).top { no_binary_name = true; subcommand_required = true } }
 

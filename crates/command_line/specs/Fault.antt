@@ -1,4 +1,4 @@
--- Why words are no order.
+-- Why arguments are not an order.
 use Rattle.std.specs.Prelude.{◌≡◌, ◌≢◌, ◌⊎◌, List, [], ◌∷◌}
 use Rattle.clap.specs.Kinds.{Kinds, IsAmong}
 use Rattle.clap.specs.Values.{kind_of}
@@ -12,26 +12,27 @@ use Rattle.command_line.specs.CommandLine.{station_app}
 use Rattle.command_line.specs.Order.{HasNone, IsOrderOf}
 use Rattle.command_line.specs.ServerLine.{IsServerOrderOf, server_app}
 
--- what is made of an error of clap
+-- the fault of an error of clap
 abbrev pub IsOfClap : Error → OrderFault → Type 0
 IsOfClap error fault = (kind_of error ≡ OutOfMemory → fault ≡ NoMemory) × (kind_of error ≢ OutOfMemory → fault ≡ Usage error)
 
--- of want of memory nothing is said; else the error is of this kind
+-- nothing if out of memory; otherwise the error is of this kind
 abbrev pub IsOfKind : ErrorKind → OrderFault → Type 0
 IsOfKind kind (Usage error) = kind_of error ≡ kind
 IsOfKind kind NoMemory = Unit {0}
 
--- of want of memory nothing is said; else there is none of what is asked for
+-- nothing if out of memory; otherwise a required value is missing
 abbrev pub IsUnmatched : {A : Type 0} → (A → Type 0) → OrderFault → Type 0
 IsUnmatched Is (Usage error) = HasNone Is
 IsUnmatched Is NoMemory = Unit {0}
 
--- for what clap refuses the words; no words are not put to it
+-- the errors for which clap rejects the arguments; an empty list is not passed to it
 abbrev pub refusals : List Text → Kinds
 refusals [] = []
 refusals (word ∷ words) = fault_of station_app (word ∷ words)
 
--- of want of memory nothing is said; else clap refuses the words, for one of these, or no order is what its matches hold
+-- nothing if out of memory; otherwise clap rejects the arguments for one of these errors, or no
+-- order corresponds to its matches
 abbrev pub IsFaultOf : {A : Type 0} → Kinds → (A → Type 0) → OrderFault → Type 0
 IsFaultOf kinds Is (Usage error) = IsAmong (kind_of error) kinds ⊎ HasNone Is
 IsFaultOf kinds Is NoMemory = Unit {0}

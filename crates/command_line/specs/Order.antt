@@ -1,4 +1,4 @@
--- What the words of the command line ask for: what clap's matches of them hold.
+-- The order of a command line: what clap's matches of its arguments hold.
 use Rattle.std.specs.Prelude.{ℕ, ◌≡◌, ◌≤◌, ◌<◌, ◌^◌, List, [], ◌∷◌, codes, Option, Some, None}
 use Rattle.std.specs.Str.Parse.{IsNumeral, digits_value, without_leading_plus}
 use Rattle.clap.specs.Words.{Row, Text, first_of, one_of, subcommand_of}
@@ -14,16 +14,16 @@ HasNone {A} Is = (a : A) → Is a → ⊥
 abbrev pub number_of : Text → ℕ
 number_of text = digits_value 10 (without_leading_plus text)
 
--- the text that is read is a numeral, of this number
+-- the text is a numeral with this value
 abbrev pub Writes : Option Text → ℕ → Type 0
 Writes (Some text) n = IsNumeral 10 (without_leading_plus text) × (n ≡ number_of text)
 Writes None n = ⊥
 
--- it is of no number of 32 bits
+-- the text is not a 32-bit number
 abbrev pub WritesNone : Option Text → Type 0
 WritesNone text = (n : ℕ) → n < 2 ^ 32 → Writes text n → ⊥
 
--- n is what the value of this option writes, and in its range
+-- n is the value of this option, and in its range
 pub record IsNumber (text : Option Text) (least most n : ℕ) : Type 0 where
   pub written : Writes text n
   pub at_least : least ≤ n
@@ -46,7 +46,7 @@ abbrev pub IsMatched : Option (Text × List Row) → Order → Type 0
 IsMatched (Some command) order = IsOrder command.0 command.1 order
 IsMatched None order = ⊥
 
--- no words stand for `replay` as it is without options
+-- no arguments mean `replay` without options
 abbrev pub IsOrderOf : List Text → Order → Type 0
 IsOrderOf [] order = order ≡ Replay 1 None
 IsOrderOf (word ∷ words) order = IsMatched (subcommand_of station_app (word ∷ words)) order

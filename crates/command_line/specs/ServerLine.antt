@@ -1,4 +1,5 @@
--- The command line of `lbserver`, as clap reads it, and what its words ask for: what clap's matches of them hold.
+-- The command line of `lbserver`, as clap reads it, and its order: what clap's matches of its
+-- arguments hold.
 use Rattle.std.specs.Prelude.{◌≡◌, ℕ, List, codes, Bool, if◌then◌else◌, Option, Some, None, true, false, [], ◌∷◌}
 use Rattle.std.specs.Net.Addr.{ipv4_octets}
 use Rattle.std.specs.Net.Grammar.{IsIpv4Text}
@@ -9,7 +10,7 @@ use Rattle.command_line.specs.declared.words.ServerOrder.{ServerOrder}
 use Rattle.command_line.specs.CommandLine.{number, option, or_else, roster_rule}
 use Rattle.command_line.specs.Order.{IsNumber}
 
--- The options. An option that is not given has what stands for it, if something does.
+-- The options. An option that is not given has its default, if there is one.
 
 unfoldable pub address_rule : Rule
 address_rule = or_else (option (codes "address")) (codes "127.0.0.1")
@@ -39,7 +40,7 @@ page_rule = number (codes "page") 1 65535
 unfoldable pub page_file_rule : Rule
 page_file_rule = option (codes "page-file")
 
--- The program, whose own words come without its name.
+-- The program, whose arguments do not include its name.
 
 unfoldable pub bare_server_app : App
 bare_server_app = record (new_app (codes "lbserver")) { top = record (new_app (codes "lbserver")).top { no_binary_name = true } }
@@ -56,14 +57,14 @@ shown_app = with_rule (with_rule (with_rule paced_app track_rule) page_rule) pag
 unfoldable pub server_app : App
 server_app = with_rule (with_rule shown_app lose_rule) seed_rule
 
--- What the words ask for.
+-- The order of the arguments.
 
 -- the address that the value of an option writes
 abbrev pub IsAddress : Option Text → Ipv4Addr → Type 0
 IsAddress (Some text) address = IsIpv4Text text address
 IsAddress None address = ⊥
 
--- the number of an option that may be left out
+-- the number of an optional option
 abbrev pub IsNumberIfGiven : Option Text → (least most : ℕ) → Option ℕ → Type 0
 IsNumberIfGiven None least most given = given ≡ None
 IsNumberIfGiven (Some text) least most None = ⊥
@@ -88,7 +89,7 @@ pub record IsServerOrder (rows : List Row) (order : ServerOrder) : Type 0 where
 abbrev pub IsServerOrderOf : List Text → ServerOrder → Type 0
 IsServerOrderOf words order = IsServerOrder (matches_of server_app words) order
 
--- what stands for the options where none is given: this machine alone can reach it, in real time and for ever
+-- the defaults: only this machine can connect, in real time and without end
 pub record IsDefaultOrder (order : ServerOrder) : Type 0 where
   pub at_address : ipv4_octets order.address ≡ 127 ∷ 0 ∷ 0 ∷ 1 ∷ []
   pub at_port : order.port ≡ 1234

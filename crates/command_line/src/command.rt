@@ -1,4 +1,4 @@
-//! The command line, as `clap` is told of it.
+//! The command line of `station`, as `clap` builders.
 ghost use Rattle.std.specs.Prelude.{◌≡◌, IfOk, false};
 ghost use Rattle.clap.specs.Words.{App, rule_of, with_rule, with_subcommand};
 ghost use Rattle.command_line.specs.CommandLine.{option, number, roster_rule, lines_rule, file_rule, port_rule, turns_rule, reads_rule, connections_rule, replay_app, monitor_app, served_app, serve_app, bare_app, station_app, HasApp, HasNoGlobals};
@@ -6,7 +6,7 @@ ghost use Rattle.command_line.specs.CommandLine.{option, number, roster_rule, li
 use clap::{Arg, ArgAction, Command};
 use std::alloc::{AllocError, Global};
 
-/// `--ID VALUE`, with this id and this name of the value.
+/// The option `--ID VALUE`, with this id and this name of the value.
 pub(crate) fn option<'a>(alloc: Global, id: &'a str, value_name: &'a str) -> Arg<'a>
     ensures rule { rule_of result ≡ option id.entry.now }
     ensures local { result.global ≡ false }
@@ -17,7 +17,7 @@ pub(crate) fn option<'a>(alloc: Global, id: &'a str, value_name: &'a str) -> Arg
         .action(ArgAction::Set)
 }
 
-/// `--ID VALUE`, where the value is a number in this range.
+/// The option `--ID VALUE`, if the value is a number in this range.
 pub(crate) fn number<'a>(
     alloc: Global,
     id: &'a str,
@@ -32,7 +32,7 @@ pub(crate) fn number<'a>(
     option(alloc, id, value_name).value_parser(clap::value_parser!(u32).range(range))
 }
 
-/// `--roster FILE`.
+/// The option `--roster FILE`.
 #[tactic(auto, unfolding(crate::specs::CommandLine::roster_rule))]
 pub(crate) fn roster<'a>(alloc: Global) -> Arg<'a>
     ensures rule { rule_of result ≡ roster_rule }
@@ -43,7 +43,7 @@ pub(crate) fn roster<'a>(alloc: Global) -> Arg<'a>
     )
 }
 
-/// `FILE`.
+/// The argument `FILE`.
 #[tactic(auto, unfolding(crate::specs::CommandLine::file_rule))]
 fn file<'a>(alloc: Global) -> Arg<'a>
     ensures rule { rule_of result ≡ file_rule }
@@ -56,7 +56,7 @@ fn file<'a>(alloc: Global) -> Arg<'a>
         .help("The captured bytes, as pairs of hexadecimal digits")
 }
 
-/// `--port P`.
+/// The option `--port P`.
 #[tactic(auto, unfolding(crate::specs::CommandLine::port_rule))]
 fn port<'a>(alloc: Global) -> Arg<'a>
     ensures rule { rule_of result ≡ port_rule }
@@ -67,7 +67,7 @@ fn port<'a>(alloc: Global) -> Arg<'a>
         .help("The TCP port on 127.0.0.1, 1 to 65535")
 }
 
-/// `--turns T`.
+/// The option `--turns T`.
 #[tactic(auto, unfolding(crate::specs::CommandLine::turns_rule))]
 fn turns<'a>(alloc: Global) -> Arg<'a>
     ensures rule { rule_of result ≡ turns_rule }
@@ -78,7 +78,7 @@ fn turns<'a>(alloc: Global) -> Arg<'a>
         .help("Track turns after each byte, 0 to 255")
 }
 
-/// `--reads R`.
+/// The option `--reads R`.
 #[tactic(auto, unfolding(crate::specs::CommandLine::reads_rule))]
 fn reads<'a>(alloc: Global) -> Arg<'a>
     ensures rule { rule_of result ≡ reads_rule }
@@ -89,7 +89,7 @@ fn reads<'a>(alloc: Global) -> Arg<'a>
         .help("The most reads of one connection")
 }
 
-/// `--connections C`.
+/// The option `--connections C`.
 #[tactic(auto, unfolding(crate::specs::CommandLine::connections_rule))]
 fn connections<'a>(alloc: Global) -> Arg<'a>
     ensures rule { rule_of result ≡ connections_rule }
@@ -100,28 +100,30 @@ fn connections<'a>(alloc: Global) -> Arg<'a>
         .help("How many connections are served, one after another, 1 to 1000")
 }
 
-/// A command that is being built, unless a growth was refused on the way.
+/// A command being built, unless memory ran out.
 pub(crate) type Draft<'a> = Result<Command<'a>, AllocError>;
 
-/// The same command, with this argument behind those that it has.
+/// Adds an argument after the existing ones.
 pub(crate) fn with_arg<'a>(draft: Draft<'a>, arg: Arg<'a>) -> Draft<'a>
     requires local { arg.global ≡ false }
-    ensures app { (app : App) → HasApp draft.entry app → HasApp result (with_rule app (rule_of arg.entry)) }
+    ensures app { (app : App) → HasApp draft.entry app
+        → HasApp result (with_rule app (rule_of arg.entry)) }
     ensures local { HasNoGlobals draft.entry → HasNoGlobals result }
 {
     draft?.arg(arg)
 }
 
-/// The same command, with this subcommand behind those that it has.
+/// Adds a subcommand after the existing ones.
 fn with_subcommand<'a>(draft: Draft<'a>, subcommand: Draft<'a>) -> Draft<'a>
     requires local { HasNoGlobals subcommand }
-    ensures app { (app sub : App) → HasApp draft.entry app → HasApp subcommand.entry sub → HasApp result (with_subcommand app sub.top) }
+    ensures app { (app sub : App) → HasApp draft.entry app → HasApp subcommand.entry sub
+        → HasApp result (with_subcommand app sub.top) }
     ensures local { HasNoGlobals draft.entry → HasNoGlobals result }
 {
     draft?.subcommand(subcommand?)
 }
 
-/// `station replay [--lines N] [--roster FILE]`.
+/// The command `station replay [--lines N] [--roster FILE]`.
 fn replay<'a>(alloc: Global) -> Draft<'a>
     ensures app { HasApp result replay_app }
     ensures local { HasNoGlobals result }
@@ -135,7 +137,7 @@ fn replay<'a>(alloc: Global) -> Draft<'a>
     with_arg(with_arg(Ok(command), lines), roster(alloc))
 }
 
-/// `station monitor FILE`.
+/// The command `station monitor FILE`.
 fn monitor<'a>(alloc: Global) -> Draft<'a>
     ensures app { HasApp result monitor_app }
     ensures local { HasNoGlobals result }
@@ -146,7 +148,7 @@ fn monitor<'a>(alloc: Global) -> Draft<'a>
     with_arg(Ok(command), file(alloc))
 }
 
-/// Where throttles are served, and with what layout: `station serve --port P [--roster FILE]`.
+/// The port and the layout of `station serve --port P [--roster FILE]`.
 fn served<'a>(alloc: Global) -> Draft<'a>
     ensures app { HasApp result served_app }
     ensures local { HasNoGlobals result }
@@ -157,7 +159,7 @@ fn served<'a>(alloc: Global) -> Draft<'a>
     with_arg(with_arg(Ok(command), port(alloc)), roster(alloc))
 }
 
-/// The same, with how much is served: `[--turns T] [--reads R] [--connections C]`.
+/// Adds the limits of what is served: `[--turns T] [--reads R] [--connections C]`.
 fn serve<'a>(alloc: Global) -> Draft<'a>
     ensures app { HasApp result serve_app }
     ensures local { HasNoGlobals result }
@@ -166,7 +168,8 @@ fn serve<'a>(alloc: Global) -> Draft<'a>
     with_arg(paced, connections(alloc))
 }
 
-/// The program, which wants a command. Its words come without its name, so the usage is told the name.
+/// The program, which requires a command. Its arguments do not include its name, so the usage is
+/// given the name.
 #[tactic(auto, unfolding(crate::specs::CommandLine::bare_app))]
 fn program<'a>(alloc: Global) -> Draft<'a>
     ensures app { HasApp result bare_app }

@@ -1,4 +1,4 @@
-//! Reading the command line.
+//! Parsing the command line of `station`.
 ghost use Rattle.std.specs.Prelude.{◌≡◌, ℕ, [], true, Ok, None, IfErr, IfOk, IfSome, MatchOption, map, option_map, codes};
 ghost use Rattle.clap.specs.Words.{App, FailsBy, fault_of, first_of, found_of, is_simple_and_free, one_of, rows_of, subcommand_rows_of};
 ghost use Rattle.command_line.specs.CommandLine.{HasApp, HasRows};
@@ -13,13 +13,13 @@ use clap::{ArgMatches, Error};
 use std::alloc::{AllocError, Global};
 use thiserror::Error;
 
-/// Why the words are no order.
+/// Why the arguments are not an order.
 #[derive(Debug, Drop, Error)]
 pub enum OrderFault {
-    /// The program does not know the words, or they ask for help. Its text is what to tell the user.
+    /// The arguments are unknown, or ask for help. The text is to be shown to the user.
     #[error("{0}")]
     Usage(clap::Error),
-    /// A growth was refused.
+    /// Out of memory.
     #[error("no memory")]
     NoMemory,
 }
@@ -43,10 +43,12 @@ impl From<Error> for OrderFault {
     }
 }
 
-/// The number of an option, if it is in this range.
+/// Returns the number of an option, if it is in this range.
 pub(crate) fn number(found: &ArgMatches<'_>, id: &str, least: u32, most: u32) -> Option<u32>
-    ensures some { IfSome result (λ n. IsNumber (one_of id.now (rows_of (found_of found.now))) least most n) }
-    ensures none { result ≡ None → HasNone (IsNumber (one_of id.now (rows_of (found_of found.now))) least most) }
+    ensures some { IfSome result
+        (λ n. IsNumber (one_of id.now (rows_of (found_of found.now))) least most n) }
+    ensures none { result ≡ None
+        → HasNone (IsNumber (one_of id.now (rows_of (found_of found.now))) least most) }
 {
     match any_number(found, id) {
         Some(number) if least <= number && number <= most => Some(number),
@@ -55,14 +57,16 @@ pub(crate) fn number(found: &ArgMatches<'_>, id: &str, least: u32, most: u32) ->
 }
 
 fn any_number(found: &ArgMatches<'_>, id: &str) -> Option<u32>
-    ensures { MatchOption result (WritesNone (one_of id.now (rows_of (found_of found.now)))) (λ n. Writes (one_of id.now (rows_of (found_of found.now))) n) }
+    ensures { MatchOption result (WritesNone (one_of id.now (rows_of (found_of found.now))))
+        (λ n. Writes (one_of id.now (rows_of (found_of found.now))) n) }
 {
     found.get_one::<u32>(id)
 }
 
 #[tactic(auto, using(crate::proofs::Found::first_in_rows))]
 pub(crate) fn text<'a>(found: &ArgMatches<'a>, id: &str) -> Option<&'a str>
-    ensures { option_map (λ text. text.now) result ≡ first_of id.now (rows_of (found_of found.now)) }
+    ensures { option_map (λ text. text.now) result
+        ≡ first_of id.now (rows_of (found_of found.now)) }
 {
     found.get_str(id)
 }
@@ -80,7 +84,7 @@ pub(crate) fn file_name(
     }
 }
 
-// Clap has checked each value that is read here, so no words come to this.
+// The fault of a value out of range. Clap has checked each value, so this is never called.
 fn out_of_range(alloc: Global) -> OrderFault {
     usage(
         station_command(alloc),
@@ -89,21 +93,21 @@ fn out_of_range(alloc: Global) -> OrderFault {
     )
 }
 
-/// What to tell of a word that is no text: it is not UTF-8. The usage stands behind it.
+/// Returns the text for an argument that is not UTF-8, followed by the usage.
 pub fn no_text(alloc: Global) -> OrderFault
     ensures { IsOfKind ErrorKind.InvalidValue result }
 {
     not_utf8(station_command(alloc))
 }
 
-/// Tells the usage of a command, behind what is said of a word that is no text.
+/// Returns the text for an argument that is not UTF-8, followed by the usage of a command.
 pub(crate) fn not_utf8(draft: Draft<'_>) -> OrderFault
     ensures { IsOfKind ErrorKind.InvalidValue result }
 {
     usage(draft, ErrorKind::InvalidValue, "a word is not UTF-8")
 }
 
-/// Tells the usage of a command, behind this message.
+/// Returns this message, followed by the usage of a command.
 pub(crate) fn usage(draft: Draft<'_>, kind: ErrorKind, message: &str) -> OrderFault
     ensures { IsOfKind kind result }
 {
@@ -117,20 +121,24 @@ pub(crate) fn usage(draft: Draft<'_>, kind: ErrorKind, message: &str) -> OrderFa
     }
 }
 
-/// What clap makes of the words, by this command line.
+/// Parses the arguments by this command line.
 pub(crate) fn matches_of<'a>(
     draft: Draft<'a>,
     words: &'a [&'a str],
 ) -> Result<ArgMatches<'a>, Error>
-    ensures rows { (app : App) → HasApp draft.entry app → is_simple_and_free app ≡ true → IfOk result (HasRows app (map (λ word. word.now) words.entry.now)) }
-    ensures kinds { (app : App) → HasApp draft.entry app → is_simple_and_free app ≡ true → FailsBy (fault_of app (map (λ word. word.now) words.entry.now)) result }
+    ensures rows { (app : App) → HasApp draft.entry app → is_simple_and_free app ≡ true
+        → IfOk result (HasRows app (map (λ word. word.now) words.entry.now)) }
+    ensures kinds { (app : App) → HasApp draft.entry app → is_simple_and_free app ≡ true
+        → FailsBy (fault_of app (map (λ word. word.now) words.entry.now)) result }
 {
     draft?.try_get_matches_from(words)
 }
 
 fn replay(alloc: Global, found: &ArgMatches<'_>) -> Result<Order, OrderFault>
-    ensures order { IfOk result (λ order. IsOrder (codes "replay") (rows_of (found_of found.now)) order) }
-    ensures fault { IfErr result (IsUnmatched (λ order. IsOrder (codes "replay") (rows_of (found_of found.now)) order)) }
+    ensures order { IfOk result
+        (λ order. IsOrder (codes "replay") (rows_of (found_of found.now)) order) }
+    ensures fault { IfErr result
+        (IsUnmatched (λ order. IsOrder (codes "replay") (rows_of (found_of found.now)) order)) }
 {
     let Some(lines) = number(found, "lines", 1, 8) else {
         return Err(out_of_range(alloc));
@@ -143,8 +151,10 @@ fn replay(alloc: Global, found: &ArgMatches<'_>) -> Result<Order, OrderFault>
 }
 
 fn monitor(alloc: Global, found: &ArgMatches<'_>) -> Result<Order, OrderFault>
-    ensures order { IfOk result (λ order. IsOrder (codes "monitor") (rows_of (found_of found.now)) order) }
-    ensures fault { IfErr result (IsUnmatched (λ order. IsOrder (codes "monitor") (rows_of (found_of found.now)) order)) }
+    ensures order { IfOk result
+        (λ order. IsOrder (codes "monitor") (rows_of (found_of found.now)) order) }
+    ensures fault { IfErr result
+        (IsUnmatched (λ order. IsOrder (codes "monitor") (rows_of (found_of found.now)) order)) }
 {
     match file_name(alloc, found, "file")? {
         Some(file) => Ok(Order::Monitor { file }),
@@ -153,8 +163,10 @@ fn monitor(alloc: Global, found: &ArgMatches<'_>) -> Result<Order, OrderFault>
 }
 
 fn serve(alloc: Global, found: &ArgMatches<'_>) -> Result<Order, OrderFault>
-    ensures order { IfOk result (λ order. IsOrder (codes "serve") (rows_of (found_of found.now)) order) }
-    ensures fault { IfErr result (IsUnmatched (λ order. IsOrder (codes "serve") (rows_of (found_of found.now)) order)) }
+    ensures order { IfOk result
+        (λ order. IsOrder (codes "serve") (rows_of (found_of found.now)) order) }
+    ensures fault { IfErr result
+        (IsUnmatched (λ order. IsOrder (codes "serve") (rows_of (found_of found.now)) order)) }
 {
     let (Some(port), Some(turns), Some(reads), Some(connections)) = (
         number(found, "port", 1, 65_535),
@@ -174,8 +186,10 @@ fn serve(alloc: Global, found: &ArgMatches<'_>) -> Result<Order, OrderFault>
 }
 
 fn command_order(alloc: Global, command: &str, found: &ArgMatches<'_>) -> Result<Order, OrderFault>
-    ensures order { IfOk result (λ order. IsOrder command.now (rows_of (found_of found.now)) order) }
-    ensures fault { IfErr result (IsUnmatched (λ order. IsOrder command.now (rows_of (found_of found.now)) order)) }
+    ensures order { IfOk result
+        (λ order. IsOrder command.now (rows_of (found_of found.now)) order) }
+    ensures fault { IfErr result
+        (IsUnmatched (λ order. IsOrder command.now (rows_of (found_of found.now)) order)) }
 {
     match command {
         "replay" => replay(alloc, found),
@@ -187,7 +201,8 @@ fn command_order(alloc: Global, command: &str, found: &ArgMatches<'_>) -> Result
 
 fn matched(alloc: Global, matches: &ArgMatches<'_>) -> Result<Order, OrderFault>
     ensures order { IfOk result (λ order. IsMatched (subcommand_rows_of matches.now) order) }
-    ensures fault { IfErr result (IsUnmatched (λ order. IsMatched (subcommand_rows_of matches.now) order)) }
+    ensures fault { IfErr result
+        (IsUnmatched (λ order. IsMatched (subcommand_rows_of matches.now) order)) }
 {
     match matches.subcommand() {
         Some((command, found)) => command_order(alloc, command, found),
@@ -195,17 +210,20 @@ fn matched(alloc: Global, matches: &ArgMatches<'_>) -> Result<Order, OrderFault>
     }
 }
 
-/// What the words ask for.
+/// Parses the arguments of `station`, given without the program's name.
 ///
-/// Words that the program does not know are `Usage`, and so are those that ask for help.
+/// # Errors
+///
+/// `Usage` if the arguments are unknown or ask for help; `NoMemory` if out of memory.
 pub fn order<'a>(alloc: Global, words: &'a [&'a str]) -> Result<Order, OrderFault>
-    // An order holds what clap's matches of the words hold, each number in its range.
-    ensures order { IfOk result (λ order. IsOrderOf (map (λ word. word.now) words.entry.now) order) }
+    // An order holds what clap's matches hold, each number in its range.
+    ensures order { IfOk result
+        (λ order. IsOrderOf (map (λ word. word.now) words.entry.now) order) }
     ensures no_words { words.entry.now ≡ [] → result ≡ Ok (Order.Replay 1 None) }
-    // The words of an order are none that clap refuses.
+    // Clap accepts the arguments of an order.
     ensures taken { IfOk result (λ _. refusals (map (λ word. word.now) words.entry.now) ≡ []) }
-    // `Usage` comes only where clap refuses the words, and then of a kind for which it does, or where no order is what
-    // its matches hold.
+    // `Usage` is returned only if clap rejects the arguments, and then with a kind for which it
+    // does, or if no order corresponds to its matches.
     ensures fault { IfErr result (IsOrderFault (map (λ word. word.now) words.entry.now)) }
 {
     if words.is_empty() {

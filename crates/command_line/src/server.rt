@@ -1,4 +1,4 @@
-//! Reading the command line of `lbserver`.
+//! Parsing the command line of `lbserver`.
 ghost use Rattle.std.specs.Prelude.{◌≡◌, [], IfErr, IfOk, MatchOption, map};
 ghost use Rattle.clap.specs.Words.{fault_of, found_of, one_of, rows_of};
 ghost use Rattle.command_line.specs.Fault.{IsOfKind, IsServerFault, IsUnmatched};
@@ -13,21 +13,24 @@ use clap::error::ErrorKind;
 use std::alloc::Global;
 use std::net::Ipv4Addr;
 
-/// The address of an option, if it is one.
+/// Returns the address of an option, if its value is one.
 fn address(found: &ArgMatches<'_>, id: &str) -> Option<Ipv4Addr>
-    ensures { MatchOption result (HasNone (IsAddress (one_of id.now (rows_of (found_of found.now))))) (IsAddress (one_of id.now (rows_of (found_of found.now)))) }
+    ensures { MatchOption result
+        (HasNone (IsAddress (one_of id.now (rows_of (found_of found.now)))))
+        (IsAddress (one_of id.now (rows_of (found_of found.now)))) }
 {
     found.get_one::<Ipv4Addr>(id)
 }
 
-/// Whether a flag is set, if that is said.
+/// Returns whether a flag is set, if clap has a value for it.
 fn flag(found: &ArgMatches<'_>, id: &str) -> Option<bool>
-    ensures { MatchOption result (HasNone (IsFlag (one_of id.now (rows_of (found_of found.now))))) (IsFlag (one_of id.now (rows_of (found_of found.now)))) }
+    ensures { MatchOption result (HasNone (IsFlag (one_of id.now (rows_of (found_of found.now)))))
+        (IsFlag (one_of id.now (rows_of (found_of found.now)))) }
 {
     found.get_one::<bool>(id)
 }
 
-/// The number of an option that may be left out. One that is not in this range is a fault.
+/// Returns the number of an optional option. A value outside this range is a fault.
 fn number_if_given(
     alloc: Global,
     found: &ArgMatches<'_>,
@@ -35,8 +38,10 @@ fn number_if_given(
     least: u32,
     most: u32,
 ) -> Result<Option<u32>, OrderFault>
-    ensures number { IfOk result (IsNumberIfGiven (one_of id.now (rows_of (found_of found.now))) least most) }
-    ensures fault { IfErr result (IsUnmatched (IsNumberIfGiven (one_of id.now (rows_of (found_of found.now))) least most)) }
+    ensures number { IfOk result
+        (IsNumberIfGiven (one_of id.now (rows_of (found_of found.now))) least most) }
+    ensures fault { IfErr result
+        (IsUnmatched (IsNumberIfGiven (one_of id.now (rows_of (found_of found.now))) least most)) }
 {
     if text(found, id).is_none() {
         return Ok(None);
@@ -47,7 +52,7 @@ fn number_if_given(
     }
 }
 
-// Clap has checked each value that is read so, so no words come to this.
+// The fault of a value out of range. Clap has checked each value, so this is never called.
 fn out_of_range(alloc: Global) -> OrderFault {
     usage(
         server_command(alloc),
@@ -56,7 +61,7 @@ fn out_of_range(alloc: Global) -> OrderFault {
     )
 }
 
-// What clap takes for an address is any text.
+// Clap accepts any text as an address.
 fn no_address(alloc: Global) -> OrderFault {
     usage(
         server_command(alloc),
@@ -65,8 +70,8 @@ fn no_address(alloc: Global) -> OrderFault {
     )
 }
 
-/// What to tell of a word that is no text: it is not UTF-8. The usage of `lbserver` stands behind it.
-pub fn no_server_text(alloc: Global) -> OrderFault
+/// Returns the text for an argument that is not UTF-8, followed by the usage of `lbserver`.
+pub fn not_utf8_server_text(alloc: Global) -> OrderFault
     ensures { IsOfKind ErrorKind.InvalidValue result }
 {
     not_utf8(server_command(alloc))
@@ -101,19 +106,23 @@ fn matched(alloc: Global, found: &ArgMatches<'_>) -> Result<ServerOrder, OrderFa
     })
 }
 
-/// What the words behind the name of `lbserver` ask for. No words ask for what stands for each option.
+/// Parses the arguments of `lbserver`, given without the program's name. An option that is not
+/// given has its default.
 ///
 /// # Errors
 ///
-/// `Usage` where the program does not know the words, where the address is none, or where they ask for help; `NoMemory`.
+/// `Usage` if the arguments are unknown, the address is not valid, or help is asked for; `NoMemory`
+/// if out of memory.
 pub fn server_order<'a>(alloc: Global, words: &'a [&'a str]) -> Result<ServerOrder, OrderFault>
-    // An order holds what clap's matches of the words hold, each number in its range.
-    ensures order { IfOk result (λ order. IsServerOrderOf (map (λ word. word.now) words.entry.now) order) }
+    // An order holds what clap's matches hold, each number in its range.
+    ensures order { IfOk result
+        (λ order. IsServerOrderOf (map (λ word. word.now) words.entry.now) order) }
     ensures no_words { words.entry.now ≡ [] → IfOk result IsDefaultOrder }
-    // The words of an order are none that clap refuses.
-    ensures taken { IfOk result (λ _. fault_of server_app (map (λ word. word.now) words.entry.now) ≡ []) }
-    // `Usage` comes only where clap refuses the words, and then of a kind for which it does, or where no order is what
-    // its matches hold.
+    // Clap accepts the arguments of an order.
+    ensures taken { IfOk result
+        (λ _. fault_of server_app (map (λ word. word.now) words.entry.now) ≡ []) }
+    // `Usage` is returned only if clap rejects the arguments, and then with a kind for which it
+    // does, or if no order corresponds to its matches.
     ensures fault { IfErr result (IsServerFault (map (λ word. word.now) words.entry.now)) }
 {
     let matches = matches_of(server_command(alloc), words)?;

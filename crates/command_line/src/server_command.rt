@@ -1,4 +1,4 @@
-//! The command line of `lbserver`, as `clap` is told of it.
+//! The command line of `lbserver`, as `clap` builders.
 ghost use Rattle.std.specs.Prelude.{◌≡◌, false};
 ghost use Rattle.clap.specs.Words.{rule_of};
 ghost use Rattle.command_line.specs.CommandLine.{HasApp, HasNoGlobals};
@@ -8,7 +8,7 @@ use crate::command::{Draft, number, option, roster, with_arg};
 use clap::{Arg, ArgAction, Command};
 use std::alloc::Global;
 
-/// `--address A`.
+/// The option `--address A`.
 #[tactic(auto, unfolding(crate::specs::ServerLine::address_rule))]
 fn address<'a>(alloc: Global) -> Arg<'a>
     ensures rule { rule_of result ≡ address_rule }
@@ -19,7 +19,7 @@ fn address<'a>(alloc: Global) -> Arg<'a>
         .help("The IPv4 address to listen on: anybody who can reach it can drive")
 }
 
-/// `--port P`.
+/// The option `--port P`.
 #[tactic(auto, unfolding(crate::specs::ServerLine::port_rule))]
 fn port<'a>(alloc: Global) -> Arg<'a>
     ensures rule { rule_of result ≡ port_rule }
@@ -30,7 +30,7 @@ fn port<'a>(alloc: Global) -> Arg<'a>
         .help("The TCP port, 1 to 65535")
 }
 
-/// `--turns T`.
+/// The option `--turns T`.
 #[tactic(auto, unfolding(crate::specs::ServerLine::turns_rule))]
 fn turns<'a>(alloc: Global) -> Arg<'a>
     ensures rule { rule_of result ≡ turns_rule }
@@ -41,14 +41,14 @@ fn turns<'a>(alloc: Global) -> Arg<'a>
     )
 }
 
-/// `--clients C`.
+/// The option `--clients C`.
 #[tactic(auto, unfolding(crate::specs::ServerLine::clients_rule))]
 fn clients<'a>(alloc: Global) -> Arg<'a>
     ensures rule { rule_of result ≡ clients_rule }
     ensures local { result.global ≡ false }
 {
     number(alloc, "clients", "C", 0, u32::MAX).help(
-        "Ends once so many clients have come and gone, at once with 0; without it there is no end",
+        "Ends once this many clients have disconnected, with 0 at once; without it there is no end",
     )
 }
 
@@ -58,10 +58,7 @@ fn track<'a>(alloc: Global) -> Arg<'a>
     ensures rule { rule_of result ≡ track_rule }
     ensures local { result.global ≡ false }
 {
-    Arg::new(alloc, "track")
-        .long("track")
-        .action(ArgAction::SetTrue)
-        .help("Prints the packets on the track")
+    flag(alloc, "track").help("Prints the packets on the track")
 }
 
 /// `--page PORT`.
@@ -75,7 +72,7 @@ fn page<'a>(alloc: Global) -> Arg<'a>
     )
 }
 
-/// `--page-file FILE`.
+/// The option `--page-file FILE`.
 #[tactic(auto, unfolding(crate::specs::ServerLine::page_file_rule))]
 fn page_file<'a>(alloc: Global) -> Arg<'a>
     ensures rule { rule_of result ≡ page_file_rule }
@@ -86,7 +83,7 @@ fn page_file<'a>(alloc: Global) -> Arg<'a>
     )
 }
 
-/// `--lose N`.
+/// The option `--lose N`.
 #[tactic(auto, unfolding(crate::specs::ServerLine::lose_rule))]
 fn lose<'a>(alloc: Global) -> Arg<'a>
     ensures rule { rule_of result ≡ lose_rule }
@@ -97,7 +94,7 @@ fn lose<'a>(alloc: Global) -> Arg<'a>
         .help("How many of 100 packets each decoder misses, 0 to 99")
 }
 
-/// `--seed S`.
+/// The option `--seed S`.
 #[tactic(auto, unfolding(crate::specs::ServerLine::seed_rule))]
 fn seed<'a>(alloc: Global) -> Arg<'a>
     ensures rule { rule_of result ≡ seed_rule }
@@ -108,7 +105,8 @@ fn seed<'a>(alloc: Global) -> Arg<'a>
         .help("What the draw of the missed packets begins with, 0 to 4294967295")
 }
 
-/// The program, with no options yet. Its words come without its name, so the usage is told the name.
+/// The program, without options. Its arguments do not include its name, so the usage is given the
+/// name.
 #[tactic(auto, unfolding(crate::specs::ServerLine::bare_server_app))]
 fn program<'a>(alloc: Global) -> Draft<'a>
     ensures app { HasApp result bare_server_app }
@@ -121,7 +119,7 @@ fn program<'a>(alloc: Global) -> Draft<'a>
         .bin_name("lbserver")
 }
 
-/// Where clients are served, and with what layout.
+/// Adds the options for the address, the port and the layout.
 fn listening<'a>(alloc: Global) -> Draft<'a>
     ensures app { HasApp result listening_app }
     ensures local { HasNoGlobals result }
@@ -130,7 +128,7 @@ fn listening<'a>(alloc: Global) -> Draft<'a>
     with_arg(with_arg(addressed, port(alloc)), roster(alloc))
 }
 
-/// The same, with how fast and how long.
+/// Adds the options for the speed and the duration.
 fn paced<'a>(alloc: Global) -> Draft<'a>
     ensures app { HasApp result paced_app }
     ensures local { HasNoGlobals result }

@@ -1,10 +1,10 @@
--- Bytes that wait in a buffer, behind those that an output holds.
+-- Buffered bytes, after those that an output holds.
 use Rattle.std.proofs.Common.{◌≡◌, ◌≤◌, ◌+◌, ℕ, List, [], ◌++◌, length, take, drop, append_assoc, append-nil, Option, Some, None, ap, sym, ◌∙◌, arith}
 use Rattle.std.proofs.lemmas.List.{take-append-drop}
 use Rattle.std.specs.Prelude.{Result, Ok, Err, OnOk}
 use Rattle.std.specs.Io.KnownBytes.{Appends, Keeps, append_known}
 
--- so many more were written
+-- n more bytes were written
 pub written_more : (old o p : Option (List ℕ)) (waiting later : List ℕ) (n : ℕ) → Keeps old (append_known o waiting) → Appends o p (take n waiting) → later ≡ drop n waiting
     → Keeps old (append_known p later)
 written_more None o p waiting later n kept more is = tt

@@ -1,4 +1,4 @@
--- What is printed, line after line, and the messages among it.
+-- The lines printed, one after another, and the messages among them.
 use Rattle.std.proofs.Common.{◌≡◌, ℕ, List, [], ◌∷◌, ◌++◌, Option, Some, None, refl, ap, sym, subst, ◌∙◌, append_assoc}
 use Rattle.std.proofs.lemmas.List.{append-nil}
 use Rattle.std.specs.Io.KnownBytes.{Appends}
@@ -13,7 +13,7 @@ pub messages-append : (ms more : List (List ℕ)) → messages_text (ms ++ more)
 messages-append [] more = refl
 messages-append (m ∷ ms) more = ap (λ bs. ended (message_text m) ++ bs) (messages-append ms more) ∙ sym (append_assoc (ended (message_text m)) (messages_text ms) (messages_text more))
 
--- The messages so far were printed, and those that the rest of the bytes bring are the rest.
+-- The messages so far were printed, and those in the rest of the bytes are the rest.
 pub record HasPrinted (all : List ℕ) (left : List ℕ) (rest : List ℕ) (old now : Option (List ℕ)) : Type 0 where
   pub so_far : List (List ℕ)
   pub printed : Appends old now (messages_text so_far)
@@ -39,7 +39,7 @@ pub printed_all : ((bytes : List ℕ) → messages_along [] bytes ≡ messages_o
 printed_all whole all left old new has =
     subst (λ (ms : List (List ℕ)). Appends old new (messages_text ms)) (sym (append-nil has.so_far) ∙ has.all_are ∙ whole all) has.printed
 
--- a message that was given, and its line
+-- a message that was completed, and its line
 pub printed_one : (now new printed : Option (List ℕ)) (given : Option (List ℕ)) (message text : List ℕ) → given ≡ Some message → text ≡ message_text message → new ≡ printed → Appends now printed (text ++ 10 ∷ []) → Appends now new (messages_text (option_to_list given))
 printed_one now new printed given message text is line same h =
     let one : Appends now new (text ++ 10 ∷ []) = subst (λ (o : Option (List ℕ)). Appends now o (text ++ 10 ∷ [])) (sym same) h in

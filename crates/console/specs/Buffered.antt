@@ -1,9 +1,9 @@
--- What proofs see in an output with a buffer in front of it.
+-- The view of an output with a buffer.
 use Rattle.std.specs.Prelude.{ℕ, Bool, List, drop, Option}
 use Rattle.std.specs.Io.KnownBytes.{append_known}
 use Rattle.console.specs.declared.buffered.Buffered.{Buffered}
 
--- the bytes of the output, and then those that wait
+-- the bytes of the output, and then the buffered ones
 abbrev pub buffered_held : {O : Type 0} → (O → Option (List ℕ)) → Buffered O → Option (List ℕ)
 buffered_held held b = append_known (held b.output.now) (drop b.written b.waiting.items)
 

@@ -32,11 +32,11 @@ status_of (Script number line) = 5
 status_of (Hex number at) = 5
 status_of NoMemory = 6
 
--- of standard input
+-- the fault of a failed read of standard input
 abbrev pub of_read : ReadFault → RunFault
 of_read = either UnreadableInput NoMemory
 
--- of a file
+-- the fault of a failed read of a file
 abbrev pub of_file : Text → ReadFault → RunFault
 of_file file = either (Unreadable file) NoMemory
 

@@ -1,4 +1,4 @@
--- What is known of what was read from a file.
+-- The facts about bytes read from a file.
 use Rattle.std.specs.Prelude.{ℕ, ◌≡◌, ◌<◌, ◌≤◌, ◌⊎◌, List, Option, Some, None, Ok, Err, length}
 use Rattle.std.specs.Io.KnownBytes.{Consumes, IsAtEnd}
 use Rattle.clap.specs.Words.{Text}
@@ -17,8 +17,8 @@ ReadsFile old new text = Consumes old new text × IsAtEnd new × (length text �
 abbrev pub ReadsRoster : (old new : Option (List ℕ)) → List Entry → Type 0
 ReadsRoster old new entries = (text : List ℕ) × ReadsFile old new text × (roster_in text ≡ Ok entries)
 
--- Why the input, a file of this name, is none: a read of it failed, memory ran out, it is too long, or its text has this
--- fault, the first.
+-- Why the input, a file of this name, is not a roster: a read of it failed, memory ran out, it is
+-- too long, or its text has this fault, the first.
 abbrev pub FailsRoster : (file : Text) → (old new : Option (List ℕ)) → RunFault → Type 0
 FailsRoster file old new fault =
     (fault ≡ Unreadable file)
@@ -26,13 +26,14 @@ FailsRoster file old new fault =
     ⊎ ((fault ≡ TooLong file) × ((text : List ℕ) × Consumes old new text × (65536 < length text)))
     ⊎ ((text : List ℕ) × (bad : RosterFault) × ReadsFile old new text × (roster_in text ≡ Err bad) × (fault ≡ of_roster bad))
 
--- None without a file. What a file holds is not known, but that there is a text that is this roster.
+-- None without a file. The contents of a file are not known, only that there is a text that is this
+-- roster.
 abbrev pub IsRosterOf : (file : Option Text) → Option (List Entry) → Type 0
 IsRosterOf None roster = roster ≡ None
 IsRosterOf (Some file) None = ⊥
 IsRosterOf (Some file) (Some entries) = ReadsRoster None None entries
 
--- Why there is none, though a file is named.
+-- Why there is no roster, though a file is named.
 abbrev pub HasNoRoster : (file : Option Text) → RunFault → Type 0
 HasNoRoster None fault = ⊥
 HasNoRoster (Some file) fault = FailsRoster file None None fault

@@ -1,4 +1,4 @@
--- What a run prints.
+-- The lines that a run prints.
 use Rattle.std.specs.Prelude.{ℕ, ◌≡◌, List, [], ◌∷◌, ◌++◌, Option, Ok}
 use Rattle.std.specs.Io.KnownBytes.{Appends}
 use Rattle.ln_frame.specs.Stream.{messages_of}

@@ -1,4 +1,4 @@
-//! A buffer in front of an output.
+//! A buffer for an output.
 ghost use Rattle.std.specs.Prelude.{◌≡◌, ◌<◌, ◌≤◌, ◌+◌, ◌++◌, [], IfOk, OnErr, OnOk, length, true};
 ghost use Rattle.std.specs.Io.KnownBytes.{Keeps, WriteAppends};
 ghost use Rattle.input_text.specs.Write.{failed_after};
@@ -6,16 +6,16 @@ ghost use Rattle.input_text.specs.Write.{failed_after};
 use arrayvec::ArrayVec;
 use input_text::{Broken, Output, Sink};
 
-/// How many bytes wait at most.
+/// The capacity of the buffer in bytes.
 const ROOM: usize = 8192;
 
-/// A buffer in front of an output that is borrowed: bytes wait in it, and are written many at a time. What waits when it is
-/// dropped is lost.
+/// A buffer for a borrowed output: it collects bytes and writes many at a time. Bytes still
+/// buffered when it is dropped are lost.
 #[derive(Drop)]
 pub struct Buffered<'a, O> {
     output: &'a mut O,
     waiting: ArrayVec<u8, ROOM>,
-    /// How many of the bytes that wait are written.
+    /// How many of the buffered bytes are already written.
     written: usize,
     ghost within: { written ≤ length waiting.items },
 }
@@ -31,7 +31,7 @@ fn append(waiting: &mut ArrayVec<u8, ROOM>, bytes: &[u8])
 impl<'a, O: Output> Buffered<'a, O> {
     ghost use Rattle.console.specs.Buffered.{buffered_failed, buffered_held, buffered_loan};
 
-    /// An empty buffer in front of this output.
+    /// Creates an empty buffer for this output.
     pub fn new(output: &'a mut O) -> Buffered<'a, O>
         ensures held { buffered_held O.held result ≡ O.held output.old }
         ensures failed { buffered_failed O.failed result ≡ O.failed output.old }
@@ -45,11 +45,12 @@ impl<'a, O: Output> Buffered<'a, O> {
         }
     }
 
-    /// Writes all bytes that wait.
+    /// Writes all buffered bytes.
     fn write_out(&mut self) -> Result<(), Broken>
         ensures bytes { Keeps (buffered_held O.held self.old) (buffered_held O.held self.new) }
         ensures empty { OnOk result ((self.new.waiting.items ≡ []) × (self.new.written ≡ 0)) }
-        ensures failed { buffered_failed O.failed self.new ≡ failed_after result (buffered_failed O.failed self.old) }
+        ensures failed { buffered_failed O.failed self.new
+            ≡ failed_after result (buffered_failed O.failed self.old) }
         ensures same { buffered_loan self.new ≡ buffered_loan self.old }
     {
         while self.written < self.waiting.len() {
@@ -61,10 +62,12 @@ impl<'a, O: Output> Buffered<'a, O> {
         Ok(())
     }
 
-    /// Writes all bytes that wait, and lets them go out.
+    /// Writes all buffered bytes and flushes the output.
     pub(crate) fn flush(&mut self) -> Result<(), Broken>
-        ensures bytes { OnOk result (Keeps (buffered_held O.held self.old) (O.held self.new.output.now)) }
-        ensures failed { buffered_failed O.failed self.new ≡ failed_after result (buffered_failed O.failed self.old) }
+        ensures bytes { OnOk result
+            (Keeps (buffered_held O.held self.old) (O.held self.new.output.now)) }
+        ensures failed { buffered_failed O.failed self.new
+            ≡ failed_after result (buffered_failed O.failed self.old) }
         ensures same { buffered_loan self.new ≡ buffered_loan self.old }
     {
         self.write_out()?;

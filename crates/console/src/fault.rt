@@ -1,9 +1,9 @@
-//! Why a run ends with a status other than 0.
+//! The faults of a run that ends with a status other than 0.
 ghost use Rattle.std.specs.Prelude.{◌≡◌};
 ghost use Rattle.console.specs.declared.fault.RunFault.TheVariants.{NoMemory, Output};
 ghost use Rattle.console.specs.Fault.{of_hex, of_order, of_read, of_roster, of_script, status_of};
 
-use crate::output::Unwritten;
+use crate::output::WriteError;
 use command_line::{FileName, OrderFault};
 use input_text::ReadFault;
 use roster::RosterFault;
@@ -11,11 +11,11 @@ use show_text::{HexFault, HexWhy, ScriptFault};
 use std::alloc::AllocError;
 use thiserror::Error;
 
-/// Why a run ends with a status other than 0. Its text is what follows the program's name and a colon on standard
-/// error, but for `Usage`, whose text stands there alone.
+/// Why a run ends with a status other than 0. Its text follows the program's name and a colon on
+/// standard error, except the text of `Usage`, which is printed alone.
 #[derive(Debug, Drop, Error)]
 pub enum RunFault {
-    /// Status 1: the words of the command line are none that the program knows, or ask for help.
+    /// Status 1: the arguments are unknown, or ask for help.
     #[error("{0}")]
     Usage(clap::Error),
     /// Status 1: a station has 1 to 8 lines.
@@ -30,31 +30,31 @@ pub enum RunFault {
     /// Status 2: a roster has more than 65,536 bytes.
     #[error("{0} is too long")]
     TooLong(FileName),
-    /// Status 3: the roster has a fault, of this number, at this node from 1 or at 0.
+    /// Status 3: the roster has the fault of this number, at this node, counted from 1, or at 0.
     #[error("roster fault {number} at node {node}")]
     Roster { number: u8, node: u8 },
-    /// Status 4: the port could not be bound, or a connection not accepted.
+    /// Status 4: the port could not be bound, or a connection could not be accepted.
     #[error("network")]
     Network,
     /// Status 4: standard output could not be written.
     #[error("output")]
     Output,
-    /// Status 4: a connection was given up, for the reason of this number.
+    /// Status 4: serving a connection stopped for the reason of this number.
     #[error("serve fault {0}")]
     Serve(u8),
-    /// Status 5: the script has a fault, of this number, at this line from 1 or at 0.
+    /// Status 5: the script has the fault of this number, at this line, counted from 1, or at 0.
     #[error("script fault {number} at line {line}")]
     Script { number: u8, line: u64 },
-    /// Status 5: the hex text has a fault, of this number, at this byte from 0.
+    /// Status 5: the hex text has the fault of this number, at this byte, counted from 0.
     #[error("hex fault {number} at byte {at}")]
     Hex { number: u8, at: u64 },
-    /// Status 6: want of memory.
+    /// Status 6: out of memory.
     #[error("no memory")]
     NoMemory,
 }
 
 impl RunFault {
-    /// The exit status, 1 to 6.
+    /// Returns the exit status, 1 to 6.
     pub fn status(&self) -> u8
         ensures { result ≡ status_of self.now }
     {
@@ -88,15 +88,15 @@ impl From<AllocError> for RunFault {
     }
 }
 
-impl From<Unwritten> for RunFault {
+impl From<WriteError> for RunFault {
     ghost from_gives = { λ _ run. run ≡ Output };
 
-    fn from(_error: Unwritten) -> RunFault {
+    fn from(_error: WriteError) -> RunFault {
         RunFault::Output
     }
 }
 
-/// Of standard input.
+/// The fault of a failed read of standard input.
 impl From<ReadFault> for RunFault {
     ghost from_gives = { λ read run. run ≡ of_read read };
 

@@ -1,16 +1,16 @@
-//! Files that are read.
+//! Reading files.
 ghost use Rattle.std.specs.Prelude.{◌≡◌, ◌<◌, ◌≤◌, ◌+◌, ◌^◌, false, length, IfOk};
 ghost use Rattle.console.specs.Fault.{of_file};
-ghost use Rattle.input_text.specs.Noting.{noting_failed};
+ghost use Rattle.input_text.specs.TrackedReader.{read_failed};
 
 use crate::fault::RunFault;
 use command_line::FileName;
-use input_text::{Noting, ReadFault, read_most};
+use input_text::{ReadFault, TrackedReader, read_limited};
 use std::fs;
 use std::io::ErrorKind;
 use std::rt::Files;
 
-/// The fault of a run that wanted this file.
+/// The fault of a run that needed this file.
 pub(crate) fn not_read(fault: ReadFault, file: FileName) -> RunFault
     ensures { result ≡ of_file file fault }
 {
@@ -18,11 +18,11 @@ pub(crate) fn not_read(fault: ReadFault, file: FileName) -> RunFault
 }
 
 /// A file as an input.
-pub(crate) fn open<R: Files>(rt: &R, file: &FileName) -> Result<Noting<R::File>, ReadFault>
-    ensures { IfOk result (λ input. noting_failed input ≡ false) }
+pub(crate) fn open<R: Files>(rt: &R, file: &FileName) -> Result<TrackedReader<R::File>, ReadFault>
+    ensures { IfOk result (λ input. read_failed input ≡ false) }
 {
     match fs::open(rt, file.as_str()) {
-        Ok(opened) => Ok(Noting::new(opened)),
+        Ok(opened) => Ok(TrackedReader::new(opened)),
         Err(error) => match error.kind() {
             ErrorKind::OutOfMemory => Err(ReadFault::NoMemory),
             _ => Err(ReadFault::Failed),
@@ -30,11 +30,13 @@ pub(crate) fn open<R: Files>(rt: &R, file: &FileName) -> Result<Noting<R::File>,
     }
 }
 
-/// The bytes of a file that has at most so many, below 2^32 - 1. Of a longer one no more than one byte past them is read.
+/// Returns the bytes of a file of at most `most` bytes, below 2^32 - 1. Of a longer file at most
+/// one byte more is read.
 ///
 /// # Errors
 ///
-/// `Unreadable` where the file is not opened or a read fails, `TooLong`, and `NoMemory`.
+/// `Unreadable` if the file cannot be opened or a read fails; `TooLong`; `NoMemory` if out of
+/// memory.
 pub fn read_whole<R: Files + AllocGlobal>(
     rt: &R,
     file: FileName,
@@ -44,7 +46,7 @@ pub fn read_whole<R: Files + AllocGlobal>(
     ensures { IfOk result (λ v. length v.items ≤ most) }
 {
     let read = match open(rt, &file) {
-        Ok(mut input) => read_most(rt.alloc(), &mut input, most + 1),
+        Ok(mut input) => read_limited(rt.alloc(), &mut input, most + 1),
         Err(fault) => Err(fault),
     };
     match read {

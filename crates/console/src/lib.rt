@@ -1,5 +1,16 @@
-//! The words, files and streams of a run: what is read, to a limit; lines that are printed; why a run ends with a status
-//! other than 0, and how that is told; and `station monitor`, which needs no layout.
+//! Arguments, files and streams of a run: bounded reading, printing of lines, and reporting of
+//! faults; and `station monitor`, which needs no layout.
+//!
+//! A [`RunFault`] is why a run fails, with its text and exit status; [`report`] reports it.
+//! [`Buffered`] is a buffer for an output, and [`print`] prints a line. [`read_words`] returns the
+//! program's arguments and [`read_roster`] the roster of a file.
+//!
+//! ```ignore
+//! match run(arguments) {
+//!     Ok(()) => 0,
+//!     Err(fault) => report(&fault, &mut faults),
+//! }
+//! ```
 #![tactic(auto)]
 
 mod buffered;
@@ -8,8 +19,8 @@ mod flushing;
 mod input;
 mod monitoring;
 mod output;
+mod reporting;
 mod roster_file;
-mod telling;
 mod words;
 
 pub use buffered::Buffered;
@@ -17,7 +28,7 @@ pub use fault::RunFault;
 pub use flushing::flush_after;
 pub use input::read_whole;
 pub use monitoring::{monitor, monitor_from};
-pub use output::{Unwritten, print, print_ended, print_to};
+pub use output::{WriteError, print, print_ended, print_to};
+pub use reporting::{report, report_as};
 pub use roster_file::{read_roster, roster_from};
-pub use telling::{tell, tell_as};
 pub use words::{read_words, texts};

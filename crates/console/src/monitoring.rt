@@ -1,4 +1,4 @@
-//! `station monitor`: the messages in captured bytes.
+//! `station monitor`: printing the messages in captured bytes.
 ghost use Rattle.std.specs.Prelude.{ℕ, ◌≡◌, ◌≢◌, List, IfErr, None, OnOk, false};
 ghost use Rattle.std.specs.Io.KnownBytes.{Appends};
 ghost use Rattle.ln_frame.specs.Stream.{messages_of};
@@ -11,34 +11,36 @@ use crate::buffered::Buffered;
 use crate::fault::RunFault;
 use crate::flushing::flush_after;
 use crate::input::{not_read, open};
-use crate::output::{Unwritten, print};
+use crate::output::{WriteError, print};
 use command_line::FileName;
-use input_text::{Input, Output, Sink, read_most};
+use input_text::{Input, Output, Sink, read_limited};
 use ln_frame::{Framer, any_cut};
 use show_text::{LONGEST_TEXT, message_line, read_hex};
 use std::alloc::Global;
 use std::rt::Files;
 
-/// Reads hex text from a file, whole, and then prints each message in its bytes. A file of more than 1,048,576 bytes is
-/// read to one byte past them, and is no hex text.
+/// Reads the hex text of a file and then prints each message in its bytes. A file of more than
+/// 1,048,576 bytes is rejected once one byte beyond them is read.
 ///
 /// # Errors
 ///
-/// `Unreadable` where the file is not opened or a read fails, `Hex` with the first fault of its text, `Output` where a
-/// write fails, and `NoMemory`.
+/// `Unreadable` if the file cannot be opened or a read fails; `Hex` with the first fault of its
+/// text; `Output` if a write fails; `NoMemory` if out of memory.
 pub fn monitor<R: Files + AllocGlobal, O: Output>(
     rt: &R,
     file: FileName,
     output: &mut O,
 ) -> Result<(), RunFault>
     requires { O.failed output.old ≡ false }
-    // What a file holds is not known, but that there is a text.
-    ensures printed { OnOk result ((text : List ℕ) × PrintsMessages text (O.held output.old) (O.held output.new)) }
+    // The contents of a file are not known, only that there is a text.
+    ensures printed { OnOk result
+        ((text : List ℕ) × PrintsMessages text (O.held output.old) (O.held output.new)) }
     ensures fault { IfErr result (FailsMonitor file None None) }
-    // The output could not be written exactly where a write or a flush of it failed.
+    // A write or a flush failed exactly if the fault is `Output`.
     ensures unwritten { O.failed output.new ≡ ended_by is_unwritten result }
-    // Where neither memory ran out nor the output failed, a fault prints nothing.
-    ensures untouched { IfErr result (λ e. e ≢ RunFault.NoMemory → e ≢ RunFault.Output → output.new ≡ output.old) }
+    // Unless memory ran out or the output failed, a fault prints nothing.
+    ensures untouched { IfErr result
+        (λ e. e ≢ RunFault.NoMemory → e ≢ RunFault.Output → output.new ≡ output.old) }
 {
     match open(rt, &file) {
         Ok(mut input) => monitor_from(rt.alloc(), file, &mut input, output),
@@ -46,7 +48,8 @@ pub fn monitor<R: Files + AllocGlobal, O: Output>(
     }
 }
 
-/// The same of an input, which is the file of this name: `Unreadable` comes exactly where a read failed.
+/// The same for an input, which is the file of this name: `Unreadable` is returned exactly if a
+/// read failed.
 pub fn monitor_from<I: Input, O: Output>(
     alloc: Global,
     file: FileName,
@@ -55,26 +58,31 @@ pub fn monitor_from<I: Input, O: Output>(
 ) -> Result<(), RunFault>
     requires reads { I.failed input.old ≡ false }
     requires writes { O.failed output.old ≡ false }
-    ensures printed { OnOk result (MonitorsInput (I.left input.old) (I.left input.new) (O.held output.old) (O.held output.new)) }
+    ensures printed { OnOk result
+        (MonitorsInput (I.left input.old) (I.left input.new) (O.held output.old)
+        (O.held output.new)) }
     ensures fault { IfErr result (FailsMonitor file (I.left input.old) (I.left input.new)) }
     ensures failed { I.failed input.new ≡ ended_by is_unread_file result }
     ensures unwritten { O.failed output.new ≡ ended_by is_unwritten result }
-    ensures untouched { IfErr result (λ e. e ≢ RunFault.NoMemory → e ≢ RunFault.Output → output.new ≡ output.old) }
+    ensures untouched { IfErr result
+        (λ e. e ≢ RunFault.NoMemory → e ≢ RunFault.Output → output.new ≡ output.old) }
 {
-    let text = match read_most(alloc, input, LONGEST_TEXT + 1) {
+    let text = match read_limited(alloc, input, LONGEST_TEXT + 1) {
         Ok(text) => text,
         Err(fault) => return Err(not_read(fault, file)),
     };
     print_hex(alloc, text.as_slice(), output)
 }
 
-/// Prints each message in the bytes of a hex text, by a buffer.
+/// Prints each message in the bytes of a hex text, through a buffer.
 fn print_hex<O: Output>(alloc: Global, text: &[u8], output: &mut O) -> Result<(), RunFault>
     requires { O.failed output.old ≡ false }
-    ensures printed { OnOk result (PrintsMessages text.now (O.held output.old) (O.held output.new)) }
+    ensures printed { OnOk result
+        (PrintsMessages text.now (O.held output.old) (O.held output.new)) }
     ensures fault { IfErr result (FailsHex text.now) }
     ensures unwritten { O.failed output.new ≡ ended_by is_unwritten result }
-    ensures untouched { IfErr result (λ e. e ≢ RunFault.NoMemory → e ≢ RunFault.Output → output.new ≡ output.old) }
+    ensures untouched { IfErr result
+        (λ e. e ≢ RunFault.NoMemory → e ≢ RunFault.Output → output.new ≡ output.old) }
 {
     let mut buffered = Buffered::new(output);
     let done = monitor_text(alloc, text, &mut buffered);
@@ -84,7 +92,8 @@ fn print_hex<O: Output>(alloc: Global, text: &[u8], output: &mut O) -> Result<()
 /// Prints each message in the bytes of a hex text.
 fn monitor_text<O: Sink>(alloc: Global, text: &[u8], output: &mut O) -> Result<(), RunFault>
     requires { O.failed output.old ≡ false }
-    ensures printed { OnOk result (PrintsMessages text.now (O.held output.old) (O.held output.new)) }
+    ensures printed { OnOk result
+        (PrintsMessages text.now (O.held output.old) (O.held output.new)) }
     ensures fault { IfErr result (FailsHex text.now) }
     ensures unwritten { O.failed output.new ≡ ended_by is_unwritten result }
     ensures same { O.loan output.new ≡ O.loan output.old }
@@ -96,8 +105,9 @@ fn monitor_text<O: Sink>(alloc: Global, text: &[u8], output: &mut O) -> Result<(
 }
 
 /// Prints each message that ends in these bytes.
-fn print_messages<O: Sink>(bytes: &[u8], output: &mut O) -> Result<(), Unwritten>
-    ensures printed { OnOk result (Appends (O.held output.old) (O.held output.new) (messages_text (messages_of bytes.now))) }
+fn print_messages<O: Sink>(bytes: &[u8], output: &mut O) -> Result<(), WriteError>
+    ensures printed { OnOk result
+        (Appends (O.held output.old) (O.held output.new) (messages_text (messages_of bytes.now))) }
     ensures failed { O.failed output.new ≡ failed_after result (O.failed output.old) }
     ensures same { O.loan output.new ≡ O.loan output.old }
 {

@@ -9,18 +9,21 @@ use std::io::Write;
 
 /// The output could not be written.
 ///
-/// It is small, and a `RunFault` is not: what each event of a script makes is passed on through calls that answer one.
+/// It is small, and a `RunFault` is not: the result of each event of a script is passed on through
+/// calls that return one.
 #[derive(Clone, Copy, Debug, PartialEq, Eq)]
-pub struct Unwritten;
+pub struct WriteError;
 
-/// Prints a line, and a line feed, by two writes.
+/// Prints a line and a line feed, by two writes.
 ///
 /// # Errors
 ///
-/// `Unwritten` exactly where a write fails. Then a front of the line is written, and not its line feed.
-pub fn print<O: Sink>(output: &mut O, line: &Line) -> Result<(), Unwritten>
-    ensures printed { OnOk result (Appends (O.held output.old) (O.held output.new) (line.now.bytes ++ 10 ∷ [])) }
-    ensures front { OnErr result (AppendsFront (O.held output.old) (O.held output.new) (line.now.bytes ++ 10 ∷ [])) }
+/// `WriteError` if a write fails. Then a prefix of the line is written, without its line feed.
+pub fn print<O: Sink>(output: &mut O, line: &Line) -> Result<(), WriteError>
+    ensures printed { OnOk result
+        (Appends (O.held output.old) (O.held output.new) (line.now.bytes ++ 10 ∷ [])) }
+    ensures front { OnErr result
+        (AppendsFront (O.held output.old) (O.held output.new) (line.now.bytes ++ 10 ∷ [])) }
     ensures failed { O.failed output.new ≡ failed_after result (O.failed output.old) }
     ensures same { O.loan output.new ≡ O.loan output.old }
 {
@@ -29,26 +32,29 @@ pub fn print<O: Sink>(output: &mut O, line: &Line) -> Result<(), Unwritten>
     print_all(output, b"\n")
 }
 
-/// The same to a writer, whose failure is not recorded.
+/// Prints a line and a line feed to a writer whose failure is not recorded.
 ///
 /// # Errors
 ///
-/// `Unwritten` where the writer does not take it. How much of the line was written is not known.
-pub fn print_to<W: Write>(writer: &mut W, line: &Line) -> Result<(), Unwritten>
-    ensures { OnOk result (Appends (W.contents writer.old) (W.contents writer.new) (line.now.bytes ++ 10 ∷ [])) }
+/// `WriteError` if the writer fails. The number of bytes written is then not known.
+pub fn print_to<W: Write>(writer: &mut W, line: &Line) -> Result<(), WriteError>
+    ensures { OnOk result
+        (Appends (W.contents writer.old) (W.contents writer.new) (line.now.bytes ++ 10 ∷ [])) }
 {
-    writeln!(writer, "{line}").map_err(|_| Unwritten)
+    writeln!(writer, "{line}").map_err(|_| WriteError)
 }
 
-/// Ends a line of less than 640 bytes with a line feed, and prints it by one write.
+/// Appends a line feed to a line of less than 640 bytes, and prints it by one write.
 ///
 /// # Errors
 ///
-/// `Unwritten` exactly where the write fails. Then a front of the line is written, and not its line feed.
-pub fn print_ended<O: Sink>(output: &mut O, line: &mut Line) -> Result<(), Unwritten>
+/// `WriteError` if the write fails. Then a prefix of the line is written, without its line feed.
+pub fn print_ended<O: Sink>(output: &mut O, line: &mut Line) -> Result<(), WriteError>
     requires { length line.old.bytes < 640 }
-    ensures printed { OnOk result (Appends (O.held output.old) (O.held output.new) (line.old.bytes ++ 10 ∷ [])) }
-    ensures front { OnErr result (AppendsFront (O.held output.old) (O.held output.new) (line.old.bytes ++ 10 ∷ [])) }
+    ensures printed { OnOk result
+        (Appends (O.held output.old) (O.held output.new) (line.old.bytes ++ 10 ∷ [])) }
+    ensures front { OnErr result
+        (AppendsFront (O.held output.old) (O.held output.new) (line.old.bytes ++ 10 ∷ [])) }
     ensures failed { O.failed output.new ≡ failed_after result (O.failed output.old) }
     ensures same { O.loan output.new ≡ O.loan output.old }
 {
@@ -56,12 +62,12 @@ pub fn print_ended<O: Sink>(output: &mut O, line: &mut Line) -> Result<(), Unwri
     print_all(output, line.as_str().as_bytes())
 }
 
-/// Writes all bytes, or, where a write fails, a front of them that is not all.
-fn print_all<O: Sink>(output: &mut O, bytes: &[u8]) -> Result<(), Unwritten>
+/// Writes all bytes, or a proper prefix of them if a write fails.
+fn print_all<O: Sink>(output: &mut O, bytes: &[u8]) -> Result<(), WriteError>
     ensures printed { OnOk result (Appends (O.held output.old) (O.held output.new) bytes.now) }
     ensures front { OnErr result (AppendsFront (O.held output.old) (O.held output.new) bytes.now) }
     ensures failed { O.failed output.new ≡ failed_after result (O.failed output.old) }
     ensures same { O.loan output.new ≡ O.loan output.old }
 {
-    put_all(output, bytes).map_err(|_| Unwritten)
+    put_all(output, bytes).map_err(|_| WriteError)
 }

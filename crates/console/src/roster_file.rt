@@ -1,4 +1,4 @@
-//! A roster that is read from its file.
+//! Reading a roster from its file.
 ghost use Rattle.std.specs.Prelude.{◌≡◌, None, false, IfErr, IfOk};
 ghost use Rattle.console.specs.Fault.{ended_by, is_unread_file};
 ghost use Rattle.console.specs.Files.{FailsRoster, HasNoRoster, IsRosterOf, ReadsRoster};
@@ -6,7 +6,7 @@ ghost use Rattle.console.specs.Files.{FailsRoster, HasNoRoster, IsRosterOf, Read
 use crate::fault::RunFault;
 use crate::input::{not_read, open};
 use command_line::FileName;
-use input_text::{Input, read_most};
+use input_text::{Input, read_limited};
 use roster::Roster;
 use std::alloc::Global;
 use std::rt::Files;
@@ -14,13 +14,13 @@ use std::rt::Files;
 /// The longest roster, in bytes.
 const LONGEST_ROSTER: usize = 65_536;
 
-/// The roster of this file, if there is one. A file of more than 65,536 bytes is read to one byte past them, and is no
-/// roster.
+/// Returns the roster of this file, if a file is given. A file of more than 65,536 bytes is
+/// rejected once one byte beyond them is read.
 ///
 /// # Errors
 ///
-/// `Unreadable` where the file is not opened or a read fails, `TooLong`, `Roster` with the first fault of its text, and
-/// `NoMemory`.
+/// `Unreadable` if the file cannot be opened or a read fails; `TooLong`; `Roster` with the first
+/// fault of its text; `NoMemory` if out of memory.
 pub fn read_roster<R: Files + AllocGlobal>(
     rt: &R,
     file: Option<FileName>,
@@ -38,8 +38,8 @@ pub fn read_roster<R: Files + AllocGlobal>(
     Ok(Some(roster_from(rt.alloc(), file, &mut input)?))
 }
 
-/// The roster that an input is, which is the file of this name. The faults are those of [`read_roster`]: `Unreadable`
-/// comes exactly where a read failed.
+/// Returns the roster of an input, which is the file of this name. The faults are those of
+/// [`read_roster`]: `Unreadable` is returned exactly if a read failed.
 pub fn roster_from<I: Input>(
     alloc: Global,
     file: FileName,
@@ -50,7 +50,7 @@ pub fn roster_from<I: Input>(
     ensures fault { IfErr result (FailsRoster file (I.left input.old) (I.left input.new)) }
     ensures failed { I.failed input.new ≡ ended_by is_unread_file result }
 {
-    let text = match read_most(alloc, input, LONGEST_ROSTER + 1) {
+    let text = match read_limited(alloc, input, LONGEST_ROSTER + 1) {
         Ok(text) => text,
         Err(fault) => return Err(not_read(fault, file)),
     };

@@ -1,4 +1,4 @@
-//! The words that a program is given.
+//! The arguments of a program.
 ghost use Rattle.std.specs.Prelude.{◌≡◌, IfErr, IfOk, map, string_bytes};
 ghost use Rattle.console.specs.Words.{IsWordFault};
 
@@ -9,11 +9,12 @@ use std::env::Env;
 use std::io::ErrorKind;
 use std::{env, io};
 
-/// The words behind the program's name. A word that is not UTF-8 is a fault of usage, which `no_text` makes.
+/// Returns the arguments after the program's name. An argument that is not UTF-8 is a fault of
+/// usage, whose text `no_text` makes.
 ///
 /// # Errors
 ///
-/// `Usage`, and `NoMemory`.
+/// `Usage`, and `NoMemory` if out of memory.
 pub fn read_words<E: Env, F: FnOnce(Global) -> OrderFault>(
     alloc: Global,
     from: &E,
@@ -35,7 +36,7 @@ pub fn read_words<E: Env, F: FnOnce(Global) -> OrderFault>(
     Ok(words)
 }
 
-/// Why there are no words.
+/// Why the arguments are not available.
 fn no_words<F: FnOnce(Global) -> OrderFault>(
     alloc: Global,
     error: &io::Error,
@@ -50,9 +51,11 @@ fn no_words<F: FnOnce(Global) -> OrderFault>(
     }
 }
 
-/// The words, as they are lent.
+/// The arguments, borrowed as `&str`.
 pub fn texts<'a>(alloc: Global, words: &'a [String]) -> Result<Vec<&'a str>, AllocError>
-    ensures { IfOk result (λ texts. map (λ text. text.now) texts.items ≡ map (λ word. string_bytes word) words.entry.now) }
+    ensures { IfOk result
+        (λ texts. map (λ text. text.now) texts.items
+        ≡ map (λ word. string_bytes word) words.entry.now) }
 {
     let mut texts = Vec::new(alloc);
     for word in words {

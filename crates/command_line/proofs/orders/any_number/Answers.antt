@@ -6,7 +6,7 @@ use Rattle.clap.proofs.WalkLemmas.{one_text-rows}
 use Rattle.command_line.specs.Order.{Writes, WritesNone}
 use Rattle.command_line.proofs.orders.any_number.Goals as goal
 
--- what is read of a text, by cases on what is answered
+-- the number read from a text, by cases on the result
 read : {E : Type 0} (gives : List ℕ → Result ℕ E → Type 0) (o : Option Text) (r : Option ℕ)
     → (o ≡ None → r ≡ None) → ((t : Text) → o ≡ Some t → ReadsOne gives t r) → ((t : Text) (n : ℕ) → gives t (Ok n) → Writes (Some t) n) → ((t : Text) (e : E) → gives t (Err e) → WritesNone (Some t))
     → MatchOption r (WritesNone o) (λ n. Writes o n)

@@ -1,0 +1,27 @@
+//! Reporting why a run failed.
+ghost use Rattle.std.specs.Prelude.{◌≡◌};
+ghost use Rattle.console.specs.Fault.{status_of};
+
+use crate::fault::RunFault;
+use std::io::Write;
+
+/// Reports a fault of `station` and returns its status, 1 to 6.
+///
+/// It writes one line `station: ..`, or the text of `clap` for the command line. A failure of this
+/// report cannot be reported.
+pub fn report<E: Write>(fault: &RunFault, faults: &mut E) -> u8
+    ensures { result ≡ status_of fault.now }
+{
+    report_as("station", fault, faults)
+}
+
+/// Reports a fault of the program with this name, with which the line begins.
+pub fn report_as<E: Write>(program: &str, fault: &RunFault, faults: &mut E) -> u8
+    ensures { result ≡ status_of fault.now }
+{
+    let _ = match fault {
+        RunFault::Usage(error) => write!(faults, "{error}"),
+        _ => writeln!(faults, "{program}: {fault}"),
+    };
+    fault.status()
+}
