@@ -9,12 +9,12 @@ use Rattle.layout_core.specs.declared.engine.Summary.{Summary}
 use Rattle.layout_core.specs.declared.engine.ServeFault.TheVariants.{Read, Write, Trace, TooManyReads}
 use Rattle.layout_core.specs.declared.event.Event.{Event}
 use Rattle.layout_core.specs.declared.world.World.{World}
-use Rattle.layout_core.specs.Faults.{HasFaulted, Leaves, StopsAfter, is_read, is_write}
+use Rattle.layout_core.specs.Faults.{HasFaulted, HoldsAfterFault, StopsAfter, is_read, is_write}
 use Rattle.layout_core.specs.Played.{answers_to}
-use Rattle.layout_core.specs.Served.{HasServed as EngineHasServed, Input, Moment, Serves as EngineServes, moment_of, served_events, traced_from}
+use Rattle.layout_core.specs.Served.{HasServed as EngineHasServed, Input, Moment, ServesEvents as EngineServes, moment_of, served_events, traced_from}
 use Rattle.console.specs.declared.fault.RunFault.{RunFault}
 use Rattle.console.specs.declared.fault.RunFault.TheVariants.{Serve}
-use Rattle.station.specs.Connections.{AreServed, GivesUp, HasGivenUp, HasServed, IsServed, Serves, ServesPart, ServesSource, StopsPrinting, StopsShowing, events_of_all, is_serve, next_line, nodes_text, trace_text}
+use Rattle.station.specs.Connections.{AreServed, GivesUp, HasGivenUp, HasServed, IsServed, ServesConnections, ServesPart, ServesSource, StopsPrinting, StopsShowing, events_of_all, is_serve, next_line, nodes_text, trace_text}
 use Rattle.layout_core.specs.declared.node.Node.{Node}
 use Rattle.layout_core.specs.Cycle.{RunsAsWanted}
 use Rattle.layout_core.specs.World.{HaveHeard}
@@ -41,13 +41,14 @@ stopped_part fault turns bytes done old new stop =
     let last = stop.2 in
     (bytes, before ++ last ∷ [], later, stop.3 ∙ sym (append_assoc before (last ∷ []) later), record { station = stop.5.station; nodes = stop.5.nodes })
 
-leaves_part : (fault : ServeFault) (turns : ℕ) (bytes : List ℕ) (done : List Event) (old new : Moment) → Leaves fault 0 (served_events 0 turns bytes) done old new → ServesPart turns old.world new.world
+leaves_part : (fault : ServeFault) (turns : ℕ) (bytes : List ℕ) (done : List Event) (old new : Moment) → HoldsAfterFault fault 0 (served_events 0 turns bytes) done old new → ServesPart turns old.world new.world
 leaves_part Read turns bytes done old new leaves = whole_part turns bytes done old.world new.world leaves.0 (done_whole (served_events 0 turns bytes) old new leaves.1)
 leaves_part TooManyReads turns bytes done old new leaves = whole_part turns bytes done old.world new.world leaves.0 (done_whole (served_events 0 turns bytes) old new leaves.1)
 leaves_part Write turns bytes done old new leaves = stopped_part Write turns bytes done old new leaves
 leaves_part Trace turns bytes done old new leaves = stopped_part Trace turns bytes done old new leaves
 
--- A connection that was served, as the engine says it: at most as many reads as the limits give, of at most 64 bytes.
+-- A connection that was served, in the terms of the engine: at most as many reads as the limits
+-- allow, of at most 64 bytes.
 is_served : (limits : Limits) (summary : Summary) (input input' : Input) (old new : Moment) → (has : EngineHasServed 0 limits.turns summary input input' old new) → input'.reads ≤ input.reads + limits.reads → IsServed limits has.0 old.world new.world
 is_served limits summary input input' old new has most = record {
   done = done_whole (served_events 0 limits.turns has.0) old new has.3;
@@ -59,10 +60,10 @@ is_traced limits summary input input' old new has first =
     subst (λ (turns : ℕ). Appends old.traced new.traced (traced_from 0 (turns + 1) (answers_to old.world.station (served_events 0 limits.turns has.0)))) first has.3.traced
 
 pub served_whole : (limits : Limits) (summary : Summary) (input input' : Input) (old new : Moment) → EngineHasServed 0 limits.turns summary input input' old new → old.turns ≡ 0 → input'.reads ≤ input.reads + limits.reads
-    → Serves limits old.world new.world old.traced new.traced
+    → ServesConnections limits old.world new.world old.traced new.traced
 served_whole limits summary input input' old new has first most = (has.0, is_served limits summary input input' old new has most, is_traced limits summary input input' old new has first)
 
--- and of a source, whose end was found
+-- and of a source whose end was found
 pub source_whole : (limits : Limits) (summary : Summary) (input input' : Input) (old new : Moment) → EngineHasServed 0 limits.turns summary input input' old new → old.turns ≡ 0 → input'.reads ≤ input.reads + limits.reads → IsAtEnd input'.left
     → ServesSource limits old.world new.world input.left input'.left old.written new.written old.traced new.traced
 source_whole limits summary input input' old new has first most end =
@@ -87,7 +88,7 @@ serve_4 Write is = cc
 serve_4 Trace is = cc
 serve_4 TooManyReads is = refl
 
--- a connection that was given up
+-- a connection that was not served to its end
 pub faulted_part : (fault : ServeFault) (turns : ℕ) (input input' : Input) (old : Moment) (world : World) (written traced : Option (List ℕ)) → HasFaulted fault 0 turns input input' old world written traced → ServesPart turns old.world world
 faulted_part fault turns input input' old world written traced has =
     leaves_part fault turns has.3 has.4 old (moment_of world written traced has.1 has.2) has.6
@@ -98,7 +99,7 @@ all-append turns (bytes ∷ connections) more =
     ap (λ (events : List Event). served_events 0 turns bytes ++ events) (all-append turns connections more)
     ∙ sym (append_assoc (served_events 0 turns bytes) (events_of_all turns connections) (events_of_all turns more))
 
--- so many connections so far, and what was printed of them
+-- a number of connections so far, and the output for them
 abbrev pub HasServedSoFar : Limits → (count : ℕ) → List Entry → (old new : World) → (old_output new_output : Option (List ℕ)) → Type 0
 HasServedSoFar limits count entries old new old_output new_output =
     (connections : List (List ℕ)) × (length connections ≡ count) × HasDone (events_of_all limits.turns connections) old new
@@ -107,7 +108,7 @@ HasServedSoFar limits count entries old new old_output new_output =
 pub served_none : HeardNone → (limits : Limits) (entries : List Entry) (world : World) (output : Option (List ℕ)) → HasServedSoFar limits 0 entries world world output output
 served_none law limits entries world output = ([], refl, done_none law world, [], (refl, refl), Appends-nil output)
 
--- a connection behind others
+-- a connection after others
 served_behind : (limits : Limits) (entries : List Entry) (connections : List (List ℕ)) (bytes : List ℕ) (old mid new : World) (text : List ℕ) → AreServed limits entries connections old mid text → IsServed limits bytes mid new
     → AreServed limits entries (connections ++ bytes ∷ []) old new (text ++ (trace_text mid.station (served_events 0 limits.turns bytes) ++ nodes_text entries new))
 served_behind limits entries [] bytes old mid new text are is =
@@ -127,7 +128,7 @@ served_behind limits entries (first ∷ connections) bytes old mid new text are 
 
 -- one connection more
 pub served_more : HeardMore → (limits : Limits) (count : ℕ) (entries : List Entry) (old mid new : World) (output so_far traced shown : Option (List ℕ)) → HasServedSoFar limits count entries old mid output so_far
-    → Serves limits mid new so_far traced → Appends traced shown (nodes_text entries new) → HasServedSoFar limits (count + 1) entries old new output shown
+    → ServesConnections limits mid new so_far traced → Appends traced shown (nodes_text entries new) → HasServedSoFar limits (count + 1) entries old new output shown
 served_more law limits count entries old mid new output so_far traced shown has one nodes =
     let front : List Event = events_of_all limits.turns has.0 in
     let events : List Event = served_events 0 limits.turns one.0 in
@@ -149,13 +150,13 @@ pub served_all : ((start : Seen) (events : List Event) (old new : List Node) →
 served_all law limits count all entries old new output shown desk same has =
     (has.0, has.1 ∙ same, has.2, law old.station (events_of_all limits.turns has.0) old.nodes new.nodes desk has.2.nodes, has.3, has.4, has.5)
 
--- behind a text that was printed before
-pub served_after : {A E : Type 0} (r : Result A E) (limits : Limits) (count : ℕ) (entries : List Entry) (old new : World) (front : List ℕ) (output told shown : Option (List ℕ)) → Appends output told front
-    → OnOk r (HasServed limits count entries old new [] told shown) → OnOk r (HasServed limits count entries old new front output shown)
-served_after (Ok a) limits count entries old new front output told shown before has = (has.0, has.1, has.2, has.3, has.4, has.5, Appends-trans output told shown front has.4 before has.6)
-served_after (Err e) limits count entries old new front output told shown before has = tt
+-- after a text that was printed before
+pub served_after : {A E : Type 0} (r : Result A E) (limits : Limits) (count : ℕ) (entries : List Entry) (old new : World) (front : List ℕ) (output reported shown : Option (List ℕ)) → Appends output reported front
+    → OnOk r (HasServed limits count entries old new [] reported shown) → OnOk r (HasServed limits count entries old new front output shown)
+served_after (Ok a) limits count entries old new front output reported shown before has = (has.0, has.1, has.2, has.3, has.4, has.5, Appends-trans output reported shown front has.4 before has.6)
+served_after (Err e) limits count entries old new front output reported shown before has = tt
 
--- and one that was given up
+-- and one that was not served to its end
 pub given_up : (e : RunFault) (limits : Limits) (count all : ℕ) (entries : List Entry) (old mid new : World) (output so_far shown : Option (List ℕ)) → HasServedSoFar limits count entries old mid output so_far → count < all
     → ServesPart limits.turns mid new → StopsPrinting e limits entries mid new so_far shown → HasGivenUp e limits all entries old new output shown
 given_up e limits count all entries old mid new output so_far shown has few part stops =
@@ -178,16 +179,16 @@ pub given_up_status : {A : Type 0} (r : Result A RunFault) (limits : Limits) (co
 given_up_status (Ok a) limits count entries old new output shown has = tt
 given_up_status (Err e) limits count entries old new output shown has = stops_status e limits entries has.1 new has.6 shown has.9
 
--- none of it came
+-- none of it was received
 pub part_none : (turns : ℕ) (world : World) → HasDone [] world world → ServesPart turns world world
 part_none turns world none = ([], [], [], refl, none)
 
-pub part_whole : (limits : Limits) (old new : World) (output shown : Option (List ℕ)) → Serves limits old new output shown → ServesPart limits.turns old new
+pub part_whole : (limits : Limits) (old new : World) (output shown : Option (List ℕ)) → ServesConnections limits old new output shown → ServesPart limits.turns old new
 part_whole limits old new output shown one = whole_part limits.turns one.0 (served_events 0 limits.turns one.0) old new refl one.1.done
 
--- A connection that was given up, and its trace.
+-- A connection that was not served to its end, and its trace.
 stopped : (fault : ServeFault) (limits : Limits) (bytes : List ℕ) (done : List Event) (old new : World) (written written' traced traced' : Option (List ℕ)) (replies made : ℕ)
-    → Leaves fault 0 (served_events 0 limits.turns bytes) done (moment_of old written traced 0 0) (moment_of new written' traced' replies made)
+    → HoldsAfterFault fault 0 (served_events 0 limits.turns bytes) done (moment_of old written traced 0 0) (moment_of new written' traced' replies made)
     → GivesUp (of_serve fault) limits old new traced traced'
 stopped Read limits bytes done old new written written' traced traced' replies made leaves =
     let events : List Event = served_events 0 limits.turns bytes in
@@ -220,13 +221,13 @@ pub gives_up : (e : RunFault) (fault : ServeFault) (limits : Limits) (input inpu
 gives_up e fault limits input input' old new written written' traced traced' is has =
     subst (λ (e : RunFault). GivesUp e limits old new traced traced') (sym is) (stopped fault limits has.3 has.4 old new written written' traced traced' has.1 has.2 has.6)
 
--- what holds of a fault that is passed on
-pub passed_up : {A E : Type 0} (r : Result A E) (told : E) (P : E → Type 0) → IfErr r (λ e. e ≡ told) → P told → IfErr r P
-passed_up (Ok a) told P is p = tt
-passed_up (Err e) told P is p = subst P (sym is) p
+-- the facts of a fault that is passed on
+pub passed_up : {A E : Type 0} (r : Result A E) (reported : E) (P : E → Type 0) → IfErr r (λ e. e ≡ reported) → P reported → IfErr r P
+passed_up (Ok a) reported P is p = tt
+passed_up (Err e) reported P is p = subst P (sym is) p
 
--- behind the trace of a connection a front of the decoders' lines was printed
-pub stops_showing : (limits : Limits) (entries : List Entry) (old new : World) (output traced shown : Option (List ℕ)) → Serves limits old new output traced → PrintedFront traced shown (nodes_text entries new)
+-- after the trace of a connection a prefix of the decoders' lines was printed
+pub stops_showing : (limits : Limits) (entries : List Entry) (old new : World) (output traced shown : Option (List ℕ)) → ServesConnections limits old new output traced → PrintedFront traced shown (nodes_text entries new)
     → StopsShowing limits entries old new output shown
 stops_showing limits entries old new output traced shown one front =
     (one.0, one.1, (front.0, front.1, Appends-trans output traced shown (trace_text old.station (served_events 0 limits.turns one.0)) (take front.0 (nodes_text entries new)) one.2 front.2))

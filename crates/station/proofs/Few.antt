@@ -1,5 +1,5 @@
--- A script has fewer turns than can be numbered: a line asks for at most a million, and there are no more lines than
--- bytes and one.
+-- A script has fewer turns than can be numbered: a line requests at most a million, and there is at
+-- most one line more than bytes.
 use Rattle.std.proofs.Common.{◌≡◌, ℕ, ◌+◌, ◌*◌, ◌^◌, ◌==◌, ◌<◌, ◌≤◌, true, false, Bool, List, [], ◌∷◌, ◌++◌, Result, Ok, Err, nat_eq, nat_lt, nat_le, length, codes, if◌then◌else◌, refl, ap, ◌∙◌, arith}
 use Rattle.std.proofs.lemmas.Bool.{and_parts, cond_both, leb-true, ltb-false}
 use Rattle.std.proofs.lemmas.Bool.Decides.{nat_tests}
@@ -19,7 +19,7 @@ use Rattle.show_text.specs.Script.{◌>>=◌, number_of, below, is_count, count_
 use Rattle.station.specs.Replayed.{events_in, events_of, turns_among}
 use Rattle.station.proofs.Replaying.{events-append, turns-append, turns_of_many}
 
--- what is read has so many turns at most
+-- the commands read have at most this number of turns
 abbrev Few : {E : Type 0} → ℕ → Result (List Command) E → Type 0
 Few most (Ok commands) = turns_among (events_in commands) ≤ most
 Few most (Err fault) = Unit {0}

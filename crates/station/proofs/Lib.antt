@@ -1,9 +1,9 @@
 pub mod Connecting
-pub mod Told
+pub mod DecoderLines
 pub mod Printing
 pub mod Replaying
 pub mod Running
-pub mod Standing
+pub mod DecoderState
 pub mod Few
 pub mod Wanted
 pub mod Refusing

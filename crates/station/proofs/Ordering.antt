@@ -1,4 +1,4 @@
--- Words that are no order.
+-- Arguments that are not an order.
 use Rattle.std.proofs.Common.{◌≡◌, ℕ, Bool, false, List, Option, Result, Ok, Err, ap, inl, inr}
 use Rattle.std.specs.Prelude.{IfErr, IsErrAnd}
 use Rattle.clap.specs.Values.{kind_of}

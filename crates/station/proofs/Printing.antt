@@ -1,4 +1,4 @@
--- What is printed, line after line.
+-- The output, line after line.
 use Rattle.std.proofs.Common.{◌≡◌, ◌<◌, ℕ, ◌+◌, List, [], ◌∷◌, ◌++◌, length, take, drop, get_or, Option, refl, ap, sym, subst, ◌∙◌, append_assoc}
 use Rattle.std.proofs.lemmas.List.{append-nil, drop_more, take-append-drop, take_more}
 use Rattle.std.specs.Io.KnownBytes.{Appends}
@@ -13,7 +13,7 @@ pub lines-append : (lines more : List (List ℕ)) → lines_text (lines ++ more)
 lines-append [] more = refl
 lines-append (line ∷ lines) more = ap (λ bs. ended line ++ bs) (lines-append lines more) ∙ sym (append_assoc (ended line) (lines_text lines) (lines_text more))
 
--- so many lines were printed, and the next one is
+-- a number of lines were printed, and the next one is
 pub one_line_more : (lines : List (List ℕ)) (i : ℕ) (line : List ℕ) (old now new : Option (List ℕ)) → i < length lines → get_or lines i [] ≡ line → Appends old now (lines_text (take i lines)) → Appends now new (line ++ 10 ∷ [])
     → Appends old new (lines_text (take (i + 1) lines))
 one_line_more lines i line old now new below is so_far more =
@@ -24,7 +24,7 @@ one_line_more lines i line old now new below is so_far more =
     ∙ ap (λ (bs : List ℕ). lines_text (take i lines) ++ bs) (append-nil (ended line)) in
     subst (λ (bs : List ℕ). Appends old new bs) (sym all) (Appends-trans old now new (lines_text (take i lines)) (ended line) so_far more)
 
--- the lines before one, this one, and the lines behind it
+-- the lines before one, this one, and the lines after it
 pub lines_around : (lines : List (List ℕ)) (i : ℕ) (line : List ℕ) → i < length lines → get_or lines i [] ≡ line
     → lines_text lines ≡ lines_text (take i lines) ++ (ended line ++ lines_text (drop (i + 1) lines))
 lines_around lines i line below is =

@@ -1,4 +1,4 @@
--- What is known of an input whose text has a fault, or is a script.
+-- An input whose text has a fault, or is a script.
 use Rattle.std.proofs.Common.{◌≡◌, ℕ, ◌+◌, ◌<◌, inl, inr, List, ◌++◌, length, length-append, Bool, if◌then◌else◌, Option, Some, None, refl, ap, sym, subst, ◌∙◌, arith}
 use Rattle.std.proofs.lemmas.Bool.{lt-ltb}
 use Rattle.std.proofs.lemmas.List.{append-nil}
@@ -20,7 +20,7 @@ too_long : (count nodes : ℕ) (text : List ℕ) → 1048576 < length text → s
 too_long count nodes text long =
     ap (λ (b : Bool). if b then Err (fault_at script.TooLong 0) else commands_of count nodes 1 (lines text)) (lt-ltb 1048576 (length text) long)
 
--- what was read says what the whole text says: where it is not the whole, both are too long
+-- the bytes read have the result of the whole text: if they are not the whole, both are too long
 same_script : (count nodes : ℕ) (text : List ℕ) (left : Option (List ℕ)) (taken : List ℕ) → ReadsMost (Some text) left 1048577 taken → script_of count nodes text ≡ script_of count nodes taken
 same_script count nodes text None taken read = absurd read.taken
 same_script count nodes text (Some rest) taken read = elim read.enough [
@@ -36,15 +36,15 @@ same_fault r e f first second = cc
 unlike : {A : Type 0} (r : Result A ScriptFault) (a : A) (e : ScriptFault) → r ≡ Ok a → r ≡ Err e → ⊥
 unlike r a e ok err = cc
 
--- the fault of the run is want of memory, or what the fault of the script says
-told : (why : ScriptWhy) (line : ℕ) (P : RunFault → Type 0) → (why ≢ script.NoMemory → P (script_fault why line)) → P NoMemory → P (script_fault why line)
-told script.BadWord line P known memory = known λ same. cc
-told script.BadHex line P known memory = known λ same. cc
-told script.BadNumber line P known memory = known λ same. cc
-told script.BadLine line P known memory = known λ same. cc
-told script.BadNode line P known memory = known λ same. cc
-told script.TooLong line P known memory = known λ same. cc
-told script.NoMemory line P known memory = memory
+-- the fault of the run is that memory ran out, or that of the script
+reported : (why : ScriptWhy) (line : ℕ) (P : RunFault → Type 0) → (why ≢ script.NoMemory → P (script_fault why line)) → P NoMemory → P (script_fault why line)
+reported script.BadWord line P known memory = known λ same. cc
+reported script.BadHex line P known memory = known λ same. cc
+reported script.BadNumber line P known memory = known λ same. cc
+reported script.BadLine line P known memory = known λ same. cc
+reported script.BadNode line P known memory = known λ same. cc
+reported script.TooLong line P known memory = known λ same. cc
+reported script.NoMemory line P known memory = memory
 
 passed_up : {A : Type 0} (r : Result A RunFault) (e : RunFault) (P : RunFault → Type 0) → IsErrAnd r (λ f. f ≡ e) → P e → IfErr r P
 passed_up (Ok a) e P is holds = tt
@@ -57,7 +57,7 @@ module _ {A : Type 0} (r : Result A RunFault) (left : Option (List ℕ)) (taken 
   refuses (Some text) output read known = λ other refused. (
     refl,
     refl,
-    passed_up r (of_script fault) (IsRefusal other) is (told fault.why fault.line (IsRefusal other)
+    passed_up r (of_script fault) (IsRefusal other) is (reported fault.why fault.line (IsRefusal other)
         (λ apart. inl (ap of_script (same_fault (script_of (length start.station.lines) (length start.nodes) text) fault other (same_script (length start.station.lines) (length start.nodes) text left taken read ∙ known apart) refused)))
         (inr (inr refl))),
   )
@@ -65,6 +65,6 @@ module _ {A : Type 0} (r : Result A RunFault) (left : Option (List ℕ)) (taken 
   pub fails : (input : Option (List ℕ)) → ReadsMost input left 1048577 taken → (fault.why ≢ script.NoMemory → script_of (length start.station.lines) (length start.nodes) taken ≡ Err fault) → FailsInput input r start
   fails None read known = tt
   fails (Some text) read known = λ commands ok.
-      passed_up r (of_script fault) IsBroken is (told fault.why fault.line IsBroken
+      passed_up r (of_script fault) IsBroken is (reported fault.why fault.line IsBroken
       (λ apart. absurd (unlike (script_of (length start.station.lines) (length start.nodes) text) commands fault ok (same_script (length start.station.lines) (length start.nodes) text left taken read ∙ known apart)))
       (inr (inr refl)))

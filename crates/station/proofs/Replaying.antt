@@ -1,4 +1,4 @@
--- Commands that are done one after another add up, in what they do and in what they print.
+-- Commands that run one after another add up, in their effect and in their output.
 use Rattle.std.proofs.Common.{◌≡◌, ◌⊎◌, inl, inr, ◌<◌, ◌≤◌, ℕ, zero, suc, ◌+◌, List, [], ◌∷◌, ◌++◌, length, take, replicate, Option, Some, None, refl, ap, ap₂, sym, subst, ◌∙◌, append_assoc, arith}
 use Rattle.std.proofs.lemmas.List.{append-nil, replicate_more}
 use Rattle.std.specs.Io.KnownBytes.{Appends}
@@ -19,7 +19,7 @@ use Rattle.layout_core.specs.Played.{after_event, after_events, answer_to, answe
 use Rattle.layout_core.specs.Served.{line_of_answer, traced_from, turns_in, turns_of_answer}
 use Rattle.layout_core.specs.World.{AfterEvent, HaveHeard}
 use Rattle.layout_core.proofs.Cycle.{calls-append}
-use Rattle.layout_core.proofs.Serving.{answers-append, state-append, traced-append}
+use Rattle.layout_core.proofs.ServeSteps.{answers-append, state-append, traced-append}
 use Rattle.roster.specs.Entry.{Entry}
 use Rattle.show_text.specs.declared.command.Command.{Command}
 use Rattle.station.specs.Replayed.{HasDone, command_text, commands_text, events_in, events_of, scene_after, turns_among}
@@ -96,7 +96,7 @@ module _ (to_turn : (seen : Seen) → answer_of seen TurnCall ≡ sent (packet_o
       ∙ ap (λ (n : ℕ). traced_from 0 first (answers_to seen front) ++ (line_of_answer 0 (first + n) (answer_to after (Turn missed)) ++ [])) (so_many_turns count missed seen)
       ∙ ap (λ (bs : List ℕ). traced_from 0 first (answers_to seen front) ++ bs) (append-nil (line_of_answer 0 (first + count) (answer_to after (Turn missed))))
 
--- some turns were done and printed, of which the first had this number and the next one has that
+-- some turns were run and printed, of which the first had this number and the next one has that
 pub record HasTurned (missed first next : ℕ) (start now : World) (old new : Option (List ℕ)) : Type 0 where
   pub count : ℕ
   pub numbered : next ≡ first + count
@@ -125,7 +125,7 @@ turned_more law to_turn missed first turn start mid now old so_far new has done 
           (subst (λ (bs : List ℕ). Appends so_far new bs) here line));
     }
 
--- as many as were wanted
+-- the requested number of turns
 pub turned_all : (missed first next count : ℕ) (start now : World) (old new : Option (List ℕ)) → HasTurned missed first next start now old new → next ≡ first + count
     → HasDone (replicate count (Turn missed)) start now × Appends old new (traced_from 0 first (answers_to start.station (replicate count (Turn missed))))
 turned_all missed first next count start now old new has is =
@@ -149,9 +149,9 @@ text_more start entries commands command =
     commands-append start entries [] commands (command ∷ [])
     ∙ ap (λ (bs : List ℕ). commands_text start entries [] commands ++ bs) (append-nil (command_text entries (scene_after start (events_in commands)) command))
 
--- The layout was at each point of the commands where the events before it were done.
-abbrev pub HasPassed : List Command → World → Type 0
-HasPassed commands start = (earlier later : List Command) → commands ≡ earlier ++ later → (mid : World) × HasDone (events_in earlier) start mid
+-- The layout was at each point of the commands, with the events before it run.
+abbrev pub HasPlayed : List Command → World → Type 0
+HasPlayed commands start = (earlier later : List Command) → commands ≡ earlier ++ later → (mid : World) × HasDone (events_in earlier) start mid
 
 nothing_behind : {X : Type 0} (xs ys : List X) → [] ≡ xs ++ ys → ys ≡ []
 nothing_behind [] ys same = sym same
@@ -161,7 +161,7 @@ nothing_before : {X : Type 0} (xs ys : List X) → [] ≡ xs ++ ys → xs ≡ []
 nothing_before [] ys same = refl
 nothing_before (x ∷ xs) ys same = cc
 
--- a list with one more is cut behind all of it, or within what it was
+-- a list with one more element is divided after all of it, or within the list before
 cut_within : {X : Type 0} (xs : List X) (x : X) (ys zs : List X) → xs ++ x ∷ [] ≡ ys ++ zs → (zs ≡ []) ⊎ ((front : List X) × (xs ≡ ys ++ front))
 cut_within xs x [] zs same = inr (xs, refl)
 cut_within [] x (y ∷ ys) zs same =
@@ -175,13 +175,13 @@ cut_within (a ∷ xs) x (y ∷ ys) zs same =
       | inr front ↦ inr (front.0, ap₂ (λ b bs. b ∷ bs) first front.1)
     ]
 
-pub passed_none : HeardNone → (start : World) → HasPassed [] start
+pub passed_none : HeardNone → (start : World) → HasPlayed [] start
 passed_none law start earlier later parts = (start, subst (λ (commands : List Command). HasDone (events_in commands) start start) (sym (nothing_before earlier later parts)) (done_none law start))
 
-pub passed_more : (commands : List Command) (command : Command) (start now : World) → HasPassed commands start → HasDone (events_in (commands ++ command ∷ [])) start now → HasPassed (commands ++ command ∷ []) start
-passed_more commands command start now passed done earlier later parts = elim (cut_within commands command earlier later parts) [
+pub passed_more : (commands : List Command) (command : Command) (start now : World) → HasPlayed commands start → HasDone (events_in (commands ++ command ∷ [])) start now → HasPlayed (commands ++ command ∷ []) start
+passed_more commands command start now all_played done earlier later parts = elim (cut_within commands command earlier later parts) [
   | inl none ↦ (now, subst (λ (all : List Command). HasDone (events_in all) start now) (parts ∙ ap (λ (rest : List Command). earlier ++ rest) none ∙ append-nil earlier) done)
-  | inr front ↦ passed earlier front.0 front.1
+  | inr front ↦ all_played earlier front.0 front.1
 ]
 
 -- a command and those before it have no more turns than all

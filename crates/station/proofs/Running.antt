@@ -1,4 +1,4 @@
--- What was done on a new layout.
+-- A run on a new layout.
 use Rattle.std.proofs.Common.{◌≡◌, inr, ℕ, Bool, List, Option, subst}
 use Rattle.std.specs.Prelude.{Result, Ok, Err, IfErr, OnOk}
 use Rattle.clap.specs.Words.{Text}
@@ -13,7 +13,7 @@ use Rattle.console.specs.Files.{IsRosterOf}
 use Rattle.station.specs.Runs.{IsNew, ReplaysNew, ServesNew}
 use Rattle.station.specs.Scripts.{ReplaysInput}
 
--- the roster that was lent twice is the one that was read
+-- the roster borrowed twice is the one that was read
 pub replayed_new : {A E : Type 0} (r : Result A E) (lines : ℕ) (file : Option Text) (roster first second : Option (List Entry)) (start new : World) (input input' output output' : Option (List ℕ)) → first ≡ roster → second ≡ roster
     → IsRosterOf file roster → IsNew lines first start → OnOk r (ReplaysInput input input' start (entries_in second) new output output') → OnOk r (ReplaysNew lines file input input' output output')
 replayed_new (Ok a) lines file roster first second start new input input' output output' one two is made has =

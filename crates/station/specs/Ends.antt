@@ -1,4 +1,4 @@
--- How a run of the program ends that does not come to its end: which fault comes when.
+-- The end of a run that fails: which fault is returned when.
 use Rattle.std.specs.Prelude.{ℕ, ◌≡◌, ◌⊎◌, Bool, true, false, List, Option, None, Err, length}
 use Rattle.clap.specs.Kinds.{IsAmong}
 use Rattle.clap.specs.Words.{Text}
@@ -20,8 +20,8 @@ use Rattle.show_text.specs.Script.{script_of}
 use Rattle.station_core.specs.Seen.{is_line_count}
 use Rattle.station.specs.Runs.{IsNew}
 
--- A script is not replayed: a read of the input failed, memory ran out, the output failed, or what was read, all of it or
--- 1,048,577 bytes, has this fault, the first.
+-- A script is not replayed: a read of the input failed, memory ran out, the output failed, or the
+-- bytes read, all of them or 1,048,577, have this fault, the first.
 abbrev pub FailsReplay : (start : World) → (old_input new_input : Option (List ℕ)) → (has_failed : Bool) → RunFault → Type 0
 FailsReplay start old_input new_input has_failed fault =
     ((fault ≡ UnreadableInput) × (has_failed ≡ true))
@@ -37,7 +37,8 @@ FailsReplayNew lines file old_input new_input has_failed fault =
     ⊎ (fault ≡ NoMemory)
     ⊎ ((roster : Option (List Entry)) × (start : World) × IsRosterOf file roster × IsNew lines roster start × FailsReplay start old_input new_input has_failed fault)
 
--- connections are not served: there is no roster, memory ran out, or it is the network or the output
+-- connections are not served: there is no roster, memory ran out, or the network or the output
+-- failed
 abbrev pub FailsServe : (file : Option Text) → RunFault → Type 0
 FailsServe file fault = HasNoRoster file fault ⊎ (fault ≡ NoMemory) ⊎ (status_of fault ≡ 4)
 
@@ -47,12 +48,13 @@ FailsOrder (Replay lines file) old_input new_input has_failed fault = FailsRepla
 FailsOrder (Monitor file) old_input new_input has_failed fault = FailsMonitor file None None fault
 FailsOrder (Serve port file turns reads connections) old_input new_input has_failed fault = FailsServe file fault
 
--- the words are no order: clap refuses them, or no order is what its matches hold
+-- the arguments are not an order: clap rejects them, or no order corresponds to its matches
 abbrev pub AreNoOrder : List Text → Type 0
 AreNoOrder words = ((kind : ErrorKind) × IsAmong kind (refusals words)) ⊎ HasNone (IsOrderOf words)
 
--- The status of a run that does not end with 0. The words are no order, 1, or memory ran out, 6; or they are one, which is
--- not carried out. A write or a flush of the output failed exactly where the fault is that it could not be written.
+-- The status of a run that does not end with 0. The arguments are not an order, 1, or memory ran
+-- out, 6; or they are one, which is not carried out. A write or a flush of the output failed
+-- exactly if the fault is that it could not be written.
 abbrev pub EndsAs : (words : List Text) → (old_input new_input : Option (List ℕ)) → (read_failed write_failed : Bool) → (status : ℕ) → Type 0
 EndsAs words old_input new_input read_failed write_failed status =
     ((status ≡ 1) × AreNoOrder words × (write_failed ≡ false))

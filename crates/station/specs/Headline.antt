@@ -14,19 +14,19 @@ use Rattle.roster.specs.Entry.{Entry}
 use Rattle.show_text.specs.declared.command.Command.{Command}
 use Rattle.show_text.specs.declared.command.Command.TheVariants.{Show}
 use Rattle.layout_core.specs.{Entry as SlotEntry}
-use Rattle.station_core.specs.Known.{known_after_all}
+use Rattle.station_core.specs.ThrottleView.{known_after_all}
 use Rattle.station_core.specs.Seen.{known_of}
 use Rattle.console.specs.Printed.{lines_text}
-use Rattle.layout_core.specs.Standings.{decoder_line}
+use Rattle.layout_core.specs.DecoderStates.{decoder_line}
 use Rattle.station.specs.Replayed.{commands_text, events_in}
 
--- the line of a locomotive that runs as an entry wants it
+-- the line of a locomotive that runs as an entry asks
 abbrev pub wanted_line : Entry → SlotEntry → Settings → List ℕ
 wanted_line entry e cv = decoder_line entry.name entry.spec (record { running = Some (wanted e cv.reversed); outputs = None })
 
--- Wherever the commands have `show`, and the events before it end with a full refresh cycle of the address of locomotive
--- i, which heard all of it: there, behind what the commands before it print, stands a line for each decoder, and line i is
--- that of what its slot wants, whatever came before the cycle.
+-- Wherever the commands have `show`, and the events before it end with a full refresh cycle of the
+-- address of locomotive i, which heard all of it: there, after the output of the commands before
+-- it, is a line for each decoder, and line i shows what its slot asks, whatever preceded the cycle.
 abbrev pub ShowsAsWanted : (start : World) → List Entry → List Command → Type 0
 ShowsAsWanted start entries commands =
     (earlier later : List Command) (before cycle : List Event) (i slot a : ℕ) (e : SlotEntry) (loco : LocoDecoder) (none : Node) (entry : Entry)

@@ -1,4 +1,4 @@
--- The decoders of a layout, as its roster has them.
+-- The decoders of a layout, as its roster lists them.
 use Rattle.std.specs.Prelude.{ℕ, ◌≡◌, ◌<◌, List, [], Option, Some, None, length, map, option_map}
 use Rattle.std.specs.Borrow.{Bor}
 use Rattle.std.specs.List.{slice_index_or}
@@ -7,7 +7,7 @@ use Rattle.layout_core.specs.declared.node.Node.{Node}
 use Rattle.layout_core.specs.Nodes.{IsBetween, spec_of as spec_of_node}
 use Rattle.roster.specs.Entry.{Entry, spec_of as spec_of_entry}
 
--- the roster that is lent
+-- the borrowed roster
 abbrev pub roster_value : Option (Bor (List Entry)) → Option (List Entry)
 roster_value = option_map (λ roster. roster.now)
 

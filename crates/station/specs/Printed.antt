@@ -1,11 +1,11 @@
--- What a run prints of its decoders.
+-- The output of a run for its decoders.
 use Rattle.std.specs.Prelude.{ℕ, List, [], ◌∷◌}
-use Rattle.layout_core.specs.declared.standing.Standing.{Standing}
-use Rattle.layout_core.specs.Standings.{decoder_line}
+use Rattle.layout_core.specs.declared.decoder_state.DecoderState.{DecoderState}
+use Rattle.layout_core.specs.DecoderStates.{decoder_line}
 use Rattle.roster.specs.Entry.{Entry}
 
 -- a line for each decoder of the roster, in order
-abbrev pub decoder_lines : List Entry → List Standing → List (List ℕ)
-decoder_lines [] standings = []
+abbrev pub decoder_lines : List Entry → List DecoderState → List (List ℕ)
+decoder_lines [] decoder_states = []
 decoder_lines (entry ∷ entries) [] = []
-decoder_lines (entry ∷ entries) (standing ∷ standings) = decoder_line entry.name entry.spec standing ∷ decoder_lines entries standings
+decoder_lines (entry ∷ entries) (decoder_state ∷ decoder_states) = decoder_line entry.name entry.spec decoder_state ∷ decoder_lines entries decoder_states

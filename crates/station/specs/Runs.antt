@@ -1,4 +1,4 @@
--- What a run of the program does and prints, where it ends with status 0.
+-- The effect and the output of a run of the program that ends with status 0.
 use Rattle.std.specs.Prelude.{ℕ, ◌≡◌, List, Option, map}
 use Rattle.clap.specs.Words.{Text}
 use Rattle.console.specs.Files.{IsRosterOf}
@@ -15,7 +15,8 @@ use Rattle.station.specs.Layout.{entries_in, specs_in}
 use Rattle.command_line.specs.Order.{IsOrderOf}
 use Rattle.station.specs.Scripts.{ReplaysInput}
 
--- a new layout: a new station with so many lines, and the decoders of the roster, each in its first state
+-- a new layout: a new station with this number of lines, and the decoders of the roster, each in
+-- its first state
 pub record IsNew (lines : ℕ) (roster : Option (List Entry)) (world : World) : Type 0 where
   pub station : world.station ≡ first_seen lines
   pub nodes : world.nodes ≡ map node_of (specs_in roster)
@@ -26,19 +27,19 @@ ReplaysNew lines file old_input new_input old_output new_output =
     (roster : Option (List Entry)) × (start new : World) × IsRosterOf file roster × IsNew lines roster start
     × ReplaysInput old_input new_input start (entries_in roster) new old_output new_output
 
--- connections are served, on a new layout, and the port is told before
+-- connections are served, on a new layout, after the port is reported
 abbrev pub ServesNew : (port : ℕ) → (file : Option Text) → Limits → (connections : ℕ) → (old_output new_output : Option (List ℕ)) → Type 0
 ServesNew port file limits connections old_output new_output =
     (roster : Option (List Entry)) × (start new : World) × IsRosterOf file roster × IsNew 1 roster start
     × HasServed limits connections (entries_in roster) start new (listening_text port) old_output new_output
 
--- An order is carried out. What a file holds is not known.
+-- An order is carried out. The contents of a file are not known.
 abbrev pub CarriesOut : Order → (old_input new_input old_output new_output : Option (List ℕ)) → Type 0
 CarriesOut (Replay lines file) old_input new_input old_output new_output = ReplaysNew lines file old_input new_input old_output new_output
 CarriesOut (Monitor file) old_input new_input old_output new_output = (text : List ℕ) × PrintsMessages text old_output new_output
 CarriesOut (Serve port file turns reads connections) old_input new_input old_output new_output =
     ServesNew port file (record { reads = reads; turns = turns }) connections old_output new_output
 
--- that of the words
+-- the order of the arguments
 abbrev pub Runs : (words : List Text) → (old_input new_input old_output new_output : Option (List ℕ)) → Type 0
 Runs words old_input new_input old_output new_output = (order : Order) × IsOrderOf words order × CarriesOut order old_input new_input old_output new_output

@@ -1,24 +1,24 @@
-//! The program on its words and streams.
+//! Running the program on its arguments and streams.
 ghost use Rattle.std.specs.Prelude.{◌≡◌, ◌≢◌, ◌≤◌, IfErr, OnOk, false, map, true};
 ghost use Rattle.console.specs.Fault.{ended_by, is_unread_input, is_unwritten, status_of};
 ghost use Rattle.station.specs.Ends.{EndsAs, FailsOrder, FailsReplayNew, FailsServe};
 ghost use Rattle.station.specs.Runs.{CarriesOut, ReplaysNew, Runs, ServesNew};
 
 use crate::layout::new_world;
+use crate::listening::{listen, serve_on};
 use crate::replay::replay;
-use crate::serving::{listen, serve_on};
 use command_line::{FileName, Order, order};
-use console::{RunFault, monitor, read_roster, tell};
+use console::{RunFault, monitor, read_roster, report};
 use input_text::{Input, Output};
 use layout_core::Limits;
 use std::io::Write;
 use std::net::{Net, TcpListener, TcpStream};
 use std::rt::Files;
 
-/// Runs the program on the words behind its name, and answers its exit status, 0 to 6.
+/// Runs the program on the arguments after its name, and returns its exit status, 0 to 6.
 ///
-/// Results go to `output`. Where the status is not 0, `faults` gets one line `station: ..`, or what `clap` tells of the
-/// command line.
+/// Results are written to `output`. If the status is not 0, one line `station: ..`, or the text of
+/// `clap` for the command line, is written to `faults`.
 pub fn execute<R, I, O, E>(
     rt: &R,
     words: &[&str],
@@ -34,42 +34,51 @@ where
     requires reads { I.failed input.old ≡ false }
     requires writes { O.failed output.old ≡ false }
     ensures most { result ≤ 6 }
-    // The words are an order, and it was carried out.
-    ensures done { result ≡ 0 → Runs (map (λ word. word.now) words.entry.now) (I.left input.old) (I.left input.new) (O.held output.old) (O.held output.new) }
-    // Else it was not, and the status tells why.
-    ensures ends { result ≢ 0 → EndsAs (map (λ word. word.now) words.entry.now) (I.left input.old) (I.left input.new) (I.failed input.new) (O.failed output.new) result }
+    // The arguments are an order, and it was carried out.
+    ensures done { result ≡ 0
+        → Runs (map (λ word. word.now) words.entry.now) (I.left input.old) (I.left input.new)
+        (O.held output.old) (O.held output.new) }
+    // Otherwise it was not, and the status gives the reason.
+    ensures ends { result ≢ 0
+        → EndsAs (map (λ word. word.now) words.entry.now) (I.left input.old) (I.left input.new)
+        (I.failed input.new) (O.failed output.new) result }
     ensures unread { I.failed input.new ≡ true → result ≡ 2 }
-    // No write of the output failed where the status is 0; where one failed, the status is 4.
+    // No write of the output failed if the status is 0; if one failed, the status is 4.
     ensures written { result ≡ 0 → O.failed output.new ≡ false }
     ensures unwritten { O.failed output.new ≡ true → result ≡ 4 }
-    // A fault of the words, of what is read, of a roster, a script or a hex text prints nothing.
+    // A fault of the arguments, of reading, of a roster, a script or a hex text prints nothing.
     ensures untouched { result ≢ 0 → result ≢ 4 → result ≢ 6 → output.new ≡ output.old }
 {
-    match obey(rt, words, input, output) {
+    match run(rt, words, input, output) {
         Ok(()) => 0,
-        Err(fault) => tell(&fault, faults),
+        Err(fault) => report(&fault, faults),
     }
 }
 
-/// Does what the words ask for.
-fn obey<R, I, O>(rt: &R, words: &[&str], input: &mut I, output: &mut O) -> Result<(), RunFault>
+/// Carries out the order of the arguments.
+fn run<R, I, O>(rt: &R, words: &[&str], input: &mut I, output: &mut O) -> Result<(), RunFault>
 where
     R: Files + AllocGlobal + Net<Listener = TcpListener, Stream = TcpStream>,
     I: Input,
     O: Output,
     requires reads { I.failed input.old ≡ false }
     requires writes { O.failed output.old ≡ false }
-    ensures done { OnOk result (Runs (map (λ word. word.now) words.entry.now) (I.left input.old) (I.left input.new) (O.held output.old) (O.held output.new)) }
-    ensures ends { IfErr result (λ e. EndsAs (map (λ word. word.now) words.entry.now) (I.left input.old) (I.left input.new) (I.failed input.new) (O.failed output.new) (status_of e)) }
+    ensures done { OnOk result
+        (Runs (map (λ word. word.now) words.entry.now) (I.left input.old) (I.left input.new)
+        (O.held output.old) (O.held output.new)) }
+    ensures ends { IfErr result
+        (λ e. EndsAs (map (λ word. word.now) words.entry.now) (I.left input.old) (I.left input.new)
+        (I.failed input.new) (O.failed output.new) (status_of e)) }
     ensures unread { I.failed input.new ≡ ended_by is_unread_input result }
     ensures unwritten { O.failed output.new ≡ ended_by is_unwritten result }
-    ensures untouched { IfErr result (λ e. status_of e ≢ 4 → status_of e ≢ 6 → output.new ≡ output.old) }
+    ensures untouched { IfErr result
+        (λ e. status_of e ≢ 4 → status_of e ≢ 6 → output.new ≡ output.old) }
 {
     let order = order(rt.alloc(), words)?;
     carry_out(rt, order, input, output)
 }
 
-/// Carries an order out.
+/// Carries out an order.
 fn carry_out<R, I, O>(rt: &R, order: Order, input: &mut I, output: &mut O) -> Result<(), RunFault>
 where
     R: Files + AllocGlobal + Net<Listener = TcpListener, Stream = TcpStream>,
@@ -77,11 +86,15 @@ where
     O: Output,
     requires reads { I.failed input.old ≡ false }
     requires writes { O.failed output.old ≡ false }
-    ensures done { OnOk result (CarriesOut order (I.left input.old) (I.left input.new) (O.held output.old) (O.held output.new)) }
-    ensures fails { IfErr result (FailsOrder order (I.left input.old) (I.left input.new) (I.failed input.new)) }
+    ensures done { OnOk result
+        (CarriesOut order (I.left input.old) (I.left input.new) (O.held output.old)
+        (O.held output.new)) }
+    ensures fails { IfErr result
+        (FailsOrder order (I.left input.old) (I.left input.new) (I.failed input.new)) }
     ensures unread { I.failed input.new ≡ ended_by is_unread_input result }
     ensures unwritten { O.failed output.new ≡ ended_by is_unwritten result }
-    ensures untouched { IfErr result (λ e. status_of e ≢ 4 → status_of e ≢ 6 → output.new ≡ output.old) }
+    ensures untouched { IfErr result
+        (λ e. status_of e ≢ 4 → status_of e ≢ 6 → output.new ≡ output.old) }
 {
     match order {
         Order::Replay { lines, roster } => replay_new(rt, lines, roster, input, output),
@@ -113,11 +126,15 @@ where
     O: Output,
     requires reads { I.failed input.old ≡ false }
     requires writes { O.failed output.old ≡ false }
-    ensures done { OnOk result (ReplaysNew lines roster (I.left input.old) (I.left input.new) (O.held output.old) (O.held output.new)) }
-    ensures fails { IfErr result (FailsReplayNew lines roster (I.left input.old) (I.left input.new) (I.failed input.new)) }
+    ensures done { OnOk result
+        (ReplaysNew lines roster (I.left input.old) (I.left input.new) (O.held output.old)
+        (O.held output.new)) }
+    ensures fails { IfErr result
+        (FailsReplayNew lines roster (I.left input.old) (I.left input.new) (I.failed input.new)) }
     ensures unread { I.failed input.new ≡ ended_by is_unread_input result }
     ensures unwritten { O.failed output.new ≡ ended_by is_unwritten result }
-    ensures untouched { IfErr result (λ e. status_of e ≢ 4 → status_of e ≢ 6 → output.new ≡ output.old) }
+    ensures untouched { IfErr result
+        (λ e. status_of e ≢ 4 → status_of e ≢ 6 → output.new ≡ output.old) }
 {
     let roster = read_roster(rt, roster)?;
     let mut world = new_world(rt.alloc(), lines, roster.as_ref())?;
@@ -137,10 +154,12 @@ where
     R: Files + AllocGlobal + Net<Listener = TcpListener, Stream = TcpStream>,
     O: Output,
     requires { O.failed output.old ≡ false }
-    ensures done { OnOk result (ServesNew port roster limits connections (O.held output.old) (O.held output.new)) }
+    ensures done { OnOk result
+        (ServesNew port roster limits connections (O.held output.old) (O.held output.new)) }
     ensures fails { IfErr result (FailsServe roster) }
     ensures unwritten { O.failed output.new ≡ ended_by is_unwritten result }
-    ensures untouched { IfErr result (λ e. status_of e ≢ 4 → status_of e ≢ 6 → output.new ≡ output.old) }
+    ensures untouched { IfErr result
+        (λ e. status_of e ≢ 4 → status_of e ≢ 6 → output.new ≡ output.old) }
 {
     let roster = read_roster(rt, roster)?;
     let mut world = new_world(rt.alloc(), 1, roster.as_ref())?;

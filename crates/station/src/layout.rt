@@ -7,10 +7,10 @@ ghost use Rattle.station.specs.Layout.{AreBetween, IsWorldOf, entries_in, roster
 ghost use Rattle.station.specs.Runs.{IsNew};
 ghost use Rattle.input_text.specs.Write.{AppendsFront, failed_after};
 ghost use Rattle.console.specs.Printed.{lines_text};
-ghost use Rattle.layout_core.specs.Standings.{standing_of};
+ghost use Rattle.layout_core.specs.DecoderStates.{decoder_state_of};
 ghost use Rattle.station.specs.Printed.{decoder_lines};
 
-use console::{RunFault, Unwritten, print};
+use console::{RunFault, WriteError, print};
 use decoder_node::NodeList;
 use input_text::Sink;
 use layout_core::World;
@@ -18,13 +18,16 @@ use roster::Roster;
 use station_core::StationFault;
 use std::alloc::Global;
 
-/// A new station with so many lines, and the decoders of the roster; without one there are none.
+/// Creates a new station with `lines` lines, and the decoders of the roster; without a roster there
+/// are none.
 pub fn new_world(alloc: Global, lines: u8, roster: Option<&Roster>) -> Result<World, RunFault>
-    ensures lines { IfOk result (λ world. (is_line_count lines ≡ true) × (length world.station.lines ≡ lines)) }
+    ensures lines { IfOk result
+        (λ world. (is_line_count lines ≡ true) × (length world.station.lines ≡ lines)) }
     ensures new { IfOk result (λ world. IsNew lines (roster_value roster.entry) world) }
     ensures nodes { IfOk result (λ world. IsWorldOf (roster_value roster.entry) world.nodes) }
     ensures between { IfOk result (λ world. AreBetween world.nodes) }
-    // The lines are refused exactly where they are not 1 to 8, and else only memory can be wanting.
+    // Fails with the fault of the lines exactly if they are not 1 to 8, and otherwise only if out
+    // of memory.
     ensures refused { is_line_count lines ≡ false → result ≡ Err RunFault.Lines }
     ensures fault { IfErr result (λ e. is_line_count lines ≡ true → e ≡ RunFault.NoMemory) }
 {
@@ -38,7 +41,7 @@ pub fn new_world(alloc: Global, lines: u8, roster: Option<&Roster>) -> Result<Wo
     }
 }
 
-/// The fault of a run that has no station.
+/// The fault of a run without a station.
 fn no_station(fault: StationFault) -> RunFault
     ensures { result ≡ of_station fault }
 {
@@ -48,15 +51,21 @@ fn no_station(fault: StationFault) -> RunFault
     }
 }
 
-/// Prints how each decoder stands, in order.
+/// Prints the state of each decoder, in order.
 pub(crate) fn print_nodes<O: Sink>(
     world: &World,
     roster: Option<&Roster>,
     output: &mut O,
-) -> Result<(), Unwritten>
+) -> Result<(), WriteError>
     requires { IsWorldOf (roster_value roster) world.now.nodes }
-    ensures printed { OnOk result (Appends (O.held output.old) (O.held output.new) (lines_text (decoder_lines (entries_in (roster_value roster.entry)) (map standing_of world.now.nodes)))) }
-    ensures front { OnErr result (AppendsFront (O.held output.old) (O.held output.new) (lines_text (decoder_lines (entries_in (roster_value roster.entry)) (map standing_of world.now.nodes)))) }
+    ensures printed { OnOk result
+        (Appends (O.held output.old) (O.held output.new)
+        (lines_text (decoder_lines (entries_in (roster_value roster.entry))
+        (map decoder_state_of world.now.nodes)))) }
+    ensures front { OnErr result
+        (AppendsFront (O.held output.old) (O.held output.new)
+        (lines_text (decoder_lines (entries_in (roster_value roster.entry))
+        (map decoder_state_of world.now.nodes)))) }
     ensures failed { O.failed output.new ≡ failed_after result (O.failed output.old) }
     ensures loan { O.loan output.new ≡ O.loan output.old }
 {
@@ -67,16 +76,20 @@ pub(crate) fn print_nodes<O: Sink>(
 }
 
 /// Prints a line for each decoder of the roster.
-fn print_decoders<O: Sink>(world: &World, roster: &Roster, output: &mut O) -> Result<(), Unwritten>
+fn print_decoders<O: Sink>(world: &World, roster: &Roster, output: &mut O) -> Result<(), WriteError>
     requires { IsWorldOf (Some roster.now) world.now.nodes }
-    ensures printed { OnOk result (Appends (O.held output.old) (O.held output.new) (lines_text (decoder_lines roster.now (map standing_of world.now.nodes)))) }
-    ensures front { OnErr result (AppendsFront (O.held output.old) (O.held output.new) (lines_text (decoder_lines roster.now (map standing_of world.now.nodes)))) }
+    ensures printed { OnOk result
+        (Appends (O.held output.old) (O.held output.new)
+        (lines_text (decoder_lines roster.now (map decoder_state_of world.now.nodes)))) }
+    ensures front { OnErr result
+        (AppendsFront (O.held output.old) (O.held output.new)
+        (lines_text (decoder_lines roster.now (map decoder_state_of world.now.nodes)))) }
     ensures failed { O.failed output.new ≡ failed_after result (O.failed output.old) }
     ensures loan { O.loan output.new ≡ O.loan output.old }
 {
     input_text::laws::fronts();
     for (i, spec) in roster.nodes().as_slice().iter().enumerate() {
-        let line = world.standing(i).line(roster.name(i), spec);
+        let line = world.decoder_state(i).line(roster.name(i), spec);
         print(output, &line)?;
     }
     Ok(())

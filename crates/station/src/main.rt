@@ -1,20 +1,20 @@
-//! `station`: a LocoNet command station with the DCC decoders on its track, which replays scripts, prints captured
-//! messages, and serves throttles over TCP.
+//! `station`: a LocoNet command station with the DCC decoders on its track. It replays scripts,
+//! prints captured messages, and serves throttles over TCP.
 #![tactic(auto)]
 
 mod executing;
 mod layout;
+mod listening;
 mod replay;
-mod serving;
 
 use command_line::no_text;
 pub use command_line::{FileName, Order, OrderFault, order};
-pub use console::{RunFault, tell};
 use console::{read_words, texts};
+pub use console::{RunFault, report};
 pub use executing::execute;
-use input_text::{Noting, TrackedWriter};
+use input_text::{TrackedReader, TrackedWriter};
 pub use layout::new_world;
-pub use serving::{serve_connection, serve_on};
+pub use listening::{serve_connection, serve_on};
 use std::io;
 use std::process::ExitCode;
 
@@ -24,18 +24,19 @@ mod tests;
 fn main(rt: HostRuntime) -> ExitCode {
     ExitCode::from(match run_words(&rt) {
         Ok(status) => status,
-        Err(fault) => tell(&fault, &mut rt.stderr()),
+        Err(fault) => report(&fault, &mut rt.stderr()),
     })
 }
 
-/// Runs the program on its words and the standard streams, and answers its exit status, where the words can be had.
+/// Runs the program on its arguments and the standard streams, and returns its exit status. Fails
+/// if the arguments cannot be read.
 fn run_words(rt: &HostRuntime) -> Result<u8, RunFault> {
     let words = read_words(rt.alloc(), rt, |alloc| no_text(alloc))?;
     let texts = texts(rt.alloc(), words.as_slice())?;
     Ok(execute(
         rt,
         texts.as_slice(),
-        &mut Noting::new(rt.reader()),
+        &mut TrackedReader::new(rt.reader()),
         &mut TrackedWriter::new(io::writer(rt)),
         &mut rt.stderr(),
     ))

@@ -1,4 +1,4 @@
-//! `station replay`: a script, and what the layout makes of it.
+//! `station replay`: running a script on the layout.
 ghost use Rattle.std.specs.Prelude.{◌≡◌, ◌≢◌, ◌<◌, ◌+◌, ◌^◌, IfErr, IfOk, IsTrue, OnOk, false, length, replicate};
 ghost use Rattle.std.specs.Io.KnownBytes.{Appends};
 ghost use Rattle.ln_ops.specs.Reply.{IsSendable};
@@ -16,9 +16,9 @@ ghost use Rattle.station.specs.Replayed.{HasDone, command_text, events_in, event
 ghost use Rattle.station.specs.Scripts.{FailsInput, RefusesInput, Replays, ReplaysInput};
 
 use crate::layout::print_nodes;
-use console::{Buffered, RunFault, Unwritten, flush_after, print, print_ended};
+use console::{Buffered, RunFault, WriteError, flush_after, print, print_ended};
 use dcc_packet::Packet;
-use input_text::{Input, Output, Sink, read_most};
+use input_text::{Input, Output, Sink, read_limited};
 use layout_core::{Event, World};
 use ln_ops::Reply;
 use roster::Roster;
@@ -26,8 +26,8 @@ use show_text::{Command, LONGEST_TEXT, Line, push_off, push_track, read_script, 
 use station_core::Step;
 use std::alloc::Global;
 
-/// Reads a script from standard input, whole, and then prints the replies to its bytes, its turns, and the decoders
-/// that it shows.
+/// Reads a whole script from standard input, and then prints the replies to its bytes, its turns,
+/// and the decoders that it shows.
 pub(crate) fn replay<I: Input, O: Output>(
     alloc: Global,
     world: &mut World,
@@ -39,18 +39,24 @@ pub(crate) fn replay<I: Input, O: Output>(
     requires writes { O.failed output.old ≡ false }
     requires nodes { IsWorldOf (roster_value roster) world.old.nodes }
     requires between { AreBetween world.old.nodes }
-    ensures printed { OnOk result (ReplaysInput (I.left input.old) (I.left input.new) world.old (entries_in (roster_value roster.entry)) world.new (O.held output.old) (O.held output.new)) }
-    ensures refused { RefusesInput (I.left input.old) result world.old world.new (O.held output.old) (O.held output.new) }
+    ensures printed { OnOk result
+        (ReplaysInput (I.left input.old) (I.left input.new) world.old
+        (entries_in (roster_value roster.entry)) world.new (O.held output.old)
+        (O.held output.new)) }
+    ensures refused { RefusesInput (I.left input.old) result world.old world.new (O.held output.old)
+        (O.held output.new) }
     ensures failed { FailsInput (I.left input.old) result world.old }
-    // It could not be read exactly where a read failed.
+    // A read failed exactly if the fault is that of standard input.
     ensures unread { I.failed input.new ≡ ended_by is_unread_input result }
-    // Its output could not be written exactly where a write or a flush failed.
+    // A write or a flush failed exactly if the fault is that of standard output.
     ensures unwritten { O.failed output.new ≡ ended_by is_unwritten result }
-    ensures fault { IfErr result (FailsReplay world.old (I.left input.old) (I.left input.new) (I.failed input.new)) }
-    // Where neither memory ran out nor the output failed, a fault prints nothing.
-    ensures untouched { IfErr result (λ e. e ≢ RunFault.NoMemory → e ≢ RunFault.Output → output.new ≡ output.old) }
+    ensures fault { IfErr result
+        (FailsReplay world.old (I.left input.old) (I.left input.new) (I.failed input.new)) }
+    // Unless memory ran out or the output failed, a fault prints nothing.
+    ensures untouched { IfErr result
+        (λ e. e ≢ RunFault.NoMemory → e ≢ RunFault.Output → output.new ≡ output.old) }
 {
-    let text = read_most(alloc, input, LONGEST_TEXT + 1)?;
+    let text = read_limited(alloc, input, LONGEST_TEXT + 1)?;
     let lines = world.station().lines();
     let nodes = world.nodes() as u8;
     let commands = read_script(alloc, text.as_slice(), lines, nodes)?;
@@ -59,18 +65,20 @@ pub(crate) fn replay<I: Input, O: Output>(
     flush_after(played.map_err(RunFault::from), &mut buffered)
 }
 
-/// Does the commands one after another, and prints what each prints. Turns are numbered from 1.
+/// Runs the commands one after another, and prints the output of each. Turns are numbered from 1.
 fn play<O: Sink>(
     world: &mut World,
     roster: Option<&Roster>,
     commands: &[Command],
     output: &mut O,
-) -> Result<(), Unwritten>
+) -> Result<(), WriteError>
     requires lines { AreOnLines (length world.old.station.lines) commands.now }
     requires nodes { IsWorldOf (roster_value roster) world.old.nodes }
     requires between { AreBetween world.old.nodes }
     requires numbers { turns_among (events_in commands.now) + 1 < 2 ^ 64 }
-    ensures replayed { OnOk result (Replays world.old (entries_in (roster_value roster.entry)) commands.now world.new (O.held output.old) (O.held output.new)) }
+    ensures replayed { OnOk result
+        (Replays world.old (entries_in (roster_value roster.entry)) commands.now world.new
+        (O.held output.old) (O.held output.new)) }
     ensures failed { O.failed output.new ≡ failed_after result (O.failed output.old) }
     ensures loan { O.loan output.new ≡ O.loan output.old }
 {
@@ -85,8 +93,9 @@ fn play<O: Sink>(
     Ok(())
 }
 
-/// Does a command, and prints what it prints, where the next turn has this number. Gives the number of the next turn
-/// then. The lines of turns are written one after the other into `text`, so that no room is cleared for each.
+/// Runs a command and prints its output; `turn` is the number of the next turn. Returns the number
+/// of the next turn after it. The lines of turns are all formatted in `text`, so that no buffer is
+/// cleared for each.
 fn play_command<O: Sink>(
     world: &mut World,
     roster: Option<&Roster>,
@@ -94,12 +103,14 @@ fn play_command<O: Sink>(
     turn: u64,
     text: &mut Line,
     output: &mut O,
-) -> Result<u64, Unwritten>
+) -> Result<u64, WriteError>
     requires line { IsTrue (is_on_line (length world.old.station.lines) command) }
     requires nodes { IsWorldOf (roster_value roster) world.old.nodes }
     requires numbers { turn + turns_among (events_of command) < 2 ^ 64 }
     ensures done { OnOk result (HasDone (events_of command) world.old world.new) }
-    ensures printed { OnOk result (Appends (O.held output.old) (O.held output.new) (command_text (entries_in (roster_value roster.entry)) (scene_of world.old turn) command)) }
+    ensures printed { OnOk result
+        (Appends (O.held output.old) (O.held output.new)
+        (command_text (entries_in (roster_value roster.entry)) (scene_of world.old turn) command)) }
     ensures next { IfOk result (λ next. next ≡ turn + turns_among (events_of command)) }
     ensures same { IsSameLayout world.old world.new }
     ensures failed { O.failed output.new ≡ failed_after result (O.failed output.old) }
@@ -120,7 +131,8 @@ fn play_command<O: Sink>(
     }
 }
 
-/// So many turns, each printed, of which the first has this number. Gives the number of the turn behind them.
+/// Runs and prints `count` turns, of which the first has the number `turn`. Returns the number of
+/// the turn after them.
 fn play_turns<O: Sink>(
     world: &mut World,
     count: u32,
@@ -128,10 +140,13 @@ fn play_turns<O: Sink>(
     first: u64,
     text: &mut Line,
     output: &mut O,
-) -> Result<u64, Unwritten>
+) -> Result<u64, WriteError>
     requires { first + count < 2 ^ 64 }
     ensures done { OnOk result (HasDone (replicate count (Event.Turn missed)) world.old world.new) }
-    ensures printed { OnOk result (Appends (O.held output.old) (O.held output.new) (traced_from 0 first (answers_to world.old.station (replicate count (Event.Turn missed))))) }
+    ensures printed { OnOk result
+        (Appends (O.held output.old) (O.held output.new)
+        (traced_from 0 first
+        (answers_to world.old.station (replicate count (Event.Turn missed))))) }
     ensures next { IfOk result (λ next. next ≡ first + count) }
     ensures same { IsSameLayout world.old world.new }
     ensures failed { O.failed output.new ≡ failed_after result (O.failed output.old) }
@@ -147,8 +162,9 @@ fn play_turns<O: Sink>(
     Ok(next)
 }
 
-/// Prints the line of an answer, where a turn has this number. A byte without a reply has none. Always inlined: its two
-/// callers know what event was done, so that no answer is moved, and a byte without a reply costs no more than hearing it.
+/// Prints the line of an answer; `turn` is the number of a turn. A byte without a reply has no
+/// line. Always inlined: both callers know the kind of event, so no answer is copied, and a byte
+/// without a reply costs only its reception.
 #[inline(always)]
 fn print_answer<O: Sink>(
     answer: Step,
@@ -156,9 +172,10 @@ fn print_answer<O: Sink>(
     turn: u64,
     text: &mut Line,
     output: &mut O,
-) -> Result<(), Unwritten>
+) -> Result<(), WriteError>
     requires { IsSendableAnswer answer }
-    ensures printed { OnOk result (Appends (O.held output.old) (O.held output.new) (line_of_answer line turn answer)) }
+    ensures printed { OnOk result
+        (Appends (O.held output.old) (O.held output.new) (line_of_answer line turn answer)) }
     ensures failed { O.failed output.new ≡ failed_after result (O.failed output.old) }
     ensures loan { O.loan output.new ≡ O.loan output.old }
 {
@@ -170,11 +187,13 @@ fn print_answer<O: Sink>(
     }
 }
 
-// A call of its own: room for the line is cleared where it is declared, and most bytes have no reply.
+// A separate call: the buffer of the line is cleared where it is declared, and most bytes have no
+// reply.
 #[inline(never)]
-fn print_reply<O: Sink>(line: u8, reply: &Reply, output: &mut O) -> Result<(), Unwritten>
+fn print_reply<O: Sink>(line: u8, reply: &Reply, output: &mut O) -> Result<(), WriteError>
     requires { IsSendable reply.now }
-    ensures printed { OnOk result (Appends (O.held output.old) (O.held output.new) (ended (reply_text line reply.now))) }
+    ensures printed { OnOk result
+        (Appends (O.held output.old) (O.held output.new) (ended (reply_text line reply.now))) }
     ensures failed { O.failed output.new ≡ failed_after result (O.failed output.old) }
     ensures loan { O.loan output.new ≡ O.loan output.old }
 {
@@ -186,8 +205,9 @@ fn print_packet<O: Sink>(
     packet: &Packet,
     text: &mut Line,
     output: &mut O,
-) -> Result<(), Unwritten>
-    ensures printed { OnOk result (Appends (O.held output.old) (O.held output.new) (ended (track_text turn packet.now))) }
+) -> Result<(), WriteError>
+    ensures printed { OnOk result
+        (Appends (O.held output.old) (O.held output.new) (ended (track_text turn packet.now))) }
     ensures failed { O.failed output.new ≡ failed_after result (O.failed output.old) }
     ensures loan { O.loan output.new ≡ O.loan output.old }
 {
@@ -196,8 +216,9 @@ fn print_packet<O: Sink>(
     print_ended(output, text)
 }
 
-fn print_off<O: Sink>(turn: u64, text: &mut Line, output: &mut O) -> Result<(), Unwritten>
-    ensures printed { OnOk result (Appends (O.held output.old) (O.held output.new) (ended (off_text turn))) }
+fn print_off<O: Sink>(turn: u64, text: &mut Line, output: &mut O) -> Result<(), WriteError>
+    ensures printed { OnOk result
+        (Appends (O.held output.old) (O.held output.new) (ended (off_text turn))) }
     ensures failed { O.failed output.new ≡ failed_after result (O.failed output.old) }
     ensures loan { O.loan output.new ≡ O.loan output.old }
 {

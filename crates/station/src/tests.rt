@@ -1,4 +1,4 @@
-//! Runs of the program: statuses, what is printed, and fault lines.
+//! Runs of the program: statuses, output, and fault lines.
 
 mod devices;
 mod examples;
@@ -11,12 +11,12 @@ mod sockets;
 mod words;
 
 use crate::execute;
-use input_text::{Noting, TrackedWriter};
+use input_text::{TrackedReader, TrackedWriter};
 use std::fs;
 use std::process::Abort;
 use std::test::Fail;
 
-/// What a run answers and prints.
+/// The status and the output of a run.
 #[derive(Drop)]
 struct Ran {
     status: u8,
@@ -24,9 +24,9 @@ struct Ran {
     faults: Vec<u8>,
 }
 
-/// Runs the program on these words and this standard input.
+/// Runs the program on these arguments and this standard input.
 fn run(rt: &HostRuntime, words: &[&str], text: &[u8]) -> Ran {
-    let mut input = Noting::new(text);
+    let mut input = TrackedReader::new(text);
     let mut output = Vec::new(rt.alloc());
     let mut faults = Vec::new(rt.alloc());
     let status = execute(
@@ -43,7 +43,7 @@ fn run(rt: &HostRuntime, words: &[&str], text: &[u8]) -> Ran {
     }
 }
 
-/// Runs it on words that name a file with this text.
+/// Runs it on arguments that name a file with this text.
 fn run_on(
     rt: &HostRuntime,
     words: &[&str],
@@ -57,7 +57,7 @@ fn run_on(
     Ok(ran)
 }
 
-/// Looks that a run ended so.
+/// Asserts the status and the output of a run.
 fn look(rt: &impl Abort, ran: &Ran, status: u8, output: &[u8], faults: &[u8]) {
     assert_eq!(rt; ran.faults.as_slice(), faults);
     assert_eq!(rt; ran.output.as_slice(), output);

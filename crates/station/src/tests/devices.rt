@@ -2,9 +2,9 @@
 
 use super::{Ran, look};
 use crate::execute;
-use test_support::{Broken, Spaces, Stuck, Uneven};
-use input_text::{Noting, TrackedWriter};
+use input_text::{TrackedReader, TrackedWriter};
 use std::io::ErrorKind;
+use test_support::{Broken, Spaces, Stuck, Uneven};
 
 #[test]
 fn standard_input_cannot_be_read(rt: HostRuntime) {
@@ -18,7 +18,7 @@ fn standard_input_cannot_be_read(rt: HostRuntime) {
         let status = execute(
             &rt,
             &[],
-            &mut Noting::new(Broken { kind }),
+            &mut TrackedReader::new(Broken { kind }),
             &mut TrackedWriter::new(&mut output),
             &mut faults,
         );
@@ -33,7 +33,7 @@ fn standard_input_cannot_be_read(rt: HostRuntime) {
 
 #[test]
 fn standard_input_is_interrupted(rt: HostRuntime) {
-    let mut input = Noting::new(Uneven::new(b"turn 1", 4, None));
+    let mut input = TrackedReader::new(Uneven::new(b"turn 1", 4, None));
     let mut output = Vec::new(rt.alloc());
     let mut faults = Vec::new(rt.alloc());
     let status = execute(
@@ -59,7 +59,7 @@ fn standard_output_cannot_be_written(rt: HostRuntime) {
         (b"turn 1", ErrorKind::OutOfMemory),
     ];
     for (text, kind) in rows {
-        let mut input = Noting::new(text);
+        let mut input = TrackedReader::new(text);
         let mut broken = Broken { kind };
         let mut faults = Vec::new(rt.alloc());
         assert_eq!(rt;
@@ -78,7 +78,7 @@ fn standard_output_cannot_be_written(rt: HostRuntime) {
 
 #[test]
 fn standard_output_cannot_be_flushed(rt: HostRuntime) {
-    let mut input = Noting::new(b"turn 1".as_slice());
+    let mut input = TrackedReader::new(b"turn 1".as_slice());
     let mut faults = Vec::new(rt.alloc());
     assert_eq!(rt;
         execute(
@@ -95,7 +95,7 @@ fn standard_output_cannot_be_flushed(rt: HostRuntime) {
 
 #[test]
 fn standard_error_cannot_be_written(rt: HostRuntime) {
-    let mut input = Noting::new(b"turn 0".as_slice());
+    let mut input = TrackedReader::new(b"turn 0".as_slice());
     let mut output = Vec::new(rt.alloc());
     let mut broken = Broken::new();
     assert_eq!(rt;
@@ -113,7 +113,7 @@ fn standard_error_cannot_be_written(rt: HostRuntime) {
 #[test]
 fn a_long_script_is_read_one_byte_past_the_limit(rt: HostRuntime) {
     let mut spaces = Spaces { read: 0 };
-    let mut input = Noting::new(&mut spaces);
+    let mut input = TrackedReader::new(&mut spaces);
     let mut output = Vec::new(rt.alloc());
     let mut faults = Vec::new(rt.alloc());
     assert_eq!(rt;

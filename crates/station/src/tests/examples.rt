@@ -1,4 +1,4 @@
-//! The files of `examples/`, and what they print. `./check` compares these texts with the files.
+//! The files of `examples/`, and their output. `./check` compares these texts with the files.
 
 use super::{look, run_on};
 use std::test::Fail;
@@ -90,7 +90,7 @@ node yard module 1 outputs 01000000
 ";
 
 const LOSSES: &[u8] =
-    b"# The shunter is driven as in drive.script, but it misses both packets that tell its speed.
+    b"# The shunter is driven as in drive.script, but it misses both packets that carry its speed.
 line 0 BF 00 03 43 83 7C BA 01 01 45 A0 01 40 1E
 turn 1 miss 0
 turn 1
@@ -544,8 +544,8 @@ show
 ";
 
 const TWO: &[u8] =
-    b"# Two locomotives of one address are driven by one throttle. One hears every packet, the other misses all of those that
-# tell of a change. Behind each turn both are shown.
+    b"# Two locomotives of one address are driven by one throttle. One hears every packet, the other misses those that
+# report a change. After each turn both are shown.
 line 0 BF 00 03 43
 line 0 BA 01 01 45
 line 0 83 7C
@@ -703,8 +703,8 @@ turn 1
 show
 ";
 
-/// Where these runs end: the shunter by its emergency stop, switch 0 closed; and both locomotives as they were last asked,
-/// step 126 in reverse with F0 and F1.
+/// The last states of these runs: the shunter after its emergency stop, switch 0 closed; and both
+/// locomotives as last requested, step 126 in reverse with F0 and F1.
 #[test]
 fn scripts_that_are_drawn(rt: HostRuntime) -> Result<(), Fail> {
     let file = "station-test-drawn.toml";
@@ -733,7 +733,8 @@ node loses-some short 3 step 126 of 128 reverse F 1100000000000
     Ok(())
 }
 
-/// Captures, and what is printed of them. What is behind the last whole message is no message, and is not printed.
+/// Captures, and their output. Bytes after the last whole message are not a message, and are not
+/// printed.
 const SHOWN: [(&'static [u8], &'static [u8]); 2] = [
     (CAPTURE, CAPTURED),
     (b"83 7C A0 01 40", b"msg 83 7C power on\n"),

@@ -2,7 +2,7 @@
 
 use super::{look, run, run_on};
 use crate::execute;
-use input_text::{Noting, TrackedWriter};
+use input_text::{TrackedReader, TrackedWriter};
 use std::alloc::Global;
 use std::io::{ErrorKind, Write};
 use std::test::Fail;
@@ -22,7 +22,7 @@ impl Write for Full {
     }
 }
 
-/// So many spaces.
+/// `count` spaces.
 fn spaces(alloc: Global, count: usize) -> Result<Vec<u8>, Fail> {
     let mut text = Vec::new(alloc);
     for _ in 0..count {
@@ -45,7 +45,7 @@ fn files_that_are_missing(rt: HostRuntime) {
     }
 }
 
-/// Texts of rosters, and what is told of them.
+/// Texts of rosters, and the faults reported for them.
 const ROSTERS: [(&'static [u8], &'static [u8]); 12] = [
     (b"\xFF", b"station: roster fault 1 at node 0\n"),
     (b"version = 3", b"station: roster fault 2 at node 0\n"),
@@ -127,7 +127,7 @@ fn hex_texts_with_faults(rt: HostRuntime) -> Result<(), Fail> {
 
 const LONG: &str = "station-test-long";
 
-/// The words, the bytes of the file, and then the status and standard error.
+/// The arguments, the bytes of the file, and then the status and standard error.
 const LIMITS: [(&'static [&'static str], usize, u8, &'static [u8]); 4] = [
     (&["monitor", LONG], 1_048_576, 0, b""),
     (
@@ -164,7 +164,7 @@ fn files_at_their_limit(rt: HostRuntime) -> Result<(), Fail> {
 fn a_monitor_that_cannot_print(rt: HostRuntime) -> Result<(), Fail> {
     let file = "station-test-unprinted.hex";
     fs::write(&rt, file, b"83 7C".as_slice())?;
-    let mut input = Noting::new(b"".as_slice());
+    let mut input = TrackedReader::new(b"".as_slice());
     let mut faults = Vec::new(rt.alloc());
     assert_eq!(rt;
         execute(

@@ -1,13 +1,13 @@
-//! Want of memory: each call with so few bytes left, from none until it succeeds. Its answer is want of memory or the
-//! ordinary one, and no third.
+//! Out of memory: each call with a limited number of bytes left, from none until it succeeds. Its
+//! result is that memory ran out or the ordinary one, and no third.
 //!
-//! These tests take the memory of the process, and so need the allocator of the C library: `rt test`, and not `rt try`.
+//! These tests take the memory of the process, and so need the allocator of the C library:
+//! `rt test`, and not `rt try`.
 
 use super::examples::LAYOUT;
 use crate::{OrderFault, execute, order};
 use decoder_node::NodeList;
-use test_support::Scarcity;
-use input_text::{Noting, TrackedWriter};
+use input_text::{TrackedReader, TrackedWriter};
 use layout_core::World;
 use refresh_ring::{BitRing, Schedule};
 use show_text::{Command, HexWhy, read_hex, read_script};
@@ -16,12 +16,13 @@ use std::alloc::Global;
 use std::net::TcpListener;
 use std::test::Fail;
 use std::{fs, mem};
+use test_support::Scarcity;
 
 const SHOWN: &[u8] = b"node shunter short 3 stop forward F 0000000000000
 node yard module 1 outputs 00000000
 ";
 
-/// What is done with little memory.
+/// A call that is run with little memory.
 #[derive(Clone, Copy)]
 enum Work<'a> {
     Schedule,
@@ -34,7 +35,7 @@ enum Work<'a> {
     Run(Run<'a>),
 }
 
-/// The words and standard input of a run, and then its status and what it prints and tells.
+/// The arguments and standard input of a run, and then its status, its output and its fault line.
 #[derive(Clone, Copy)]
 struct Run<'a> {
     words: &'a [&'a str],
@@ -45,9 +46,10 @@ struct Run<'a> {
 }
 
 impl<'a> Run<'a> {
-    /// Whether the run is the ordinary one. None where it says that there is no memory, and prints nothing.
+    /// Whether the run is the ordinary one. `None` if it reports that memory ran out, and prints
+    /// nothing.
     fn answer(self, rt: &HostRuntime, pages: &mut Pages) -> Option<bool> {
-        let mut input = Noting::new(self.text);
+        let mut input = TrackedReader::new(self.text);
         let mut output = TrackedWriter::new(mem::replace(&mut pages.output, Vec::new(rt.alloc())));
         let found = execute(rt, self.words, &mut input, &mut output, &mut pages.faults);
         pages.output = output.into_inner();
@@ -61,7 +63,7 @@ impl<'a> Run<'a> {
     }
 }
 
-/// What a run prints and tells. There is room for it from the start.
+/// The output and the fault line of a run. Their memory is taken at the start.
 #[derive(Drop)]
 struct Pages {
     output: Vec<u8>,
@@ -82,7 +84,7 @@ impl Pages {
     }
 }
 
-/// Whether the answer is the ordinary one. None where it is want of memory.
+/// Whether the result is the ordinary one. `None` if memory ran out.
 fn answer(rt: &HostRuntime, work: Work<'_>, pages: &mut Pages) -> Option<bool> {
     let alloc = rt.alloc();
     match work {
@@ -129,20 +131,21 @@ fn answer(rt: &HostRuntime, work: Work<'_>, pages: &mut Pages) -> Option<bool> {
     }
 }
 
-/// None for want of memory, and a wrong answer else.
+/// `None` if memory ran out, and a wrong result otherwise.
 fn other_than(no_memory: bool) -> Option<bool> {
     if no_memory { None } else { Some(false) }
 }
 
-/// How many bytes more are left from call to call: what the allocator of the C library rounds to, so that no growth is
-/// stepped over.
+/// How many bytes more are left from call to call: the granularity of the C library's allocator, so
+/// that no allocation is skipped.
 const STEP: usize = 16;
 
-/// How often it is refused with no memory, and with more and more of it, until its answer is another, which is right; and
-/// then with ample memory twice. None where an answer is wrong, or the last is still refused.
+/// How often the call fails with no memory, and then with more and more of it, until its result is
+/// another, which is correct; and then with ample memory twice. `None` if a result is wrong, or the
+/// last call still fails.
 fn refusals(rt: &HostRuntime, work: Work<'_>) -> Result<Option<u32>, Fail> {
     let mut pages = Pages::new(rt.alloc())?;
-    // The stack grows to all that the call needs of it, while there is room for that.
+    // The stack grows to all that the call needs of it, while memory is available.
     if answer(rt, work, &mut pages) != Some(true) {
         return Ok(None);
     }
@@ -166,7 +169,8 @@ fn is_done(rt: &HostRuntime, work: Work<'_>, pages: &mut Pages) -> bool {
     answer(rt, work, pages) == Some(true)
 }
 
-/// Whether it is refused with no memory, and at last done with more and more of it, and no answer is wrong.
+/// Whether the call fails with no memory, succeeds at last with more and more of it, and never has
+/// a wrong result.
 fn grows_or_says_so(rt: &HostRuntime, work: Work<'_>) -> Result<bool, Fail> {
     let refused = refusals(rt, work)?.unwrap_or(0);
     println!(rt; "refused {refused} times")?;
@@ -203,7 +207,7 @@ fn words_that_are_read(rt: HostRuntime) -> Result<(), Fail> {
     Ok(())
 }
 
-/// White space, so much that a reader of it grows more than once, and then this.
+/// White space, enough to make the buffer of a reader grow more than once, and then this text.
 fn far_behind(rt: &HostRuntime, text: &[u8]) -> Result<Vec<u8>, Fail> {
     let mut all = Vec::with_capacity(rt.alloc(), 3 * 4096 + text.len())?;
     all.extend_from_slice([b'\n'; 3 * 4096].as_slice())?;
@@ -248,7 +252,8 @@ fn monitors(rt: HostRuntime) -> Result<(), Fail> {
     Ok(())
 }
 
-/// Whether a server grows or says so, on a port that is taken, so that no client is waited for.
+/// Whether a server succeeds or reports that memory ran out, on a port that is in use, so that it
+/// waits for no client.
 fn serves(rt: &HostRuntime, words: &[&str]) -> Result<bool, Fail> {
     let run = Work::Run(Run {
         words,

@@ -4,7 +4,7 @@ use super::{look, run, run_on};
 use std::fmt::Write;
 use std::test::Fail;
 
-// Words, standard input, and then the status, standard output and standard error.
+// Arguments, standard input, and then the status, standard output and standard error.
 type Run = (
     &'static [&'static str],
     &'static [u8],
@@ -23,7 +23,7 @@ const RUNS: [Run; 13] = [
     (&[], TAKE, 0, TAKEN, b""),
     (&["replay"], TAKE, 0, TAKEN, b""),
     (&[], b"", 0, b"", b""),
-    // The bytes of a message may stand in several lines of the script.
+    // The bytes of a message may be in several lines of the script.
     (
         &[],
         b"line 0 BF 00\nline 0 03\nline 0 43 83\nline 0 7C",
@@ -54,7 +54,7 @@ const RUNS: [Run; 13] = [
         b"reply 1 E7 0E 01 23 03 00 00 06 00 00 00 00 00 31\n",
         b"",
     ),
-    // A fault prints no result, whatever stands before it.
+    // A fault prints no result, whatever precedes it.
     (
         &[],
         b"line 0 BF 00 03 43\nline 0 8\n",
@@ -120,7 +120,8 @@ turn 16
 show
 ";
 
-/// What is printed: replies, packets that are each sent twice, with an idle packet behind, and how the decoder stands.
+/// The output: replies, packets that are each sent twice, followed by an idle packet, and the state
+/// of the decoder.
 const F9_REPLIES: &str = "reply 0 E7 0E 01 23 03 00 00 06 00 00 00 00 00 31
 reply 0 E7 0E 01 33 03 00 00 07 00 00 00 00 00 20
 reply 0 B4 7D 7F 49

@@ -1,8 +1,8 @@
-//! Whole runs of `station serve`: its clients have sent all that they send when the port is bound.
+//! Whole runs of `station serve`: its clients have sent all their bytes before the port is bound.
 
 use super::Ran;
 use crate::execute;
-use input_text::{Noting, TrackedWriter};
+use input_text::{TrackedReader, TrackedWriter};
 use std::alloc::{Allocator, Global};
 use std::cell::{Cell, RefCell};
 use std::fs::{Files, Metadata, OpenOptions};
@@ -103,8 +103,8 @@ impl<'a> Files for Visited<'a> {
     }
 }
 
-/// Runs these words to this output where its clients have sent this. Gives the status, what is told, and the address that it
-/// binds.
+/// Runs these arguments with this output after the clients have sent these bytes. Returns the
+/// status, the fault line, and the address that was bound.
 pub(super) fn serve_to<W: Write>(
     rt: &HostRuntime,
     words: &[&str],
@@ -117,14 +117,15 @@ pub(super) fn serve_to<W: Write>(
         asked: Cell::new(None),
         clients: RefCell::new(Vec::new(rt.alloc())),
     };
-    let mut input = Noting::new(b"".as_slice());
+    let mut input = TrackedReader::new(b"".as_slice());
     let mut output = TrackedWriter::new(output);
     let mut faults = Vec::new(rt.alloc());
     let status = execute(&host, words, &mut input, &mut output, &mut faults);
     (status, faults, host.asked.get())
 }
 
-/// What a run of these words does where its clients have sent this, and the address that it binds.
+/// Returns the result of a run of these arguments after the clients have sent these bytes, and the
+/// address that was bound.
 fn serve(rt: &HostRuntime, words: &[&str], sent: &[&[u8]]) -> (Ran, Option<SocketAddr>) {
     let mut output = Vec::new(rt.alloc());
     let (status, faults, asked) = serve_to(rt, words, sent, &mut output);
@@ -136,7 +137,7 @@ fn serve(rt: &HostRuntime, words: &[&str], sent: &[&[u8]]) -> (Ran, Option<Socke
     (ran, asked)
 }
 
-/// The options of a run, what its clients send, its status, what it prints, and its fault line.
+/// The options of a run, the bytes of its clients, its status, its output, and its fault line.
 type Row = (
     &'static [&'static str],
     &'static [&'static [u8]],
@@ -146,7 +147,7 @@ type Row = (
 );
 
 const SERVED: [Row; 3] = [
-    // One turn behind each byte, and one connection, where nothing else is asked.
+    // One turn after each byte, and one connection, if no options are given.
     (
         &["serve", "--port", "5550"],
         &[&[0x83, 0x7C], &[0x85, 0x7A]],

@@ -1,11 +1,10 @@
 //! Clients on loopback, all in one process, one after another.
 
 use super::{look, run};
-use crate::serve_on;
+use crate::{new_world, serve_on};
 use input_text::TrackedWriter;
 use layout_core::Limits;
 use ln_ops::State;
-use crate::new_world;
 use std::io::{Read, Write};
 use std::net::{Shutdown, TcpListener, TcpStream};
 use std::test::Fail;
@@ -23,7 +22,7 @@ fn client(rt: &HostRuntime, listener: &TcpListener, bytes: &[u8]) -> Result<TcpS
     Ok(stream)
 }
 
-/// What the client was sent.
+/// The bytes that the client received.
 fn received(rt: &HostRuntime, stream: &mut TcpStream) -> Result<Vec<u8>, Fail> {
     let mut bytes = Vec::new(rt.alloc());
     stream.read_to_end(&mut bytes)?;

@@ -1,13 +1,12 @@
-//! The words of the command line.
+//! The arguments of the command line.
 
 use super::run;
-use crate::{Order, OrderFault, order};
+use crate::{Order, OrderFault, order, report};
 use command_line::no_text;
 use console::{read_words, texts};
-use test_support::{Given, has_all};
-use crate::tell;
 use std::alloc::Global;
 use std::test::Fail;
+use test_support::{Given, has_all};
 
 #[test]
 fn words_behind_the_name(rt: HostRuntime) -> Result<(), Fail> {
@@ -20,19 +19,19 @@ fn words_behind_the_name(rt: HostRuntime) -> Result<(), Fail> {
     Ok(())
 }
 
-/// What is answered and told where the words cannot be read.
-fn told_of(rt: &HostRuntime, words: &[&[u8]]) -> Result<(u8, Vec<u8>), Fail> {
+/// The status and the fault line if the arguments cannot be read.
+fn fault_of(rt: &HostRuntime, words: &[&[u8]]) -> Result<(u8, Vec<u8>), Fail> {
     let given = Given { words };
     let fault = read_words(rt.alloc(), &given, |alloc| no_text(alloc))
         .err()
         .ok_or("a fault")?;
     let mut faults = Vec::new(rt.alloc());
-    Ok((tell(&fault, &mut faults), faults))
+    Ok((report(&fault, &mut faults), faults))
 }
 
 #[test]
 fn a_word_that_is_not_utf_8(rt: HostRuntime) -> Result<(), Fail> {
-    let (status, faults) = told_of(&rt, &[b"station", b"monitor", b"caf\xE9.hex"])?;
+    let (status, faults) = fault_of(&rt, &[b"station", b"monitor", b"caf\xE9.hex"])?;
     assert!(rt; status == 1);
     assert!(rt;
         has_all(
@@ -92,7 +91,7 @@ fn defaults_of_replay(rt: HostRuntime) -> Result<(), Fail> {
     Ok(())
 }
 
-/// Whether the words are an order to replay with this roster, on so many lines.
+/// Whether the arguments are an order to replay with this roster, on this number of lines.
 fn is_replay(alloc: Global, words: &[&str], file: &str, count: u8) -> bool {
     match order(alloc, words) {
         Ok(
@@ -105,7 +104,7 @@ fn is_replay(alloc: Global, words: &[&str], file: &str, count: u8) -> bool {
     }
 }
 
-/// Whether the words are an order to print this capture.
+/// Whether the arguments are an order to print this capture.
 fn is_monitor(alloc: Global, words: &[&str], capture: &str) -> bool {
     match order(alloc, words) {
         Ok(Order::Monitor { file }) => file.as_str() == capture,
@@ -157,7 +156,7 @@ fn options_of_serve(rt: HostRuntime) {
     );
 }
 
-/// Words, and parts of what standard error is told.
+/// Arguments, and parts of the text on standard error.
 const TOLD: [(&'static [&'static str], &'static [&'static str]); 4] = [
     (
         &["--help"],

@@ -6,11 +6,11 @@ use Rattle.show_text.specs.declared.command.Command.{Command}
 use Rattle.show_text.specs.declared.command.Command.TheVariants.{Byte}
 use Rattle.station.specs.Layout.{entries_in, roster_value}
 use Rattle.station.specs.Replayed.{HasDone, commands_text, events_in, events_of, turns_among}
-use Rattle.station.proofs.Replaying.{HasPassed, turns_so_far}
-use Rattle.station.proofs.Standing.{HasReplayed, replayed_more, replayed_none}
+use Rattle.station.proofs.Replaying.{HasPlayed, turns_so_far}
+use Rattle.station.proofs.DecoderState.{HasReplayed, replayed_more, replayed_none}
 use Rattle.station_core.specs.Powered.{HasDesk}
 use Rattle.station_core.specs.Seen.{Seen}
-use Rattle.station.proofs.Told.{as_many}
+use Rattle.station.proofs.DecoderLines.{as_many}
 use Rattle.station.proofs.Wanted.{shows_as_wanted}
 use Rattle.station.proofs.replay.play.Goals as goal
 
@@ -57,7 +57,7 @@ returns g c =
             shows_as_wanted c.events_add_up.ensures.obeyed c.headline.ensures.headline c.args.world.now entries commands
             (subst (λ (seen : Seen). HasDesk seen.powered) c.station.ensures c.always_legal.ensures.desk)
             (as_many (roster_value c.args.roster) c.args.world.now.nodes c.requires.nodes) c.requires.between
-            (subst (λ (done : List Command). HasPassed done c.args.world.now) all c.loop-command.invariant.replayed.passed);
+            (subst (λ (done : List Command). HasPlayed done c.args.world.now) all c.loop-command.invariant.replayed.all_played);
       };
       failed = c.loop-command.invariant.failed;
       loan = c.loop-command.invariant.loan;

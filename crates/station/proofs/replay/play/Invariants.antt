@@ -1,6 +1,6 @@
 use Rattle.std.proofs.Common.{◌≡◌, length, take}
 use Rattle.station.specs.Layout.{IsWorldOf, entries_in, roster_value}
-use Rattle.station.proofs.Standing.{HasReplayed}
+use Rattle.station.proofs.DecoderState.{HasReplayed}
 use Rattle.station.proofs.replay.play.Given as goal
 
 -- the commands so far; nothing takes a line or a decoder away, and no write failed

@@ -1,9 +1,9 @@
 use Rattle.std.proofs.Common.{◌≡◌, false}
 use Rattle.station.proofs.Connecting.{HasServedSoFar}
 use Rattle.station.specs.Layout.{IsWorldOf, entries_in, roster_value}
-use Rattle.station.proofs.serving.serve_on.Given as goal
+use Rattle.station.proofs.listening.serve_on.Given as goal
 
--- so many were served; no connection takes a decoder away, and no write failed
+-- this number were served; no connection takes a decoder away, and no write failed
 abbrev pub invariant-loop-served : goal.invariant-loop-served
 invariant-loop-served g l = record {
   nodes : IsWorldOf (roster_value l.roster) l.world.nodes;

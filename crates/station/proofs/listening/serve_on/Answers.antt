@@ -6,7 +6,7 @@ use Rattle.console.specs.declared.fault.RunFault.TheVariants.{Network, Output}
 use Rattle.station.specs.Layout.{entries_in, roster_value}
 use Rattle.station_core.specs.Powered.{HasDesk}
 use Rattle.station_core.specs.Seen.{Seen}
-use Rattle.station.proofs.serving.serve_on.Goals as goal
+use Rattle.station.proofs.listening.serve_on.Goals as goal
 
 pub loop-served-preserved : goal.loop-served-preserved
 loop-served-preserved g c = record {

@@ -1,6 +1,6 @@
 use Rattle.std.proofs.Common.{map}
 use Rattle.station.proofs.Ordering.{no_order}
-use Rattle.station.proofs.executing.obey.Goals as goal
+use Rattle.station.proofs.executing.run.Goals as goal
 
 pub returns-in_err-order-clause-ends : goal.returns-in_err-order-clause-ends
 returns-in_err-order-clause-ends g c =

@@ -1,6 +1,6 @@
 use Rattle.std.proofs.Common.{refl}
 use Rattle.station.proofs.Connecting.{faulted_part, gives_up, served_whole}
-use Rattle.station.proofs.serving.serve_connection.Goals as goal
+use Rattle.station.proofs.listening.serve_connection.Goals as goal
 
 pub returns-in-Err-clause-part : goal.returns-in-Err-clause-part
 returns-in-Err-clause-part g c =
