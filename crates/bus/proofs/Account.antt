@@ -34,7 +34,7 @@ last-grows : (small large : ℕ) (turns : List ℕ) → small ≤ large → last
 last-grows small large [] h = h
 last-grows small large (next ∷ more) h = omega arith
 
--- ---- a time that brings no turn or one
+-- ---- a time in which no turn begins, or one
 
 pub nothing : (remaining : ℕ) → 0 < remaining → IsTimeAccount remaining 0 [] remaining
 nothing remaining some = record { whole = omega arith; under_way = some; last = omega arith }
@@ -45,7 +45,7 @@ passes remaining micros less = record { whole = omega arith; under_way = omega a
 pub begins : (remaining micros turn : ℕ) → remaining ≤ micros → micros < remaining + turn → IsTimeAccount remaining micros (turn ∷ []) (remaining + turn - micros)
 begins remaining micros turn ended less = record { whole = omega (arith, sum-first turn []); under_way = omega arith; last = omega arith }
 
--- ---- times one behind another
+-- ---- consecutive times
 
 pub adds_up : (remaining first mid second last : ℕ) (these those : List ℕ) →
     IsTimeAccount remaining first these mid → IsTimeAccount mid second those last → IsTimeAccount remaining (first + second) (these ++ those) last
@@ -57,17 +57,18 @@ adds_up remaining first mid second last these those a b =
       last = omega (arith, last-both remaining these those, grows, b.last);
     }
 
--- as a loop passes a time: the next turn begins where the one under way ends, and then less than that one passes
+-- the time elapses as in a loop: the next turn begins where the current one ends, and then less
+-- than that one elapses
 
-pub next_turn : (remaining passed now turn : ℕ) (turns : List ℕ) → IsTimeAccount remaining passed turns now → 0 < turn → IsTimeAccount remaining (passed + now) (turns ++ turn ∷ []) turn
-next_turn remaining passed now turn turns a some = record {
+pub next_turn : (remaining elapsed now turn : ℕ) (turns : List ℕ) → IsTimeAccount remaining elapsed turns now → 0 < turn → IsTimeAccount remaining (elapsed + now) (turns ++ turn ∷ []) turn
+next_turn remaining elapsed now turn turns a some = record {
   whole = omega (arith, sum-both turns (turn ∷ []), sum-first turn [], a.whole);
   under_way = some;
   last = omega (arith, last-append remaining turn turns []);
 }
 
-pub goes_on : (remaining passed now rest : ℕ) (turns : List ℕ) → IsTimeAccount remaining passed turns now → rest < now → IsTimeAccount remaining (passed + rest) turns (now - rest)
-goes_on remaining passed now rest turns a less = record { whole = omega (arith, a.whole); under_way = omega arith; last = omega (arith, a.last) }
+pub goes_on : (remaining elapsed now rest : ℕ) (turns : List ℕ) → IsTimeAccount remaining elapsed turns now → rest < now → IsTimeAccount remaining (elapsed + rest) turns (now - rest)
+goes_on remaining elapsed now rest turns a less = record { whole = omega (arith, a.whole); under_way = omega arith; last = omega (arith, a.last) }
 
 -- ---- no other turns
 
@@ -88,7 +89,7 @@ same_left remaining micros last later turns a b = omega (arith, a.whole, b.whole
 abbrev Agree : List ℕ → List ℕ → Type 0
 Agree these those = (i : ℕ) → i < length these → i < length those → get_or these i 0 ≡ get_or those i 0
 
--- of two lists that agree one is the other and more
+-- of two lists that agree one is a prefix of the other
 extends : (these those : List ℕ) → Agree these those → ((more : List ℕ) × (those ≡ these ++ more)) ⊎ ((more : List ℕ) × (these ≡ those ++ more))
 extends [] those agree = inl (those, refl)
 extends (one ∷ these) [] agree = inr (one ∷ these, refl)
@@ -110,7 +111,7 @@ same remaining micros last later these those agree a b = elim (extends these tho
       (longer.1 ∙ ap (λ more. those ++ more) equal.0 ∙ append-nil those, sym equal.1)
 ]
 
--- ---- how many turns
+-- ---- the number of turns
 
 last-within : (remaining longest : ℕ) (turns : List ℕ) → remaining ≤ longest → All (λ turn. turn ≤ longest) turns → last_or remaining turns ≤ longest
 last-within remaining longest [] h all = h
@@ -142,7 +143,7 @@ pub spent : (remaining micros last shortest : ℕ) (turns : List ℕ) → IsTime
     remaining + shortest * length turns ≤ micros + last
 spent remaining micros last shortest turns a all = omega (arith, a.whole, sum-least shortest turns all)
 
--- of them the last lasts its own time
+-- the last of them lasts its own time
 ending : (shortest turn : ℕ) (more : List ℕ) → All (λ t. shortest ≤ t) (turn ∷ more) → shortest * length more + last_or turn more ≤ sum (turn ∷ more)
 ending shortest turn [] all = omega (arith, sum-first turn [])
 ending shortest turn (next ∷ more) all =
@@ -150,15 +151,15 @@ ending shortest turn (next ∷ more) all =
     let here = All-head (λ t. shortest ≤ t) turn (next ∷ more) all in
     omega (arith, rest, here, sum-first turn (next ∷ more))
 
--- so all of them but one, and what was left, have passed
-pub passed : (remaining micros last shortest turn : ℕ) (more : List ℕ) → IsTimeAccount remaining micros (turn ∷ more) last → All (λ t. shortest ≤ t) (turn ∷ more) →
+-- so all of them but one, and the time left, have elapsed
+pub elapsed : (remaining micros last shortest turn : ℕ) (more : List ℕ) → IsTimeAccount remaining micros (turn ∷ more) last → All (λ t. shortest ≤ t) (turn ∷ more) →
     remaining + shortest * length more ≤ micros
-passed remaining micros last shortest turn more a all = omega (arith, a.whole, a.last, ending shortest turn more all)
+elapsed remaining micros last shortest turn more a all = omega (arith, a.whole, a.last, ending shortest turn more all)
 
 pub few : (remaining micros last shortest : ℕ) (turns : List ℕ) → IsTimeAccount remaining micros turns last → 0 < remaining → All (λ turn. shortest ≤ turn) turns →
     (count : ℕ) → micros ≤ shortest * count → length turns ≤ count
 few remaining micros last shortest [] a some all count short = omega arith
 few remaining micros last shortest (turn ∷ more) a some all count short = elim (cases_lt (length more) count) [
   | inl less ↦ omega arith
-  | inr many ↦ absurd (omega (arith, mul-le-mul_left shortest many, passed remaining micros last shortest turn more a all, some, short))
+  | inr many ↦ absurd (omega (arith, mul-le-mul_left shortest many, elapsed remaining micros last shortest turn more a all, some, short))
 ]

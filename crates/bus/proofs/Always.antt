@@ -1,4 +1,4 @@
--- Every bus keeps what a bus keeps.
+-- The invariant of every bus.
 use Rattle.bus.specs.declared.bus.Bus.{Bus}
 use Rattle.bus.specs.Invariant.{IsInvariant}
 use Rattle.bus.specs.State.{bus_state}

@@ -1,4 +1,4 @@
--- What a turn lasts, by how many bytes its packet has.
+-- The duration of a turn, by the number of bytes of its packet.
 use Rattle.std.proofs.Common.{ℕ, ◌≡◌, ◌≤◌, List, length, Option, Some, None, arith}
 use Rattle.std.specs.Prelude.{IfSome, IsTrue}
 use Rattle.dcc_packet.specs.Packet.{is_checked}

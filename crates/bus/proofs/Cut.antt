@@ -1,4 +1,4 @@
--- Time brings the same turns however it is cut.
+-- The same turns begin in a time, however it is divided.
 use Rattle.std.proofs.Common.{◌≡◌, ℕ, zero, suc, ◌-◌, ◌<◌, Bool, true, false, if◌then◌else◌, nat_le, List, [], ◌∷◌, ◌++◌, length, get_or, Option, refl, ap, subst, sym, ◌∙◌, arith}
 use Rattle.std.specs.List.{list_all}
 use Rattle.station_core.specs.Moved.{after_turn, packet_of_turn}
@@ -11,7 +11,7 @@ use Rattle.bus.specs.Course.{is_time, durations_in, micros_in, turn_durations}
 use Rattle.bus.specs.Time.{IsTimeAccount}
 use Rattle.bus.proofs.Account.{same}
 
--- what so many turns of a station last, and the station behind them
+-- the durations of n turns of a station, and the station after them
 durations : ℕ → Seen → List ℕ
 durations zero seen = []
 durations (suc n) seen = duration (packet_of_turn seen) ∷ durations n (after_turn seen)
@@ -20,7 +20,7 @@ turned_by : ℕ → Seen → Seen
 turned_by zero seen = seen
 turned_by (suc n) seen = turned_by n (after_turn seen)
 
--- so many turns, and nothing else, make this bus of that one
+-- turns, and nothing else, lead from the first bus to the second
 record IsCourse (bus later : BusState) (turns : List ℕ) : Type 0 where
   count : ℕ
   turns_are : turns ≡ durations count bus.station

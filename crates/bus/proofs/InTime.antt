@@ -1,4 +1,4 @@
--- From a cycle told by time to one told by turns.
+-- From a cycle defined by time to one defined by turns.
 use Rattle.std.proofs.Common.{◌≡◌, ℕ, ◌+◌, ◌*◌, ◌≤◌, Bool, true, false, if◌then◌else◌, nat_le, List, [], ◌∷◌, ◌++◌, All, length, Option, Some, None, refl, ap, subst, ◌∙◌, arith, length-append}
 use Rattle.std.specs.List.{list_all}
 use Rattle.std.proofs.lemmas.Bool.{and_parts, and_from}
@@ -6,7 +6,7 @@ use Rattle.std.proofs.lemmas.List.Elements.{All-append, All-cons, All-nil}
 use Rattle.loconet_tcp.specs.declared.request.Request.{Request}
 use Rattle.loconet_tcp.specs.declared.request.Request.TheVariants.{Send, Invalid}
 use Rattle.slot_table.specs.Entry.{Entry}
-use Rattle.station_core.specs.Known.{Known, known_after_all}
+use Rattle.station_core.specs.ThrottleView.{ThrottleView, known_after_all}
 use Rattle.station_core.specs.Moments.{slots_refreshed, turns_in}
 use Rattle.station_core.specs.Moved.{packet_of_turn}
 use Rattle.station_core.specs.Seen.{Seen, known_of}
@@ -27,7 +27,7 @@ use Rattle.bus.specs.Time.{IsTimeAccount}
 use Rattle.bus.proofs.Account.{enough}
 use Rattle.bus.specs.Below.{TurnsAreBounded}
 
--- No noise is among them.
+-- There is no noise among them.
 
 no_noise-append : (i : ℕ) (these those : List LayoutEvent) → NoNoise i these → NoNoise i those → NoNoise i (these ++ those)
 no_noise-append i [] those h k = k
@@ -60,7 +60,7 @@ quiet i [] bus = tt
 quiet i (event ∷ events) bus =
     no_noise-append i (layout_event bus event) (layout_events (after_event bus event) events) (event_quiet i bus event) (quiet i events (after_event bus event))
 
--- As many turns are among them as are told.
+-- There are as many turns among them as outcomes show.
 
 turns-append : (these those : List LayoutEvent) → turns_in (calls_in (these ++ those)) ≡ turns_in (calls_in these) + turns_in (calls_in those)
 turns-append [] those = omega arith
@@ -129,22 +129,22 @@ all_short laws [] bus = All-nil IsShort
 all_short laws (event ∷ events) bus =
     All-append IsShort (durations_in (outcome_of bus event)) (turn_durations (outcomes_of (after_event bus event) events)) (event_short laws bus event) (all_short laws events (after_event bus event))
 
--- So a cycle of enough time has enough turns.
+-- So a cycle of sufficient time has sufficient turns.
 
 enough_turns : TurnsAreBounded → (bus : BusState) (cycle : List Event) (slots : ℕ) → IsInvariant bus
     → IsTimeAccount bus.remaining (micros_in bus cycle) (turn_durations (outcomes_of bus cycle)) (after_events bus cycle).remaining
     → 171840 * slots ≤ micros_in bus cycle → 16 * slots ≤ turns_in (calls_in (layout_events bus cycle))
-enough_turns laws bus cycle slots h passed long =
+enough_turns laws bus cycle slots h elapsed long =
     let many : 16 * slots ≤ length (turn_durations (outcomes_of bus cycle)) =
-    enough bus.remaining (micros_in bus cycle) (after_events bus cycle).remaining 10740 (turn_durations (outcomes_of bus cycle)) passed h.longest (all_short laws cycle bus) (16 * slots) (omega (arith, long)) in
+    enough bus.remaining (micros_in bus cycle) (after_events bus cycle).remaining 10740 (turn_durations (outcomes_of bus cycle)) elapsed h.longest (all_short laws cycle bus) (16 * slots) (omega (arith, long)) in
     omega (arith, many, turns_told cycle bus)
 
-full : TurnsAreBounded → (slot a : ℕ) (e : Entry) (known : Known) (bus : BusState) (cycle : List Event) → IsInvariant bus
+full : TurnsAreBounded → (slot a : ℕ) (e : Entry) (known : ThrottleView) (bus : BusState) (cycle : List Event) → IsInvariant bus
     → IsTimeAccount bus.remaining (micros_in bus cycle) (turn_durations (outcomes_of bus cycle)) (after_events bus cycle).remaining
     → IsTimedCycleOf slot a e known bus cycle → IsCycleOf slot a e known (calls_in (layout_events bus cycle))
-full laws slot a e known bus cycle h passed timed = record {
+full laws slot a e known bus cycle h elapsed timed = record {
   is_slot = timed.is_slot;
-  full = record { live = timed.live; enough = enough_turns laws bus cycle (slots_refreshed known (calls_in (layout_events bus cycle))) h passed timed.enough };
+  full = record { live = timed.live; enough = enough_turns laws bus cycle (slots_refreshed known (calls_in (layout_events bus cycle))) h elapsed timed.enough };
   stands = timed.stands;
 }
 

@@ -1,4 +1,4 @@
--- A line hears its own client alone.
+-- A line carries the messages of its own client only.
 use Rattle.std.proofs.Common.{◌≡◌, ℕ, ◌-◌, ◌<◌, Bool, true, false, List, [], ◌∷◌, ◌++◌, length, Option, Some, None, refl, ap, ap₂, sym, ◌∙◌, inl, inr, arith, if◌then◌else◌, nat_lt, nat_le, not, append-nil, append_assoc, eq-eqb}
 use Rattle.std.specs.Prelude.{◌==◌, slice_set}
 use Rattle.std.specs.List.{list_all, slice_index_or}
@@ -16,7 +16,7 @@ use Rattle.loconet_tcp.specs.declared.outcome.Outcome.TheVariants.{Nothing, Turn
 use Rattle.bus.specs.Bus.{AreEvents, BusState, after_event, request_at, client_of, is_event, pending_text_at, outcome_of_request, outcomes_of, after_turn_boundary}
 use Rattle.bus.specs.Own.{stays_connected_in, message_on, messages_on, own_requests, messages_to_send, text_from}
 
--- ---- what is kept of the text of client i, once that of client c is this
+-- ---- the bytes kept of the text of client i, once those of client c are these
 
 place-same : (clients : List (Option (List ℕ))) (c i : ℕ) (kept : Option (List ℕ)) → c < length clients → (c == i) ≡ true → slice_index_or (slice_set clients c kept) i None ≡ kept
 place-same clients c i kept within e =
@@ -31,7 +31,7 @@ place clients c i kept within = elim (cases_Bool (c == i)) [
   | inr e ↦ rw e (place-other clients c i kept e)
 ]
 
--- ---- what an ask puts on a line
+-- ---- the effect of a request on a line
 
 on_own : (station : Seen) (c i : ℕ) (request : Option Request) → (c == i) ≡ true → message_on i (outcome_of_request station c request) ≡ messages_to_send (option_to_list request)
 on_own station c i None e = refl
@@ -48,7 +48,7 @@ sends-more None requests = refl
 sends-more (Some (Invalid reason)) requests = refl
 sends-more (Some (Send message)) requests = refl
 
--- ---- time puts nothing on a line, and moves no client
+-- ---- time puts nothing on a line, and changes no client
 
 no_message : (ends : Bool) (i : ℕ) (packet : Option (List ℕ)) → message_on i (if ends then TurnBegan packet else Nothing) ≡ []
 no_message true i packet = refl
@@ -106,9 +106,9 @@ own (Elapses micros missed ∷ events) bus i legal eight =
     ∙ ap (λ (clients : List (Option (List ℕ))). messages_to_send (own_requests i (slice_index_or clients i None) events)) same
 own (Turn missed ∷ events) bus i legal eight = own events (after_event bus (Turn missed)) i legal eight
 
--- ---- from a joining to a leaving
+-- ---- from connecting to disconnecting
 
--- what is kept at last
+-- the bytes kept at last
 abbrev kept_along : List ℕ → List ℕ → List ℕ
 kept_along kept [] = kept
 kept_along kept (byte ∷ text) = kept_along (kept_after kept byte) text

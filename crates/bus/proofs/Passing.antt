@@ -1,4 +1,4 @@
--- The turns that events bring, and the time that passes.
+-- The turns that begin in events, and the time that elapses.
 use Rattle.std.proofs.Common.{◌≡◌, ℕ, zero, suc, ◌+◌, ◌-◌, ◌<◌, ◌≤◌, Bool, true, false, List, [], ◌∷◌, length, Option, Some, None, refl, sym, subst, arith, if◌then◌else◌, nat_le}
 use Rattle.std.specs.Prelude.{IsTrue}
 use Rattle.std.specs.List.{list_all, slice_index_or}
@@ -17,7 +17,7 @@ use Rattle.bus.specs.Invariant.{IsInvariant}
 use Rattle.bus.specs.Time.{IsTimeAccount}
 use Rattle.bus.proofs.Account.{adds_up, begins, nothing, passes}
 
--- Each of the events is one of the bus.
+-- Each of the events is an event of the bus.
 
 pub first_legal : (event : Event) (events : List Event) → AreEvents (event ∷ events) → is_event event ≡ true
 first_legal event events legal = (and_parts (is_event event) (list_all is_event events) legal).0

@@ -39,7 +39,7 @@ all_played bounds laws (event ∷ events) bus h legal =
     ∙ ap (λ (seen : Seen). played seen (layout_events later events)) (plays laws bus event h (first_legal event events legal))
     ∙ all_played bounds laws events later (keeps bounds bus event h (first_legal event events legal)) (rest_legal event events legal)
 
--- The events of the layout of events, and of more behind them.
+-- The layout's events for events, and for more after them.
 
 pub layout-append : (events later : List Event) (bus : BusState) → layout_events bus (events ++ later) ≡ layout_events bus events ++ layout_events (after_events bus events) later
 layout-append [] later bus = refl

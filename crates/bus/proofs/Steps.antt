@@ -1,4 +1,4 @@
--- What each event keeps of a bus, and what it is to the layout.
+-- What each event preserves of a bus, and its effect on the layout.
 use Rattle.std.proofs.Common.{◌≡◌, ℕ, ◌+◌, ◌-◌, ◌<◌, ◌≤◌, Bool, true, false, List, [], length, Option, Some, None, refl, ap, sym, subst, ◌∙◌, arith, inl, inr, if◌then◌else◌, nat_lt, replicate}
 use Rattle.std.specs.Prelude.{slice_set}
 use Rattle.std.specs.List.{after_first}
@@ -22,7 +22,7 @@ use Rattle.bus.specs.Invariant.{IsInvariant}
 use Rattle.bus.specs.Layout.{request_events, layout_event, turn_of}
 use Rattle.bus.proofs.Whole.{whole_after}
 
--- What is asked to be sent is a whole message.
+-- A request to send holds a whole message.
 
 abbrev pub IsWholeAsk : Option Request → Type 0
 IsWholeAsk None = Unit {0}
@@ -51,7 +51,7 @@ pub whole_ask : (kept : Option (List ℕ)) (byte : ℕ) → IsWholeAsk (request_
 whole_ask None byte = tt
 whole_ask (Some kept) byte = whole_at_end (is_end byte) (request_of kept) (whole_when (is_send kept) (nat_lt 400 (length kept)) (bytes_of (words_of (after_first is_blank kept))))
 
--- A time in which the turn under way ends, and one in which it does not.
+-- A time in which the current turn ends, and one in which it does not.
 
 passes_on : (bus : BusState) (micros missed : ℕ) → micros < bus.remaining → after_event bus (Elapses micros missed) ≡ record bus { remaining = bus.remaining - micros }
 passes_on bus micros missed less = rw (lt-leb bus.remaining micros less) refl
@@ -65,7 +65,7 @@ waits_for bus micros missed less = rw (lt-leb bus.remaining micros less) refl
 turns_in_it : (bus : BusState) (micros missed : ℕ) → bus.remaining ≤ micros → layout_event bus (Elapses micros missed) ≡ turn_of missed
 turns_in_it bus micros missed ends = rw (le-leb bus.remaining micros ends) refl
 
--- What an event keeps.
+-- What an event preserves.
 
 kept_clients : (bus : BusState) (station : Seen) (client : ℕ) (kept : Option (List ℕ)) → IsInvariant bus → station.lines ≡ bus.station.lines
     → IsInvariant (record bus { station = station; clients = slice_set bus.clients client kept })
@@ -104,7 +104,7 @@ keeps laws bus (Elapses micros missed) h legal = elim (cases_lt micros bus.remai
   | inr ends ↦ subst IsInvariant (sym (passes_over bus micros missed ends)) (kept_turned laws bus micros h ends (omega (arith, leb-true micros 5796 legal, h.under_way)))
 ]
 
--- What it is to the layout.
+-- Its effect on the layout.
 
 asked_station : StationMoves → (station : Seen) (client : ℕ) (request : Option Request) → station.lines ≡ replicate 8 [] → client < 8 → IsWholeAsk request
     → played station (request_events client request) ≡ station_after station request

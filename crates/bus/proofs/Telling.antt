@@ -1,4 +1,4 @@
--- What each client was told since it joined.
+-- The text of each client since it connected.
 use Rattle.std.proofs.Common.{◌≡◌, ℕ, Bool, true, false, List, [], ◌∷◌, ◌++◌, Option, Some, None, refl, ap, ap₂, sym, ◌∙◌, if◌then◌else◌, ◌&&◌, ◌||◌, not, append-nil, eq-eqb}
 use Rattle.std.specs.Prelude.{◌==◌}
 use Rattle.std.specs.List.{flat_map}
@@ -32,7 +32,7 @@ moved i outcomes outcome m = stays_more i outcomes outcome ∙ ap (λ (b : Bool)
 not_moved : (i : ℕ) (outcomes : List Outcome) (outcome : Outcome) → changes_connection i outcome ≡ false → stays_connected i (outcomes ++ outcome ∷ []) ≡ stays_connected i outcomes
 not_moved i outcomes outcome m = stays_more i outcomes outcome ∙ ap (λ (b : Bool). stays_connected i outcomes && (not b && true)) m ∙ and_true (stays_connected i outcomes)
 
--- one who joins or leaves does so at the end
+-- a client that connects or disconnects does so at the end
 
 not_since : (joins : Bool) (these those : List Outcome) → (if joins && false then these else those) ≡ those
 not_since true these those = refl
@@ -58,7 +58,7 @@ since_joining i outcomes =
 since_leaving : (i : ℕ) (outcomes : List Outcome) → since_connected i (outcomes ++ Disconnected i ∷ []) ≡ []
 since_leaving i outcomes = since_moved i outcomes (Disconnected i) (same i)
 
--- of all others what happens is behind what happened
+-- for all other clients the event follows the earlier ones
 
 goes_when : (here : Bool) (first outcome : Outcome) (rest now later : List Outcome) → later ≡ (if is_nonempty now then now ++ outcome ∷ [] else [])
     → (if here then first ∷ (rest ++ outcome ∷ []) else later)
@@ -77,7 +77,7 @@ since_others i (first ∷ rest) outcome m =
     ap (λ (b : Bool). if is_connecting i first && b then first ∷ (rest ++ outcome ∷ []) else since_connected i (rest ++ outcome ∷ [])) (not_moved i rest outcome m)
     ∙ goes_when (is_connecting i first && stays_connected i rest) first outcome rest (since_connected i rest) (since_connected i (rest ++ outcome ∷ [])) (since_others i rest outcome m)
 
--- ---- what was told
+-- ---- the text sent
 
 pub joins : (i : ℕ) (outcomes : List Outcome) → text_since i (outcomes ++ Connected i ∷ []) ≡ version_text
 joins i outcomes =
@@ -99,13 +99,13 @@ pub goes_on : (i : ℕ) (outcomes : List Outcome) (outcome : Outcome) → change
     → text_since i (outcomes ++ outcome ∷ []) ≡ (if has_connected i outcomes then text_since i outcomes ++ text_for i outcome else [])
 goes_on i outcomes outcome m = ap (flat_map (text_for i)) (since_others i outcomes outcome m) ∙ told_when (has_connected i outcomes) i outcome (since_connected i outcomes)
 
--- ---- who is there
+-- ---- the connected clients
 
-pub came : (i : ℕ) (outcomes : List Outcome) → has_connected i (outcomes ++ Connected i ∷ []) ≡ true
-came i outcomes = ap is_nonempty (since_joining i outcomes)
+pub is_connected_after : (i : ℕ) (outcomes : List Outcome) → has_connected i (outcomes ++ Connected i ∷ []) ≡ true
+is_connected_after i outcomes = ap is_nonempty (since_joining i outcomes)
 
-pub gone : (i : ℕ) (outcomes : List Outcome) → has_connected i (outcomes ++ Disconnected i ∷ []) ≡ false
-gone i outcomes = ap is_nonempty (since_leaving i outcomes)
+pub is_disconnected_after : (i : ℕ) (outcomes : List Outcome) → has_connected i (outcomes ++ Disconnected i ∷ []) ≡ false
+is_disconnected_after i outcomes = ap is_nonempty (since_leaving i outcomes)
 
 some_when : (outcome : Outcome) (since : List Outcome) → is_nonempty (if is_nonempty since then since ++ outcome ∷ [] else []) ≡ is_nonempty since
 some_when outcome [] = refl
@@ -114,7 +114,7 @@ some_when outcome (first ∷ rest) = refl
 pub stayed : (i : ℕ) (outcomes : List Outcome) (outcome : Outcome) → changes_connection i outcome ≡ false → has_connected i (outcomes ++ outcome ∷ []) ≡ has_connected i outcomes
 stayed i outcomes outcome m = ap is_nonempty (since_others i outcomes outcome m) ∙ some_when outcome (since_connected i outcomes)
 
--- ---- one who only listens
+-- ---- a client that only listens
 
 no_version : (own : Bool) → not (own || false) ≡ true → (if own then version_text else []) ≡ []
 no_version true m = cc

@@ -1,4 +1,4 @@
--- Who is there: those that joined and have not left since.
+-- The connected clients: those that connected and have not disconnected since.
 use Rattle.std.proofs.Common.{◌≡◌, ℕ, ◌-◌, ◌<◌, Bool, true, false, List, [], ◌∷◌, length, Option, Some, None, refl, ap, sym, ◌∙◌, inl, inr, arith, if◌then◌else◌, nat_le, ◌&&◌, ◌||◌, not}
 use Rattle.std.specs.Prelude.{◌==◌, is_some}
 use Rattle.std.specs.List.{list_all, slice_index_or}
@@ -16,7 +16,7 @@ use Rattle.bus.specs.Bus.{AreEvents, BusState, after_event, after_events, reques
 use Rattle.bus.specs.Since.{is_connecting, is_disconnecting, is_nonempty, has_connected, changes_connection, since_connected, stays_connected}
 use Rattle.bus.proofs.Own.{place, same_clients}
 
--- whether somebody is there behind an event, by whether somebody was
+-- whether a client is connected after an event, by whether one was before
 
 or_true : (a : Bool) → (a || true) ≡ true
 or_true true = refl
@@ -30,7 +30,7 @@ later_still false true true now next outcome later since e = ap (λ (b : Bool). 
 later_still false true false now next outcome later since e = refl
 later_still false false stay now next outcome later since e = ap (λ (b : Bool). is_nonempty since || (stay && b)) e
 
--- what each event makes of who is there
+-- the effect of each event on the connected clients
 
 joins_place : (own : Bool) (kept : Option (List ℕ)) → is_some (if own then Some [] else kept) ≡ (if own || false then own else is_some kept)
 joins_place true kept = refl
@@ -107,7 +107,7 @@ still_there (event ∷ events) bus i legal eight =
     ∙ later_still (is_connecting i outcome) (is_disconnecting i outcome) (stays_connected i later) (is_some (client_of bus i)) (is_some (client_of next i)) outcome later (since_connected i later)
     (next_there bus event i p.0 eight)
 
--- of a new bus all clients joined it
+-- on a new bus every connected client has connected
 
 nobody : (i : ℕ) → is_some (client_of first_bus i) ≡ false
 nobody i = elim (cases_lt i 8) [

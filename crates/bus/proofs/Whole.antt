@@ -1,4 +1,4 @@
--- A whole message that comes byte by byte on an idle line is carried out whole.
+-- A whole message put byte by byte on an idle line is carried out whole.
 use Rattle.std.proofs.Common.{◌≡◌, ℕ, ◌<◌, List, [], ◌∷◌, ◌++◌, length, Option, Some, None, refl, ap, ap₂, sym, subst, ◌∙◌, arith, append_assoc, replicate}
 use Rattle.std.specs.Prelude.{slice_set, option_map}
 use Rattle.std.specs.List.{slice_index_or}
@@ -24,7 +24,7 @@ use Rattle.bus.specs.Layout.{bytes_on}
 abbrev pub with_line : Seen → ℕ → List ℕ → Seen
 with_line seen line bytes = record seen { lines = slice_set seen.lines line bytes }
 
--- the message of the last of these answers, or this one where there are none
+-- the message of the last of these answers, or this one if there are none
 abbrev pub last_message : Option (List ℕ) → List Step → Option (List ℕ)
 last_message message [] = message
 last_message message (step ∷ steps) = last_message (message_in step) steps
@@ -33,7 +33,7 @@ message_of_reply : (reply : Option ReplyOf) → message_in (replied reply) ≡ o
 message_of_reply None = refl
 message_of_reply (Some reply) = refl
 
--- a byte behind these of its line
+-- a byte after these of its line
 
 held : (seen : Seen) (line : ℕ) (front : List ℕ) → line < length seen.lines → line_of (with_line seen line front) line ≡ front
 held seen line front within = get_or-set_same seen.lines line front [] within
@@ -77,7 +77,7 @@ answer_one laws seen line byte front message within m =
     ∙ message_of_reply (answer_to_message before message)
     ∙ ap (option_map reply_bytes) (same_answer seen line front message)
 
--- the rest of a whole message, behind a front of it
+-- the rest of a whole message, after a prefix of it
 
 joined : (front more : List ℕ) (byte next : ℕ) → (front ++ byte ∷ []) ++ next ∷ more ≡ front ++ byte ∷ next ∷ more
 joined front more byte next = append_assoc front (byte ∷ []) (next ∷ more)
@@ -142,7 +142,7 @@ whole_answered laws seen line (byte ∷ rest) idle below whole =
     ap (λ (s : Seen). last_message None (answers_to s (bytes_on line (byte ∷ rest)))) (sym (from_idle seen line idle below))
     ∙ answered laws rest [] byte line seen None (within_eight seen line idle below) whole
 
--- bytes move no decoder
+-- bytes change no decoder
 
 silent : (i line : ℕ) (bytes : List ℕ) (seen : Seen) → sounds_in i seen (bytes_on line bytes) ≡ []
 silent i line [] seen = refl

@@ -1,4 +1,5 @@
--- What the layers below promise of the turns of a station, and of a message that comes whole, as the bus builds on it.
+-- The laws of the layers below on which the bus depends: the turns of a station, and a message
+-- received whole.
 use Rattle.std.specs.Prelude.{ℕ, ◌≡◌, ◌≤◌, List, [], ◌∷◌, ◌++◌, Some, None}
 use Rattle.ln_frame.specs.Message.{IsWhole}
 use Rattle.ln_frame.specs.Stream.{message_at_end}
@@ -14,7 +15,8 @@ pub record TurnsAreBounded : Type 0 where
   pub shortest : (seen : Seen) → 5796 ≤ duration (packet_of_turn seen)
   pub longest : (seen : Seen) → duration (packet_of_turn seen) ≤ 10740
 
--- what a byte and a turn make of a station, and that a whole message is one, and none before its last byte
+-- the effect of a byte and a turn on a station; a whole message is one message, and none before its
+-- last byte
 pub record StationMoves : Type 0 where
   pub turn : (seen : Seen) → state_of seen Turn ≡ after_turn seen
   pub byte : (seen : Seen) (line byte : ℕ) → state_of seen (Byte line byte) ≡ after_byte seen line byte

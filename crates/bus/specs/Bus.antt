@@ -1,4 +1,4 @@
--- What an event makes of a bus, and what is told of it.
+-- The effect of an event on a bus, and its outcome.
 use Rattle.std.specs.Prelude.{ℕ, Bool, true, ◌+◌, ◌-◌, nat_lt, nat_le, if◌then◌else◌, IsTrue, List, [], ◌∷◌, replicate, Option, Some, None, option_map, slice_set}
 use Rattle.std.specs.List.{fold, list_all, slice_index_or}
 use Rattle.dcc_packet.specs.Sent.{idle_bytes}
@@ -16,22 +16,22 @@ use Rattle.bus.specs.declared.event.Event.TheVariants.{Connects, Receives, Disco
 use Rattle.loconet_tcp.specs.declared.outcome.Outcome.{Outcome}
 use Rattle.loconet_tcp.specs.declared.outcome.Outcome.TheVariants.{Nothing, Connected, Disconnected, Rejected, Sent, TurnBegan}
 
--- what clients can make of a bus, and what its time makes of it: the station, of each client what is kept of its text, or
--- nothing where no client is, and the microseconds that are left of the turn under way
+-- the part of a bus that clients and time change: the station, the bytes kept of each client's
+-- text, or None for no client, and the microseconds left of the current turn
 pub record BusState : Type 0 where
   pub station : Seen
   pub clients : List (Option (List ℕ))
   pub remaining : ℕ
 
--- how many clients there are at most: each has a line of the station
+-- the most clients: each has a line of the station
 abbrev pub client_count : ℕ
 client_count = 8
 
--- the shortest turn in microseconds, of which at most one begins in such a time
+-- the shortest turn in microseconds; at most one turn begins in such a time
 abbrev pub shortest : ℕ
 shortest = 5796
 
--- it is an event of one of the places, or of a short time
+-- an event of one of the eight clients, or of a short time
 abbrev pub is_event : Event → Bool
 is_event (Connects client) = nat_lt client 8
 is_event (Receives client byte) = nat_lt client 8
@@ -42,36 +42,36 @@ is_event (Turn missed) = true
 abbrev pub AreEvents : List Event → Type 0
 AreEvents events = IsTrue (list_all is_event events)
 
--- a new bus: nobody is there, and the track is as in a turn without power
+-- a new bus: no client is connected, and the track is as in a turn without power
 abbrev pub first_bus : BusState
 first_bus = record { station = first_seen 8; clients = replicate 8 None; remaining = 5796 }
 
--- the text of a client so far, as much as is kept of it
+-- the bytes kept of a client's text so far
 abbrev pub client_of : BusState → ℕ → Option (List ℕ)
 client_of bus client = slice_index_or bus.clients client None
 
--- what a byte asks of a client; where no client is, nothing
+-- the request that a byte completes; none if no client is connected
 abbrev pub request_at : Option (List ℕ) → ℕ → Option Request
 request_at None byte = None
 request_at (Some kept) byte = request_of_byte kept byte
 
--- and what is kept of its text then
+-- and the bytes kept of its text then
 abbrev pub pending_text_at : Option (List ℕ) → ℕ → Option (List ℕ)
 pending_text_at None byte = None
 pending_text_at (Some kept) byte = Some (kept_after kept byte)
 
--- A message that is sent is carried out whole; what is refused reaches nobody.
+-- A message that is sent is carried out whole; a rejected request has no effect.
 abbrev pub station_after : Seen → Option Request → Seen
 station_after station None = station
 station_after station (Some (Invalid reason)) = station
 station_after station (Some (Send message)) = after_message station (Some message)
 
--- the message that an answer of the station is: that of its reply
+-- the message of the station's reply
 abbrev pub message_in : Step → Option (List ℕ)
 message_in (Reply reply) = Some (reply_bytes reply)
 message_in other = None
 
--- the message that is answered to a message, if there is one
+-- the reply to a message, if there is one
 abbrev pub reply_to : Seen → List ℕ → Option (List ℕ)
 reply_to station message = option_map reply_bytes (answer_to_message station (Some message))
 
@@ -80,16 +80,16 @@ outcome_of_request station client None = Nothing
 outcome_of_request station client (Some (Invalid reason)) = Rejected client reason
 outcome_of_request station client (Some (Send message)) = Sent client message (reply_to station message)
 
--- what a turn lasts: as long as its packet, and without power as long as an idle packet
+-- the duration of a turn: that of its packet, and without power that of an idle packet
 abbrev pub duration : Option (List ℕ) → ℕ
 duration None = duration_of idle_bytes
 duration (Some packet) = duration_of packet
 
--- the turn under way ends in so many microseconds, and the next one begins where it ends
+-- the current turn ends within `micros` microseconds, and the next one begins where it ends
 abbrev pub after_turn_boundary : BusState → (micros : ℕ) → BusState
 after_turn_boundary bus micros = record bus { station = after_turn bus.station; remaining = bus.remaining + duration (packet_of_turn bus.station) - micros }
 
--- what an event makes of a bus
+-- the effect of an event on a bus
 abbrev pub after_event : BusState → Event → BusState
 after_event bus (Connects client) = record bus { clients = slice_set bus.clients client (Some []) }
 after_event bus (Disconnects client) = record bus { clients = slice_set bus.clients client None }
@@ -100,7 +100,7 @@ after_event bus (Receives client byte) = record bus {
 after_event bus (Elapses micros missed) = if nat_le bus.remaining micros then after_turn_boundary bus micros else record bus { remaining = bus.remaining - micros }
 after_event bus (Turn missed) = after_turn_boundary bus bus.remaining
 
--- what is told of it
+-- its outcome
 abbrev pub outcome_of : BusState → Event → Outcome
 outcome_of bus (Connects client) = Connected client
 outcome_of bus (Disconnects client) = Disconnected client

@@ -1,4 +1,4 @@
--- How much track time events bring, and which turns begin in it.
+-- The track time of events, and the turns that begin in it.
 use Rattle.std.specs.Prelude.{ℕ, ◌+◌, Bool, true, false, List, [], ◌∷◌, ◌++◌}
 use Rattle.bus.specs.declared.event.Event.{Event}
 use Rattle.bus.specs.declared.event.Event.TheVariants.{Elapses, Turn}
@@ -6,7 +6,7 @@ use Rattle.loconet_tcp.specs.declared.outcome.Outcome.{Outcome}
 use Rattle.loconet_tcp.specs.declared.outcome.Outcome.TheVariants.{TurnBegan}
 use Rattle.bus.specs.Bus.{BusState, after_event, duration}
 
--- the microseconds of track time that an event brings
+-- the microseconds of track time that elapse in an event
 abbrev pub micros_of : BusState → Event → ℕ
 micros_of bus (Elapses micros missed) = micros
 micros_of bus (Turn missed) = bus.remaining
@@ -16,7 +16,7 @@ abbrev pub micros_in : BusState → List Event → ℕ
 micros_in bus [] = 0
 micros_in bus (event ∷ events) = micros_of bus event + micros_in (after_event bus event) events
 
--- what the turns last that began, in order
+-- the durations of the turns that began, in order
 abbrev pub durations_in : Outcome → List ℕ
 durations_in (TurnBegan packet) = duration packet ∷ []
 durations_in other = []
@@ -25,7 +25,7 @@ abbrev pub turn_durations : List Outcome → List ℕ
 turn_durations [] = []
 turn_durations (outcome ∷ all) = durations_in outcome ++ turn_durations all
 
--- nothing but time
+-- only time elapses
 abbrev pub is_time : Event → Bool
 is_time (Elapses micros missed) = true
 is_time (Turn missed) = true

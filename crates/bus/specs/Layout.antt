@@ -1,4 +1,4 @@
--- What the events of a bus are to its layout.
+-- The layout's events for the events of a bus.
 use Rattle.std.specs.Prelude.{ℕ, nat_le, if◌then◌else◌, List, [], ◌∷◌, ◌++◌, map, Option, Some, None}
 use Rattle.loconet_tcp.specs.declared.request.Request.{Request}
 use Rattle.loconet_tcp.specs.declared.request.Request.TheVariants.{Send, Invalid}
@@ -8,7 +8,7 @@ use Rattle.bus.specs.declared.event.Event.{Event}
 use Rattle.bus.specs.declared.event.Event.TheVariants.{Connects, Receives, Disconnects, Elapses, Turn}
 use Rattle.bus.specs.Bus.{BusState, after_event, request_at, client_of}
 
--- bytes that come on a line
+-- bytes received on a line
 abbrev pub bytes_on : (line : ℕ) → List ℕ → List LayoutEvent
 bytes_on line bytes = map (λ byte. layout.Byte line byte) bytes
 
@@ -16,13 +16,13 @@ bytes_on line bytes = map (λ byte. layout.Byte line byte) bytes
 abbrev pub turn_of : (missed : ℕ) → List LayoutEvent
 turn_of missed = layout.Turn missed ∷ []
 
--- a message comes whole, on its client's own line
+-- a message is put whole on the line of its client
 abbrev pub request_events : (client : ℕ) → Option Request → List LayoutEvent
 request_events client None = []
 request_events client (Some (Invalid reason)) = []
 request_events client (Some (Send message)) = bytes_on client message
 
--- the events of the layout that an event of its bus is
+-- the layout's events for an event of its bus
 abbrev pub layout_event : BusState → Event → List LayoutEvent
 layout_event bus (Connects client) = []
 layout_event bus (Disconnects client) = []

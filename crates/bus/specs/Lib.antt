@@ -1,12 +1,12 @@
 pub mod Below
 pub mod Bus
 pub mod Course
-pub mod Cycle
 pub mod Invariant
 pub mod Layout
 pub mod Log
 pub mod Observations
+pub mod State
+pub mod Cycle
 pub mod Own
 pub mod Since
-pub mod State
 pub mod Time

@@ -1,7 +1,7 @@
--- All that has happened so far, in order, where it is told.
+-- The log of all that has happened so far, in order, if it is known.
 use Rattle.std.specs.Prelude.{◌≡◌, List, ◌++◌, Option, Some, None}
 
--- it grew by this; of what tells nothing, nothing is known
+-- it grew by these entries; nothing if it is not known
 abbrev pub Extends : {A : Type 0} → (old new : Option (List A)) → (more : List A) → Type 0
 Extends None None more = Unit {0}
 Extends None (Some new) more = ⊥

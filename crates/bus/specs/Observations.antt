@@ -1,12 +1,12 @@
--- What a witness is shown of a bus.
+-- The observations of an observer of a bus.
 use Rattle.std.specs.Prelude.{ℕ, List}
 use Rattle.layout_core.specs.declared.node.Node.{Node}
 use Rattle.loconet_tcp.specs.declared.outcome.Outcome.{Outcome}
 
 pub data Observation : Type 0 where
-  -- what was told of an event, and the decoders as they stand behind it
+  -- the outcome of an event, and the decoders after it
   Observed : (outcome : Outcome) → (nodes : List Node) → Observation
-  -- too much waits for a client, and its connection is closed
+  -- the queue of a client overflowed, and its connection is closed
   Overflowed : (client : ℕ) → Observation
-  -- so many microseconds went by that are left out
+  -- this number of microseconds was skipped
   Skipped : (micros : ℕ) → Observation

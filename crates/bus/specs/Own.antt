@@ -1,4 +1,4 @@
--- What comes on each line, and what its own client asks.
+-- The messages put on each line, and the requests of its client.
 use Rattle.std.specs.Prelude.{ℕ, Bool, true, ◌==◌, if◌then◌else◌, not, List, [], ◌∷◌, ◌++◌, Option, Some, None}
 use Rattle.std.specs.List.{flat_map, list_all}
 use Rattle.std.specs.Option.{option_to_list}
@@ -18,7 +18,8 @@ message_on i other = []
 abbrev pub messages_on : (line : ℕ) → List Outcome → List (List ℕ)
 messages_on i outcomes = flat_map (message_on i) outcomes
 
--- what client i asks, by its own joinings, bytes and leavings alone: of its text so far this is kept, or it is not there
+-- the requests of client i, from its own events only: of its text so far these bytes are kept, or
+-- it is not connected
 abbrev pub own_requests : (client : ℕ) → (kept : Option (List ℕ)) → List Event → List Request
 own_requests i kept [] = []
 own_requests i kept (Connects client ∷ events) = own_requests i (if client == i then Some [] else kept) events
@@ -28,13 +29,13 @@ own_requests i kept (Receives client byte ∷ events) =
 own_requests i kept (Elapses micros missed ∷ events) = own_requests i kept events
 own_requests i kept (Turn missed ∷ events) = own_requests i kept events
 
--- the messages that are asked to be sent
+-- the messages requested to be sent
 abbrev pub messages_to_send : List Request → List (List ℕ)
 messages_to_send [] = []
 messages_to_send (Send message ∷ requests) = message ∷ messages_to_send requests
 messages_to_send (Invalid reason ∷ requests) = messages_to_send requests
 
--- the client neither joins nor leaves
+-- the client neither connects nor disconnects
 abbrev pub is_unaffected : (client : ℕ) → Event → Bool
 is_unaffected i (Connects client) = not (client == i)
 is_unaffected i (Disconnects client) = not (client == i)
@@ -43,7 +44,7 @@ is_unaffected i other = true
 abbrev pub stays_connected_in : (client : ℕ) → List Event → Bool
 stays_connected_in i events = list_all (is_unaffected i) events
 
--- the bytes that come from client i
+-- the bytes received from client i
 abbrev pub bytes_from : (client : ℕ) → Event → List ℕ
 bytes_from i (Receives client byte) = if client == i then byte ∷ [] else []
 bytes_from i other = []

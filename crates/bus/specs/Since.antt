@@ -1,4 +1,4 @@
--- What each client was told since it joined, of all that was told.
+-- The text of each client since it connected, from the outcomes.
 use Rattle.std.specs.Prelude.{ℕ, Bool, true, false, ◌&&◌, ◌||◌, ◌==◌, if◌then◌else◌, not, List, [], ◌∷◌}
 use Rattle.std.specs.List.{flat_map, list_all}
 use Rattle.loconet_tcp.specs.declared.outcome.Outcome.{Outcome}
@@ -13,14 +13,15 @@ abbrev pub is_disconnecting : (client : ℕ) → Outcome → Bool
 is_disconnecting i (Disconnected client) = client == i
 is_disconnecting i other = false
 
--- the client of this place joins or leaves
+-- the client of this index connects or disconnects
 abbrev pub changes_connection : (client : ℕ) → Outcome → Bool
 changes_connection i outcome = is_connecting i outcome || is_disconnecting i outcome
 
 abbrev pub stays_connected : (client : ℕ) → List Outcome → Bool
 stays_connected i outcomes = list_all (λ outcome. not (changes_connection i outcome)) outcomes
 
--- the last joining of a client and all behind it, if the client has not left since; else nothing
+-- the last connecting of a client and all outcomes after it, if it has not disconnected since; else
+-- nothing
 abbrev pub since_connected : (client : ℕ) → List Outcome → List Outcome
 since_connected i [] = []
 since_connected i (outcome ∷ rest) = if is_connecting i outcome && stays_connected i rest then outcome ∷ rest else since_connected i rest
@@ -29,21 +30,21 @@ abbrev pub is_nonempty : List Outcome → Bool
 is_nonempty [] = false
 is_nonempty (outcome ∷ rest) = true
 
--- a client joined in this place, and has not left since
+-- a client connected at this index, and has not disconnected since
 abbrev pub has_connected : (client : ℕ) → List Outcome → Bool
 has_connected i outcomes = is_nonempty (since_connected i outcomes)
 
--- what the client in a place was told since it joined; where nobody is, nothing
+-- the text of the client at an index since it connected; nothing if none is connected
 abbrev pub text_since : (client : ℕ) → List Outcome → List ℕ
 text_since i outcomes = flat_map (text_for i) (since_connected i outcomes)
 
--- the client asks to send
+-- the client requests to send
 abbrev pub makes_request : (client : ℕ) → Outcome → Bool
 makes_request i (Rejected client reason) = client == i
 makes_request i (Sent client message reply) = client == i
 makes_request i other = false
 
--- it asks to send nothing
+-- it makes no request
 abbrev pub requests_nothing : (client : ℕ) → List Outcome → Bool
 requests_nothing i outcomes = list_all (λ outcome. not (makes_request i outcome)) outcomes
 

@@ -1,4 +1,4 @@
--- A bus, as contracts see it but for its decoders.
+-- A bus, as contracts see it, without its decoders.
 use Rattle.bus.specs.declared.bus.Bus.{Bus}
 use Rattle.bus.specs.Bus.{BusState}
 

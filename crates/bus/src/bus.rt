@@ -3,26 +3,24 @@ ghost use Rattle.std.specs.Prelude.{◌≡◌, ◌<◌, ◌≤◌, ◌+◌, [], 
 
 use crate::event::Event;
 use crate::sending::send;
-use crate::turning::{duration, turn};
+use crate::turning::{SHORTEST_TURN, duration, turn};
 use layout_core::{NodeList, World};
 use loconet_tcp::{Outcome, Request, RequestReader};
-use station_core::StationFault;
+use station_core::{MAX_LINES, StationFault};
 use std::alloc::Global;
 
-/// The most clients at once: each has a line of the station.
-const PLACES: usize = 8;
+/// The most clients at once: each has one line of the station.
+pub const MAX_CLIENTS: usize = MAX_LINES;
 
-/// What is left of the turn under way, as one begins without power: as long as an idle packet, in microseconds.
-const IDLE: u32 = 5_796;
-
-/// A layout, the clients on its lines, and the turn of its track that is under way.
+/// A layout, the clients on its lines, and the current turn of its track.
 ///
-/// Client i speaks on line i of the station. Between two events no line holds the beginning of a message.
+/// Client i is connected to line i of the station. Between two events no line holds the beginning
+/// of a message.
 #[derive(Drop)]
 pub struct Bus {
     pub(crate) world: World,
-    pub(crate) clients: [Option<RequestReader>; PLACES],
-    /// The microseconds that are left of the turn under way.
+    pub(crate) clients: [Option<RequestReader>; MAX_CLIENTS],
+    /// The microseconds left of the current turn.
     pub(crate) remaining: u32,
     ghost client_count: { length clients ≡ 8 },
     ghost idle: { world.station.lines ≡ replicate 8 [] },
@@ -40,20 +38,20 @@ impl Bus {
     ghost use Rattle.bus.specs.Layout.{layout_event, turn_of};
     ghost use Rattle.bus.specs.State.{bus_state};
 
-    /// A new layout of eight lines with these decoders, without clients.
+    /// Creates a layout of eight lines with these decoders, without clients.
     ///
-    /// Refused as `NoMemory` where there is no memory, and never as `BadLines`.
+    /// Fails with `NoMemory` if out of memory, and never with `BadLines`.
     pub fn new(alloc: Global, nodes: NodeList) -> Result<Bus, StationFault>
         ensures new { IfOk result (λ bus. bus_state bus ≡ first_bus) }
         ensures nodes { IfOk result (λ bus. bus.world.nodes ≡ map node_of nodes.items) }
         ensures specs { IfOk result (λ bus. map spec_of bus.world.nodes ≡ nodes.items) }
         ensures memory { IfErr result (λ e. e ≡ StationFault.NoMemory) }
     {
-        let world = World::new(alloc, PLACES as u8, nodes)?;
+        let world = World::new(alloc, MAX_CLIENTS as u8, nodes)?;
         Ok(Bus {
             world,
             clients: [None, None, None, None, None, None, None, None],
-            remaining: IDLE,
+            remaining: SHORTEST_TURN,
         })
     }
 
@@ -64,7 +62,7 @@ impl Bus {
         &self.world
     }
 
-    /// The microseconds that are left of the turn under way, at least one.
+    /// Returns the microseconds left of the current turn, at least one.
     pub fn remaining(&self) -> u32
         ensures remaining { result ≡ self.now.remaining }
         ensures under_way { 0 < result }
@@ -73,7 +71,7 @@ impl Bus {
         self.remaining
     }
 
-    /// Whether a client, 0 to 7, has its place.
+    /// Whether a client, 0 to 7, is connected.
     pub fn is_connected(&self, client: u8) -> bool
         requires { client < 8 }
         ensures { result ≡ is_some (client_of (bus_state self.now) client) }
@@ -81,13 +79,14 @@ impl Bus {
         self.clients[usize::from(client)].is_some()
     }
 
-    /// One event, and what is told of it.
+    /// Runs one event, and returns its outcome.
     pub fn step(&mut self, event: Event) -> Outcome
         requires { IsTrue (is_event event) }
         ensures bus { bus_state self.new ≡ after_event (bus_state self.old) event }
         ensures outcome { result ≡ outcome_of (bus_state self.old) event }
-        // The decoders hear what the layout does, and nothing else.
-        ensures nodes { HaveHeard self.old.world.station (layout_event (bus_state self.old) event) self.old.world.nodes self.new.world.nodes }
+        // The decoders hear the packets of the layout, and nothing else.
+        ensures nodes { HaveHeard self.old.world.station (layout_event (bus_state self.old) event)
+            self.old.world.nodes self.new.world.nodes }
         ensures same { IsSameLayout self.old.world self.new.world }
     {
         match event {
@@ -105,7 +104,7 @@ impl Bus {
         }
     }
 
-    /// What every bus keeps: a law, and no code.
+    /// The invariant of every bus: a law without code.
     pub fn invariant_holds(&self)
         ensures kept { IsInvariant (bus_state self.now) }
         ensures desk { HasDesk self.now.world.station.powered }
@@ -113,12 +112,15 @@ impl Bus {
         self.world.station().always_legal();
     }
 
-    /// A byte of a client's text. A line that asks to send is carried out at once.
+    /// Takes a byte of a client's text. A request to send is carried out at once.
     fn receive(&mut self, client: u8, byte: u8) -> Outcome
         requires { client < 8 }
-        ensures bus { bus_state self.new ≡ after_event (bus_state self.old) (Event.Receives client byte) }
+        ensures bus { bus_state self.new
+            ≡ after_event (bus_state self.old) (Event.Receives client byte) }
         ensures outcome { result ≡ outcome_of (bus_state self.old) (Event.Receives client byte) }
-        ensures nodes { HaveHeard self.old.world.station (layout_event (bus_state self.old) (Event.Receives client byte)) self.old.world.nodes self.new.world.nodes }
+        ensures nodes { HaveHeard self.old.world.station
+            (layout_event (bus_state self.old) (Event.Receives client byte)) self.old.world.nodes
+            self.new.world.nodes }
         ensures same { IsSameLayout self.old.world self.new.world }
     {
         let request = match &mut self.clients[usize::from(client)] {
@@ -139,12 +141,15 @@ impl Bus {
         }
     }
 
-    /// So many microseconds pass.
+    /// Lets `micros` microseconds elapse.
     fn elapse(&mut self, micros: u16, missed: u64) -> Outcome
         requires { micros ≤ 5796 }
-        ensures bus { bus_state self.new ≡ after_event (bus_state self.old) (Event.Elapses micros missed) }
+        ensures bus { bus_state self.new
+            ≡ after_event (bus_state self.old) (Event.Elapses micros missed) }
         ensures outcome { result ≡ outcome_of (bus_state self.old) (Event.Elapses micros missed) }
-        ensures nodes { HaveHeard self.old.world.station (layout_event (bus_state self.old) (Event.Elapses micros missed)) self.old.world.nodes self.new.world.nodes }
+        ensures nodes { HaveHeard self.old.world.station
+            (layout_event (bus_state self.old) (Event.Elapses micros missed)) self.old.world.nodes
+            self.new.world.nodes }
         ensures same { IsSameLayout self.old.world self.new.world }
     {
         let micros = u32::from(micros);
@@ -155,13 +160,14 @@ impl Bus {
         Outcome::Nothing
     }
 
-    /// The turn under way ends in these microseconds, and the next one begins where it ends.
+    /// Ends the current turn within these microseconds, and begins the next one where it ends.
     fn begin_turn(&mut self, micros: u32, missed: u64) -> Outcome
         requires ends { self.old.remaining ≤ micros }
         requires soon { micros < self.old.remaining + 5796 }
         ensures bus { bus_state self.new ≡ after_turn_boundary (bus_state self.old) micros }
         ensures outcome { result ≡ Outcome.TurnBegan (packet_of_turn self.old.world.station) }
-        ensures nodes { HaveHeard self.old.world.station (turn_of missed) self.old.world.nodes self.new.world.nodes }
+        ensures nodes { HaveHeard self.old.world.station (turn_of missed) self.old.world.nodes
+            self.new.world.nodes }
         ensures same { IsSameLayout self.old.world self.new.world }
     {
         let packet = turn(&mut self.world, missed);

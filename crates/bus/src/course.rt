@@ -11,27 +11,34 @@ ghost use Rattle.bus.specs.State.{bus_state};
 ghost use Rattle.bus.specs.Cycle.{RunsInTime};
 ghost use Rattle.bus.specs.Time.{IsTimeAccount};
 
-use crate::laws;
-use bus::{Bus, Event, Outcome};
+use crate::{Bus, Event, Outcome, laws};
 
-/// Each event in order, what is told of it written at its place. A list of events may be cut anywhere.
+/// Runs the events in order and writes each outcome at the same index of `outcome`. A list of
+/// events may be divided into calls anywhere.
 pub fn run(bus: &mut Bus, events: &[Event], outcome: &mut [Outcome])
     requires places { length events.now ≡ length outcome.old }
     requires events { AreEvents events.now }
     ensures bus { bus_state bus.new ≡ after_events (bus_state bus.old) events.now }
     ensures outcome { outcome.new ≡ outcomes_of (bus_state bus.old) events.now }
-    ensures nodes { HaveHeard bus.old.world.station (layout_events (bus_state bus.old) events.now) bus.old.world.nodes bus.new.world.nodes }
+    ensures nodes { HaveHeard bus.old.world.station (layout_events (bus_state bus.old) events.now)
+        bus.old.world.nodes bus.new.world.nodes }
     ensures same { IsSameLayout bus.old.world bus.new.world }
-    // The layout is that of the events of its own that these are.
-    ensures layout { bus.new.world.station ≡ played bus.old.world.station (layout_events (bus_state bus.old) events.now) }
-    // The turns are those of the time that passed.
-    ensures turns { IsTimeAccount (bus_state bus.old).remaining (micros_in (bus_state bus.old) events.now) (turn_durations outcome.new) (bus_state bus.new).remaining }
+    // The layout is that after the layout's events for these.
+    ensures layout { bus.new.world.station
+        ≡ played bus.old.world.station (layout_events (bus_state bus.old) events.now) }
+    // The turns are those of the time that elapsed.
+    ensures turns { IsTimeAccount (bus_state bus.old).remaining
+        (micros_in (bus_state bus.old) events.now) (turn_durations outcome.new)
+        (bus_state bus.new).remaining }
     // A locomotive that hears a full refresh cycle runs as its slot says.
-    ensures headline { RunsAsWanted (known_of bus.old.world.station) (layout_events (bus_state bus.old) events.now) bus.old.world.nodes bus.new.world.nodes }
-    // So does one that hears everything for 171,840 microseconds for each slot that is refreshed.
-    ensures in_time { RunsInTime (bus_state bus.old) events.now bus.old.world.nodes bus.new.world.nodes }
+    ensures headline { RunsAsWanted (known_of bus.old.world.station)
+        (layout_events (bus_state bus.old) events.now) bus.old.world.nodes bus.new.world.nodes }
+    // The same holds if it hears everything for 171,840 microseconds for each slot that is
+    // refreshed.
+    ensures in_time { RunsInTime (bus_state bus.old) events.now bus.old.world.nodes
+        bus.new.world.nodes }
 {
-    bus::laws::events_are_the_layout();
+    laws::events_are_the_layout();
     laws::headline();
     laws::turns_of_the_time();
     layout_core::laws::events_add_up();

@@ -1,17 +1,18 @@
-//! What happens on a bus.
+//! The events of a bus.
 
-/// What happens on a bus. Clients are numbered from 0 to 7, as the lines of the station.
+/// An event of a bus. Clients are numbered from 0 to 7, as the lines of the station.
 #[derive(Clone, Copy, Debug, PartialEq, Eq)]
 pub enum Event {
-    /// A client takes its place.
+    /// A client connects.
     Connects { client: u8 },
-    /// A byte of a client's text comes.
+    /// A byte of a client's text is received.
     Receives { client: u8, byte: u8 },
-    /// A client leaves its place, whatever of a line was still open.
+    /// A client disconnects; an unfinished line is discarded.
     Disconnects { client: u8 },
-    /// So many microseconds of track time pass, at most 5,796, so that one turn at most begins in them. Decoder i misses
-    /// it where bit i of `missed` is set.
+    /// `micros` microseconds of track time elapse, at most 5,796, so that at most one turn begins
+    /// in them. Decoder i misses it if bit i of `missed` is set.
     Elapses { micros: u16, missed: u64 },
-    /// As much track time passes as is left of the turn under way, so that the next one begins.
+    /// The remaining time of the current turn elapses, so that the next one begins. Decoder i
+    /// misses it if bit i of `missed` is set.
     Turn { missed: u64 },
 }

@@ -1,6 +1,15 @@
-//! A layout whose lines are clients of LocoNet over TCP: what each client's text asks, what every client is told of it,
-//! and turns of the track in the time that passes. A pure machine: one event in, and out what is told of it; lists
-//! of events, what they come to, and the laws that hold of every such list.
+//! A layout whose lines are clients of LocoNet over TCP, as a pure state machine: one event in, its
+//! outcome out.
+//!
+//! A [`Bus`] takes each [`Event`] by [`Bus::step`] and returns its [`Outcome`], from which
+//! [`Outcome::push_text_for`] makes the text for each client. An [`Observer`] is notified of every
+//! outcome.
+//!
+//! ```ignore
+//! let mut bus = Bus::new(alloc, nodes)?;
+//! let outcome = bus.step(Event::Receives { client: 0, byte });
+//! outcome.push_text_for(0, &mut text);
+//! ```
 #![tactic(auto)]
 
 mod bus;
@@ -11,7 +20,7 @@ mod observer;
 mod sending;
 mod turning;
 
-pub use bus::Bus;
+pub use bus::{Bus, MAX_CLIENTS};
 pub use course::run;
 pub use event::Event;
 pub use laws::{
@@ -20,3 +29,4 @@ pub use laws::{
 };
 pub use loconet_tcp::Outcome;
 pub use observer::Observer;
+pub use turning::SHORTEST_TURN;

@@ -1,4 +1,4 @@
-//! A whole message on a line of the layout.
+//! Sending a whole message on a line of the layout.
 ghost use Rattle.std.specs.Prelude.{◌≡◌, ◌<◌, [], length, replicate, Some};
 ghost use Rattle.layout_core.specs.Played.{after_event, answer_to};
 ghost use Rattle.layout_core.specs.World.{HaveHeard, IsSameLayout};
@@ -12,15 +12,17 @@ use ln_frame::Msg;
 use ln_ops::to_msg;
 use station_core::Step;
 
-/// Lets a message come on a line on which nothing is unfinished, byte by byte, and answers what the station answers to it.
+/// Puts a message byte by byte on a line that holds no unfinished message, and returns the
+/// station's reply.
 ///
-/// No decoder moves, and nothing is left unfinished.
+/// No decoder changes, and the line holds no unfinished message afterwards.
 pub(crate) fn send(world: &mut World, line: u8, message: &Msg) -> Option<Msg>
     requires line { line < 8 }
     requires idle { world.old.station.lines ≡ replicate 8 [] }
     ensures station { world.new.station ≡ after_message world.old.station (Some message.now) }
     ensures reply { result ≡ reply_to world.old.station message.now }
-    ensures nodes { HaveHeard world.old.station (bytes_on line message.now) world.old.nodes world.new.nodes }
+    ensures nodes { HaveHeard world.old.station (bytes_on line message.now) world.old.nodes
+        world.new.nodes }
     ensures same { IsSameLayout world.old world.new }
     ensures idle { world.new.station.lines ≡ replicate 8 [] }
 {
@@ -32,7 +34,7 @@ pub(crate) fn send(world: &mut World, line: u8, message: &Msg) -> Option<Msg>
     reply
 }
 
-/// One byte on a line, and the message that is answered to it.
+/// Puts one byte on a line, and returns the reply to the message that it completes.
 fn receive_byte(world: &mut World, line: u8, byte: u8) -> Option<Msg>
     requires { line < length world.old.station.lines }
     ensures station { world.new.station ≡ after_event world.old.station (Event.Byte line byte) }

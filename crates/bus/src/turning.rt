@@ -1,4 +1,4 @@
-//! A turn of the track, and what it lasts.
+//! A turn of the track, and its duration.
 ghost use Rattle.std.specs.Prelude.{◌≡◌, ◌≤◌, option_map};
 ghost use Rattle.layout_core.specs.World.{HaveHeard, IsSameLayout};
 ghost use Rattle.station_core.specs.Moved.{after_turn, packet_of_turn};
@@ -10,10 +10,12 @@ use half_bits::duration_in_micros;
 use layout_core::{Event, World};
 use station_core::Step;
 
-/// The microseconds of a turn without power: those of an idle packet.
-const IDLE: u32 = 5_796;
+/// The duration of the shortest turn, in microseconds: that of an idle packet, and of a turn
+/// without power.
+pub const SHORTEST_TURN: u32 = 5_796;
 
-/// A turn that these decoders miss, and the packet that it sends: none exactly while the power is off.
+/// Runs a turn that these decoders miss, and returns its packet: `None` exactly while the power is
+/// off.
 pub(crate) fn turn(world: &mut World, missed: u64) -> Option<Packet>
     ensures station { world.new.station ≡ after_turn world.old.station }
     ensures packet { result ≡ packet_of_turn world.old.station }
@@ -32,13 +34,13 @@ pub(crate) fn turn(world: &mut World, missed: u64) -> Option<Packet>
     }
 }
 
-/// What a turn lasts that sends this packet, or none, in microseconds.
+/// Returns the duration of a turn that sends this packet, or none, in microseconds.
 pub(crate) fn duration(packet: Option<&Packet>) -> u32
     ensures { result ≡ duration (option_map (λ p. p.now) packet.entry) }
 {
     half_bits::laws::durations_are_bounded();
     match packet {
         Some(packet) => duration_in_micros(packet),
-        None => IDLE,
+        None => SHORTEST_TURN,
     }
 }

@@ -1,4 +1,4 @@
--- What one more byte does to what a text asks.
+-- How one more byte changes the requests of a text.
 use Rattle.std.proofs.Common.{◌≡◌, ℕ, ◌+◌, ◌<◌, ◌≤◌, Bool, true, false, List, [], ◌∷◌, ◌++◌, suc, length, take, Option, Some, None, refl, ap, ap₂, sym, ◌∙◌, inl, inr, arith, if◌then◌else◌, nat_eq, ◌&&◌, not, length-append}
 use Rattle.std.specs.Prelude.{codes}
 use Rattle.std.specs.Str.{bytes_eq}
@@ -14,7 +14,7 @@ use Rattle.ascii_words.specs.Words.{words_of, is_blank}
 use Rattle.loconet_tcp.specs.Requests.{request_of, parse_send, bytes_of, is_send}
 use Rattle.loconet_tcp.specs.Reading.{requests_in, requests_of, request_of_byte, kept_after, requests_along}
 
--- bytes before the first line; before no line, nothing
+-- bytes before the first line; nothing if there is no line
 abbrev all_onto : List ℕ → List (List ℕ) → List (List ℕ)
 all_onto xs [] = []
 all_onto xs (line ∷ lines) = (xs ++ line) ∷ lines
@@ -33,14 +33,14 @@ lines-in x xs h = rw h refl
 lines-end : (x : ℕ) (xs : List ℕ) → is_end x ≡ true → lines_of (x ∷ xs) ≡ [] ∷ lines_of xs
 lines-end x xs h = rw h refl
 
--- bytes that end no line stand before the first line behind them
+-- bytes that end no line extend the first line after them
 lines-open : (xs ys : List ℕ) → is_open xs ≡ true → lines_of (xs ++ ys) ≡ all_onto xs (lines_of ys)
 lines-open [] ys h = none-onto (lines_of ys)
 lines-open (x ∷ xs) ys h =
     let p = and_parts (not (is_end x)) (is_open xs) h in
     lines-in x (xs ++ ys) (not-true (is_end x) p.0) ∙ ap (onto_line x) (lines-open xs ys p.1) ∙ one-onto x xs (lines_of ys)
 
--- A long line asks what its first bytes ask.
+-- A long line makes the request of its first bytes.
 
 take-cons : (k b : ℕ) (line : List ℕ) → take (1 + k) (b ∷ line) ≡ b ∷ take k line
 take-cons k b line = let e : 1 + k ≡ suc k = omega arith in ap (λ n. take n (b ∷ line)) e
@@ -56,7 +56,7 @@ goes_on : (blank : Bool) (b w : ℕ) (front line word : List ℕ) → bytes_eq f
 goes_on true b w front line word e = refl
 goes_on false b w front line word e = ap (λ (same : Bool). nat_eq b w && same) e
 
--- whether a line begins with a word is known by one byte more than the word has
+-- one byte more than the word decides whether a line begins with it
 first-front : (xs ys word : List ℕ) → length word < length xs → bytes_eq (before_first is_blank (xs ++ ys)) word ≡ bytes_eq (before_first is_blank xs) word
 first-front [] ys word h = absurd (omega arith)
 first-front (x ∷ xs) ys [] h =
@@ -68,7 +68,7 @@ first-front (x ∷ xs) ys (w ∷ word) h =
     ∙ goes_on (is_blank x) x w (before_first is_blank (xs ++ ys)) (before_first is_blank xs) word (first-front xs ys word (omega arith))
     ∙ sym (ap (λ (line : List ℕ). bytes_eq line (w ∷ word)) (before-cons x xs))
 
--- what a line asks, by whether it is to send and whether it is too long
+-- the request of a line, by whether it is a `SEND` line and whether it is too long
 abbrev asked_when : Bool → Bool → Request → Option Request
 asked_when send long request = if send then Some (if long then Invalid TooLong else request) else None
 
@@ -82,7 +82,7 @@ request-long xs ys h =
     ∙ ap (λ (send : Bool). asked_when send true (Invalid TooLong)) (first-front xs ys (codes "SEND") (omega arith))
     ∙ sym (request-too_long xs (omega arith))
 
--- What each kind of byte does.
+-- The effect of each kind of byte.
 
 further-end : (xs : List ℕ) (b : ℕ) (z : List ℕ) → is_open xs ≡ true → is_end b ≡ true → requests_of (xs ++ b ∷ z) ≡ option_to_list (request_of xs) ++ requests_of z
 further-end xs b z h e =
@@ -115,7 +115,7 @@ request-end kept b e = rw e refl
 request-in : (kept : List ℕ) (b : ℕ) → is_end b ≡ false → request_of_byte kept b ≡ None
 request-in kept b e = rw e refl
 
--- both sides of the law, from what is asked and what is kept
+-- both sides of the law, from the request made and the bytes kept
 joined : (kept : List ℕ) (b : ℕ) (z : List ℕ) (request : Option Request) (left : List ℕ) → request_of_byte kept b ≡ request → kept_after kept b ≡ left
     → requests_of (kept ++ b ∷ z) ≡ option_to_list request ++ requests_of (left ++ z)
     → requests_of (kept ++ b ∷ z) ≡ option_to_list (request_of_byte kept b) ++ requests_of (kept_after kept b ++ z)
@@ -131,11 +131,11 @@ further kept b z h l = elim (cases_Bool (is_end b)) [
   ]
 ]
 
--- what is kept of an open line asks nothing yet
+-- the bytes kept of an unfinished line make no request yet
 pub requests-open : (kept : List ℕ) → is_open kept ≡ true → requests_of kept ≡ []
 requests-open kept h = ap requests_of (sym (append-nil kept)) ∙ ap requests_in (lines-open kept [] h)
 
--- it stays open, and of no more bytes
+-- the kept line stays unfinished and within its limit
 
 open-more : (xs : List ℕ) (b : ℕ) → is_open xs ≡ true → is_end b ≡ false → is_open (xs ++ b ∷ []) ≡ true
 open-more [] b h e = rw e refl

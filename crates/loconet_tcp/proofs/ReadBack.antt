@@ -1,4 +1,4 @@
--- What a message is told as asks to send it.
+-- The bytes of a message, as `RECEIVE` writes them, request that message.
 use Rattle.std.proofs.Common.{◌≡◌, ℕ, ◌*◌, ◌/◌, ◌%◌, ◌<◌, ◌≤◌, Bool, true, false, List, [], ◌∷◌, ◌++◌, suc, length, get_or, map, filter, ◌&&◌, Option, Some, refl, ap, ap₂, ◌∙◌, arith, if◌then◌else◌}
 use Rattle.std.specs.Prelude.{codes}
 use Rattle.std.specs.List.{slice_split, onto_first}
@@ -7,15 +7,16 @@ use Rattle.std.proofs.lemmas.Bool.{and_parts, le-ltb}
 use Rattle.std.proofs.lemmas.Bool.Decides.{nat_tests}
 use Rattle.std.proofs.lemmas.List.Splits.{slice_split-cons_no}
 use Rattle.ln_frame.specs.Message.{message_len, are_data, is_len, has_form, IsWhole}
+use Rattle.ascii_words.specs.Words.{hex_char}
 use Rattle.loconet_tcp.specs.declared.request.Request.{Request}
 use Rattle.loconet_tcp.specs.declared.request.Request.TheVariants.{Send, Invalid}
 use Rattle.loconet_tcp.specs.declared.request.Reason.TheVariants.{TooLong}
 use Rattle.ascii_words.specs.Words.{is_blank, is_word, words_of, digit_of}
 use Rattle.ascii_words.proofs.Pairs.{pair-back}
 use Rattle.loconet_tcp.specs.Requests.{led_by, leading_bytes, are_pairs, bytes_of, parse_send, request_of}
-use Rattle.loconet_tcp.specs.ClientLines.{hex_char, hex_words}
+use Rattle.loconet_tcp.specs.ClientLines.{hex_words}
 
--- A digit is read as what it was written for, and is no blank.
+-- A digit is read as the value that it was written for, and is no blank.
 
 digit-back : (d : ℕ) → d < 16 → digit_of (hex_char d) ≡ Some d
 digit-back d h = grind (arith, nat_tests)
@@ -40,7 +41,7 @@ bytes-back : (bytes : List ℕ) → ((i : ℕ) → get_or bytes i 0 < 256) → b
 unfolding bytes_of
 bytes-back bytes h = rw (pairs-back bytes h) (ap Some (leading_bytes-back bytes h))
 
--- The words of what is written are its pairs.
+-- The words of the written text are its pairs of digits.
 
 part : (b : ℕ) (rest : List ℕ) (parts : List (List ℕ)) → b < 256 → slice_split is_blank rest ≡ [] ∷ parts → slice_split is_blank (hex_char (b / 16) ∷ hex_char (b % 16) ∷ rest) ≡ two b ∷ parts
 part b rest parts h e =
@@ -62,7 +63,7 @@ unfolding words_of
 words-back b bytes h =
     ap (filter is_word) (part b (hex_words bytes) (map two bytes) (h 0) (parts-of_words bytes (λ i. h (suc i)))) ∙ all_words (b ∷ bytes)
 
--- It is short enough.
+-- The text is within the length limit.
 
 length-hex_words : (bytes : List ℕ) → length (hex_words bytes) ≡ 3 * length bytes
 length-hex_words [] = refl

@@ -1,4 +1,4 @@
--- What one more word adds to the bytes that a text writes, and to whether all of its words are pairs.
+-- What one more word adds to the bytes written, and to whether all words are pairs.
 use Rattle.std.proofs.Common.{◌≡◌, ℕ, ◌<◌, true, false, ◌&&◌, List, [], ◌∷◌, ◌++◌, length, Option, Some, None, append_assoc, append-nil, refl, ap, sym, ◌∙◌, arith}
 use Rattle.std.specs.Option.{is_some}
 use Rattle.ascii_words.specs.Words.{words_of, with_piece, pair_of}
@@ -41,7 +41,7 @@ are-no_pair rest [] behind h l e = absurd (omega arith)
 are-no_pair rest (b ∷ bs) behind h l e =
     ap are_pairs h ∙ ap (λ (pair : Option ℕ). is_some pair && are_pairs (words_of behind)) e
 
--- at the end all is read
+-- at the end everything is read
 
 pub no_words : (rest : List ℕ) → length rest ≡ 0 → words_of rest ≡ []
 unfolding words_of

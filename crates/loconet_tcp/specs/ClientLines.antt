@@ -1,12 +1,10 @@
--- The lines that a client is told, in LocoNet over TCP. The words behind SENT ERROR, VERSION and ERROR are the project's own.
-use Rattle.std.specs.Prelude.{ℕ, ◌+◌, ◌/◌, ◌%◌, if◌then◌else◌, nat_lt, List, [], ◌∷◌, ◌++◌, codes}
+-- The lines sent to a client, in LocoNet over TCP. The words after SENT ERROR, VERSION and ERROR
+-- are this project's own.
+use Rattle.std.specs.Prelude.{ℕ, ◌+◌, ◌/◌, ◌%◌, if◌then◌else◌, List, [], ◌∷◌, ◌++◌, codes}
 use Rattle.std.specs.List.{flat_map}
+use Rattle.ascii_words.specs.Words.{hex_char}
 use Rattle.loconet_tcp.specs.declared.request.Reason.{Reason}
 use Rattle.loconet_tcp.specs.declared.request.Reason.TheVariants.{TooLong, NotHex, NoMessage, WrongCheck}
-
--- the digit of a number below 16
-abbrev pub hex_char : ℕ → ℕ
-hex_char digit = if nat_lt digit 10 then 48 + digit else 55 + digit
 
 -- a space and two digits
 abbrev pub hex_word : ℕ → List ℕ
@@ -19,11 +17,11 @@ hex_words bytes = flat_map hex_word bytes
 abbrev pub line_end : List ℕ
 line_end = 13 ∷ 10 ∷ []
 
--- a message was on the line
+-- a message was seen on LocoNet
 abbrev pub receive_text : List ℕ → List ℕ
 receive_text message = codes "RECEIVE" ++ hex_words message ++ line_end
 
--- what the client asked for was sent
+-- the message requested by the client was sent
 abbrev pub sent_ok_text : List ℕ
 sent_ok_text = codes "SENT OK" ++ line_end
 
@@ -33,14 +31,14 @@ reason_text NotHex = codes "no pairs of hexadecimal digits"
 reason_text NoMessage = codes "no whole message"
 reason_text WrongCheck = codes "wrong check byte"
 
--- it was not sent, for this reason
+-- the message was not sent, for this reason
 abbrev pub sent_error_text : Reason → List ℕ
 sent_error_text reason = codes "SENT ERROR " ++ reason_text reason ++ line_end
 
--- who speaks
+-- the name of the server
 abbrev pub version_text : List ℕ
 version_text = codes "VERSION lbserver station" ++ line_end
 
--- there are as many clients as can be
+-- the maximum number of clients is connected
 abbrev pub server_full_text : List ℕ
 server_full_text = codes "ERROR no place" ++ line_end

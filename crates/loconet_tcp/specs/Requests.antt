@@ -1,5 +1,6 @@
--- What a line of a client asks, in LocoNet over TCP. What the protocol leaves open is the project's own rule: the
--- longest line, the case of the digits, the tab as a blank, and what is answered to what cannot be sent.
+-- The request of a client's line, in LocoNet over TCP. The protocol leaves open the longest line,
+-- the case of the digits, the tab as a blank and the replies to invalid lines: these are rules of
+-- this project.
 use Rattle.std.specs.Prelude.{ℕ, Bool, if◌then◌else◌, nat_lt, List, [], ◌∷◌, length, Option, Some, None, codes}
 use Rattle.std.specs.List.{list_all, before_first, after_first}
 use Rattle.std.specs.Option.{is_some}
@@ -21,27 +22,27 @@ abbrev pub led_by : Option ℕ → List ℕ → List ℕ
 led_by None bytes = []
 led_by (Some byte) bytes = byte ∷ bytes
 
--- the bytes of the words up to the first that is no pair
+-- the bytes of the words up to the first that is not a pair
 unfoldable pub leading_bytes : List (List ℕ) → List ℕ
 leading_bytes [] = []
 leading_bytes (word ∷ words) = led_by (pair_of word) (leading_bytes words)
 
--- the bytes that words write, a pair of digits each; none where a word is no such pair
+-- the bytes written by words that each are a pair of digits; none if a word is not
 unfoldable pub bytes_of : List (List ℕ) → Option (List ℕ)
 bytes_of words = if are_pairs words then Some (leading_bytes words) else None
 
--- to send the bytes, if they are a whole message
+-- requests to send the bytes, if they are a whole message
 abbrev pub parse_send : Option (List ℕ) → Request
 parse_send None = Invalid NotHex
 parse_send (Some bytes) =
     if is_whole bytes then Send bytes else if has_form bytes then Invalid WrongCheck else Invalid NoMessage
 
--- what stands before the first blank of the line, or the whole line, is these four letters
+-- the text before the first blank of the line, or the whole line, is SEND
 abbrev pub is_send : List ℕ → Bool
 is_send line = bytes_eq (before_first is_blank line) (codes "SEND")
 
--- A line that begins with the word SEND asks to send what the words behind it write, if the line has at most 400
--- characters. Every other line asks nothing.
+-- A line that begins with the word SEND requests to send the bytes of the words after it, if the
+-- line has at most 400 characters. Every other line makes no request.
 abbrev pub request_of : List ℕ → Option Request
 request_of line =
     if is_send line then Some (if nat_lt 400 (length line) then Invalid TooLong

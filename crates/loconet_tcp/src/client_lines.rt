@@ -1,16 +1,17 @@
-//! The lines that a client is told. Each ends with a carriage return and a line feed.
+//! The lines sent to a client. Each ends with a carriage return and a line feed.
 ghost use Rattle.std.specs.Prelude.{◌≡◌, ◌+◌, ◌*◌, ◌<◌, ◌≤◌, ◌++◌, length};
 ghost use Rattle.arrayvec.specs.ArrayVec.{array_vec_len};
-ghost use Rattle.loconet_tcp.specs.ClientLines.{hex_char, hex_word, hex_words, line_end, receive_text, sent_ok_text, reason_text, sent_error_text, version_text, server_full_text};
+ghost use Rattle.loconet_tcp.specs.ClientLines.{hex_word, hex_words, line_end, receive_text, sent_ok_text, reason_text, sent_error_text, version_text, server_full_text};
 
 use crate::request::Reason;
 use arrayvec::ArrayVec;
+use ascii_words::hex_char;
 use ln_frame::Msg;
 
-/// Lines for a client, of at most 800 bytes together.
+/// Lines for one client, at most 800 bytes together.
 pub type Text = ArrayVec<u8, 800>;
 
-/// Appends `RECEIVE` and the bytes of a message that was on the line, at most 390 bytes in all.
+/// Appends `RECEIVE` and the bytes of a message seen on LocoNet, at most 390 bytes in all.
 pub fn push_receive(text: &mut Text, message: &Msg)
     requires { array_vec_len text.old + 390 ≤ 800 }
     ensures text { text.new.items ≡ text.old.items ++ receive_text message.now }
@@ -22,7 +23,7 @@ pub fn push_receive(text: &mut Text, message: &Msg)
     push_all(text, b"\r\n");
 }
 
-/// Appends `SENT OK`: the message that a client asked to send was sent.
+/// Appends `SENT OK`: the message requested by the client was sent.
 pub fn push_sent_ok(text: &mut Text)
     requires { array_vec_len text.old + 9 ≤ 800 }
     ensures text { text.new.items ≡ text.old.items ++ sent_ok_text }
@@ -35,7 +36,8 @@ pub fn push_sent_ok(text: &mut Text)
 pub fn push_sent_error(text: &mut Text, reason: Reason)
     requires { array_vec_len text.old + 43 ≤ 800 }
     ensures text { text.new.items ≡ text.old.items ++ sent_error_text reason }
-    ensures len { array_vec_len text.new ≡ array_vec_len text.old + length (sent_error_text reason) }
+    ensures len { array_vec_len text.new
+        ≡ array_vec_len text.old + length (sent_error_text reason) }
     ensures most { array_vec_len text.new ≤ array_vec_len text.old + 43 }
 {
     push_all(text, b"SENT ERROR ");
@@ -43,7 +45,7 @@ pub fn push_sent_error(text: &mut Text, reason: Reason)
     push_all(text, b"\r\n");
 }
 
-/// Appends the line that greets a client: `VERSION` and who speaks.
+/// Appends the greeting of a client: `VERSION` and the name of the server.
 pub fn push_version(text: &mut Text)
     requires { array_vec_len text.old + 26 ≤ 800 }
     ensures text { text.new.items ≡ text.old.items ++ version_text }
@@ -52,7 +54,7 @@ pub fn push_version(text: &mut Text)
     push_all(text, b"VERSION lbserver station\r\n");
 }
 
-/// Appends `ERROR no place`: there are as many clients as can be.
+/// Appends `ERROR no place`: the maximum number of clients is connected.
 pub fn push_server_full(text: &mut Text)
     requires { array_vec_len text.old + 16 ≤ 800 }
     ensures text { text.new.items ≡ text.old.items ++ server_full_text }
@@ -84,7 +86,7 @@ fn push_all(text: &mut Text, bytes: &[u8])
     }
 }
 
-/// Appends each byte as a space and two digits.
+/// Appends each byte as a space and two hexadecimal digits.
 fn push_words(text: &mut Text, bytes: &[u8])
     requires { array_vec_len text.old + 3 * length bytes.now ≤ 800 }
     ensures text { text.new.items ≡ text.old.items ++ hex_words bytes.now }
@@ -103,15 +105,4 @@ fn push_word(text: &mut Text, byte: u8)
     text.push(b' ');
     text.push(hex_char(byte / 16));
     text.push(hex_char(byte % 16));
-}
-
-fn hex_char(digit: u8) -> u8
-    requires { digit < 16 }
-    ensures { result ≡ hex_char digit }
-{
-    if digit < 10 {
-        b'0' + digit
-    } else {
-        b'A' + (digit - 10)
-    }
 }

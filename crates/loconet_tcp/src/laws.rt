@@ -1,4 +1,5 @@
-//! Laws of what is read and told. They have no code: a call hands the law to its caller's proof.
+//! Laws of the lines received and sent. They have no code: a call gives the law to its caller's
+//! proof.
 ghost use Rattle.std.specs.Prelude.{◌≡◌, ℕ, ◌<◌, List, [], ◌++◌, Some, slice_index, codes};
 ghost use Rattle.ln_frame.specs.Message.{IsWhole};
 ghost use Rattle.loconet_tcp.specs.declared.request.Request.TheVariants.{Send};
@@ -6,12 +7,12 @@ ghost use Rattle.loconet_tcp.specs.Requests.{request_of};
 ghost use Rattle.loconet_tcp.specs.Reading.{requests_of, requests_along};
 ghost use Rattle.loconet_tcp.specs.ClientLines.{hex_words};
 
-/// Byte by byte, and so in whatever pieces, a text asks what its lines ask, and nothing else.
+/// A text makes the same requests however it is divided into pieces, down to single bytes.
 pub fn any_cut()
     ensures { (text : List ℕ) → requests_along [] text ≡ requests_of text }
 {}
 
-/// Each message can be sent: `SEND`, and the bytes as `RECEIVE` tells them, ask to send it.
+/// Every message can be sent: `SEND` and the bytes as `RECEIVE` writes them request that message.
 pub fn received_is_sendable()
     ensures { (message : List ℕ) → IsWhole message → ((i : ℕ) → slice_index message i < 256)
         → request_of (codes "SEND" ++ hex_words message) ≡ Some (Send message) }

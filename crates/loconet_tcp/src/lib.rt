@@ -1,6 +1,20 @@
-//! LocoNet over TCP, in lines of ASCII text: what a client's text asks, and the lines that a client is told of what happens.
+//! LocoNet over TCP, in lines of ASCII text.
 //!
-//! Its tests stand in `library_tests/src/test_loconet_tcp.rt`.
+//! A [`RequestReader`] takes a client's text byte by byte and returns each [`Request`] that a line
+//! makes. An [`Outcome`] is the result of an event on a bus; [`Outcome::push_text_for`] appends the
+//! lines that one client receives of it.
+//!
+//! ```ignore
+//! for byte in received {
+//!     match reader.push(*byte) {
+//!         Some(Request::Send(message)) => { /* send it */ }
+//!         Some(Request::Invalid(reason)) => push_sent_error(&mut text, reason),
+//!         None => {}
+//!     }
+//! }
+//! ```
+//!
+//! The tests are in `library_tests/src/test_loconet_tcp.rt`.
 #![tactic(auto)]
 
 mod client_lines;
@@ -15,6 +29,6 @@ pub use client_lines::{
 };
 pub use laws::{any_cut, received_is_sendable};
 pub use outcome::Outcome;
-pub use parsing::{Bytes, LONGEST_KEPT, bytes_of, leading_bytes};
+pub use parsing::{Bytes, LONGEST_KEPT, LONGEST_LINE, bytes_of, leading_bytes};
 pub use reader::RequestReader;
 pub use request::{Reason, Request};

@@ -1,4 +1,4 @@
-//! What is told of what happens on a bus, and its text for each client.
+//! The outcome of an event on a bus, and its text for each client.
 ghost use Rattle.std.specs.Prelude.{◌≡◌, ◌+◌, ◌≤◌, ◌++◌};
 ghost use Rattle.arrayvec.specs.ArrayVec.{array_vec_len};
 ghost use Rattle.loconet_tcp.specs.Texts.{text_for};
@@ -8,40 +8,42 @@ use crate::request::Reason;
 use dcc_packet::Packet;
 use ln_frame::Msg;
 
-/// What is told of an event on a bus. Clients are numbered from 0 to 7.
+/// The outcome of an event on a bus. Clients are numbered from 0 to 7.
 #[derive(Debug, Drop, PartialEq, Eq)]
 pub enum Outcome {
-    /// Nothing.
+    /// Nothing is sent to any client.
     Nothing,
-    /// The client that joins is told the version.
+    /// A client has connected and receives the version line.
     Connected {
         client: u8,
     },
-    /// The client that leaves is told nothing more.
+    /// A client has disconnected and receives nothing more.
     Disconnected {
         client: u8,
     },
-    /// The client is told why its line sends nothing.
+    /// A client's request was rejected; the client receives the reason.
     Rejected {
         client: u8,
         reason: Reason,
     },
-    /// All are told the message, then its sender that it was sent, then all the reply, if there is one.
+    /// A message was sent. All clients receive it, then its sender receives `SENT OK`, then all
+    /// receive the reply, if there is one.
     Sent {
         client: u8,
         message: Msg,
         reply: Option<Msg>,
     },
-    /// No client is told anything: a turn began, and sent this packet, or none while the power is off.
+    /// A turn began and sent this packet, or none while the track power is off. Clients receive
+    /// nothing.
     TurnBegan {
         packet: Option<Packet>,
     },
 }
 
 impl Outcome {
-    /// Appends what a client is told of the event, at most 789 bytes.
+    /// Appends the lines that a client receives of the event, at most 789 bytes.
     ///
-    /// It is told to those alone that have a place: the caller knows who has.
+    /// The caller sends them to connected clients only.
     pub fn push_text_for(&self, client: u8, text: &mut Text)
         requires { array_vec_len text.old + 789 ≤ 800 }
         ensures text { text.new.items ≡ text.old.items ++ text_for client self.now }

@@ -1,4 +1,4 @@
-//! What a line asks.
+//! Parsing a line.
 ghost use Rattle.std.specs.Prelude.{◌≡◌, ◌≤◌, length, None, Some, MatchOption};
 ghost use Rattle.ascii_words.specs.Words.{words_of};
 ghost use Rattle.loconet_tcp.specs.Requests.{are_pairs, bytes_of, leading_bytes, parse_send, request_of};
@@ -8,16 +8,18 @@ use arrayvec::ArrayVec;
 use ascii_words::{cut_piece, hex_pair};
 use ln_frame::Msg;
 
-/// The most characters of a line that can send.
-const LONGEST: usize = 400;
+/// The most characters of a valid `SEND` line.
+pub const LONGEST_LINE: usize = 400;
 
-/// The most bytes that are kept of a line: one more than a line that sends may have, so that a longer one is told.
-pub const LONGEST_KEPT: usize = LONGEST + 1;
+/// The most bytes that are kept of a line: one more than a valid line may have, so that a longer
+/// line is detected.
+pub const LONGEST_KEPT: usize = LONGEST_LINE + 1;
 
-/// The bytes that the words of a text of at most 400 characters write, two characters for each: at most 200.
+/// The bytes written by the words of a text of at most 400 characters, two characters for each
+/// byte: at most 200.
 pub type Bytes = ArrayVec<u8, 200>;
 
-/// What a line asks, given without its end.
+/// Returns the request of a line, given without its line end.
 pub(crate) fn parse_line(line: &[u8]) -> Option<Request>
     ensures { result ≡ request_of line.now }
 {
@@ -25,13 +27,13 @@ pub(crate) fn parse_line(line: &[u8]) -> Option<Request>
     if first != b"SEND".as_slice() {
         return None;
     }
-    if line.len() > LONGEST {
+    if line.len() > LONGEST_LINE {
         return Some(Request::Invalid(Reason::TooLong));
     }
     Some(parse_send(rest))
 }
 
-/// What the words behind `SEND` ask.
+/// Returns the request of the words after `SEND`.
 fn parse_send(words: &[u8]) -> Request
     requires { length words.now ≤ 400 }
     ensures { result ≡ parse_send (bytes_of (words_of words.now)) }
@@ -46,18 +48,20 @@ fn parse_send(words: &[u8]) -> Request
     }
 }
 
-/// The bytes that the words of a text write, each a pair of hexadecimal digits. None where a word is no such pair; no
-/// bytes where there is no word.
+/// Returns the bytes written by the words of a text, each a pair of hexadecimal digits. Returns
+/// `None` if a word is not such a pair, and no bytes if there is no word.
 #[tactic(auto, unfolding(crate::specs::Requests::bytes_of))]
 pub fn bytes_of(text: &[u8]) -> Option<Bytes>
     requires { length text.now ≤ 400 }
-    ensures { MatchOption result (bytes_of (words_of text.now) ≡ None) (λ v. bytes_of (words_of text.now) ≡ Some v.items) }
+    ensures { MatchOption result (bytes_of (words_of text.now) ≡ None)
+        (λ v. bytes_of (words_of text.now) ≡ Some v.items) }
 {
     let (bytes, are_all) = read_pairs(text);
     if are_all { Some(bytes) } else { None }
 }
 
-/// The bytes that the words of a text write, up to the first that is no pair of hexadecimal digits.
+/// Returns the bytes written by the words of a text, up to the first word that is not a pair of
+/// hexadecimal digits.
 pub fn leading_bytes(text: &[u8]) -> Bytes
     requires { length text.now ≤ 400 }
     ensures { result.items ≡ leading_bytes (words_of text.now) }
@@ -65,7 +69,8 @@ pub fn leading_bytes(text: &[u8]) -> Bytes
     read_pairs(text).0
 }
 
-/// The bytes of the words up to the first that is no pair of digits, and whether there is no such word.
+/// Returns the bytes of the words up to the first that is not a pair of digits, and whether every
+/// word is a pair.
 fn read_pairs(text: &[u8]) -> (Bytes, bool)
     requires { length text.now ≤ 400 }
     ensures bytes { result.0.items ≡ leading_bytes (words_of text.now) }

@@ -1,4 +1,4 @@
-//! A client's text, byte by byte.
+//! Reading a client's text byte by byte.
 ghost use Rattle.std.specs.Prelude.{◌≡◌, ℕ, ◌≤◌, List, [], ◌∷◌, ◌++◌, IsTrue, length};
 ghost use Rattle.std.specs.Option.{option_to_list};
 ghost use Rattle.loconet_tcp.specs.Text.{is_end, is_open};
@@ -9,7 +9,8 @@ use crate::request::Request;
 use arrayvec::ArrayVec;
 use std::marker::Model;
 
-/// Reads a client's text byte by byte. It holds the beginning of the line that has not ended, at most [`LONGEST_KEPT`] bytes.
+/// Reads a client's text byte by byte. It holds the beginning of the unfinished line, at most
+/// [`LONGEST_KEPT`] bytes.
 #[derive(Drop)]
 pub struct RequestReader {
     line: ArrayVec<u8, LONGEST_KEPT>,
@@ -24,7 +25,7 @@ impl Model for RequestReader {
 }
 
 impl RequestReader {
-    /// A reader that has had no byte.
+    /// Creates a reader that has received no byte.
     pub fn new() -> Self
         ensures { result ≡ [] }
     {
@@ -33,20 +34,20 @@ impl RequestReader {
         }
     }
 
-    /// Takes the next byte, and gives what the line asks that it ends.
+    /// Takes the next byte. Returns the request of the line that it ends, if the line makes one.
     pub fn push(&mut self, byte: u8) -> Option<Request>
         ensures given { result ≡ request_of_byte self.old byte }
         ensures kept { self.new ≡ kept_after self.old byte }
-        // What is held asks nothing yet.
+        // The bytes held make no request yet.
         ensures open_ended { requests_of self.new ≡ [] }
-        // However the text goes on, nothing that is asked is lost and nothing is made up.
+        // Whatever text follows, no request is lost and none is invented.
         ensures further { (z : List ℕ) → requests_of (self.old ++ byte ∷ z)
             ≡ option_to_list result ++ requests_of (self.new ++ z) }
     {
         self.take(byte)
     }
 
-    /// One step of the reader.
+    /// Takes one byte.
     fn take(&mut self, byte: u8) -> Option<Request>
         ensures given { result ≡ request_of_byte self.old byte }
         ensures kept { self.new ≡ kept_after self.old byte }

@@ -1,25 +1,25 @@
-//! What a line can ask. What cites these types stands in another file, since a file of types may not cite it.
+//! The requests that a line can make. Specs that name these types are cited from other files only.
 
 use ln_frame::Msg;
 
-/// What a line asks that begins with the word `SEND`.
+/// The request of a line that begins with the word `SEND`.
 #[derive(Debug, Drop, PartialEq, Eq)]
 pub enum Request {
-    /// To send this message.
+    /// Send this message.
     Send(Msg),
-    /// To send what cannot be sent.
+    /// The line is invalid for this reason; nothing is sent.
     Invalid(Reason),
 }
 
-/// Why nothing is sent. The first of these that holds is the reason.
+/// Why nothing is sent. The first reason that applies is reported.
 #[derive(Clone, Copy, Debug, PartialEq, Eq)]
 pub enum Reason {
     /// The line has more than 400 characters.
     TooLong,
-    /// A word behind `SEND` is no pair of hexadecimal digits.
+    /// A word after `SEND` is not a pair of hexadecimal digits.
     NotHex,
-    /// The bytes have not the form of a message, or there are none.
+    /// The bytes do not have the form of a message, or there are none.
     NoMessage,
-    /// The bytes have the form of a message, but their check byte is wrong.
+    /// The bytes have the form of a message, but the check byte is wrong.
     WrongCheck,
 }

@@ -29,7 +29,7 @@ after c = bus_state c.step.new.self
 here_legal : (c : goal.After-step) → is_event (event_at c) ≡ true
 here_legal c = legal_at c.args.events.now c.loop-i.i (Connects 0) c.loop-i-test.true c.requires.events
 
--- what the step and the rest are to the layout, together
+-- the effect on the layout of the step and the rest, together
 next_heard : (c : goal.After-step) (new : List Node) → HaveHeard (after c).station (layout_events (after c) (later c)) c.step.new.self.world.nodes new
     → HaveHeard (before c).station (layout_events (before c) (event_at c ∷ later c)) c.loop-i.bus.world.nodes new
 next_heard c new rest =

@@ -7,7 +7,7 @@ use Rattle.bus.specs.Layout.{layout_events}
 use Rattle.bus.specs.State.{bus_state}
 use Rattle.bus.proofs.course.run.Given as goal
 
--- what the rest makes of the bus, with what was told so far, is what all events make of it
+-- the effect of the rest on the bus, with the outcomes so far, is that of all events
 abbrev pub invariant-loop-i : goal.invariant-loop-i
 invariant-loop-i l = record {
   rest : after_events (bus_state l.bus) (drop l.i l.events) ≡ after_events (bus_state l.fn.bus) l.events;

@@ -4,7 +4,7 @@ use Rattle.bus.specs.Layout.{bytes_on}
 use Rattle.bus.proofs.Whole.{last_message}
 use Rattle.bus.proofs.sending.send.Given as goal
 
--- what the rest makes of the layout, and answers at last, is what all bytes make of it
+-- the effect of the rest on the layout, and its last reply, are those of all bytes
 abbrev pub invariant-loop-byte : goal.invariant-loop-byte
 invariant-loop-byte l = record {
   station : after_events l.world.station (bytes_on l.line (drop l.byte-index l.byte-items)) ≡ after_events l.fn.world.station (bytes_on l.line l.byte-items);

@@ -3,7 +3,7 @@ use Rattle.ascii_words.specs.Words.{words_of}
 use Rattle.loconet_tcp.specs.Requests.{leading_bytes, are_pairs}
 use Rattle.loconet_tcp.proofs.parsing.read_pairs.Given as goal
 
--- the bytes so far, and those that the rest begins with, are those that the text begins with
+-- the bytes so far, followed by the leading bytes of the rest, are the leading bytes of the text
 abbrev pub invariant-loop-rest : goal.invariant-loop-rest
 invariant-loop-rest l = record {
   led : l.bytes.items ++ leading_bytes (words_of l.rest) ≡ leading_bytes (words_of l.text);
