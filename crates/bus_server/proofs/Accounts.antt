@@ -1,5 +1,5 @@
--- What is written to a client is a front of what it is told.
-use Rattle.std.proofs.Common.{◌≡◌, ◌≢◌, ℕ, zero, suc, ◌+◌, Bool, true, false, if◌then◌else◌, nat_le, inl, inr, List, [], ◌∷◌, ◌++◌, length, Option, Some, None, refl, ap, sym, subst, ◌∙◌, append_assoc, append-nil, eq-eqb, ne_eqb}
+-- The bytes written to a client are a prefix of its text.
+use Rattle.std.proofs.Common.{◌≡◌, ℕ, zero, suc, ◌+◌, Bool, true, false, if◌then◌else◌, nat_le, inl, inr, List, [], ◌∷◌, ◌++◌, length, Option, Some, None, refl, ap, sym, subst, ◌∙◌, append_assoc, append-nil, eq-eqb, ne_eqb}
 use Rattle.std.specs.Prelude.{◌==◌, slice_set, unwrap_or}
 use Rattle.std.specs.List.{slice_index_or}
 use Rattle.std.proofs.lemmas.Bool.{cases_eq}
@@ -38,11 +38,11 @@ set_empty [] i w h = no_some w h
 set_empty (p ∷ queues) zero w h = sym (some_same [] w h)
 set_empty (p ∷ queues) (suc i) w h = set_empty queues i w h
 
--- what was written and what waits in a place are together what was told
+-- the bytes written and the bytes queued for a client are together its text
 abbrev pub Fits : (client : ℕ) → Account → SendQueues → Type 0
 Fits i account queues = (queued : List ℕ) → slice_index_or queues i None ≡ Some queued → account.written ++ queued ≡ account.text
 
--- a text behind what waits
+-- a text after the queued bytes
 text_more : (written w q text t : List ℕ) → q ≡ w ++ t → written ++ w ≡ text → written ++ q ≡ text ++ t
 text_more written w q text t is fits = ap (λ (b : List ℕ). written ++ b) is ∙ sym (append_assoc written w t) ∙ ap (λ (b : List ℕ). b ++ t) fits
 

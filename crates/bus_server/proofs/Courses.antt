@@ -13,7 +13,7 @@ use Rattle.bus.specs.Invariant.{IsInvariant}
 use Rattle.bus.specs.Layout.{layout_event, layout_events}
 use Rattle.bus.specs.Observations.{Observation}
 use Rattle.bus_server.specs.Runs.{AreDrawn, RunsByClock, RunsRounds, IsEventRun, Round, logged_in}
-use Rattle.bus_server.specs.Applied.{Handled, RunsEventWithTurns, Applies, LoggedEvent, RunsEvent, RunsEvents, AppliesAll, ServerState, events_of, with_backlog, without_backlog}
+use Rattle.bus_server.specs.Applied.{Handled, Applies, LoggedEvent, RunsEvent, RunsEvents, AppliesAll, ServerState, events_of, with_backlog, without_backlog}
 use Rattle.bus_server.specs.TransportEvents.{Polled, ServerClosed, Accepted, WriteBlocked, PeerClosed, NonePending, TransportEvent, Written, ReadBlocked, Received, Refused}
 use Rattle.bus_server.specs.declared.losses.Losses.{Losses}
 use Rattle.bus_server.proofs.Rounding.{round_serves}
@@ -71,7 +71,7 @@ one_course event observed old new h = record {
 same_end : Laws → (old new : ServerState) → new ≡ old → IsEventRun [] old new
 same_end laws old new same = course_same laws old new (ap (λ (s : ServerState). s.bus) same) (ap (λ (s : ServerState). s.nodes) same) (ap (λ (s : ServerState). s.losses) same)
 
-happened_course : Laws → (happened : List LoggedEvent) (old new : ServerState) → IsInvariant old.bus → RunsEvents happened old new → IsEventRun (events_of happened) old new
+pub happened_course : Laws → (happened : List LoggedEvent) (old new : ServerState) → IsInvariant old.bus → RunsEvents happened old new → IsEventRun (events_of happened) old new
 happened_course laws [] old new kept h = same_end laws old new h
 happened_course laws (one ∷ more) old new kept h =
     course_more laws (one.event ∷ []) (events_of more) old h.0 new kept (one_course one.event one.observed old h.0 h.1) (λ k. happened_course laws more h.0 new k h.2)
@@ -79,14 +79,14 @@ happened_course laws (one ∷ more) old new kept h =
 nothing_brought : Laws → (applied : List LoggedEvent) (old new : ServerState) → applied ≡ [] → new.bus ≡ old.bus → new.nodes ≡ old.nodes → new.losses ≡ old.losses → IsEventRun (events_of applied) old new
 nothing_brought laws applied old new none bus nodes losses = subst (λ (all : List LoggedEvent). IsEventRun (events_of all) old new) (sym none) (course_same laws old new bus nodes losses)
 
-nothing_done : Laws → (applied : List LoggedEvent) (old new : ServerState) → applied ≡ [] → new ≡ old → IsEventRun (events_of applied) old new
+pub nothing_done : Laws → (applied : List LoggedEvent) (old new : ServerState) → applied ≡ [] → new ≡ old → IsEventRun (events_of applied) old new
 nothing_done laws applied old new none same = nothing_brought laws applied old new none (ap (λ (s : ServerState). s.bus) same) (ap (λ (s : ServerState). s.nodes) same) (ap (λ (s : ServerState). s.losses) same)
 
 -- that there may be more input changes nothing
-course_behind : (events : List Event) (old new : ServerState) → IsEventRun events (with_backlog old) new → IsEventRun events old new
+pub course_behind : (events : List Event) (old new : ServerState) → IsEventRun events (with_backlog old) new → IsEventRun events old new
 course_behind events old new h = record { legal = h.legal; bus = h.bus; nodes = h.nodes; losses = h.losses }
 
-course_polled : (events : List Event) (old new : ServerState) → IsEventRun events (without_backlog old) new → IsEventRun events old new
+pub course_polled : (events : List Event) (old new : ServerState) → IsEventRun events (without_backlog old) new → IsEventRun events old new
 course_polled events old new h = record { legal = h.legal; bus = h.bus; nodes = h.nodes; losses = h.losses }
 
 act_course : Laws → (log : TransportEvent) (applied : List LoggedEvent) (old new : ServerState) → IsInvariant old.bus → Applies log applied old new → IsEventRun (events_of applied) old new
@@ -101,16 +101,16 @@ act_course laws (ReadBlocked client) applied old new kept h = nothing_done laws 
 act_course laws (WriteBlocked client) applied old new kept h = nothing_done laws applied old new h.0 h.1
 act_course laws NonePending applied old new kept h = nothing_done laws applied old new h.0 h.1
 
-cut_course : (first second : List LoggedEvent) (old new : ServerState) → IsEventRun (events_of first ++ events_of second) old new → IsEventRun (events_of (first ++ second)) old new
+pub cut_course : (first second : List LoggedEvent) (old new : ServerState) → IsEventRun (events_of first ++ events_of second) old new → IsEventRun (events_of (first ++ second)) old new
 cut_course first second old new = subst (λ (events : List Event). IsEventRun events old new) (sym (map-append (λ (one : LoggedEvent). one.event) first second))
 
-acts_course : Laws → (handled : List Handled) (old new : ServerState) → IsInvariant old.bus → AppliesAll handled old new → IsEventRun (events_of (flat_map (λ one_handled. one_handled.applied) handled)) old new
+pub acts_course : Laws → (handled : List Handled) (old new : ServerState) → IsInvariant old.bus → AppliesAll handled old new → IsEventRun (events_of (flat_map (λ one_handled. one_handled.applied) handled)) old new
 acts_course laws [] old new kept h = same_end laws old new h
 acts_course laws (one_handled ∷ handled) old new kept h =
     cut_course one_handled.applied (flat_map (λ one_handled. one_handled.applied) handled) old new
     (course_more laws (events_of one_handled.applied) (events_of (flat_map (λ one_handled. one_handled.applied) handled)) old h.0 new kept (act_course laws one_handled.log one_handled.applied old h.0 kept h.1) (λ k. acts_course laws handled h.0 new k h.2))
 
-time_course : Laws → (turns : Option ℕ) (readings : List ℕ) (elapsing : List LoggedEvent) (old new : ServerState) → IsInvariant old.bus → RunsByClock turns readings elapsing old new → IsEventRun (events_of elapsing) old new
+pub time_course : Laws → (turns : Option ℕ) (readings : List ℕ) (elapsing : List LoggedEvent) (old new : ServerState) → IsInvariant old.bus → RunsByClock turns readings elapsing old new → IsEventRun (events_of elapsing) old new
 time_course laws (Some turns) readings elapsing old new kept h = nothing_done laws elapsing old new h.1 h.2
 time_course laws None readings elapsing old new kept h = happened_course laws elapsing old new kept h.2.2
 

@@ -1,7 +1,7 @@
--- How a hub, its transport and its witness go on, one thing after another.
-use Rattle.std.proofs.Common.{◌≡◌, ℕ, zero, suc, ◌+◌, ◌<◌, ◌≤◌, Bool, true, false, List, [], ◌∷◌, ◌++◌, length, map, take, drop, Option, Some, None, Result, Ok, Err, refl, ap, ap₂, sym, subst, ◌∙◌, arith, append_assoc, append-nil}
-use Rattle.std.specs.Prelude.{◌==◌, is_some, not, OnOk, replicate}
-use Rattle.std.specs.List.{flat_map, list_all}
+-- How a hub, its transport and its observer progress, one event after another.
+use Rattle.std.proofs.Common.{◌≡◌, ℕ, zero, suc, ◌+◌, ◌<◌, ◌≤◌, true, false, List, [], ◌∷◌, ◌++◌, length, take, drop, Option, Some, None, Result, Ok, Err, refl, ap, sym, subst, ◌∙◌, arith, append_assoc, append-nil}
+use Rattle.std.specs.Prelude.{◌==◌, is_some, not, OnOk}
+use Rattle.std.specs.List.{list_all}
 use Rattle.std.proofs.lemmas.Bool.{and_parts, and_from}
 use Rattle.std.proofs.lemmas.List.{length-take, map-append, take-append-drop, take-take}
 use Rattle.std.proofs.lemmas.List.Concat.{flat_map-append}
@@ -14,11 +14,11 @@ use Rattle.layout_core.specs.declared.world.World.{World}
 use Rattle.loconet_tcp.specs.declared.outcome.Outcome.{Outcome}
 use Rattle.bus.specs.Log.{Extends}
 use Rattle.bus_server.specs.declared.losses.Losses.{Losses}
-use Rattle.bus_server.specs.Progress.{Progresses, ProgressesWithoutInput, Snapshot, IsObserved}
+use Rattle.bus_server.specs.Progress.{Progresses, ProgressesWithoutInput, Snapshot}
 use Rattle.bus_server.specs.Rounds.{IsUnread, PreservesRound}
 use Rattle.bus_server.specs.Applied.{Handled, AreTurns, Applies, LoggedEvent, RunsEvent, RunsFor, RunsEvents, IsDrawn, AppliesAll, ServerState, events_of, overflow_notice, transport_events, observations_in, observations_of}
 use Rattle.bus_server.specs.Queues.{queued}
-use Rattle.bus_server.specs.TransportEvents.{NonePending, TransportEvent, Refused}
+use Rattle.bus_server.specs.TransportEvents.{TransportEvent}
 use Rattle.bus_server.proofs.Keeping.{keeps_more, keeps_same}
 
 -- Logs.
@@ -123,7 +123,7 @@ happened_more (one ∷ first) second old mid new h rest = (h.0, h.1, happened_mo
 pub happened_then : (event : Event) (observed : Observation) (first : List LoggedEvent) (old mid new : ServerState) → RunsEvents first old mid → RunsEvent event observed mid new → RunsEvents (first ++ record { event = event; observed = observed } ∷ []) old new
 happened_then event observed first old mid new h one = happened_more first (record { event = event; observed = observed } ∷ []) old mid new h (new, one, refl)
 
--- what comes of a client draws nothing
+-- an event of a client draws nothing
 pub none_drawn : (event : Event) (bus : BusState) (nodes : ℕ) (losses : Losses) → is_time event ≡ false → IsDrawn event bus nodes losses losses
 none_drawn (Connects client) bus nodes losses h = refl
 none_drawn (Receives client byte) bus nodes losses h = refl
@@ -131,7 +131,7 @@ none_drawn (Disconnects client) bus nodes losses h = refl
 none_drawn (Elapses micros missed) bus nodes losses h = cc
 none_drawn (Turn missed) bus nodes losses h = cc
 
--- Turns behind a message.
+-- Turns after a message.
 
 one_more : (count missed : ℕ) (turns : List Event) → AreTurns count turns → AreTurns (suc count) (turns ++ Turn missed ∷ [])
 one_more zero missed [] are = tt

@@ -151,7 +151,7 @@ left_is_not_late client observed old new happened =
     ap (λ (bus : BusState). is_some (slice_index_or bus.clients client None) && not (is_some (slice_index_or new.queues client None))) happened.bus
     ∙ ap (λ (w : Option (List ℕ)). is_some w && not (is_some (slice_index_or new.queues client None))) (none_set old.bus.clients client)
 
--- Only a message has turns behind it.
+-- Only a message has turns after it.
 
 first_alone : (event : Event) (one : LoggedEvent) (behind : List LoggedEvent) (old new : ServerState) → one.event ≡ event → AreTurns 0 (events_of behind) → RunsEvents (one ∷ behind) old new → RunsEvent event one.observed old new
 first_alone event one [] old new same none h = subst (λ (e : Event). RunsEvent e one.observed old new) same (subst (λ (s : ServerState). RunsEvent one.event one.observed old s) (sym h.2) h.1)
@@ -188,7 +188,7 @@ told_at outcome place (send_queue ∷ queues) (suc i) =
 pub told_there : (outcome : Outcome) (queues : SendQueues) (i : ℕ) → slice_index_or (enqueued_all outcome queues) i None ≡ enqueued (text_for i outcome) (slice_index_or queues i None)
 told_there outcome queues i = told_at outcome 0 queues i ∙ ap (λ (n : ℕ). enqueued (text_for n outcome) (slice_index_or queues i None)) {x = 0 + i} {y = i} (omega arith)
 
--- told nothing, a client is as it was
+-- without text for it, a client is as it was
 nothing_told : (send_queue : Option (List ℕ)) → is_within_capacity send_queue ≡ true → enqueued [] send_queue ≡ send_queue
 nothing_told None within_capacity = refl
 nothing_told (Some bytes) within_capacity =
@@ -251,7 +251,7 @@ joined_places client observed old new within happened =
       ];
     }
 
--- Who is heard, and who is turned away.
+-- The clients that are read, and those that are rejected.
 
 pub heard_now : (client : ℕ) → ((client == client) || false) ≡ true
 heard_now client = or_left (client == client) false (eq-eqb client client refl)

@@ -56,7 +56,7 @@ none_more passes mask n marked pass k = elim (cases_eq k n) [
   | inr other ↦ marked k ∙ sym (mark_other passes n k other)
 ]
 
--- The words behind one another.
+-- The words, one after another.
 
 pub first_word : (g : Lcg) → g ≡ generator_after 0 g
 unfolding generator_after

@@ -1,4 +1,4 @@
--- What is told is told of one of the places, and there are as many places then.
+-- An outcome names one of the clients, and the number of queues stays the same.
 use Rattle.std.proofs.Common.{◌≡◌, ℕ, ◌+◌, ◌-◌, Bool, true, false, List, [], ◌∷◌, ◌++◌, length, drop, Option, Some, None, refl, ap, suc, ◌∙◌, if◌then◌else◌, nat_le, arith}
 use Rattle.std.specs.Prelude.{slice_set}
 use Rattle.std.specs.List.{list_all}

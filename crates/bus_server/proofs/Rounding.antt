@@ -15,7 +15,7 @@ use Rattle.bus_server.specs.TransportEvents.{WriteBlocked, PeerClosed, NonePendi
 use Rattle.bus_server.proofs.Going.{Claim, calm_then, goes_one, log-append, same_on_wire, serves_more, observed-append}
 use Rattle.bus_server.proofs.Keeping.{count-append, heard_now, left_keeps, left_waits, only_leaves, put_keeps, put_more, keeps_refused, none_of_both, one_refused, turned_away_all, turned_passed, turned_shown, written_behind}
 
--- Who is written to.
+-- The client that is written to.
 
 abbrev pub AllAndOne : (client : ℕ) → List TransportEvent → ServerState → Type 0
 AllAndOne client more all = AllWrittenTo client more all × IsWrittenTo client more all
@@ -34,7 +34,7 @@ one_on_time client first second mid new kept done overflowed other within = elim
       (kept.written other first (done.0 other before).0, kept.on_time other (done.0 other before).1)
 ]
 
--- so many pieces were written to a client
+-- the last pieces, this many, were written to a client
 abbrev pub HasPut : (client count : ℕ) → List TransportEvent → ServerState → Type 0
 HasPut client count more all = count ≤ length (filter (is_write client) more)
 
@@ -68,7 +68,7 @@ more_pieces client n first second h k = omega (arith, h, k, count-append (is_wri
 pub calm_weaker : (P Q : Claim) (old new : Snapshot) → ((more : List TransportEvent) → P more new.state → Q more new.state) → ProgressesWithoutInput P old new → ProgressesWithoutInput Q old new
 calm_weaker P Q old new weaker goes = (goes.0, goes.1, goes.2, goes.3, (goes.4.0, weaker (transport_events goes.0) goes.4.1))
 
--- behind some pieces, a write by which the client is written to
+-- after some pieces, a write to the client
 pub put_then : (client count : ℕ) (old mid new : Snapshot) → ProgressesWithoutInput (HasPut client count) old mid → ProgressesWithoutInput (IsWrittenTo client) mid new → ProgressesWithoutInput (IsWrittenTo client) old new
 put_then client count old mid new =
     calm_then (HasPut client count) (IsWrittenTo client) (IsWrittenTo client) old mid new (λ these those kept before done. written_behind client these those new.state done)
@@ -101,7 +101,7 @@ lets_in_behind first second last = (
   ],
 )
 
--- Who waits.
+-- The pending clients.
 
 -- the places before this one are taken
 abbrev pub AreTaken : (below : ℕ) → List TransportEvent → ServerState → Type 0
@@ -117,7 +117,7 @@ pub nobody_waits : (old new : Snapshot) → Extends old.log new.log (NonePending
 nobody_waits old new grows observed same =
     same_on_wire (λ more _. AcceptsPending more) (record { log = NonePending; applied = [] } ∷ []) (NonePending ∷ []) old new refl refl grows observed (old.state, (refl, refl), refl) same refl ([], inl refl)
 
--- so many are refused: eight, or fewer and then none is pending
+-- a number are refused: eight, or fewer and then none is pending
 abbrev none_pending : Handled
 none_pending = record { log = NonePending; applied = [] }
 

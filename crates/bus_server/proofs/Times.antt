@@ -1,5 +1,5 @@
 -- The track time of a run.
-use Rattle.std.proofs.Common.{◌≡◌, ℕ, zero, suc, ◌+◌, List, [], ◌∷◌, ◌++◌, Option, Some, None, refl, ap, ap₂, sym, subst, ◌∙◌, arith}
+use Rattle.std.proofs.Common.{◌≡◌, ℕ, ◌+◌, List, [], ◌∷◌, ◌++◌, Option, Some, None, refl, ap, ap₂, sym, subst, ◌∙◌, arith}
 use Rattle.std.specs.Prelude.{min}
 use Rattle.std.specs.List.{flat_map}
 use Rattle.std.proofs.lemmas.List.{map-append}
@@ -8,7 +8,7 @@ use Rattle.bus.specs.declared.event.Event.TheVariants.{Receives, Connects, Disco
 use Rattle.bus.specs.Bus.{BusState, after_event, after_events, outcome_of}
 use Rattle.bus.specs.Course.{micros_in, micros_of}
 use Rattle.bus_server.specs.Runs.{RunsByClock, RunsRounds, Round, logged_in, readings_of, time_read}
-use Rattle.bus_server.specs.Applied.{Handled, AreTurns, RunsEventWithTurns, Applies, LoggedEvent, RunsFor, RunsEvents, IsWithTurns, AppliesAll, ServerState, events_of, turns_after, with_backlog, without_backlog}
+use Rattle.bus_server.specs.Applied.{Handled, AreTurns, RunsEventWithTurns, Applies, LoggedEvent, RunsEvents, IsWithTurns, AppliesAll, ServerState, events_of, turns_after, with_backlog, without_backlog}
 use Rattle.bus_server.specs.TransportEvents.{Polled, ServerClosed, Accepted, WriteBlocked, PeerClosed, NonePending, TransportEvent, Written, ReadBlocked, Received, Refused}
 use Rattle.bus_server.proofs.Courses.{after-append}
 use Rattle.bus_server.proofs.Rounding.{round_serves}
@@ -45,7 +45,7 @@ took_same m n events old new same = subst (λ (k : ℕ). Took k events old new) 
 took_cut : (m : ℕ) (first second : List LoggedEvent) (old new : ServerState) → Took m (events_of first ++ events_of second) old new → Took m (events_of (first ++ second)) old new
 took_cut m first second old new = subst (λ (events : List Event). Took m events old new) (sym (map-append (λ (one : LoggedEvent). one.event) first second))
 
--- What comes of clients takes none.
+-- Events of clients take none.
 
 one_alone : (event : Event) (turns : ℕ) (events : List Event) (bus : BusState) → turns ≡ 0 → micros_of bus event ≡ 0 → IsWithTurns event turns events → micros_in bus events ≡ 0
 one_alone event turns [] bus none takes are = absurd are

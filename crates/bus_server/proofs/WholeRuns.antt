@@ -11,11 +11,10 @@ use Rattle.bus.specs.declared.event.Event.{Event}
 use Rattle.bus.specs.Bus.{AreEvents, BusState}
 use Rattle.bus.specs.Invariant.{IsInvariant}
 use Rattle.bus.specs.Layout.{layout_events}
-use Rattle.bus.specs.Observations.{Observation}
 use Rattle.bus.specs.Cycle.{RunsInTime}
-use Rattle.bus_server.specs.Runs.{RunsByClock, RunsRounds, IsRun, Round, RunsLogged, RunSnapshot, logged_in, transport_log, observation_log, skipped, readings_of}
-use Rattle.bus_server.specs.Applied.{LoggedEvent, ServerState, events_of, transport_events, observations_in, observations_of}
-use Rattle.bus_server.specs.TransportEvents.{Polled, TransportEvent}
+use Rattle.bus_server.specs.Runs.{RunsByClock, RunsRounds, IsRun, Round, RunsLogged, RunSnapshot, logged_in, skipped}
+use Rattle.bus_server.specs.Applied.{ServerState, events_of, transport_events, observations_in, observations_of}
+use Rattle.bus_server.specs.TransportEvents.{Polled}
 use Rattle.bus_server.proofs.Courses.{Laws, rounds_course}
 use Rattle.bus_server.proofs.Going.{grows_more, grows_none}
 
@@ -30,7 +29,7 @@ rounds_more : (most : ℕ) (first second : List Round) (old mid new : ServerStat
 rounds_more most [] second old mid new same rest = subst (λ (s : ServerState). RunsRounds most second s new) same rest
 rounds_more most (round ∷ first) second old mid new h rest = (h.0, h.1, h.2, rounds_more most first second h.1 mid new h.3 rest)
 
-logs_more : {A : Type 0} (of : Round → List A) (a b c : Option (List A)) (first second : List Round) → Extends a b (flat_map of first) → Extends b c (flat_map of second) → Extends a c (flat_map of (first ++ second))
+pub logs_more : {A : Type 0} (of : Round → List A) (a b c : Option (List A)) (first second : List Round) → Extends a b (flat_map of first) → Extends b c (flat_map of second) → Extends a c (flat_map of (first ++ second))
 logs_more {A = A} of a b c first second h k =
     subst (λ (more : List A). Extends a c more) (sym (flat_map-append of first second)) (grows_more a b c (flat_map of first) (flat_map of second) h k)
 

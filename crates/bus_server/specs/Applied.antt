@@ -1,4 +1,4 @@
--- What events of the transport, and time, make of a server.
+-- The effect of transport events, and of time, on a server.
 use Rattle.std.specs.Prelude.{ℕ, zero, suc, ◌≡◌, ◌<◌, Bool, true, false, if◌then◌else◌, ◌&&◌, nat_le, not, is_some, length, List, [], ◌∷◌, ◌++◌, map, replicate, MatchBool, Option, Some, None, slice_set}
 use Rattle.decoder_node.specs.declared.node.NodeSpec.{NodeSpec}
 use Rattle.std.specs.List.{flat_map, list_all, slice_index_or}
@@ -69,7 +69,7 @@ abbrev pub RunsEvents : List LoggedEvent → ServerState → ServerState → Typ
 RunsEvents [] old new = new ≡ old
 RunsEvents (one ∷ more) old new = (mid : ServerState) × RunsEvent one.event one.observed old mid × RunsEvents more mid new
 
--- the track runs for so many microseconds, however they are cut, and nothing else happens
+-- the track runs for a number of microseconds, however they are divided, and nothing else happens
 abbrev pub RunsFor : (micros : ℕ) → List LoggedEvent → ServerState → ServerState → Type 0
 RunsFor micros applied old new =
     (list_all is_time (events_of applied) ≡ true) × (micros_in old.bus (events_of applied) ≡ micros) × RunsEvents applied old new
@@ -79,7 +79,7 @@ abbrev pub turns_after : Option ℕ → Outcome → ℕ
 turns_after (Some turns) (Sent client message reply) = turns
 turns_after turns other = 0
 
--- so many turns
+-- a number of turns
 abbrev pub AreTurns : ℕ → List Event → Type 0
 AreTurns zero [] = Unit {0}
 AreTurns (suc n) (Turn missed ∷ events) = AreTurns n events
@@ -98,7 +98,7 @@ is_accepted state other = true
 abbrev pub has_overflowed : ServerState → (client : ℕ) → Bool
 has_overflowed state client = is_connected state client && not (is_some (slice_index_or state.queues client None))
 
--- this event, and so many turns after it
+-- this event, and a number of turns after it
 abbrev pub IsWithTurns : Event → ℕ → List Event → Type 0
 IsWithTurns event turns [] = ⊥
 IsWithTurns event turns (first ∷ behind) = (first ≡ event) × AreTurns turns behind
@@ -125,7 +125,7 @@ with_backlog state = record state { has_backlog = true }
 abbrev pub without_backlog : ServerState → ServerState
 without_backlog state = record state { has_backlog = false }
 
--- What each event of the transport does, behind a wait. A client that is accepted or closes, and each byte, is an event of the bus. What is
+-- What each event of the transport does, after a wait. A client that is accepted or closes, and each byte, is an event of the bus. What is
 -- written is the front of the client's queue. The server closes a client only if its queue has overflowed, and refuses one only
 -- while all eight are connected. After what was read, accepted or refused there may be more.
 abbrev pub Applies : TransportEvent → List LoggedEvent → ServerState → ServerState → Type 0

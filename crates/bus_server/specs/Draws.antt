@@ -4,7 +4,7 @@ use Rattle.std.specs.Int.{bit_at}
 use Rattle.bus_server.specs.declared.losses.Losses.{Losses}
 use Rattle.bus_server.specs.Drawn.{first_generator, generator_after, is_missed, word_at}
 
--- new losses: each decoder misses so many of 100 packets, drawn by the generator of this seed
+-- new losses: each decoder misses this share of 100 packets, drawn by the generator of this seed
 pub record IsSeeded (lose seed : ℕ) (losses : Losses) : Type 0 where
   pub share : losses.lose ≡ lose
   pub generator : losses.generator ≡ first_generator seed

@@ -1,5 +1,5 @@
 -- A server as contracts see it, and how it progresses with its transport and its observer.
-use Rattle.std.specs.Prelude.{ℕ, ◌≡◌, ◌⊎◌, Bool, true, false, List, [], ◌∷◌, map, Option, None}
+use Rattle.std.specs.Prelude.{ℕ, ◌≡◌, ◌⊎◌, Bool, true, false, List, [], ◌∷◌, map, Option}
 use Rattle.bus.specs.State.{bus_state}
 use Rattle.bus.specs.Observations.{Observation}
 use Rattle.decoder_node.specs.declared.node.NodeSpec.{NodeSpec}
@@ -32,7 +32,7 @@ snapshot log observed hub = record { log = log; observed = observed; state = sta
 abbrev pub IsObserved : (List LoggedEvent → Type 0) → (observed observed' : Option (List Observation)) → Type 0
 IsObserved Holds observed observed' = (applied : List LoggedEvent) × Extends observed observed' (observations_of applied) × Holds applied
 
--- The logs grew by what was handled since, and the server is what that makes of it. Of the events and the server this holds.
+-- The logs grew by what was handled since, and the server is the result. Of the events and the server this holds.
 abbrev pub Progresses : (List TransportEvent → ServerState → Type 0) → (old new : Snapshot) → Type 0
 Progresses Holds old new =
     (handled : List Handled) × Extends old.log new.log (transport_events handled) × Extends old.observed new.observed (observations_in handled) × AppliesAll handled old.state new.state × Holds (transport_events handled) new.state

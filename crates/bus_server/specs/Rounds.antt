@@ -3,7 +3,6 @@ use Rattle.std.specs.Prelude.{ℕ, zero, suc, ◌≡◌, ◌⊎◌, ◌<◌, ◌
 use Rattle.std.specs.List.{filter, list_all, list_any, slice_index_or}
 use Rattle.bus_server.specs.Applied.{Handled, AppliesAll, ServerState, is_connected, has_overflowed, transport_events, with_backlog}
 use Rattle.bus_server.specs.Queues.{queued}
-use Rattle.bus.specs.Log.{Extends}
 use Rattle.bus_server.specs.TransportEvents.{Accepted, WriteBlocked, PeerClosed, NonePending, TransportEvent, Written, ReadBlocked, Received, Refused}
 
 -- a client is read: bytes, nothing, or its end
@@ -55,13 +54,13 @@ is_reading other = false
 abbrev pub IsUnread : List TransportEvent → Type 0
 IsUnread more = list_any is_reading more ≡ false
 
--- A client is served: it is read, and then all are written to, and nobody is read.
+-- A client is served: it is read, and then all are written to, and none is read.
 abbrev pub ServesClient : (client : ℕ) → List Handled → ServerState → ServerState → Type 0
 ServesClient client handled old new =
     (heard written : List Handled) × (mid : ServerState) × (handled ≡ heard ++ written) × AppliesAll heard old mid × IsRead client (transport_events heard)
     × AppliesAll written mid new × IsUnread (transport_events written) × AllWrittenTo 8 (transport_events written) new
 
--- so many are served, one after another
+-- a number are served, one after another
 abbrev pub ServesClients : (count : ℕ) → List Handled → ServerState → ServerState → Type 0
 ServesClients zero handled old new = (handled ≡ []) × (new ≡ old)
 ServesClients (suc n) handled old new = (before handled' : List Handled) × (mid : ServerState) × (handled ≡ before ++ handled') × ServesClients n before old mid × ServesClient n handled' mid new
@@ -72,7 +71,7 @@ IsRound handled old new = (turns last : List Handled) × (mid : ServerState) × 
 
 -- What the parts of a round promise one another.
 
--- so many pending clients are refused: eight, or fewer until none is pending
+-- a number of pending clients are refused: eight, or fewer until none is pending
 abbrev pub refusals : (count : ℕ) → List TransportEvent
 refusals count = replicate count Refused ++ (if count == 8 then [] else NonePending ∷ [])
 
@@ -81,7 +80,7 @@ abbrev pub backlog_after : (refused : ℕ) → ServerState → ServerState
 backlog_after zero state = state
 backlog_after (suc n) state = with_backlog state
 
--- a client that was written to still is, no queue overflows, and nobody is read
+-- a client that was written to still is, no queue overflows, and none is read
 pub record PreservesRound (more : List TransportEvent) (old new : ServerState) : Type 0 where
   pub written : (client : ℕ) (before : List TransportEvent) → IsWrittenTo client before old → IsWrittenTo client (before ++ more) new
   pub on_time : (client : ℕ) → has_overflowed old client ≡ false → has_overflowed new client ≡ false

@@ -84,7 +84,7 @@ abbrev pub RunsLogged : (most : ℕ) → List Round → (old new : RunSnapshot) 
 RunsLogged most rounds old new =
     Extends old.log new.log (transport_log rounds) × Extends old.readings new.readings (readings_of rounds) × Extends old.observed new.observed (observation_log rounds) × RunsRounds most rounds old.state new.state
 
--- A run, until so many clients have disconnected. The three logs grew by its rounds; their events, in order, are what the bus
+-- A run, until `most` clients have disconnected. The three logs grew by its rounds; their events, in order, are what the bus
 -- ran; and the headline in time holds of these events.
 abbrev pub IsRun : (most : ℕ) → (old new : RunSnapshot) → Type 0
 IsRun most old new =
@@ -98,8 +98,8 @@ is_missed_by_none (layout.Turn missed) = missed == 0
 is_missed_by_none other = true
 
 -- Where no share is to be lost, no decoder misses a turn.
-abbrev pub NobodyMisses : Type 0
-NobodyMisses = (events : List Event) (old new : ServerState) → IsEventRun events old new → old.losses.lose ≡ 0
+abbrev pub NoneMisses : Type 0
+NoneMisses = (events : List Event) (old new : ServerState) → IsEventRun events old new → old.losses.lose ≡ 0
     → list_all is_missed_by_none (layout_events old.bus events) ≡ true
 
 -- the sum of the clock's readings, each a second at most
@@ -107,7 +107,7 @@ abbrev pub time_read : List ℕ → ℕ
 time_read [] = 0
 time_read (micros ∷ readings) = min micros 1000000 + time_read readings
 
--- If turns follow time, the track time of a run is what the clock told, and no other.
+-- If turns follow time, the track time of a run is the time that the clock returned, and no other.
 abbrev pub TimeIsRead : Type 0
 TimeIsRead = (most : ℕ) (rounds : List Round) (old new : ServerState) → old.turns ≡ None → RunsRounds most rounds old new
     → micros_in old.bus (events_of (logged_in rounds)) ≡ time_read (readings_of rounds)

@@ -5,7 +5,7 @@ use Rattle.bus_server.specs.declared.transport.IoOutcome.TheVariants.{Bytes, Wou
 
 -- one event
 pub data TransportEvent : Type 0 where
-  -- the server waits for input, at most so many microseconds, or without end
+  -- the server waits for input, at most this many microseconds, or without end
   Polled : (longest : Option ℕ) → TransportEvent
   -- a pending client is accepted at an index
   Accepted : (client : ℕ) → TransportEvent
@@ -23,7 +23,7 @@ pub data TransportEvent : Type 0 where
   WriteBlocked : (client : ℕ) → TransportEvent
   -- no client is pending
   NonePending : TransportEvent
-  -- a pending client is told that the server is full, and its connection is closed
+  -- a pending client is sent the text that the server is full, and its connection is closed
   Refused : TransportEvent
 
 -- what a call of accept logs

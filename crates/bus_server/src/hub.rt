@@ -76,8 +76,13 @@ impl Hub {
     pub(crate) fn step(&mut self, event: Event) -> Outcome
         requires { IsTrue (is_event event) }
         ensures outcome { result ≡ outcome_of (bus_state self.old.bus) event }
-        ensures specs { map spec_of self.new.bus.world.nodes ≡ map spec_of self.old.bus.world.nodes }
-        ensures happens { (before : LossesValue) → IsDrawn event (bus_state self.old.bus) (length self.old.bus.world.nodes) before self.old.losses → RunsEvent event (Observed result self.new.bus.world.nodes) (record (state_of self.old) { losses = before }) (state_of self.new) }
+        ensures specs { map spec_of self.new.bus.world.nodes
+            ≡ map spec_of self.old.bus.world.nodes }
+        ensures happens { (before : LossesValue)
+            → IsDrawn event (bus_state self.old.bus) (length self.old.bus.world.nodes) before
+            self.old.losses
+            → RunsEvent event (Observed result self.new.bus.world.nodes)
+            (record (state_of self.old) { losses = before }) (state_of self.new) }
     {
         let outcome = self.bus.step(event);
         enqueue(&mut self.queues, &outcome);
@@ -88,8 +93,11 @@ impl Hub {
     /// Runs the track for `micros` microseconds.
     pub(crate) fn elapse(&mut self, micros: u16) -> Outcome
         requires { micros ≤ 5796 }
-        ensures specs { map spec_of self.new.bus.world.nodes ≡ map spec_of self.old.bus.world.nodes }
-        ensures happens { (missed : ℕ) × RunsEvent (Elapses micros missed) (Observed result self.new.bus.world.nodes) (state_of self.old) (state_of self.new) }
+        ensures specs { map spec_of self.new.bus.world.nodes
+            ≡ map spec_of self.old.bus.world.nodes }
+        ensures happens { (missed : ℕ)
+            × RunsEvent (Elapses micros missed) (Observed result self.new.bus.world.nodes)
+            (state_of self.old) (state_of self.new) }
     {
         let missed = self.draw_within(micros);
         self.step(Event::Elapses { micros, missed })
@@ -97,8 +105,11 @@ impl Hub {
 
     /// Begins the next turn.
     pub(crate) fn turn(&mut self) -> Outcome
-        ensures specs { map spec_of self.new.bus.world.nodes ≡ map spec_of self.old.bus.world.nodes }
-        ensures happens { (missed : ℕ) × RunsEvent (Turn missed) (Observed result self.new.bus.world.nodes) (state_of self.old) (state_of self.new) }
+        ensures specs { map spec_of self.new.bus.world.nodes
+            ≡ map spec_of self.old.bus.world.nodes }
+        ensures happens { (missed : ℕ)
+            × RunsEvent (Turn missed) (Observed result self.new.bus.world.nodes) (state_of self.old)
+            (state_of self.new) }
     {
         let missed = self.draw();
         self.step(Event::Turn { missed })
@@ -107,7 +118,8 @@ impl Hub {
     /// Draws the decoders that miss the turn that begins within `micros` microseconds; draws nothing if none begins.
     fn draw_within(&mut self, micros: u16) -> u64
         ensures kept { state_of self.new ≡ record (state_of self.old) { losses = self.new.losses } }
-        ensures drawn { IsDrawn (Elapses micros result) (bus_state self.old.bus) (length self.old.bus.world.nodes) self.old.losses self.new.losses }
+        ensures drawn { IsDrawn (Elapses micros result) (bus_state self.old.bus)
+            (length self.old.bus.world.nodes) self.old.losses self.new.losses }
     {
         if self.bus.remaining() <= u32::from(micros) {
             self.draw()
@@ -119,7 +131,8 @@ impl Hub {
     /// Draws the decoders that miss the turn that begins.
     fn draw(&mut self) -> u64
         ensures kept { state_of self.new ≡ record (state_of self.old) { losses = self.new.losses } }
-        ensures drawn { IsDraw (length self.old.bus.world.nodes) result self.old.losses self.new.losses }
+        ensures drawn { IsDraw (length self.old.bus.world.nodes) result self.old.losses
+            self.new.losses }
     {
         let nodes = self.bus.world().nodes();
         self.losses.draw(nodes)
@@ -128,7 +141,8 @@ impl Hub {
     /// Notes that `refused` pending clients were refused: after any, there may be more.
     pub(crate) fn note_refused(&mut self, refused: u8)
         ensures state { state_of self.new ≡ backlog_after refused (state_of self.old) }
-        ensures specs { map spec_of self.new.bus.world.nodes ≡ map spec_of self.old.bus.world.nodes }
+        ensures specs { map spec_of self.new.bus.world.nodes
+            ≡ map spec_of self.old.bus.world.nodes }
     {
         if refused > 0 {
             self.has_backlog = true;
@@ -138,7 +152,8 @@ impl Hub {
     /// Writes the front of a client's queue, unless it is empty.
     pub(crate) fn write<W: Transport>(&mut self, client: u8, transport: &mut W) -> IoOutcome
         requires { client < 8 }
-        ensures wrote { WritesFront client result (W.log transport.old) (W.log transport.new) (state_of self.old) (state_of self.new) }
+        ensures wrote { WritesFront client result (W.log transport.old) (W.log transport.new)
+            (state_of self.old) (state_of self.new) }
         ensures bus { self.new.bus ≡ self.old.bus }
     {
         let piece = front(&self.queues, client);
@@ -164,8 +179,10 @@ impl Hub {
 /// The first bytes of a client's queue: some unless it is empty.
 fn front(queues: &SendQueues, client: u8) -> &[u8]
     requires { client < 8 }
-    ensures front { result.now ≡ take (length result.now) (queued (slice_index_or queues.now client None)) }
-    ensures some { 0 < length (queued (slice_index_or queues.now client None)) → 0 < length result.now }
+    ensures front { result.now
+        ≡ take (length result.now) (queued (slice_index_or queues.now client None)) }
+    ensures some { 0 < length (queued (slice_index_or queues.now client None))
+        → 0 < length result.now }
 {
     queues[usize::from(client)].front()
 }
@@ -175,7 +192,9 @@ fn consume(queues: &mut SendQueues, client: u8, count: usize)
     requires client { client < 8 }
     requires open { is_some (slice_index_or queues.old client None) ≡ true }
     requires some { count ≤ length (queued (slice_index_or queues.old client None)) }
-    ensures { queues.new ≡ slice_set queues.old client (Some (drop count (queued (slice_index_or queues.old client None)))) }
+    ensures { queues.new
+        ≡ slice_set queues.old client
+        (Some (drop count (queued (slice_index_or queues.old client None)))) }
 {
     queues[usize::from(client)].consume(count);
 }

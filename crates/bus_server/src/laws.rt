@@ -1,6 +1,6 @@
 //! The laws of runs, each as a function that does nothing and ensures it: a call hands the law to a proof.
 ghost use Rattle.bus_server.specs.Fronts.{FrontsAreWritten};
-ghost use Rattle.bus_server.specs.Runs.{NobodyMisses, TimeIsRead};
+ghost use Rattle.bus_server.specs.Runs.{NoneMisses, TimeIsRead};
 
 /// If turns follow time, the track time of a run is the sum of the clock's readings, each a second at most.
 pub fn time_is_read()
@@ -13,6 +13,6 @@ pub fn fronts_are_written()
 {}
 
 /// If no share of the packets is to be lost, no decoder misses a turn.
-pub fn nobody_misses()
-    ensures { NobodyMisses }
+pub fn none_misses()
+    ensures { NoneMisses }
 {}

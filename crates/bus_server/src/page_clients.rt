@@ -3,7 +3,7 @@ ghost use Rattle.std.specs.Prelude.{◌<◌, Option, List, [], ◌∷◌};
 ghost use Rattle.bus.specs.Log.{Extends};
 ghost use Rattle.bus_server.specs.PageEvents.{PageEvent, Opening, Offer, Sending};
 
-/// The pages among up to eight clients, 0 to 7. They receive messages beside the lines of the bus.
+/// The pages among up to eight clients, 0 to 7. They receive messages between the lines of the bus.
 pub trait PageClients {
     /// Every call so far and what it returned, in order, where it is known.
     ghost page_log: { Self → Option (List PageEvent) };
@@ -21,5 +21,6 @@ pub trait PageClients {
     /// Sends one message to a page, whole or not at all. Returns whether it was sent.
     fn send(&mut self, client: usize, message: &str) -> bool
         requires { client < 8 }
-        ensures { Extends (page_log self.old) (page_log self.new) (Sending client message.now result ∷ []) };
+        ensures { Extends (page_log self.old) (page_log self.new)
+            (Sending client message.now result ∷ []) };
 }

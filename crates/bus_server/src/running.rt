@@ -4,6 +4,7 @@ ghost use Rattle.std.specs.List.{flat_map};
 ghost use Rattle.bus.specs.Log.{Extends};
 ghost use Rattle.bus_server.specs.Progress.{ObservesLayout, state_of};
 ghost use Rattle.bus_server.specs.Applied.{LoggedEvent, longest_wait, RunsFor, observations_of};
+ghost use Rattle.bus_server.specs.TransportEvents.{TransportEvent};
 ghost use Rattle.bus_server.specs.Runs.{RunsByClock, IsRun, Round, RunsLogged, RunSnapshot, skipped, run_snapshot};
 
 use crate::after_round::AfterRound;
@@ -42,7 +43,11 @@ impl Server {
     ) -> Result<(), Stop<W::Fault, C::Fault, P::Fault>>
         requires observes { ObservesLayout (P.decoder_specs observer.old) self.old.hub }
         ensures observes { ObservesLayout (P.decoder_specs observer.new) self.new.hub }
-        ensures run { OnOk result (IsRun most (run_snapshot (W.log transport.old) (C.readings clock.old) (P.observed observer.old) self.old.hub) (run_snapshot (W.log transport.new) (C.readings clock.new) (P.observed observer.new) self.new.hub)) }
+        ensures run { OnOk result
+            (IsRun most (run_snapshot (W.log transport.old) (C.readings clock.old)
+            (P.observed observer.old) self.old.hub)
+            (run_snapshot (W.log transport.new) (C.readings clock.new) (P.observed observer.new)
+            self.new.hub)) }
     {
         bus::laws::events_are_the_layout();
         layout_core::laws::events_add_up();
@@ -69,7 +74,13 @@ impl Server {
         requires observes { ObservesLayout (P.decoder_specs observer.old) self.old.hub }
         requires fewer { self.old.hub.disconnected < most }
         ensures observes { ObservesLayout (P.decoder_specs observer.new) self.new.hub }
-        ensures round { OnOk result ((round : Round) × RunsLogged most (round ∷ []) (run_snapshot (W.log transport.old) (C.readings clock.old) (P.observed observer.old) self.old.hub) (run_snapshot (W.log transport.new) (C.readings clock.new) (P.observed observer.new) self.new.hub)) }
+        ensures round { OnOk result
+            ((round : Round)
+            × RunsLogged most (round ∷ [])
+            (run_snapshot (W.log transport.old) (C.readings clock.old) (P.observed observer.old)
+            self.old.hub)
+            (run_snapshot (W.log transport.new) (C.readings clock.new) (P.observed observer.new)
+            self.new.hub)) }
     {
         if let Err(fault) = transport.wait(self.longest_wait()) {
             return Err(Stop::Transport(fault));
@@ -106,7 +117,13 @@ impl Server {
     ) -> Result<(), Stop<W::Fault, C::Fault, P::Fault>>
         requires observes { ObservesLayout (P.decoder_specs observer.old) self.old.hub }
         ensures observes { ObservesLayout (P.decoder_specs observer.new) self.new.hub }
-        ensures elapses { OnOk result ((readings : List ℕ) × (elapsing : List LoggedEvent) × Extends (C.readings clock.old) (C.readings clock.new) readings × Extends (P.observed observer.old) (P.observed observer.new) (flat_map skipped readings ++ observations_of elapsing) × RunsByClock self.old.hub.turns readings elapsing (state_of self.old.hub) (state_of self.new.hub)) }
+        ensures elapses { OnOk result
+            ((readings : List ℕ) × (elapsing : List LoggedEvent)
+            × Extends (C.readings clock.old) (C.readings clock.new) readings
+            × Extends (P.observed observer.old) (P.observed observer.new)
+            (flat_map skipped readings ++ observations_of elapsing)
+            × RunsByClock self.old.hub.turns readings elapsing (state_of self.old.hub)
+            (state_of self.new.hub)) }
     {
         if self.hub.turns.is_some() {
             return Ok(());
@@ -125,7 +142,12 @@ impl Server {
     fn run_capped<P: Observer>(&mut self, micros: u64, observer: &mut P) -> Result<(), P::Fault>
         requires observes { ObservesLayout (P.decoder_specs observer.old) self.old.hub }
         ensures observes { ObservesLayout (P.decoder_specs observer.new) self.new.hub }
-        ensures log { OnOk result ((elapsing : List LoggedEvent) × Extends (P.observed observer.old) (P.observed observer.new) (skipped micros ++ observations_of elapsing) × RunsFor (min micros 1000000) elapsing (state_of self.old.hub) (state_of self.new.hub)) }
+        ensures log { OnOk result
+            ((elapsing : List LoggedEvent)
+            × Extends (P.observed observer.old) (P.observed observer.new)
+            (skipped micros ++ observations_of elapsing)
+            × RunsFor (min micros 1000000) elapsing (state_of self.old.hub)
+            (state_of self.new.hub)) }
     {
         observe_skipped(micros, observer)?;
         self.run_for(micros.min(LONGEST_STEP) as u32, observer)
@@ -135,7 +157,8 @@ impl Server {
 /// Reports what is beyond a second as skipped.
 fn observe_skipped<P: Observer>(micros: u64, observer: &mut P) -> Result<(), P::Fault>
     ensures decoder_specs { P.decoder_specs observer.new ≡ P.decoder_specs observer.old }
-    ensures observed { OnOk result (Extends (P.observed observer.old) (P.observed observer.new) (skipped micros)) }
+    ensures observed { Extends (P.observed observer.old) (P.observed observer.new)
+        (skipped micros) }
 {
     if micros <= LONGEST_STEP {
         return Ok(());

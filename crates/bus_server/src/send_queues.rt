@@ -2,10 +2,8 @@
 ghost use Rattle.std.specs.Prelude.{◌≡◌, IfOk, None, replicate};
 
 use crate::send_queue::SendQueue;
+use bus::MAX_CLIENTS;
 use std::alloc::{AllocError, Global};
-
-/// The most clients at once.
-pub const MAX_CLIENTS: usize = 8;
 
 /// The queue of each client.
 pub type SendQueues = [SendQueue; MAX_CLIENTS];
@@ -28,7 +26,8 @@ pub fn empty_queues(alloc: Global) -> Result<SendQueues, AllocError>
 
 /// Four closed queues.
 fn four_queues(alloc: Global) -> Result<(SendQueue, SendQueue, SendQueue, SendQueue), AllocError>
-    ensures { IfOk result (λ queues. (queues.0 ≡ None) × (queues.1 ≡ None) × (queues.2 ≡ None) × (queues.3 ≡ None)) }
+    ensures { IfOk result
+        (λ queues. (queues.0 ≡ None) × (queues.1 ≡ None) × (queues.2 ≡ None) × (queues.3 ≡ None)) }
 {
     let (first, second) = two_queues(alloc)?;
     let (third, fourth) = two_queues(alloc)?;

@@ -14,7 +14,7 @@ ghost use Rattle.bus_server.specs.Rounds.{AllWrittenTo, IsRead, IsRound, IsWritt
 use crate::hub::Hub;
 use crate::losses::Losses;
 use crate::transport::{IoOutcome, Transport};
-use bus::{Event, Observer, Outcome};
+use bus::{Event, Observer, Outcome, SHORTEST_TURN};
 use layout_core::{NodeList, World};
 use std::alloc::{AllocError, Global};
 
@@ -25,9 +25,6 @@ const MAX_READ: usize = 512;
 
 /// The most writes to a client before the next client is served. A queue lies in two pieces at most.
 const MAX_WRITES: u8 = 4;
-
-/// The shortest turn in microseconds: at most one begins in such a time.
-const SHORTEST_TURN: u32 = 5_796;
 
 /// A bus with a send queue for each client, and how its track runs.
 #[derive(Drop)]
@@ -49,8 +46,10 @@ impl Server {
         turns: Option<u8>,
         losses: Losses,
     ) -> Result<Server, AllocError>
-        ensures hub { IfOk result (λ server. state_of server.hub ≡ initial_state nodes.items turns losses) }
-        ensures specs { IfOk result (λ server. map spec_of server.hub.bus.world.nodes ≡ nodes.items) }
+        ensures hub { IfOk result
+            (λ server. state_of server.hub ≡ initial_state nodes.items turns losses) }
+        ensures specs { IfOk result
+            (λ server. map spec_of server.hub.bus.world.nodes ≡ nodes.items) }
     {
         Ok(Server {
             hub: Hub::new(alloc, nodes, turns, losses)?,
@@ -107,7 +106,10 @@ impl Server {
     ) -> Result<(), P::Fault>
         requires observes { ObservesLayout (P.decoder_specs observer.old) self.old.hub }
         ensures observes { ObservesLayout (P.decoder_specs observer.new) self.new.hub }
-        ensures served { OnOk result (ProgressesBy IsRound (snapshot (W.log transport.old) (P.observed observer.old) self.old.hub) (snapshot (W.log transport.new) (P.observed observer.new) self.new.hub)) }
+        ensures served { OnOk result
+            (ProgressesBy IsRound
+            (snapshot (W.log transport.old) (P.observed observer.old) self.old.hub)
+            (snapshot (W.log transport.new) (P.observed observer.new) self.new.hub)) }
     {
         for client in 0..8u8 {
             self.receive(client, transport, observer)?;
@@ -125,7 +127,10 @@ impl Server {
     ) -> Result<(), P::Fault>
         requires observes { ObservesLayout (P.decoder_specs observer.old) self.old.hub }
         ensures observes { ObservesLayout (P.decoder_specs observer.new) self.new.hub }
-        ensures served { OnOk result (ProgressesWithoutInput (λ more _. AcceptsPending more) (snapshot (W.log transport.old) (P.observed observer.old) self.old.hub) (snapshot (W.log transport.new) (P.observed observer.new) self.new.hub)) }
+        ensures served { OnOk result
+            (ProgressesWithoutInput (λ more _. AcceptsPending more)
+            (snapshot (W.log transport.old) (P.observed observer.old) self.old.hub)
+            (snapshot (W.log transport.new) (P.observed observer.new) self.new.hub)) }
     {
         for client in 0..8u8 {
             if !self.accept_at(client, transport, observer)? {
@@ -147,7 +152,11 @@ impl Server {
         requires client { client < 8 }
         requires observes { ObservesLayout (P.decoder_specs observer.old) self.old.hub }
         ensures observes { ObservesLayout (P.decoder_specs observer.new) self.new.hub }
-        ensures seats { IfOk result (λ is_taken. AcceptsAt client is_taken (snapshot (W.log transport.old) (P.observed observer.old) self.old.hub) (snapshot (W.log transport.new) (P.observed observer.new) self.new.hub)) }
+        ensures seats { IfOk result
+            (λ is_taken.
+            AcceptsAt client is_taken
+            (snapshot (W.log transport.old) (P.observed observer.old) self.old.hub)
+            (snapshot (W.log transport.new) (P.observed observer.new) self.new.hub)) }
     {
         self.hub.bus.invariant_holds();
         if self.hub.bus.is_connected(client) {
@@ -171,7 +180,10 @@ impl Server {
         requires client { client < 8 }
         requires observes { ObservesLayout (P.decoder_specs observer.old) self.old.hub }
         ensures observes { ObservesLayout (P.decoder_specs observer.new) self.new.hub }
-        ensures served { OnOk result (ProgressesWithoutInput (λ _ all. has_overflowed all client ≡ false) (snapshot (W.log transport.old) (P.observed observer.old) self.old.hub) (snapshot (W.log transport.new) (P.observed observer.new) self.new.hub)) }
+        ensures served { OnOk result
+            (ProgressesWithoutInput (λ _ all. has_overflowed all client ≡ false)
+            (snapshot (W.log transport.old) (P.observed observer.old) self.old.hub)
+            (snapshot (W.log transport.new) (P.observed observer.new) self.new.hub)) }
     {
         if !self.hub.has_overflowed(client) {
             return Ok(());
@@ -191,7 +203,10 @@ impl Server {
         requires client { client < 8 }
         requires observes { ObservesLayout (P.decoder_specs observer.old) self.old.hub }
         ensures observes { ObservesLayout (P.decoder_specs observer.new) self.new.hub }
-        ensures served { OnOk result (Progresses (λ more _. IsRead client more) (snapshot (W.log transport.old) (P.observed observer.old) self.old.hub) (snapshot (W.log transport.new) (P.observed observer.new) self.new.hub)) }
+        ensures served { OnOk result
+            (Progresses (λ more _. IsRead client more)
+            (snapshot (W.log transport.old) (P.observed observer.old) self.old.hub)
+            (snapshot (W.log transport.new) (P.observed observer.new) self.new.hub)) }
     {
         let mut buf = [0; MAX_READ];
         match transport.read(client, &mut buf) {
@@ -211,7 +226,11 @@ impl Server {
         requires client { client < 8 }
         requires observes { ObservesLayout (P.decoder_specs observer.old) self.old.hub }
         ensures observes { ObservesLayout (P.decoder_specs observer.new) self.new.hub }
-        ensures served { OnOk result ((handled : List Handled) × (transport_events handled ≡ map (λ byte. Received client byte) bytes.now) × Extends (P.observed observer.old) (P.observed observer.new) (observations_in handled) × AppliesAll handled (state_of self.old.hub) (state_of self.new.hub)) }
+        ensures served { OnOk result
+            ((handled : List Handled)
+            × (transport_events handled ≡ map (λ byte. Received client byte) bytes.now)
+            × Extends (P.observed observer.old) (P.observed observer.new) (observations_in handled)
+            × AppliesAll handled (state_of self.old.hub) (state_of self.new.hub)) }
     {
         for byte in bytes {
             self.hub.has_backlog = true;
@@ -234,7 +253,10 @@ impl Server {
     ) -> Result<(), P::Fault>
         requires observes { ObservesLayout (P.decoder_specs observer.old) self.old.hub }
         ensures observes { ObservesLayout (P.decoder_specs observer.new) self.new.hub }
-        ensures served { OnOk result (ProgressesWithoutInput (AllWrittenTo 8) (snapshot (W.log transport.old) (P.observed observer.old) self.old.hub) (snapshot (W.log transport.new) (P.observed observer.new) self.new.hub)) }
+        ensures served { OnOk result
+            (ProgressesWithoutInput (AllWrittenTo 8)
+            (snapshot (W.log transport.old) (P.observed observer.old) self.old.hub)
+            (snapshot (W.log transport.new) (P.observed observer.new) self.new.hub)) }
     {
         for client in 0..8u8 {
             self.write(client, transport, observer)?;
@@ -253,7 +275,10 @@ impl Server {
         requires client { client < 8 }
         requires observes { ObservesLayout (P.decoder_specs observer.old) self.old.hub }
         ensures observes { ObservesLayout (P.decoder_specs observer.new) self.new.hub }
-        ensures served { OnOk result (ProgressesWithoutInput (IsWrittenTo client) (snapshot (W.log transport.old) (P.observed observer.old) self.old.hub) (snapshot (W.log transport.new) (P.observed observer.new) self.new.hub)) }
+        ensures served { OnOk result
+            (ProgressesWithoutInput (IsWrittenTo client)
+            (snapshot (W.log transport.old) (P.observed observer.old) self.old.hub)
+            (snapshot (W.log transport.new) (P.observed observer.new) self.new.hub)) }
     {
         for _piece in 0..MAX_WRITES {
             match self.hub.write(client, transport) {
@@ -273,7 +298,10 @@ impl Server {
     pub fn run_for<P: Observer>(&mut self, micros: u32, observer: &mut P) -> Result<(), P::Fault>
         requires observes { ObservesLayout (P.decoder_specs observer.old) self.old.hub }
         ensures observes { ObservesLayout (P.decoder_specs observer.new) self.new.hub }
-        ensures log { OnOk result (IsObserved (λ applied. RunsFor micros applied (state_of self.old.hub) (state_of self.new.hub)) (P.observed observer.old) (P.observed observer.new)) }
+        ensures log { OnOk result
+            (IsObserved (λ applied.
+            RunsFor micros applied (state_of self.old.hub) (state_of self.new.hub))
+            (P.observed observer.old) (P.observed observer.new)) }
     {
         let mut rest = micros;
         while rest > 0 {
@@ -292,7 +320,10 @@ impl Server {
         requires place { IsTrue (is_accepted (state_of self.old.hub) event) }
         requires observes { ObservesLayout (P.decoder_specs observer.old) self.old.hub }
         ensures observes { ObservesLayout (P.decoder_specs observer.new) self.new.hub }
-        ensures happened { OnOk result (IsObserved (λ applied. RunsEventWithTurns event applied (state_of self.old.hub) (state_of self.new.hub)) (P.observed observer.old) (P.observed observer.new)) }
+        ensures happened { OnOk result
+            (IsObserved (λ applied.
+            RunsEventWithTurns event applied (state_of self.old.hub) (state_of self.new.hub))
+            (P.observed observer.old) (P.observed observer.new)) }
     {
         let outcome = self.hub.step(event);
         observer.observe(&outcome, self.hub.bus.world())?;
@@ -304,7 +335,10 @@ impl Server {
     fn run_turns<P: Observer>(&mut self, turns: u8, observer: &mut P) -> Result<(), P::Fault>
         requires observes { ObservesLayout (P.decoder_specs observer.old) self.old.hub }
         ensures observes { ObservesLayout (P.decoder_specs observer.new) self.new.hub }
-        ensures happened { OnOk result (IsObserved (λ applied. AreTurns turns (events_of applied) × RunsEvents applied (state_of self.old.hub) (state_of self.new.hub)) (P.observed observer.old) (P.observed observer.new)) }
+        ensures happened { OnOk result
+            (IsObserved (λ applied. AreTurns turns (events_of applied)
+            × RunsEvents applied (state_of self.old.hub) (state_of self.new.hub))
+            (P.observed observer.old) (P.observed observer.new)) }
     {
         for _turn in 0..turns {
             let outcome = self.hub.turn();

@@ -46,7 +46,8 @@ pub trait Transport {
         requires client { client < 8 }
         requires some { 0 < length bytes.now }
         ensures within { IsWithin result (length bytes.now) }
-        ensures log { Extends (log self.old) (log self.new) (write_events client result bytes.now) };
+        ensures log { Extends (log self.old) (log self.new)
+            (write_events client result bytes.now) };
 
     /// Closes the connection of a client.
     fn close(&mut self, client: u8)

@@ -52,7 +52,8 @@ pub(crate) struct MemoryTransport<'a, R> {
 
 impl<R: Place> MemoryTransport<'_, R> {
     fn keep(&mut self, entry: Entry)
-        ensures { flat_map events_of_entry self.new.log.items ≡ flat_map events_of_entry self.old.log.items ++ events_of_entry entry }
+        ensures { flat_map events_of_entry self.new.log.items
+            ≡ flat_map events_of_entry self.old.log.items ++ events_of_entry entry }
     {
         self.log.push(entry).expect(self.rt, "memory");
     }
@@ -172,7 +173,8 @@ pub(crate) struct Recorder<'a, R> {
 
 impl<R: Place> Recorder<'_, R> {
     fn keep(&mut self, seen: Seen)
-        ensures { map observation_of self.new.log.items ≡ map observation_of self.old.log.items ++ observation_of seen ∷ [] }
+        ensures { map observation_of self.new.log.items
+            ≡ map observation_of self.old.log.items ++ observation_of seen ∷ [] }
     {
         self.log.push(seen).expect(self.rt, "memory");
     }
@@ -244,7 +246,7 @@ fn packet_of<R: Place>(rt: &R, packet: &Option<Packet>) -> Option<Vec<u8>>
     }
 }
 
-/// Nothing beside the bus.
+/// Nothing except the bus.
 #[derive(Drop)]
 pub(crate) struct NoPages;
 

@@ -184,7 +184,7 @@ pub(crate) fn messages(observed: &[Seen]) -> u64 {
     messages
 }
 
-/// A text, and behind it another as often as is said.
+/// A text, followed by `line`, `times` times.
 pub(crate) fn repeated<R: Place>(rt: &R, text: &[u8], line: &[u8], times: u32) -> Vec<u8> {
     let mut all = text.to_vec(rt.alloc()).expect(rt, "memory");
     for _time in 0..times {

@@ -185,16 +185,16 @@ fn ninth_client(rt: HostRuntime) {
     assert_eq!(rt; longest.as_slice().get(10), Some(&None));
 }
 
-/// 5,120 lines of 11 bytes are 110 reads of 512 bytes.
+/// 5,120 lines of 11 bytes are 141 reads of 400 bytes.
 const LINES: u32 = 5_120;
 
-/// Three clients connect, and the first sends a text, 512 bytes in each round.
+/// Three clients connect, and the first sends a text, 400 bytes in each round.
 fn flood_script<'a, R: Place>(rt: &R, text: &'a [u8]) -> Vec<Input<'a>> {
     let mut script = Vec::new(rt.alloc());
     script.push(Connects).expect(rt, "memory");
     script.push(Connects).expect(rt, "memory");
     script.push(Connects).expect(rt, "memory");
-    for bytes in text.chunks(512) {
+    for bytes in text.chunks(400) {
         script.push(Sends(0, bytes)).expect(rt, "memory");
     }
     script
@@ -205,7 +205,7 @@ fn flood_script<'a, R: Place>(rt: &R, text: &'a [u8]) -> Vec<Input<'a>> {
 fn flood(rt: HostRuntime) {
     let sent = repeated(&rt, b"", b"SEND 83 7C\n", LINES);
     let script = flood_script(&rt, sent.as_slice());
-    assert_eq!(rt; script.len(), 3 + 110);
+    assert_eq!(rt; script.len(), 3 + 141);
     let setup = Setup {
         script: script.as_slice(),
         readings: &[],
@@ -226,8 +226,8 @@ fn flood(rt: HostRuntime) {
 
     let observed = run.observed.as_slice();
     assert_eq!(rt; overflows(&rt, observed).as_slice(), [2].as_slice());
-    // 26 bytes and 4,367 lines of 15 are 65,531 bytes: line 4,368 has no room. It is in read 94, as are those up to 4,375.
-    assert_eq!(rt; messages_before_overflow(observed), 4_375);
+    // 26 bytes and 4,367 lines of 15 are 65,531 bytes: line 4,368 has no room. It is in read 121, as are those up to 4,400.
+    assert_eq!(rt; messages_before_overflow(observed), 4_400);
     assert!(rt; disconnects_by_overflow(observed, 2));
     assert_eq!(rt; messages(observed), u64::from(LINES));
 }

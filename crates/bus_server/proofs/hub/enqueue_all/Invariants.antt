@@ -2,7 +2,7 @@ use Rattle.std.proofs.Common.{◌≡◌, ◌++◌, take, drop, length}
 use Rattle.bus_server.specs.ClientQueues.{enqueued_all, enqueued_from}
 use Rattle.bus_server.proofs.hub.enqueue_all.Given as goal
 
--- those before the place were told, and the others not yet
+-- the clients before this index have their text queued, and the others not yet
 abbrev pub invariant-loop-place : goal.invariant-loop-place
 invariant-loop-place l = record {
   outcome : take l.place l.queues ++ enqueued_from l.place l.outcome (drop l.place l.queues) ≡ enqueued_all l.outcome l.initial.queues;

@@ -1,4 +1,4 @@
-use Rattle.std.proofs.Common.{ℕ, ◌∙◌, ap, length, refl, sym, subst}
+use Rattle.std.proofs.Common.{◌∙◌, ap, length, refl}
 use Rattle.std.specs.List.{list_all}
 use Rattle.loconet_tcp.specs.declared.outcome.Outcome.{Outcome}
 use Rattle.bus.specs.State.{bus_state}

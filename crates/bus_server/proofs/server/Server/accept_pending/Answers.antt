@@ -1,4 +1,4 @@
-use Rattle.std.proofs.Common.{◌<◌, ◌≡◌, ◌+◌, ℕ, true, arith, refl}
+use Rattle.std.proofs.Common.{◌<◌, ◌≡◌, ◌+◌, ℕ, true, arith}
 use Rattle.bus_server.specs.Progress.{snapshot, state_of}
 use Rattle.bus_server.specs.Rounds.{HasMoreClients, AcceptsPending}
 use Rattle.bus_server.specs.Applied.{is_connected}

@@ -2,7 +2,6 @@ use Rattle.std.proofs.Common.{◌≡◌, ◌∷◌, [], ℕ, ap, refl, subst, �
 use Rattle.std.proofs.lemmas.Result.{on_ok_weaker}
 use Rattle.layout_core.specs.Nodes.{spec_of}
 use Rattle.bus.specs.Bus.{outcome_of}
-use Rattle.bus.specs.State.{bus_state}
 use Rattle.bus.specs.Observations.{Observed, Observation}
 use Rattle.bus_server.specs.Progress.{state_of}
 use Rattle.bus_server.specs.Applied.{AreTurns, LoggedEvent, events_of, turns_after}

@@ -1,4 +1,4 @@
-use Rattle.std.proofs.Common.{[], sym, ◌∙◌}
+use Rattle.std.proofs.Common.{[], sym, ◌∙◌, ◌∷◌, ◌++◌, refl, List, subst, append-nil}
 use Rattle.bus_server.specs.Progress.{state_of}
 use Rattle.bus_server.proofs.Going.{grows_none}
 use Rattle.bus_server.proofs.WholeRuns.{no_time_passes}

@@ -1,8 +1,8 @@
-use Rattle.std.proofs.Common.{◌≡◌, ◌<◌, ◌≤◌, ◌∷◌, [], ℕ, List, arith, length, map, take, true, refl, subst, sym}
+use Rattle.std.proofs.Common.{◌≡◌, ◌<◌, ◌≤◌, [], ℕ, List, arith, length, map, take, refl, subst, sym}
 use Rattle.std.proofs.lemmas.List.{length-map, length-take}
 use Rattle.std.proofs.lemmas.Result.{on_ok_weaker}
 use Rattle.bus.specs.Log.{Extends}
-use Rattle.bus_server.specs.Progress.{snapshot, state_of}
+use Rattle.bus_server.specs.Progress.{snapshot}
 use Rattle.bus_server.specs.Rounds.{IsRead}
 use Rattle.bus_server.specs.TransportEvents.{PeerClosed, TransportEvent, ReadBlocked, Received}
 use Rattle.bus_server.proofs.Going.{goes_one, grows_none}
@@ -25,7 +25,7 @@ returns-in-Bytes-clause-served g c =
     let bytes : List ℕ = take c.in-Bytes.count c.read.new.buf in
     let some : 0 < length bytes = omega (arith, length-take {A = ℕ} c.in-Bytes.count c.read.new.buf, c.in-Bytes.ensures.within.0, c.in-Bytes.ensures.within.1) in
     let as_many : length (map (λ byte. Received client byte) bytes) ≡ length bytes = length-map bytes (λ byte. Received client byte) in
-    let few : length (map (λ byte. Received client byte) bytes) ≤ 512 = omega (arith, as_many, length-take {A = ℕ} c.in-Bytes.count c.read.new.buf, c.in-Bytes.ensures.within.1) in
+    let few : length (map (λ byte. Received client byte) bytes) ≤ 400 = omega (arith, as_many, length-take {A = ℕ} c.in-Bytes.count c.read.new.buf, c.in-Bytes.ensures.within.1) in
     let more_than_none : 0 < length (map (λ byte. Received client byte) bytes) = omega (arith, as_many, some) in
     on_ok_weaker c.receive_all.result
     (λ all. (

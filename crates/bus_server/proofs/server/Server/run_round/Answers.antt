@@ -1,8 +1,8 @@
-use Rattle.std.proofs.Common.{ℕ, List, [], ◌∷◌, Option, ◌++◌, append-nil, refl, subst, sym}
+use Rattle.std.proofs.Common.{ℕ, List, [], ◌∷◌, Option, ◌++◌, append-nil, refl, subst, sym, inl, inr}
 use Rattle.std.specs.List.{flat_map}
 use Rattle.bus.specs.Log.{Extends}
 use Rattle.bus_server.specs.Progress.{state_of}
-use Rattle.bus_server.specs.Runs.{Round, skipped}
+use Rattle.bus_server.specs.Runs.{Round, skipped, run_snapshot}
 use Rattle.bus_server.specs.Applied.{longest_wait, transport_events, observations_in, observations_of}
 use Rattle.bus_server.specs.TransportEvents.{Polled}
 use Rattle.bus_server.proofs.Going.{grows_more}

@@ -1,4 +1,4 @@
-use Rattle.std.proofs.Common.{[], ◌∷◌, ◌++◌, refl, rules}
+use Rattle.std.proofs.Common.{[], ◌∷◌, ◌++◌, refl, rules, ◌+◌, arith}
 use Rattle.bus.specs.declared.event.Event.TheVariants.{Turn}
 use Rattle.bus.specs.Observations.{Observed, Observation}
 use Rattle.bus_server.specs.Progress.{state_of}

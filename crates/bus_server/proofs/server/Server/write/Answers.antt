@@ -1,4 +1,4 @@
-use Rattle.std.proofs.Common.{◌+◌, ◌∙◌, ap, inr, map, subst, arith}
+use Rattle.std.proofs.Common.{[], ◌+◌, ◌∙◌, ap, refl, inr, map, subst, arith}
 use Rattle.layout_core.specs.Nodes.{spec_of}
 use Rattle.bus.specs.declared.bus.Bus.{Bus}
 use Rattle.bus.specs.declared.event.Event.TheVariants.{Disconnects}
