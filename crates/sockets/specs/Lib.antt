@@ -1,2 +1,2 @@
 pub mod Connections
-pub mod Waits
+pub mod WaitTimes

@@ -3,14 +3,14 @@ ghost use Rattle.std.specs.Prelude.{◌≡◌, false, true};
 ghost use Rattle.std.specs.Io.{ReadsAtMost, WritesAtMost};
 
 use mio::net::TcpStream;
-use web::Page;
 use std::io;
 use std::io::{ErrorKind, Read, Write};
+use web::Page;
 
-/// How often a page is read at once that sends no text, as its pings are none.
+/// The most reads at once of a page that sends no text but, for example, pings.
 const MOST_TRIES: u8 = 4;
 
-/// Who has a place on the bus.
+/// A connected client.
 #[derive(Drop)]
 pub(crate) enum Client {
     /// A program, by LocoNet over TCP.
@@ -41,13 +41,13 @@ impl Client {
     }
 }
 
-/// A page that is a client of the bus.
+/// A page connected to the bus.
 #[derive(Drop)]
 pub(crate) struct PageClient {
     page: Page<TcpStream>,
-    /// Nobody has asked yet whether it is.
+    /// True until `take_just_opened` is first called.
     is_just_opened: bool,
-    /// Text of the bus was told: the first is the version, before which nothing is told.
+    /// Text of the bus was sent. The first is the version, before which no message is sent.
     has_version: bool,
 }
 
@@ -73,17 +73,17 @@ impl PageClient {
         is_just_opened
     }
 
-    /// Whether it can be told something beside the lines: text of the bus was told before. What waits goes out first, as far
-    /// as it is taken now.
+    /// Whether messages between lines may be sent: the version was sent before. Writes queued bytes
+    /// first, until the stream would block.
     pub(crate) fn is_writable(&mut self) -> bool {
-        // Whoever has gone is let go at its next read.
+        // A page that has disconnected is removed at its next read.
         let _ = self.page.flush();
         self.has_version
     }
 
-    /// Tells it one message beside the lines, whole or not at all. False where it was not told.
+    /// Sends one message between lines, whole or not at all. Returns false if it was not sent.
     pub(crate) fn send(&mut self, message: &str) -> bool {
-        self.page.tell(message).is_ok()
+        self.page.send(message).is_ok()
     }
 
     /// Reads what the page sent, as `Read` does. Where it may have sent more, and none of it was text, `has_backlog` is set.
@@ -91,20 +91,20 @@ impl PageClient {
         ensures { ReadsAtMost result room.new }
     {
         for _try in 0..MOST_TRIES {
-            match self.page.hear_lines(room) {
+            match self.page.read_lines(room) {
                 Err(error) if error.kind() == ErrorKind::Interrupted => {}
-                heard => return heard,
+                received => return received,
             }
         }
         *has_backlog = true;
         Err(io::Error::from(ErrorKind::WouldBlock))
     }
 
-    /// Tells the page text of the bus, as `Write` does.
+    /// Writes text of the bus to the page, as `Write` does.
     fn write(&mut self, bytes: &[u8]) -> io::Result<usize>
         ensures { WritesAtMost result bytes.now }
     {
         self.has_version = true;
-        self.page.tell_lines(bytes)
+        self.page.write_lines(bytes)
     }
 }

@@ -1,28 +1,28 @@
-//! One who asks by HTTP, and the stream.
+//! An HTTP exchange and its stream.
 ghost use Rattle.std.specs.Prelude.{◌≡◌, ◌<◌, ◌-◌, ◌↔◌, ◌⊎◌, IfOk, true};
 ghost use Rattle.std.specs.IoError.{error_kind};
-ghost use Rattle.web.specs.declared.visit.Stage.TheVariants.{Asks};
-ghost use Rattle.web.specs.Visits.{first_visit, heard_behind};
+ghost use Rattle.web.specs.declared.exchange.Stage.TheVariants.{ReadingRequest};
+ghost use Rattle.web.specs.Exchanges.{initial_exchange, leftover_of};
 ghost use Rattle.sockets.specs.declared.http_connection.Progress.TheVariants.{Upgraded, Blocked};
 ghost use Rattle.sockets.specs.Connections.{IsUpgraded};
 
 use mio::net::TcpStream;
-use web::{Page, Stage, Visit};
 use std::alloc::{AllocError, Global};
 use std::io;
 use std::io::{Error, ErrorKind, Read, Write};
 use std::net::Shutdown;
+use web::{HttpExchange, Page, Stage};
 
-/// The most bytes that are read at once.
-const READ_AT_ONCE: usize = 1_024;
+/// The most bytes read at once.
+const READ_SIZE: usize = 1_024;
 
-/// A stream both ways, of which the way out can be ended alone.
+/// A stream whose sending direction can be closed separately.
 pub trait Stream: Read + Write + Drop {
-    /// Ends the way out: behind what was written, its reader finds the end.
+    /// Closes the sending direction: after the bytes written, the peer reads the end.
     ///
     /// # Errors
     ///
-    /// Where the stream has broken.
+    /// The error of the stream, if it has failed.
     fn end(&mut self) -> io::Result<()>;
 }
 
@@ -32,98 +32,102 @@ impl Stream for TcpStream {
     }
 }
 
-/// One who asks by HTTP, and the stream.
+/// An HTTP exchange and its stream.
 #[derive(Drop)]
 pub struct HttpConnection<S> {
     stream: S,
-    visit: Visit,
+    exchange: HttpExchange,
 }
 
-/// What became of a visitor.
+/// The progress of an HTTP exchange.
 #[derive(Clone, Copy, Debug, PartialEq, Eq)]
 pub enum Progress {
-    /// Nothing can be done for it now.
+    /// Nothing can be read or written now.
     Blocked,
-    /// Something came or went, and more may.
+    /// Bytes were read or written, and more may follow.
     Advanced,
-    /// It was told that it has joined the bus.
+    /// The handshake is complete, and the connection is a WebSocket.
     Upgraded,
-    /// It is to be closed.
+    /// The connection is to be closed.
     Finished,
 }
 
 impl<S: Stream> HttpConnection<S> {
-    /// One who has just come. `now`: microseconds since the start.
+    /// Creates the exchange of a new connection. `now` is in microseconds since the start.
     pub fn new(stream: S, now: u64) -> Self
         ensures stream { result.stream ≡ stream }
-        ensures visit { result.visit ≡ first_visit now }
+        ensures exchange { result.exchange ≡ initial_exchange now }
     {
         HttpConnection {
             stream,
-            visit: Visit::new(now),
+            exchange: HttpExchange::new(now),
         }
     }
 
-    /// How many microseconds may pass until it is gone on with, though nothing comes or goes.
+    /// Returns the microseconds until `advance` has to be called, even if the stream stays blocked.
     pub fn time_left(&self, now: u64) -> u64
-        ensures { result ≡ self.now.visit.ends - now }
+        ensures { result ≡ self.now.exchange.deadline - now }
     {
-        self.visit.patience(now)
+        self.exchange.time_left(now)
     }
 
-    /// Goes on with it: one read or one write at most. `page`: the reply that is the page, whole.
+    /// Advances the exchange by at most one read or one write. `page` is the whole response that
+    /// holds the page.
     ///
-    /// Who is waited for has time left: whose time is over is told so, or is to be closed.
+    /// Returns `Blocked` only before the deadline; after it, sends status 408 or returns
+    /// `Finished`.
     pub fn advance(&mut self, page: &[u8], now: u64) -> Progress
-        ensures in_time { result ≡ Blocked → now < self.new.visit.ends }
-        ensures joins { result ≡ Upgraded → IsUpgraded self.new.visit.stage }
+        ensures in_time { result ≡ Blocked → now < self.new.exchange.deadline }
+        ensures upgrades { result ≡ Upgraded → IsUpgraded self.new.exchange.stage }
     {
-        let progress = match self.visit.stage() {
-            Stage::Asks => self.hear(now),
-            Stage::IsTold { .. } => self.send(page, now),
-            Stage::OnBus { .. } => Progress::Upgraded,
-            Stage::Leaves => self.drain(),
+        let progress = match self.exchange.stage() {
+            Stage::ReadingRequest => self.receive(now),
+            Stage::WritingResponse { .. } => self.send(page, now),
+            Stage::Upgraded { .. } => Progress::Upgraded,
+            Stage::Draining => self.drain(),
         };
         match progress {
-            Progress::Blocked if self.time_left(now) == 0 => self.run_out(now),
+            Progress::Blocked if self.time_left(now) == 0 => self.time_out(now),
             progress => progress,
         }
     }
 
-    /// The page that it has become, on the same stream. Every byte behind its handshake is the page's.
+    /// Returns the page of an upgraded connection, on the same stream. Every byte after the
+    /// handshake belongs to the page.
     ///
     /// # Errors
     ///
-    /// Want of memory.
+    /// Out of memory.
     pub fn into_page(self, alloc: Global) -> Result<Page<S>, AllocError>
-        ensures behind { IfOk result (λ page. page.socket.input ≡ heard_behind self.visit.stage self.visit.heard) }
+        ensures leftover { IfOk result
+            (λ page. page.socket.input ≡ leftover_of self.exchange.stage self.exchange.received) }
         ensures stream { IfOk result (λ page. page.socket.stream.stream ≡ self.stream) }
     {
-        Page::new(alloc, self.stream, self.visit.behind())
+        Page::new(alloc, self.stream, self.exchange.leftover())
     }
 
-    /// Its time is over: it is told so, or let go.
-    fn run_out(&mut self, now: u64) -> Progress
-        ensures waits { result ≡ Blocked → now < self.new.visit.ends }
-        ensures joins { result ≡ Upgraded → IsUpgraded self.new.visit.stage }
+    /// Handles the deadline: sends status 408, or ends the exchange.
+    fn time_out(&mut self, now: u64) -> Progress
+        ensures blocked { result ≡ Blocked → now < self.new.exchange.deadline }
+        ensures upgrades { result ≡ Upgraded → IsUpgraded self.new.exchange.stage }
     {
-        if self.visit.run_out(now) {
+        if self.exchange.time_out(now) {
             Progress::Advanced
         } else {
             Progress::Finished
         }
     }
 
-    /// Reads what came of the request.
-    fn hear(&mut self, now: u64) -> Progress
-        requires { self.old.visit.stage ≡ Asks }
-        ensures { result ≡ Upgraded → IsUpgraded self.new.visit.stage }
+    /// Reads bytes of the request.
+    fn receive(&mut self, now: u64) -> Progress
+        requires { self.old.exchange.stage ≡ ReadingRequest }
+        ensures { result ≡ Upgraded → IsUpgraded self.new.exchange.stage }
     {
-        let mut room = [0; READ_AT_ONCE];
-        let most = self.visit.room().min(READ_AT_ONCE);
+        let mut room = [0; READ_SIZE];
+        let most = self.exchange.room().min(READ_SIZE);
         match self.stream.read(&mut room[..most]) {
             Ok(count) if count > 0 => {
-                self.visit.hear(&room[..count], now);
+                self.exchange.receive(&room[..count], now);
                 Progress::Advanced
             }
             Err(error) if is_retryable(&error) => Progress::Blocked,
@@ -131,27 +135,28 @@ impl<S: Stream> HttpConnection<S> {
         }
     }
 
-    /// Writes what is left of the answer. Behind it nothing more is told, but to one that joins.
+    /// Writes the rest of the response. After it nothing more is sent, except to an upgraded
+    /// connection.
     fn send(&mut self, page: &[u8], now: u64) -> Progress
-        ensures { result ≡ Upgraded → IsUpgraded self.new.visit.stage }
+        ensures { result ≡ Upgraded → IsUpgraded self.new.exchange.stage }
     {
-        match self.stream.write(self.visit.left(page)) {
-            Ok(count) if count > 0 => self.visit.tell(count, page, now),
+        match self.stream.write(self.exchange.remaining(page)) {
+            Ok(count) if count > 0 => self.exchange.sent(count, page, now),
             Err(error) if is_retryable(&error) => return Progress::Blocked,
             _ => return Progress::Finished,
         }
-        match self.visit.stage() {
-            Stage::OnBus { .. } => Progress::Upgraded,
-            Stage::Leaves if self.stream.end().is_err() => Progress::Finished,
+        match self.exchange.stage() {
+            Stage::Upgraded { .. } => Progress::Upgraded,
+            Stage::Draining if self.stream.end().is_err() => Progress::Finished,
             _ => Progress::Advanced,
         }
     }
 
-    /// Passes over what still comes.
+    /// Reads and discards further bytes.
     fn drain(&mut self) -> Progress
-        ensures { result ≡ Upgraded → IsUpgraded self.new.visit.stage }
+        ensures { result ≡ Upgraded → IsUpgraded self.new.exchange.stage }
     {
-        let mut room = [0; READ_AT_ONCE];
+        let mut room = [0; READ_SIZE];
         match self.stream.read(&mut room) {
             Ok(count) if count > 0 => Progress::Advanced,
             Err(error) if is_retryable(&error) => Progress::Blocked,
@@ -160,9 +165,10 @@ impl<S: Stream> HttpConnection<S> {
     }
 }
 
-/// Whether a read or a write only has to be tried again later.
+/// Whether the read or write is to be retried later.
 pub fn is_retryable(error: &Error) -> bool
-    ensures { result ≡ true ↔ (error_kind error.now ≡ ErrorKind.WouldBlock) ⊎ (error_kind error.now ≡ ErrorKind.Interrupted) }
+    ensures { result ≡ true ↔ (error_kind error.now ≡ ErrorKind.WouldBlock)
+        ⊎ (error_kind error.now ≡ ErrorKind.Interrupted) }
 {
     matches!(error.kind(), ErrorKind::WouldBlock | ErrorKind::Interrupted)
 }

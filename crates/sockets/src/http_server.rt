@@ -1,43 +1,45 @@
-//! The door of the page: who asks by HTTP, until the answer is out or until it has become a client.
+//! The HTTP server of the page: exchanges, until the response is sent or the connection is
+//! upgraded.
 ghost use Rattle.std.specs.Prelude.{◌≡◌, ◌<◌, ◌^◌, ◌++◌, IfOk, length};
 ghost use Rattle.web.specs.Replies.{page_head_text};
 
 use crate::http_connection::{HttpConnection, Progress};
-use crate::waits::sooner;
+use crate::wait_time::sooner;
 use mio::net::{TcpListener, TcpStream};
 use mio::{Interest, Registry, Token};
-use web::{Head, Page, push_page_head};
 use std::alloc::{AllocError, Global};
 use std::mem;
+use web::{Head, Page, push_page_head};
 
-/// The most connections of HTTP at once. Whoever else asks waits until one of them has ended.
+/// The most concurrent HTTP connections. Further ones stay pending until one of these has ended.
 pub(crate) const MAX_EXCHANGES: usize = 16;
 
-/// A place for one who asks.
+/// A slot for an HTTP connection.
 #[derive(Drop)]
 enum HttpSlot {
-    /// Nobody is there.
+    /// No connection.
     Free,
-    /// Somebody asks.
+    /// An HTTP exchange.
     Asked(HttpConnection<TcpStream>),
-    /// Somebody has joined the bus, and waits for a place there.
-    Joined(Page<TcpStream>),
+    /// An upgraded page that waits for a client index.
+    UpgradeRequest(Page<TcpStream>),
 }
 
-/// A port for browsers, and who asks there.
+/// A port for browsers, and its HTTP connections.
 #[derive(Drop)]
 pub(crate) struct HttpServer {
     alloc: Global,
     listener: TcpListener,
-    /// What the page is replied, whole.
+    /// The whole response that holds the page.
     page: Vec<u8>,
     http: [HttpSlot; MAX_EXCHANGES],
-    /// Somebody was heard or told in the last round, and there may be more to do.
+    /// An exchange advanced in the last round, and there may be more to do.
     has_backlog: bool,
 }
 
 impl HttpServer {
-    /// Doors at this listener. `page`: what the page is replied, whole. Those who ask take no memory.
+    /// Creates a server on this listener. `page` is the whole response that holds the page.
+    /// Exchanges allocate no memory.
     pub(crate) fn new(alloc: Global, listener: TcpListener, page: Vec<u8>) -> HttpServer {
         HttpServer {
             alloc,
@@ -70,8 +72,8 @@ impl HttpServer {
         &self.listener
     }
 
-    /// How long the next round may be waited for, in microseconds: not where there may be more to do, and else until
-    /// somebody's time is over, if somebody is there.
+    /// Returns how long the next round may be delayed, in microseconds: 0 if there may be more to
+    /// do, otherwise until the earliest deadline, if there is an exchange.
     pub(crate) fn time_left(&self, now: u64) -> Option<u64> {
         if self.has_backlog {
             return Some(0);
@@ -85,9 +87,10 @@ impl HttpServer {
         least
     }
 
-    /// Lets in who waits, and goes on with each who is there. `now`: microseconds since the start.
+    /// Accepts pending connections and advances each exchange. `now` is in microseconds since the
+    /// start.
     ///
-    /// Each is read once or written to once, so a round is bounded.
+    /// Each exchange makes one read or one write, so a round is bounded.
     pub(crate) fn round(&mut self, registry: &Registry, token: Token, now: u64) {
         self.has_backlog = false;
         for slot in &mut self.http {
@@ -98,11 +101,11 @@ impl HttpServer {
         }
     }
 
-    /// Who has joined the bus, and waits for a place there.
+    /// Returns an upgraded page that waits for a client index, if there is one.
     pub(crate) fn take_upgraded(&mut self) -> Option<Page<TcpStream>> {
         for slot in &mut self.http {
-            if let HttpSlot::Joined(_) = slot {
-                if let HttpSlot::Joined(page) = mem::replace(slot, HttpSlot::Free) {
+            if let HttpSlot::UpgradeRequest(_) = slot {
+                if let HttpSlot::UpgradeRequest(page) = mem::replace(slot, HttpSlot::Free) {
                     return Some(page);
                 }
             }
@@ -111,13 +114,14 @@ impl HttpServer {
     }
 }
 
-/// What this page is replied, whole.
+/// Returns the whole response that holds this page.
 ///
 /// # Errors
 ///
-/// Want of memory.
+/// Out of memory.
 pub fn page_reply(alloc: Global, page: &[u8]) -> Result<Vec<u8>, AllocError>
-    ensures { length page.now < 2 ^ 32 → IfOk result (λ reply. reply.items ≡ page_head_text (length page.now) ++ page.now) }
+    ensures { length page.now < 2 ^ 32
+        → IfOk result (λ reply. reply.items ≡ page_head_text (length page.now) ++ page.now) }
 {
     let mut head = Head::new();
     push_page_head(&mut head, u32::try_from(page.len()).unwrap_or(u32::MAX));
@@ -127,7 +131,7 @@ pub fn page_reply(alloc: Global, page: &[u8]) -> Result<Vec<u8>, AllocError>
     Ok(reply)
 }
 
-/// Lets in who waits at a free door.
+/// Accepts a pending connection in a free slot.
 fn accept(
     listener: &TcpListener,
     slot: &mut HttpSlot,
@@ -138,14 +142,14 @@ fn accept(
     let Ok((mut stream, _)) = listener.accept() else {
         return;
     };
-    // What cannot be registered is closed.
+    // A connection that cannot be registered is closed.
     let both = Interest::READABLE | Interest::WRITABLE;
     if stream.set_nodelay(true).is_ok() && registry.register(&mut stream, token, both).is_ok() {
         *slot = HttpSlot::Asked(HttpConnection::new(stream, now));
     }
 }
 
-/// Goes on with who is at a door. Whether there may be more to do.
+/// Advances the exchange in a slot. Returns true if there may be more to do.
 fn advance(slot: &mut HttpSlot, alloc: Global, page: &[u8], now: u64) -> bool {
     let HttpSlot::Asked(connection) = slot else {
         return false;
@@ -159,12 +163,13 @@ fn advance(slot: &mut HttpSlot, alloc: Global, page: &[u8], now: u64) -> bool {
     true
 }
 
-/// Lets who was at a door wait for a place on the bus. It is let go where there is no memory for it.
+/// Turns an upgraded exchange into a page that waits for a client index. Closes it if out of
+/// memory.
 fn join(slot: &mut HttpSlot, alloc: Global) {
     let HttpSlot::Asked(connection) = mem::replace(slot, HttpSlot::Free) else {
         return;
     };
     if let Ok(page) = connection.into_page(alloc) {
-        *slot = HttpSlot::Joined(page);
+        *slot = HttpSlot::UpgradeRequest(page);
     }
 }

@@ -1,7 +1,18 @@
-//! The sockets of a server: who asks for its page by HTTP, who has joined the bus and waits for a place there, and the
-//! streams of up to eight clients.
+//! The sockets of a server: its HTTP connections, its upgraded pages, and the streams of up to
+//! eight clients.
 //!
-//! It opens none: a program hands it the listeners, and a clock to read.
+//! [`Sockets`] is the transport of a `bus_server`; a program calls [`Sockets::poll`] before each
+//! round. [`HttpConnection`] is one HTTP exchange with its stream. [`Stopwatch`] measures the time
+//! since the start.
+//!
+//! ```ignore
+//! let mut sockets = Sockets::new(alloc, poll, listener)?;
+//! sockets.serve_page(alloc, page_listener, page)?;
+//! let watch = Stopwatch::new(clock)?;
+//! sockets.poll(clock, &watch, Some(1_000))?;
+//! ```
+//!
+//! No port is opened here: a program passes the listeners, and a clock to read.
 #![tactic(auto)]
 
 mod client;
@@ -10,11 +21,11 @@ mod http_server;
 mod sockets;
 mod stopwatch;
 mod ticking;
-mod waits;
+mod wait_time;
 
 pub use http_connection::{HttpConnection, Progress, Stream, is_retryable};
 pub use http_server::page_reply;
 pub use sockets::Sockets;
 pub use stopwatch::Stopwatch;
 pub use ticking::Ticking;
-pub use waits::{duration_of, micros_between, micros_of, sooner};
+pub use wait_time::{duration_of, micros_between, micros_of, sooner};

@@ -6,23 +6,23 @@ use crate::client::{Client, PageClient};
 use crate::http_connection::is_retryable;
 use crate::http_server::{HttpServer, MAX_EXCHANGES, page_reply};
 use crate::stopwatch::Stopwatch;
-use crate::waits::{duration_of, sooner};
+use crate::wait_time::{duration_of, sooner};
 use bus_server::{IoOutcome, MAX_CLIENTS, PageClients, Transport};
 use loconet_tcp::{Text, push_server_full};
 use mio::net::{TcpListener, TcpStream};
 use mio::unix::SourceFd;
 use mio::{Events, Interest, Poll, Registry, Token};
-use web::Page;
 use std::alloc::Global;
 use std::io;
 use std::io::{ErrorKind, Write};
 use std::net::SocketAddr;
 use std::os::fd::RawFd;
 use std::time::Clock;
+use web::Page;
 
-/// The ports, and the streams of the clients that were let in, each at its place, 0 to 7.
+/// The ports of a server, and the streams of the accepted clients, by their index, 0 to 7.
 ///
-/// What sockets deliver no contract can say, so of this wire nothing is known.
+/// Network I/O is outside the proofs, so this transport keeps no log.
 #[derive(Drop)]
 pub struct Sockets {
     poll: Poll,
@@ -30,16 +30,16 @@ pub struct Sockets {
     listener: TcpListener,
     clients: [Option<Client>; MAX_CLIENTS],
     http: Option<HttpServer>,
-    /// A page has sent something, and may have sent more.
+    /// A page has sent bytes, and may have sent more.
     has_backlog: bool,
 }
 
 impl Sockets {
-    /// Sockets for those who come to this listener. They take all their memory at once.
+    /// Creates the sockets for clients of this listener. All memory is allocated here.
     ///
     /// # Errors
     ///
-    /// Want of memory, and where the listener cannot be registered.
+    /// Out of memory, or the listener cannot be registered.
     pub fn new(alloc: Global, poll: Poll, listener: TcpListener) -> io::Result<Sockets> {
         let mut listener = listener;
         register_listener(&mut listener, poll.registry(), MAX_CLIENTS)?;
@@ -53,11 +53,12 @@ impl Sockets {
         })
     }
 
-    /// Serves a page to browsers that come to this listener, and lets them in. It takes all its memory at once.
+    /// Serves a page to browsers on this listener, and accepts pages as clients. All memory is
+    /// allocated here.
     ///
     /// # Errors
     ///
-    /// Want of memory, and where the listener cannot be registered.
+    /// Out of memory, or the listener cannot be registered.
     pub fn serve_page(
         &mut self,
         alloc: Global,
@@ -71,7 +72,8 @@ impl Sockets {
         Ok(())
     }
 
-    /// Has the wait end when a file descriptor begins to take bytes. One that cannot be registered always does.
+    /// Ends a wait when a file descriptor becomes writable. A descriptor that cannot be registered
+    /// is always writable.
     pub fn wake_on(&self, descriptor: &RawFd) {
         let mut source = SourceFd(descriptor);
         let _ = self
@@ -80,11 +82,11 @@ impl Sockets {
             .register(&mut source, Token(MAX_CLIENTS + 3), Interest::WRITABLE);
     }
 
-    /// The address and the port where programs come, and those of the page, where one is served.
+    /// Returns the address and port for programs, and those of the page, if one is served.
     ///
     /// # Errors
     ///
-    /// Where the system does not tell them.
+    /// The system does not report them.
     pub fn addresses(&self) -> io::Result<(SocketAddr, Option<SocketAddr>)> {
         let page = match &self.http {
             Some(http) => Some(http.listener().local_addr()?),
@@ -97,7 +99,7 @@ impl Sockets {
     ///
     /// # Errors
     ///
-    /// Where the clock cannot be read, and where the system does not wait.
+    /// The clock cannot be read, or the system cannot wait.
     pub fn poll<C: Clock>(
         &mut self,
         clock: &C,
@@ -109,9 +111,11 @@ impl Sockets {
         Ok(())
     }
 
-    /// Waits until something may be there, or so long. `now`: microseconds since the start.
+    /// Waits for readiness, at most `longest` microseconds. `now` is in microseconds since the
+    /// start.
     ///
-    /// An event only ends the wait: each round goes over all places, so none is looked up, and a stale one does no harm.
+    /// An event only ends the wait. Each round visits all clients, so no event is looked up, and a
+    /// stale one does no harm.
     fn wait(&mut self, longest: Option<u64>, now: u64) -> io::Result<()> {
         let longest = sooner(longest, self.time_left(now));
         match self.poll.poll(&mut self.events, longest.map(duration_of)) {
@@ -120,7 +124,7 @@ impl Sockets {
         }
     }
 
-    /// How long those who ask for a page, and pages, can be let wait, in microseconds.
+    /// Returns how long HTTP connections and pages can be left waiting, in microseconds.
     fn time_left(&self, now: u64) -> Option<u64> {
         match &self.http {
             Some(_) if self.has_backlog => Some(0),
@@ -137,7 +141,7 @@ impl Sockets {
         }
     }
 
-    /// The page at a place, if it is one that has it.
+    /// Returns the page at a client index, if that client is a page.
     fn page_client(&mut self, place: usize) -> Option<&mut PageClient>
         requires { place < 8 }
     {
@@ -149,10 +153,10 @@ impl Sockets {
 
     /// Closes all connections and the ports.
     ///
-    /// Who holds the sockets lets them go by this, so that what that takes is proved here alone.
+    /// Owners of the sockets drop them by this call, so that the drop is proved in one place.
     pub fn close_all(self) {}
 
-    /// Closes the connection of a client that has gone.
+    /// Closes the connection of a client that has disconnected.
     fn disconnect(&mut self, client: u8) -> IoOutcome
         requires { client < 8 }
         ensures { result ≡ Closed }
@@ -161,7 +165,7 @@ impl Sockets {
         IoOutcome::Closed
     }
 
-    /// A page that has joined, and has no place yet.
+    /// Returns an upgraded page that waits for a client index.
     fn upgraded(&mut self) -> Option<Page<TcpStream>> {
         match &mut self.http {
             Some(http) => http.take_upgraded(),
@@ -169,18 +173,18 @@ impl Sockets {
         }
     }
 
-    /// A program that waits at the port.
+    /// Accepts a pending program.
     fn accept_program(&mut self, place: usize) -> Option<TcpStream> {
         let (mut stream, _) = self.listener.accept().ok()?;
         self.prepare(&mut stream, place).ok()?;
         Some(stream)
     }
 
-    /// Makes a stream ready to be served at a place.
+    /// Prepares a stream to be served at a client index.
     fn prepare(&self, stream: &mut TcpStream, place: usize) -> io::Result<()> {
-        // Else a second write waits some 40 ms for the client to acknowledge the first.
+        // Otherwise a second write waits some 40 ms for the client to acknowledge the first.
         stream.set_nodelay(true)?;
-        // Both ways from the start, since a change is reported once.
+        // Both directions from the start, because a change is reported once.
         self.poll.registry().register(
             stream,
             Token(place),
@@ -188,7 +192,7 @@ impl Sockets {
         )
     }
 
-    /// Tells a program that waits at the port that no place is free. False where nobody waits.
+    /// Sends a pending program the text that the server is full. Returns false if none is pending.
     fn reject_program(&mut self, text: &[u8]) -> bool {
         let Ok((mut stream, _)) = self.listener.accept() else {
             return false;
@@ -203,12 +207,12 @@ impl Transport for Sockets {
 
     ghost log = { λ _. None };
 
-    /// It does not wait: who waits attends to it.
+    /// Does not wait: `poll` waits.
     fn wait(&mut self, _longest: Option<u32>) -> io::Result<()> {
         Ok(())
     }
 
-    /// A page that has joined is let in first, and else a program.
+    /// Accepts an upgraded page first, and otherwise a program.
     fn accept(&mut self, client: u8) -> bool {
         let place = usize::from(client);
         let client = match self.upgraded() {
@@ -281,16 +285,16 @@ impl PageClients for Sockets {
     }
 }
 
-/// Tells a page that has joined that no place is free: true.
+/// Sends an upgraded page the text that the server is full, and returns true.
 fn reject_page(page: Page<TcpStream>, text: &[u8]) -> bool {
     let mut page = page;
-    // Whoever has gone already need not be told.
-    let _ = page.tell_lines(text);
+    // A page that has already disconnected receives no text.
+    let _ = page.write_lines(text);
     page.close();
     true
 }
 
-/// Has it noted when somebody comes to a listener.
+/// Registers a listener for readiness.
 fn register_listener(
     listener: &mut TcpListener,
     registry: &Registry,

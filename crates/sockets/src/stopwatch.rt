@@ -1,11 +1,11 @@
 //! The time since the start.
 ghost use Rattle.std.specs.Prelude.{◌≡◌, ◌+◌, ◌-◌, IfErr, IfOk};
 
-use crate::waits::micros_between;
+use crate::wait_time::micros_between;
 use std::io;
 use std::time::{Clock, Instant};
 
-/// A clock that tells the whole microseconds that went by, so that none is lost where time is cut.
+/// A clock of whole microseconds. Successive readings add up, so that none is lost.
 #[derive(Drop)]
 pub struct Stopwatch {
     start: Instant,
@@ -13,7 +13,7 @@ pub struct Stopwatch {
 }
 
 impl Stopwatch {
-    /// One that starts now.
+    /// Creates a stopwatch that starts now.
     pub fn new<C: Clock>(clock: &C) -> io::Result<Stopwatch>
         ensures { IfOk result (λ watch. watch.reported ≡ 0) }
     {
@@ -23,12 +23,12 @@ impl Stopwatch {
         })
     }
 
-    /// The microseconds since the start.
+    /// Returns the microseconds since the start.
     pub fn now<C: Clock>(&self, clock: &C) -> io::Result<u64> {
         Ok(micros_between(self.start, Instant::now(clock)?))
     }
 
-    /// The microseconds since this was last asked, or since the start.
+    /// Returns the microseconds since the last call, or since the start.
     pub fn elapsed<C: Clock>(&mut self, clock: &C) -> io::Result<u64>
         ensures adds_up { IfOk result (λ micros. self.new.reported ≡ self.old.reported + micros) }
         ensures kept { IfErr result (λ _. self.new ≡ self.old) }

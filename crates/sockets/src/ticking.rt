@@ -6,7 +6,7 @@ use bus_server::TimeSource;
 use std::io;
 use std::time::Clock;
 
-/// A clock, and when it was read last. What it tells is outside the proofs, so it keeps no readings.
+/// A clock, and its last reading. The system's time is outside the proofs, so it keeps no readings.
 #[derive(Drop)]
 pub struct Ticking<'a, C> {
     pub clock: &'a C,

@@ -8,7 +8,7 @@ use Rattle.std.proofs.lemmas.Grind.{get_or_default_zero}
 use Rattle.memchr.specs.Find.{IsLastByte, NoneAfter, Passes, is_byte}
 use Rattle.web.specs.Lines.{is_open, whole_lines}
 
--- a text with a line feed is not open
+-- a text with a line feed has an ended line
 pub not_open : (xs ys : List ℕ) → is_open (xs ++ 10 ∷ ys) ≡ false
 not_open [] ys = refl
 not_open (x ∷ xs) ys = elim (cases_Bool (x == 10)) [ inl e ↦ rw e refl | inr e ↦ rw e (not_open xs ys) ]
@@ -23,7 +23,7 @@ lines_to (b ∷ body) tail h =
     ap (λ c. if c then [] else b ∷ whole_lines (body ++ 10 ∷ tail)) (not_open (b ∷ body) tail)
     ∙ ap (λ (t : List ℕ). b ∷ t) (lines_to body tail h)
 
--- what a search from behind finds
+-- the result of a search from the end
 nowhere-open : (text : List ℕ) (from : ℕ) → ((k : ℕ) → from ≤ k → k < length text → ¬ ((slice_index text k == 10) ≡ true)) → is_open (drop from text) ≡ true
 nowhere-open text from none =
     list_all-from_AllPass (λ b. not (b == 10)) (drop from text) (λ i d l.

@@ -1,7 +1,7 @@
 mod Cutting
-mod Hearing
-mod Joining
+mod Receiving
+mod Upgrading
 mod Pieces
-mod Standing
-mod Telling
+mod Determined
+mod Sending
 mod Wholes

@@ -7,7 +7,7 @@ use Rattle.std.proofs.lemmas.Bool.{cases_Bool}
 use Rattle.std.specs.Str.{bytes_eq}
 use Rattle.web.specs.Messages.{without_return}
 
--- what was handed on, and what is left
+-- the part already read, and the rest
 pub given-parts : (rest room part back : List ℕ) (count : ℕ) → count ≤ length rest → part ≡ take count rest → back ≡ drop count rest
     → rest ≡ take count (part ++ drop count room) ++ back
 given-parts rest room part back count fits is left =
@@ -15,7 +15,7 @@ given-parts rest room part back count fits is left =
     let front : take count (part ++ drop count room) ≡ part = ap (λ n. take n (part ++ drop count room)) (sym long) ∙ take-append_seam part (drop count room) in
     sym (take-append-drop count rest) ∙ ap₂ (λ (a b : List ℕ). a ++ b) (sym (front ∙ is)) (sym left)
 
--- two bytes are no carriage return alone
+-- two bytes are not a carriage return alone
 two_no_return : (x y : ℕ) (zs : List ℕ) → bytes_eq (x ∷ y ∷ zs) (13 ∷ []) ≡ false
 two_no_return x y zs = elim (cases_Bool (x == 13)) [ inl e ↦ rw e refl | inr e ↦ rw e refl ]
 
@@ -46,11 +46,11 @@ other-line line body last e b = e ∙ sym (ap without_return e ∙ without-other
 
 pub ruleset ends = (nothing-line, return-line, other-line)
 
--- what is appended behind what was appended before
+-- bytes appended after earlier appended bytes
 pub next : (old mid new before piece : List ℕ) → mid ≡ old ++ before → new ≡ mid ++ piece → new ≡ old ++ (before ++ piece)
 next old mid new before piece first more = more ∙ ap (λ (t : List ℕ). t ++ piece) first ∙ append_assoc old before piece
 
--- what a parser says by its answer being one
+-- the meaning of a parser's result being Ok
 pub parsed : {A E : Type 0} (Spells : A → Type 0) (r : Result A E) (b : Bool) → b ≡ is_ok r
     → MatchResult r Spells (λ _. (a : A) → ¬ (Spells a)) → (IsTrue b → (a : A) × Spells a) × (((a : A) × Spells a) → IsTrue b)
 parsed Spells (Ok a) b e h = (λ _. (a, h), λ _. e)

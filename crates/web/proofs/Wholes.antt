@@ -1,4 +1,4 @@
--- What bytes become, one after another, and what their lines become.
+-- The messages of bytes taken one after another, and those of their lines.
 use Rattle.std.proofs.Common.{◌≡◌, ℕ, ◌==◌, true, false, Bool, List, [], ◌∷◌, ◌++◌, zero, suc, length, take, append_assoc, refl, ap, sym, ◌∙◌, inl, inr, arith}
 use Rattle.std.specs.Prelude.{if◌then◌else◌, nat_lt, map}
 use Rattle.std.proofs.lemmas.Bool.{cases_Bool, cases_lt, le-ltb, lt-ltb}
@@ -22,7 +22,7 @@ take-none : (n : ℕ) → take {A = ℕ} n [] ≡ []
 take-none zero = refl
 take-none (suc n) = refl
 
--- what is held of a line is its first bytes
+-- the bytes held of a line are its first bytes
 
 less : (a b : ℕ) → nat_lt (suc a) (suc b) ≡ nat_lt a b
 less a b = elim (cases_lt a b) [

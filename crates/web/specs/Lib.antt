@@ -1,10 +1,10 @@
-pub mod Answers
+pub mod Responses
 pub mod Heads
-pub mod Hearing
+pub mod Receiving
 pub mod Lines
 pub mod Messages
 pub mod Origins
 pub mod Replies
-pub mod Telling
-pub mod Visited
-pub mod Visits
+pub mod Sending
+pub mod ExchangeInvariants
+pub mod Exchanges

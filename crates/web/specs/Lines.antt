@@ -11,6 +11,6 @@ abbrev pub whole_lines : List ℕ → List ℕ
 whole_lines [] = []
 whole_lines (b ∷ text) = if is_open (b ∷ text) then [] else b ∷ whole_lines text
 
--- what is looked at of a request: the whole lines of its first 8,192 bytes
+-- the part of a request that is examined: the whole lines of its first 8,192 bytes
 unfoldable pub lines_so_far : List ℕ → List ℕ
 lines_so_far text = whole_lines (take 8192 text)

@@ -1,7 +1,7 @@
--- Lines of text, and messages that hold one each.
+-- Lines of text, and messages of one line each.
 use Rattle.std.specs.Prelude.{ℕ, ◌==◌, if◌then◌else◌, nat_lt, List, [], ◌∷◌, ◌++◌, length, map, take, bytes_eq}
 
--- what is held of a line behind its next byte: its first 512 bytes
+-- the bytes held of a line after its next byte: its first 512
 abbrev pub held_after : List ℕ → ℕ → List ℕ
 held_after held b = if nat_lt (length held) 512 then held ++ b ∷ [] else held
 
@@ -10,7 +10,7 @@ abbrev pub without_return : List ℕ → List ℕ
 without_return [] = []
 without_return (b ∷ line) = if bytes_eq (b ∷ line) (13 ∷ []) then [] else b ∷ without_return line
 
--- the messages that bytes make behind what is held of a line, and what is held then
+-- the messages of bytes that follow the bytes held of a line, and the bytes held after them
 abbrev pub messages_along : (held : List ℕ) → List ℕ → List (List ℕ)
 messages_along held [] = []
 messages_along held (b ∷ text) =
@@ -20,7 +20,7 @@ abbrev pub held_along : (held : List ℕ) → List ℕ → List ℕ
 held_along held [] = held
 held_along held (b ∷ text) = if b == 10 then held_along [] text else held_along (held_after held b) text
 
--- a byte before the first line; before no line that ends, nothing
+-- a byte before the first line; nothing if no line ends
 abbrev pub onto_line : ℕ → List (List ℕ) → List (List ℕ)
 onto_line b [] = []
 onto_line b (line ∷ lines) = (b ∷ line) ∷ lines

@@ -1,27 +1,37 @@
-//! A web page, and the WebSocket by which it is a client of LocoNet over TCP: what a request is answered, the replies as
-//! text, and a page that joined as a stream of lines. No sockets, no threads and no clock are here.
+//! The HTTP server's side of a web page, and the WebSocket that makes the page a client of LocoNet
+//! over TCP. Without sockets, threads or a clock.
 //!
-//! A program reads the head of a request, and asks [`answer`] each time that bytes came, until it is other than
-//! [`Answer::Later`]. It then writes a reply ([`push_page_head`] and the page, [`push_refusal`]) and closes the connection,
-//! or it writes [`push_joining`] and makes a [`Page`] of the stream and of what stands behind the head.
+//! A [`HttpExchange`] is one HTTP exchange: it receives the bytes of a request, gives the bytes of the
+//! response, and is closed or upgraded. A [`Page`] is an upgraded connection as a stream of lines.
+//! [`response`] gives the response ([`Response`]) to the bytes of a request.
 //!
-//! Its tests stand in `layout_tests/src`: `test_web.rt` and `test_web/`.
+//! ```ignore
+//! let mut exchange = HttpExchange::new(now);
+//! exchange.receive(bytes, now);
+//! let count = write(stream, exchange.remaining(page));
+//! exchange.sent(count, page, now);
+//! if let Stage::Upgraded { .. } = exchange.stage() {
+//!     let page = Page::new(alloc, stream, exchange.leftover())?;
+//! }
+//! ```
+//!
+//! The tests are in `layout_tests/src`: `test_web.rt` and `test_web/`.
 #![tactic(auto)]
 
-mod answering;
-mod asked;
-mod gate;
+mod exchange;
+mod http_response;
 pub mod laws;
 mod lines;
 mod origin;
 mod page;
+mod read_once;
 mod reply;
-mod visit;
+mod routing;
 
-pub use answering::{LONGEST, MOST_FIELDS, answer};
-pub use asked::{Answer, Joined, Refusal};
+pub use exchange::{HttpExchange, Stage};
+pub use http_response::{HttpError, Response, UpgradeRequest};
 pub use laws::lines_are_messages;
 pub use lines::LONGEST_LINE;
 pub use page::Page;
-pub use reply::{Head, push_joining, push_page_head, push_refusal};
-pub use visit::{Stage, Visit};
+pub use reply::{Head, push_error, push_page_head, push_upgrade};
+pub use routing::{MAX_FIELDS, MAX_HEAD, response};

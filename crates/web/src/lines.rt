@@ -1,4 +1,4 @@
-//! Lines, and messages that hold one each.
+//! Lines, and messages of one line each.
 ghost use Rattle.std.specs.Prelude.{◌≡◌, ◌==◌, ◌<◌, ◌≤◌, ◌∷◌, ◌++◌, [], ℕ, List, drop, length, min, take};
 ghost use Rattle.arrayvec.specs.ArrayVec.{array_vec_len};
 ghost use Rattle.web.specs.Messages.{held_after, without_return};
@@ -6,17 +6,17 @@ ghost use Rattle.web.specs.Messages.{held_after, without_return};
 use arrayvec::ArrayVec;
 use std::marker::Model;
 
-/// The most bytes of a line, either way: of a page's message, and of what is told to a page.
+/// The most bytes of a line in either direction.
 pub const LONGEST_LINE: usize = 512;
 
-/// A message that came, as a line: what of it is still to be handed on.
+/// A received message, as a line of which a part may already have been read.
 #[derive(Drop)]
-pub struct HeardLine {
+pub struct ReceivedLine {
     line: ArrayVec<u8, 513>,
     at: usize,
 }
 
-impl Model for HeardLine {
+impl Model for ReceivedLine {
     ghost Value = { List ℕ };
 
     ghost view = { λ h. drop h.at h.line.items };
@@ -24,26 +24,26 @@ impl Model for HeardLine {
     ghost invariant = { λ h. (h.at ≤ array_vec_len h.line) × (array_vec_len h.line ≤ 513) };
 }
 
-impl HeardLine {
-    /// Nothing to hand on.
+impl ReceivedLine {
+    /// Creates a line with nothing to read.
     pub fn new() -> Self
         ensures { result ≡ [] }
     {
-        HeardLine {
+        ReceivedLine {
             line: ArrayVec::new(),
             at: 0,
         }
     }
 
-    /// Whether all is handed on.
+    /// Whether all of the line has been read.
     pub fn is_empty(&self) -> bool
         ensures { result ≡ (length self.now == 0) }
     {
         self.at == self.line.len()
     }
 
-    /// Takes the text of a message, at most [`LONGEST_LINE`] bytes. A line feed is put behind it, which ends the line.
-    pub fn hear(&mut self, message: &[u8])
+    /// Takes the text of a message, at most [`LONGEST_LINE`] bytes, and appends a line feed.
+    pub fn receive(&mut self, message: &[u8])
         requires { length message.now ≤ 512 }
         ensures { self.new ≡ message.now ++ 10 ∷ [] }
     {
@@ -53,7 +53,7 @@ impl HeardLine {
         self.line.push(b'\n');
     }
 
-    /// What is still to be handed on.
+    /// Returns the bytes not yet read.
     #[tactic(auto, using(crate::proofs::Pieces::rests))]
     fn rest(&self) -> &[u8]
         ensures bytes { result.now ≡ self.now }
@@ -62,8 +62,8 @@ impl HeardLine {
         &self.line.as_slice()[self.at..]
     }
 
-    /// Hands on as many bytes as there are, and as there is room for.
-    pub fn give(&mut self, room: &mut [u8]) -> usize
+    /// Copies as many of the remaining bytes as fit into `room`, and returns the count.
+    pub fn copy_into(&mut self, room: &mut [u8]) -> usize
         ensures count { result ≡ min (length self.old) (length room.new) }
         ensures given { self.old ≡ take result room.new ++ self.new }
         ensures len { length room.new ≡ length room.old }
@@ -76,7 +76,7 @@ impl HeardLine {
     }
 }
 
-/// The beginning of a line whose end has not come, at most [`LONGEST_LINE`] bytes of it.
+/// The beginning of an unfinished line, at most [`LONGEST_LINE`] bytes of it.
 #[derive(Drop)]
 pub struct UnfinishedLine {
     line: ArrayVec<u8, LONGEST_LINE>,
@@ -91,7 +91,7 @@ impl Model for UnfinishedLine {
 }
 
 impl UnfinishedLine {
-    /// No line has begun.
+    /// Creates an empty line.
     pub fn new() -> Self
         ensures { result ≡ [] }
     {
@@ -107,8 +107,9 @@ impl UnfinishedLine {
         self.line.is_empty()
     }
 
-    /// Takes the next byte of the line. Of a line that is too long the first [`LONGEST_LINE`] are kept.
-    pub fn hold(&mut self, byte: u8)
+    /// Takes the next byte of the line. Of a line that is too long the first [`LONGEST_LINE`] bytes
+    /// are kept.
+    pub fn push(&mut self, byte: u8)
         ensures { self.new ≡ held_after self.old byte }
     {
         if !self.line.is_full() {
@@ -116,7 +117,8 @@ impl UnfinishedLine {
         }
     }
 
-    /// The line, where a line feed comes now: what is held, without a carriage return at its end.
+    /// Returns the line that a line feed would end: the bytes held, without a carriage return at
+    /// their end.
     #[tactic(auto, using(crate::proofs::Pieces::ends))]
     pub fn line(&self) -> &[u8]
         ensures { result.now ≡ without_return self.now }
@@ -127,7 +129,7 @@ impl UnfinishedLine {
         }
     }
 
-    /// Forgets the line.
+    /// Clears the line.
     pub fn end(&mut self)
         ensures { self.new ≡ [] }
     {

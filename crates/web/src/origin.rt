@@ -1,4 +1,4 @@
-//! Whether a page that wants to join is one that this server has served.
+//! Checks that a page that requests an upgrade was served by this server.
 ghost use Rattle.std.specs.Prelude.{◌≡◌, ◌↔◌, length, All, IsTrue, option_map};
 ghost use Rattle.std.specs.List.{list_all};
 ghost use Rattle.std.specs.Char.{is_ascii_digit};
@@ -7,13 +7,13 @@ ghost use Rattle.std.specs.declared.net.ipv4_addr.Ipv4Addr.{Ipv4Addr};
 ghost use Rattle.std.specs.declared.net.socket_addr.SocketAddrV4.{SocketAddrV4};
 ghost use Rattle.httparse.specs.Spans.{IsHeaderWithin};
 ghost use Rattle.websocket.specs.Headers.{eq_ignore_case, fields_of};
-ghost use Rattle.web.specs.Origins.{IsHere, IsOwnOrigin, is_localhost, is_port, only, values_of};
+ghost use Rattle.web.specs.Origins.{IsOwnHost, IsOwnOrigin, is_localhost, is_port, only, values_of};
 
 use httparse::spans::HeaderSpan;
 use std::net::{Ipv4Addr, SocketAddrV4};
 
-/// Whether the fields have one `Host`, which names this computer by number or as `localhost`, and one `Origin`, which is a
-/// page of just that host and port.
+/// Whether the fields have exactly one `Host`, which names this computer by an IP address or as
+/// `localhost`, and exactly one `Origin`, which has the same host and port.
 pub(crate) fn is_own_origin(buf: &[u8], spans: &[HeaderSpan]) -> bool
     requires { All (IsHeaderWithin (length buf.now)) spans.now }
     ensures { IsTrue result ↔ IsOwnOrigin (fields_of buf.now spans.now) }
@@ -24,13 +24,14 @@ pub(crate) fn is_own_origin(buf: &[u8], spans: &[HeaderSpan]) -> bool
     ) else {
         return false;
     };
-    origin.strip_prefix(b"http://".as_slice()) == Some(host) && is_here(host)
+    origin.strip_prefix(b"http://".as_slice()) == Some(host) && is_own_host(host)
 }
 
-/// The value of the field of this name, if there is exactly one.
+/// Returns the value of the field of this name, if there is exactly one.
 fn only_value<'b>(buf: &'b [u8], spans: &[HeaderSpan], name: &[u8]) -> Option<&'b [u8]>
     requires { All (IsHeaderWithin (length buf.now)) spans.now }
-    ensures { option_map (λ v. v.now) result ≡ only (values_of name.now (fields_of buf.now spans.now)) }
+    ensures { option_map (λ v. v.now) result
+        ≡ only (values_of name.now (fields_of buf.now spans.now)) }
 {
     let mut found = None;
     for header in spans {
@@ -50,9 +51,9 @@ fn has_name(a: &[u8], b: &[u8]) -> bool
     a.eq_ignore_ascii_case(b)
 }
 
-/// Whether a host, with its port if it has one, names a computer by its number, or this one.
-fn is_here(host: &[u8]) -> bool
-    ensures { IsTrue result ↔ IsHere host.now }
+/// Whether a host, with an optional port, is an IP address or `localhost`.
+fn is_own_host(host: &[u8]) -> bool
+    ensures { IsTrue result ↔ IsOwnHost host.now }
 {
     is_ipv4(host) || is_ipv4_with_port(host) || is_localhost(host)
 }

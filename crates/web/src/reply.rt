@@ -1,42 +1,42 @@
-//! The replies as text.
+//! HTTP responses as text.
 ghost use Rattle.std.specs.Prelude.{◌≡◌, ◌≤◌, ◌+◌, ◌++◌, [], length};
 ghost use Rattle.std.specs.Fmt.{decimal};
 ghost use Rattle.arrayvec.specs.ArrayVec.{array_vec_len};
 ghost use Rattle.websocket.specs.Handshake.{response_bytes};
-ghost use Rattle.web.specs.Replies.{allow_of, name_of, page_head_text, reason_of, refusal_text, status_of};
+ghost use Rattle.web.specs.Replies.{allow_of, name_of, page_head_text, reason_of, error_text, status_of};
 
-use crate::asked::{Joined, Refusal};
+use crate::http_response::{HttpError, UpgradeRequest};
 use arrayvec::ArrayVec;
 use std::io::Cursor;
 use websocket::handshake::server::write_response;
 
-/// A reply, or the head of one, of at most 640 bytes.
+/// A response, or the head of one, at most 640 bytes.
 pub type Head = ArrayVec<u8, 640>;
 
-/// The connection ends behind the reply.
-const ENDS_BEHIND: &[u8] = b"\r\nConnection: close\r\n";
+/// The connection is closed after the response.
+const CONNECTION_CLOSE: &[u8] = b"\r\nConnection: close\r\n";
 
-/// A page is read anew each time, and only as what it is; whom it leads to is not told of it.
+/// A page is never cached, has exactly its declared type, and sends no `Referer` to linked sites.
 const PAGE_RULES: &[u8] =
     b"Cache-Control: no-store\r\nX-Content-Type-Options: nosniff\r\nReferrer-Policy: no-referrer\r\n";
 
-/// A page runs what stands in it alone, loads nothing, and connects to its own server alone.
+/// A page runs only its own inline scripts, loads nothing, and connects only to its own server.
 const PAGE_POLICY: &[u8] =
     b"Content-Security-Policy: default-src 'none'; style-src 'unsafe-inline'; script-src 'unsafe-inline'; connect-src 'self'; img-src data:; base-uri 'none'; form-action 'none'; frame-ancestors 'none'\r\n\r\n";
 
-impl Refusal {
-    /// The status, three digits (RFC 9110, section 15).
+impl HttpError {
+    /// The status code, three digits (RFC 9110, section 15).
     pub fn status(self) -> u16
         ensures value { result ≡ status_of self }
         ensures most { result ≤ 431 }
     {
         match self {
-            Refusal::BadRequest => 400,
-            Refusal::Forbidden => 403,
-            Refusal::NotFound => 404,
-            Refusal::MethodNotAllowed => 405,
-            Refusal::TimedOut => 408,
-            Refusal::TooLong => 431,
+            HttpError::BadRequest => 400,
+            HttpError::Forbidden => 403,
+            HttpError::NotFound => 404,
+            HttpError::MethodNotAllowed => 405,
+            HttpError::TimedOut => 408,
+            HttpError::TooLong => 431,
         }
     }
 
@@ -46,66 +46,67 @@ impl Refusal {
         ensures most { length result.now ≤ 31 }
     {
         match self {
-            Refusal::BadRequest => b"Bad Request",
-            Refusal::Forbidden => b"Forbidden",
-            Refusal::NotFound => b"Not Found",
-            Refusal::MethodNotAllowed => b"Method Not Allowed",
-            Refusal::TimedOut => b"Request Timeout",
-            Refusal::TooLong => b"Request Header Fields Too Large",
+            HttpError::BadRequest => b"Bad Request",
+            HttpError::Forbidden => b"Forbidden",
+            HttpError::NotFound => b"Not Found",
+            HttpError::MethodNotAllowed => b"Method Not Allowed",
+            HttpError::TimedOut => b"Request Timeout",
+            HttpError::TooLong => b"Request Header Fields Too Large",
         }
     }
 
-    /// What a reader is told, a line of at most 45 bytes.
+    /// The reason shown to the reader, a line of at most 45 bytes.
     fn reason(self) -> &'static [u8]
         ensures reason { result.now ≡ reason_of self }
         ensures most { length result.now ≤ 45 }
     {
         match self {
-            Refusal::BadRequest => b"This is no request that can be answered.\n",
-            Refusal::Forbidden => b"Only a page of this server may join the bus.\n",
-            Refusal::NotFound => b"There is nothing at this path.\n",
-            Refusal::MethodNotAllowed => b"Only GET is answered.\n",
-            Refusal::TimedOut => b"The request did not come to its end in time.\n",
-            Refusal::TooLong => b"The head of the request is too long.\n",
+            HttpError::BadRequest => b"This is no request that can be answered.\n",
+            HttpError::Forbidden => b"Only a page of this server may join the bus.\n",
+            HttpError::NotFound => b"There is nothing at this path.\n",
+            HttpError::MethodNotAllowed => b"Only GET is answered.\n",
+            HttpError::TimedOut => b"The request did not come to its end in time.\n",
+            HttpError::TooLong => b"The head of the request is too long.\n",
         }
     }
 
-    /// The field that says what is allowed, where one is due, at most 12 bytes.
+    /// The `Allow` field, if the status requires one, at most 12 bytes.
     fn allow(self) -> &'static [u8]
         ensures allow { result.now ≡ allow_of self }
         ensures most { length result.now ≤ 12 }
     {
         match self {
-            Refusal::MethodNotAllowed => b"Allow: GET\r\n",
+            HttpError::MethodNotAllowed => b"Allow: GET\r\n",
             _ => b"",
         }
     }
 }
 
-/// Appends the reply to a request that is refused, at most 300 bytes. The connection ends behind it.
-pub fn push_refusal(head: &mut Head, refusal: Refusal)
+/// Appends the response to a rejected request, at most 300 bytes. The connection is closed after
+/// it.
+pub fn push_error(head: &mut Head, error: HttpError)
     requires { array_vec_len head.old + 300 ≤ 640 }
-    ensures text { head.new.items ≡ head.old.items ++ refusal_text refusal }
+    ensures text { head.new.items ≡ head.old.items ++ error_text error }
     ensures len { array_vec_len head.new ≤ array_vec_len head.old + 300 }
 {
-    let reason = refusal.reason();
+    let reason = error.reason();
     push_text(head, b"HTTP/1.1 ");
-    push_number(head, u32::from(refusal.status()));
+    push_number(head, u32::from(error.status()));
     push_text(head, b" ");
-    push_text(head, refusal.name());
+    push_text(head, error.name());
     push_text(
         head,
         b"\r\nContent-Type: text/plain; charset=utf-8\r\nContent-Length: ",
     );
     push_number(head, reason.len() as u32);
-    push_text(head, ENDS_BEHIND);
-    push_text(head, refusal.allow());
+    push_text(head, CONNECTION_CLOSE);
+    push_text(head, error.allow());
     push_text(head, b"\r\n");
     push_text(head, reason);
 }
 
-/// Appends the head of the reply that is a page of `length` bytes, at most 500 bytes. The page follows, and then the end of
-/// the connection.
+/// Appends the head of the response that holds a page of `length` bytes, at most 500 bytes. The
+/// page follows, and then the connection is closed.
 pub fn push_page_head(head: &mut Head, length: u32)
     requires { array_vec_len head.old + 500 ≤ 640 }
     ensures text { head.new.items ≡ head.old.items ++ page_head_text length }
@@ -116,21 +117,21 @@ pub fn push_page_head(head: &mut Head, length: u32)
         b"HTTP/1.1 200 OK\r\nContent-Type: text/html; charset=utf-8\r\nContent-Length: ",
     );
     push_number(head, length);
-    push_text(head, ENDS_BEHIND);
+    push_text(head, CONNECTION_CLOSE);
     push_text(head, PAGE_RULES);
     push_text(head, PAGE_POLICY);
 }
 
-/// Appends the reply to a good handshake, 129 bytes. What follows is the WebSocket's.
-pub fn push_joining(head: &mut Head, joined: &Joined)
+/// Appends the response to a valid handshake, 129 bytes. The WebSocket follows.
+pub fn push_upgrade(head: &mut Head, upgrade: &UpgradeRequest)
     requires { array_vec_len head.old + 129 ≤ 640 }
-    ensures text { head.new.items ≡ head.old.items ++ response_bytes joined.now.accept_key [] }
+    ensures text { head.new.items ≡ head.old.items ++ response_bytes upgrade.now.accept_key [] }
     ensures len { array_vec_len head.new ≤ array_vec_len head.old + 129 }
 {
     let mut bytes = [0; 160];
     let mut reply = Cursor::new(bytes.as_mut_slice());
-    // There is room, and the key is one piece of its line.
-    let _fits = write_response(&joined.accept_key, &[], &mut reply);
+    // There is room, and the key contains no blank and no control character.
+    let _fits = write_response(&upgrade.accept_key, &[], &mut reply);
     let end = (reply.position() as usize).min(reply.get_ref().len());
     push_text(head, &reply.get_ref()[..end]);
 }

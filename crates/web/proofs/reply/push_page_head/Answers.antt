@@ -1,6 +1,6 @@
 use Rattle.std.proofs.Common.{◌++◌}
 use Rattle.std.specs.Fmt.{decimal}
-use Rattle.web.specs.Replies.{ends_behind, page_policy, page_rules, page_start}
+use Rattle.web.specs.Replies.{connection_close, page_policy, page_rules, page_start}
 use Rattle.web.proofs.Pieces.{next}
 use Rattle.web.proofs.reply.push_page_head.Goals as goal
 
@@ -10,8 +10,8 @@ returns-clause-text c =
     let before-second = page_start in
     let at-second = next old c.push_text.new.head.items c.push_number.new.head.items before-second (decimal c.args.length) c.push_text.ensures.text c.push_number.ensures.text in
     let before-third = before-second ++ decimal c.args.length in
-    let at-third = next old c.push_number.new.head.items c.push_text-2.new.head.items before-third (ends_behind) at-second c.push_text-2.ensures.text in
-    let before-fourth = before-third ++ ends_behind in
+    let at-third = next old c.push_number.new.head.items c.push_text-2.new.head.items before-third (connection_close) at-second c.push_text-2.ensures.text in
+    let before-fourth = before-third ++ connection_close in
     let at-fourth = next old c.push_text-2.new.head.items c.push_text-3.new.head.items before-fourth (page_rules) at-third c.push_text-3.ensures.text in
     let before-fifth = before-fourth ++ page_rules in
     next old c.push_text-3.new.head.items c.push_text-4.new.head.items before-fifth (page_policy) at-fourth c.push_text-4.ensures.text

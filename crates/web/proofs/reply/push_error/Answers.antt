@@ -1,0 +1,28 @@
+use Rattle.std.proofs.Common.{◌++◌, ap, length, ◌∙◌, codes}
+use Rattle.std.specs.Fmt.{decimal}
+use Rattle.web.specs.Replies.{allow_of, connection_close, name_of, plain_text, reason_of, status_of, version_text}
+use Rattle.web.proofs.Pieces.{next}
+use Rattle.web.proofs.reply.push_error.Goals as goal
+
+pub returns-clause-text : goal.returns-clause-text
+returns-clause-text c =
+    let r = c.args.error in
+    let old = c.args.head.now.items in
+    let before-second = version_text in
+    let at-second = next old c.push_text.new.head.items c.push_number.new.head.items before-second (decimal (status_of r)) c.push_text.ensures.text (c.push_number.ensures.text ∙ ap (λ n. c.push_text.new.head.items ++ decimal n) (c.from.ensures ∙ c.status.ensures.value)) in
+    let before-third = before-second ++ decimal (status_of r) in
+    let at-third = next old c.push_number.new.head.items c.push_text-2.new.head.items before-third (codes " ") at-second c.push_text-2.ensures.text in
+    let before-fourth = before-third ++ codes " " in
+    let at-fourth = next old c.push_text-2.new.head.items c.push_text-3.new.head.items before-fourth (name_of r) at-third (c.push_text-3.ensures.text ∙ ap (λ t. c.push_text-2.new.head.items ++ t) c.name.ensures.name) in
+    let before-fifth = before-fourth ++ name_of r in
+    let at-fifth = next old c.push_text-3.new.head.items c.push_text-4.new.head.items before-fifth (plain_text) at-fourth c.push_text-4.ensures.text in
+    let before-sixth = before-fifth ++ plain_text in
+    let at-sixth = next old c.push_text-4.new.head.items c.push_number-2.new.head.items before-sixth (decimal (length (reason_of r))) at-fifth (c.push_number-2.ensures.text ∙ ap (λ t. c.push_text-4.new.head.items ++ decimal (length t)) c.reason-reason.ensures.reason) in
+    let before-seventh = before-sixth ++ decimal (length (reason_of r)) in
+    let at-seventh = next old c.push_number-2.new.head.items c.push_text-5.new.head.items before-seventh (connection_close) at-sixth c.push_text-5.ensures.text in
+    let before-eighth = before-seventh ++ connection_close in
+    let at-eighth = next old c.push_text-5.new.head.items c.push_text-6.new.head.items before-eighth (allow_of r) at-seventh (c.push_text-6.ensures.text ∙ ap (λ t. c.push_text-5.new.head.items ++ t) c.allow.ensures.allow) in
+    let before-ninth = before-eighth ++ allow_of r in
+    let at-ninth = next old c.push_text-6.new.head.items c.push_text-7.new.head.items before-ninth (codes "\r\n") at-eighth c.push_text-7.ensures.text in
+    let before-tenth = before-ninth ++ codes "\r\n" in
+    next old c.push_text-7.new.head.items c.push_text-8.new.head.items before-tenth (reason_of r) at-ninth (c.push_text-8.ensures.text ∙ ap (λ t. c.push_text-7.new.head.items ++ t) c.reason-reason.ensures.reason)

@@ -1,0 +1,111 @@
+//! The response to a request.
+ghost use Rattle.std.specs.Prelude.{◌≡◌, ◌≢◌, ◌<◌, ◌++◌, List, ℕ, length, take, IsTrue};
+ghost use Rattle.httparse.specs.Spans.{IsRequestWithin, span_bytes};
+ghost use Rattle.websocket.specs.Headers.{fields_of};
+ghost use Rattle.web.specs.declared.http_response.Response.TheVariants.{Incomplete};
+ghost use Rattle.web.specs.Responses.{IsResponse, unfinished};
+ghost use Rattle.web.specs.Heads.{IsResponseTo, HasUpgraded};
+ghost use Rattle.web.specs.Lines.{whole_lines};
+
+use crate::http_response::{HttpError, Response, UpgradeRequest};
+use crate::origin::is_own_origin;
+use httparse::Status;
+use httparse::spans::{EMPTY_HEADER_SPAN, HeaderSpan, RequestSpans, parse_request};
+use memchr::memrchr;
+use websocket::handshake::server::check_request;
+
+/// The most bytes of a request head.
+pub const MAX_HEAD: usize = 8_192;
+
+/// The most header fields of a request head.
+pub const MAX_FIELDS: usize = 64;
+
+/// More fields than a head of [`MAX_HEAD`] bytes can have: a field has at least three bytes.
+const ROOM: usize = 2_731;
+
+/// Returns the response to a request whose bytes so far are `text`. Once it is other than
+/// [`Response::Incomplete`], it stays the same whatever follows, and however the text is divided into
+/// pieces.
+///
+/// The head is examined up to its last whole line. A head of [`MAX_HEAD`] bytes that has not ended
+/// is rejected (431), as is a whole head of more than [`MAX_FIELDS`] fields; lines that cannot
+/// begin a request are rejected at once (400). The form of a request is given in RFC 9112, section
+/// 3.
+pub fn response(text: &[u8]) -> Response
+    ensures response { IsResponse text.now result }
+    // A final response does not change with further bytes.
+    ensures stands { result ≢ Incomplete → (more : List ℕ) → IsResponse (text.now ++ more) result }
+    // An incomplete head leaves room for more.
+    ensures room { result ≡ Incomplete → length text.now < 8192 }
+{
+    let lines = whole_lines(&text[..text.len().min(MAX_HEAD)]);
+    let mut spans = [EMPTY_HEADER_SPAN; ROOM];
+    match parse_request(lines, &mut spans) {
+        Ok(Status::Complete(request)) => route(lines, &request, &spans),
+        Ok(Status::Partial) => unfinished(text),
+        Err(_) => Response::Error(HttpError::BadRequest),
+    }
+}
+
+/// The response to a head that has not ended.
+fn unfinished(text: &[u8]) -> Response
+    ensures { result ≡ unfinished text.now }
+{
+    if text.len() < MAX_HEAD {
+        Response::Incomplete
+    } else {
+        Response::Error(HttpError::TooLong)
+    }
+}
+
+/// Returns the text up to its last line feed.
+fn whole_lines(text: &[u8]) -> &[u8]
+    ensures { result.now ≡ whole_lines text.now }
+{
+    match memrchr(b'\n', text) {
+        Some(at) => &text[..=at],
+        None => &[],
+    }
+}
+
+/// The response to a whole head.
+fn route(lines: &[u8], request: &RequestSpans, spans: &[HeaderSpan]) -> Response
+    requires { IsRequestWithin lines.now spans.now request.now }
+    ensures response { IsResponseTo (span_bytes lines.now request.now.method)
+        (span_bytes lines.now request.now.path)
+        request.now.version (fields_of lines.now (take request.now.headers spans.now))
+        request.now.len result }
+    ensures now { result ≢ Incomplete }
+{
+    let path = request.path.of(lines);
+    if request.headers > MAX_FIELDS {
+        Response::Error(HttpError::TooLong)
+    } else if path != b"/".as_slice() && path != b"/bus".as_slice() {
+        Response::Error(HttpError::NotFound)
+    } else if request.method.of(lines) != b"GET".as_slice() {
+        Response::Error(HttpError::MethodNotAllowed)
+    } else if path == b"/".as_slice() {
+        Response::Page
+    } else if is_own_origin(lines, &spans[..request.headers]) {
+        upgrade_of(lines, request, spans)
+    } else {
+        Response::Error(HttpError::Forbidden)
+    }
+}
+
+/// The response to a head that requests the WebSocket.
+fn upgrade_of(lines: &[u8], request: &RequestSpans, spans: &[HeaderSpan]) -> Response
+    requires { IsRequestWithin lines.now spans.now request.now }
+    ensures upgrade { HasUpgraded (span_bytes lines.now request.now.method)
+        request.now.version (fields_of lines.now (take request.now.headers spans.now))
+        request.now.len result }
+    ensures now { result ≢ Incomplete }
+{
+    match check_request(lines, request, spans) {
+        Ok(accept_key) => Response::Upgrade(UpgradeRequest {
+            accept_key,
+            head_length: request.len,
+        }),
+        Err(_) => Response::Error(HttpError::BadRequest),
+    }
+}
