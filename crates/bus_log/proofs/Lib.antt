@@ -1,4 +1,4 @@
 pub mod Changed
 pub mod Logging
 pub mod Sending
-pub mod Telling
+pub mod Sent

@@ -1,5 +1,5 @@
 -- A text that is printed, byte by byte.
-use Rattle.std.proofs.Common.{◌≡◌, ◌<◌, ◌≤◌, ◌+◌, ◌∙◌, ℕ, zero, suc, List, [], ◌∷◌, length, drop, drop_of_length-le, get_or, refl, ap, sym, arith}
+use Rattle.std.proofs.Common.{◌≡◌, ◌<◌, ◌≤◌, ◌+◌, ◌∙◌, ℕ, zero, suc, List, [], ◌∷◌, length, drop, drop_of_length-le, get_or, refl, ap, arith}
 use Rattle.bus_log.specs.LogQueues.{LogState, after_byte, after_text}
 
 -- one byte more
@@ -12,7 +12,7 @@ text-more log (b ∷ text) (suc i) below =
     text-more log text i (omega (arith, below))
     ∙ ap (λ (n : ℕ). after_text (after_byte log (get_or text i 0)) (drop n (b ∷ text))) next
 
--- none is left
+-- none remain
 pub text-none : (log : LogState) (text : List ℕ) (i : ℕ) → length text ≤ i → after_text log (drop i text) ≡ log
 unfolding after_text
 text-none log text i over = ap (λ (rest : List ℕ). after_text log rest) (drop_of_length-le text over)

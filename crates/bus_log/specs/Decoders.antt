@@ -1,4 +1,4 @@
--- The decoders of a roster that is lent.
+-- The decoders of a borrowed roster.
 use Rattle.std.specs.Prelude.{List, [], map, Option, Some, None}
 use Rattle.std.specs.Borrow.{Bor}
 use Rattle.decoder_node.specs.declared.node.NodeSpec.{NodeSpec}

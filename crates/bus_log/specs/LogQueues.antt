@@ -1,22 +1,24 @@
--- Lines that are queued to be printed, as far as there is room for them.
+-- Lines that are queued to be printed, as far as they fit.
 use Rattle.std.specs.Prelude.{ℕ, ◌+◌, ◌==◌, ◌&&◌, Bool, if◌then◌else◌, nat_le, nat_lt, List, [], ◌∷◌, ◌++◌, length}
 use Rattle.bus_log.specs.Lines.{saturating_successor}
 
--- the bytes of whole lines that are queued, what is held of the line that has begun, and the lines that were left out since
+-- the bytes of whole lines that are queued, the bytes held of the unfinished line, and the number
+-- of lines left out since
 pub record LogState : Type 0 where
   pub queued : List ℕ
   pub line : List ℕ
   pub left_out : ℕ
 
--- what is held of a line behind its next byte: its first 1,025 bytes
+-- the bytes held of a line after its next byte: its first 1,025
 abbrev pub held_after : List ℕ → ℕ → List ℕ
 held_after line byte = if nat_lt (length line) 1025 then line ++ byte ∷ [] else line
 
--- A line is queued whole if it has at most 1,024 bytes and there is room; not while lines before it are left out.
+-- A line is queued whole if it has at most 1,024 bytes and fits; not while lines before it are left
+-- out.
 abbrev pub has_room : LogState → Bool
 has_room log = log.left_out == 0 && nat_le (length log.line) 1024 && nat_le (length log.queued + length log.line) 65536
 
--- a line is at its end: it is queued, or left out and counted
+-- a line ends: it is queued, or left out and counted
 abbrev pub ended : LogState → LogState
 ended log =
     if has_room log then record { queued = log.queued ++ log.line; line = []; left_out = log.left_out }
@@ -32,6 +34,6 @@ unfoldable pub after_text : LogState → List ℕ → LogState
 after_text log [] = log
 after_text log (byte ∷ text) = after_text (after_byte log byte) text
 
--- lines that were left out are reported once half of the room is free
+-- lines that were left out are reported once half of the capacity is free
 abbrev pub is_reported : LogState → Bool
 is_reported log = nat_lt 0 log.left_out && nat_le (length log.queued) 32768

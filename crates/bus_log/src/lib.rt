@@ -1,4 +1,14 @@
-//! What happens on a bus, printed a line each, for people.
+//! The log of a bus: a line for each event, for people, and the decoder states for pages.
+//!
+//! A [`Printer`] observes a bus and prints its outcomes. A [`LogQueue`] queues the lines until a
+//! [`LogOutput`] takes them. [`PageStates`] tracks which decoder states the page of each client has
+//! not received, and sends them.
+//!
+//! ```ignore
+//! let mut printer = Printer::new(output, roster, track, world);
+//! let outcome = bus.step(event);
+//! printer.observe(&outcome, bus.world())?;
+//! ```
 #![tactic(auto)]
 
 mod line_queue;

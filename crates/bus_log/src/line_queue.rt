@@ -1,17 +1,17 @@
-//! Bytes of whole lines that are queued.
+//! A queue of the bytes of whole lines.
 ghost use Rattle.std.specs.Prelude.{◌≡◌, ◌<◌, ◌≤◌, ◌+◌, ◌++◌, [], IfOk, drop, length, nat_le, take};
 
 use circular_buffer::HeapCircularBuffer;
 use std::alloc::{AllocError, Global};
 use std::marker::Model;
 
-/// The most bytes that are queued.
+/// The capacity of the queue in bytes.
 pub const LOG_CAPACITY: usize = 65_536;
 
-/// The queued bytes, at most [`LOG_CAPACITY`], in order. Its memory is taken once, by `new`.
+/// The queued bytes, at most [`LOG_CAPACITY`], in order. All memory is allocated by `new`.
 #[derive(Drop)]
 pub(crate) struct LineQueue {
-    // A ring: nothing moves when bytes go from its front.
+    // A ring: no bytes are moved when others are removed from its front.
     bytes: HeapCircularBuffer<u8>,
 }
 
@@ -26,7 +26,7 @@ impl Model for LineQueue {
 }
 
 impl LineQueue {
-    /// An empty queue.
+    /// Creates an empty queue.
     ///
     /// # Errors
     ///
@@ -38,7 +38,7 @@ impl LineQueue {
         Ok(LineQueue { bytes })
     }
 
-    /// How many bytes are queued.
+    /// Returns the number of queued bytes.
     pub(crate) fn len(&self) -> usize
         ensures len { result ≡ length self.now }
         ensures most { result ≤ 65536 }
@@ -46,7 +46,7 @@ impl LineQueue {
         self.bytes.len()
     }
 
-    /// Appends bytes that have room.
+    /// Appends bytes, which must fit.
     pub(crate) fn push(&mut self, bytes: &[u8])
         requires { length self.old + length bytes.now ≤ 65536 }
         ensures { self.new ≡ self.old ++ bytes.now }
@@ -54,7 +54,7 @@ impl LineQueue {
         self.bytes.extend_from_slice(bytes);
     }
 
-    /// The first queued bytes, as many as lie side by side: some unless the queue is empty.
+    /// Returns the first contiguous queued bytes: not empty unless the queue is.
     pub(crate) fn front(&self) -> &[u8]
         ensures front { result.now ≡ take (length result.now) self.now }
         ensures some { 0 < length self.now → 0 < length result.now }
@@ -64,7 +64,7 @@ impl LineQueue {
         if front.is_empty() { back } else { front }
     }
 
-    /// Removes so many of the first bytes.
+    /// Removes `count` bytes from the front.
     pub(crate) fn consume(&mut self, count: usize)
         requires { count ≤ length self.old }
         ensures { self.new ≡ drop count self.old }

@@ -1,25 +1,27 @@
-//! Where a server listens, printed for who starts it.
+//! The lines that report where a server listens.
 ghost use Rattle.std.specs.Prelude.{◌∷◌, ◌++◌, [], OnOk};
 ghost use Rattle.std.specs.Io.KnownBytes.{Appends};
 ghost use Rattle.std.specs.Net.Text.{socket_text};
 ghost use Rattle.console.specs.Printed.{lines_text};
 ghost use Rattle.bus_log.specs.Listening.{bus_line, page_lines};
 
-use console::Unwritten;
+use console::WriteError;
 use std::io::Write;
 use std::net::SocketAddr;
 
-/// Prints the address and the port where programs come, and behind them where the page is, if one is served.
+/// Prints the address and the port for programs, and then those of the page, if one is served.
 ///
 /// # Errors
 ///
-/// `Unwritten` where the output does not take them. How much was written is not known.
+/// `WriteError` if the output fails. The number of bytes written is then not known.
 pub fn print_listening<O: Write>(
     output: &mut O,
     bus: SocketAddr,
     page: Option<SocketAddr>,
-) -> Result<(), Unwritten>
-    ensures { OnOk result (Appends (O.contents output.old) (O.contents output.new) (lines_text (bus_line bus ∷ page_lines page))) }
+) -> Result<(), WriteError>
+    ensures { OnOk result
+        (Appends (O.contents output.old) (O.contents output.new)
+        (lines_text (bus_line bus ∷ page_lines page))) }
 {
     print_address(output, "listening ", bus, "")?;
     match page {
@@ -34,8 +36,10 @@ fn print_address<O: Write>(
     before: &str,
     address: SocketAddr,
     behind: &str,
-) -> Result<(), Unwritten>
-    ensures { OnOk result (Appends (O.contents output.old) (O.contents output.new) (lines_text ((before.now ++ socket_text address ++ behind.now) ∷ []))) }
+) -> Result<(), WriteError>
+    ensures { OnOk result
+        (Appends (O.contents output.old) (O.contents output.new)
+        (lines_text ((before.now ++ socket_text address ++ behind.now) ∷ []))) }
 {
-    writeln!(output, "{before}{address}{behind}").map_err(|_| Unwritten)
+    writeln!(output, "{before}{address}{behind}").map_err(|_| WriteError)
 }

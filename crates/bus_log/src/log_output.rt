@@ -1,24 +1,25 @@
-//! Where queued lines are written.
+//! The output of queued lines.
 ghost use Rattle.std.specs.Prelude.{◌≡◌, ◌<◌, ◌≤◌, IfOk, OnOk, length};
 
 use crate::log_queue::LogQueue;
 use crate::printer::Printer;
-use console::Unwritten;
+use console::WriteError;
 
-/// The most bytes that are written at once: so many a pipe or a terminal takes that takes any.
+/// The most bytes written at once. A pipe or a terminal that accepts any bytes accepts this many.
 const MOST_AT_ONCE: usize = 4_096;
 
 /// More writes than a full queue needs.
 const MOST_WRITES: usize = 64;
 
-/// An output of lines that is written only when it takes bytes.
+/// An output of lines that is written only while it accepts bytes.
 pub trait LogOutput {
-    /// Writes some of the bytes, from the front, if the output takes any without blocking. Returns how many it took.
+    /// Writes bytes from the front, if the output accepts any without blocking, and returns the
+    /// number written.
     ///
     /// # Errors
     ///
-    /// `Unwritten` if the output fails.
-    fn write_ready(&mut self, bytes: &[u8]) -> Result<usize, Unwritten>
+    /// `WriteError` if the output fails.
+    fn write_ready(&mut self, bytes: &[u8]) -> Result<usize, WriteError>
         requires { 0 < length bytes.now }
         ensures { IfOk result (λ count. count ≤ length bytes.now) };
 }
@@ -26,12 +27,12 @@ pub trait LogOutput {
 impl Printer<'_, LogQueue> {
     ghost use Rattle.bus_log.specs.Printers.{printer_state};
 
-    /// Writes the queued lines, until the output takes no more.
+    /// Writes the queued lines until the output would block.
     ///
     /// # Errors
     ///
-    /// `Unwritten` if the output fails.
-    pub fn write_queued<T: LogOutput>(&mut self, output: &mut T) -> Result<(), Unwritten>
+    /// `WriteError` if the output fails.
+    pub fn write_queued<T: LogOutput>(&mut self, output: &mut T) -> Result<(), WriteError>
         ensures kept { printer_state self.new ≡ printer_state self.old }
         ensures roster { self.new.roster ≡ self.old.roster }
         ensures track { self.new.track ≡ self.old.track }
@@ -40,8 +41,8 @@ impl Printer<'_, LogQueue> {
     }
 }
 
-/// Writes queued lines, until the output takes no more.
-pub fn write_queued<T: LogOutput>(log: &mut LogQueue, output: &mut T) -> Result<(), Unwritten> {
+/// Writes queued lines until the output would block.
+pub fn write_queued<T: LogOutput>(log: &mut LogQueue, output: &mut T) -> Result<(), WriteError> {
     for _ in 0..MOST_WRITES {
         log.report_left_out();
         if !log.has_queued() {

@@ -1,4 +1,4 @@
-//! The lines of a log, queued until its reader takes them.
+//! The lines of a log, queued until its reader accepts them.
 ghost use Rattle.std.specs.Prelude.{◌≡◌, ◌<◌, ◌≤◌, ◌+◌, ◌++◌, [], IfOk, List, ℕ, OnOk, drop, length, take, true, false};
 ghost use Rattle.std.specs.Io.{WritesAtMost};
 ghost use Rattle.arrayvec.specs.ArrayVec.{array_vec_len};
@@ -10,16 +10,19 @@ use std::fmt::Write as _;
 use std::io;
 use std::io::Write;
 
-/// The longest line that is queued, in bytes, with its line feed.
+/// The longest line that is queued, in bytes, including its line feed.
 const LONGEST_LINE: usize = 1_024;
 
-/// Lines that were left out are reported once so few bytes are queued: half of the room.
+/// Lines that were left out are reported once at most this many bytes are queued: half of the
+/// capacity.
 const REPORTED_BELOW: usize = 32_768;
 
-/// The lines of a log, queued until its reader takes them. A write into it never blocks and never fails.
+/// The lines of a log, queued until its reader accepts them. A write to it never blocks and never
+/// fails.
 ///
-/// Lines are queued whole, in order. A line that finds no room is left out and counted, and so are those behind it, until
-/// half of the room is free; then `log: 1,234 lines left out` stands in their place. The memory is taken once, by `new`.
+/// Lines are queued whole, in order. A line that does not fit is left out and counted, and so are
+/// those after it, until half of the capacity is free; then `log: 1,234 lines left out` is queued
+/// instead of them. All memory is allocated by `new`.
 #[derive(Drop)]
 pub struct LogQueue {
     pub(crate) queue: LineQueue,
@@ -31,13 +34,14 @@ impl LogQueue {
     ghost use Rattle.bus_log.specs.LogStates.{log_state};
     ghost use Rattle.bus_log.specs.LogQueues.{after_byte, ended, is_reported};
 
-    /// An empty queue.
+    /// Creates an empty queue.
     ///
     /// # Errors
     ///
     /// Out of memory.
     pub fn new(alloc: Global) -> Result<LogQueue, AllocError>
-        ensures { IfOk result (λ log. log_state log ≡ record { queued = []; line = []; left_out = 0 }) }
+        ensures { IfOk result
+            (λ log. log_state log ≡ record { queued = []; line = []; left_out = 0 }) }
     {
         Ok(LogQueue {
             queue: LineQueue::new(alloc)?,
@@ -46,7 +50,7 @@ impl LogQueue {
         })
     }
 
-    /// Returns whether bytes are queued.
+    /// Whether bytes are queued.
     pub fn has_queued(&self) -> bool
         ensures some { result ≡ true → 0 < length (log_state self.now).queued }
         ensures none { result ≡ false → (log_state self.now).queued ≡ [] }
@@ -54,7 +58,7 @@ impl LogQueue {
         self.queue.len() > 0
     }
 
-    /// The first queued bytes, at most `most`, as many as lie side by side.
+    /// Returns the first contiguous queued bytes, at most `most`.
     pub fn front(&self, most: usize) -> &[u8]
         ensures front { result.now ≡ take (length result.now) (log_state self.now).queued }
         ensures most { length result.now ≤ most }
@@ -65,19 +69,27 @@ impl LogQueue {
         &front[..front.len().min(most)]
     }
 
-    /// Removes so many of the first bytes, which were written.
+    /// Removes `count` bytes, which were written, from the front.
     pub fn consume(&mut self, count: usize)
         requires { count ≤ length (log_state self.old).queued }
-        ensures { log_state self.new ≡ record (log_state self.old) { queued = drop count (log_state self.old).queued } }
+        ensures { log_state self.new
+            ≡ record (log_state self.old) { queued = drop count (log_state self.old).queued } }
     {
         self.queue.consume(count);
     }
 
-    /// Queues a line that tells how many lines were left out, if any were and half of the room is free.
+    /// Queues a line that reports how many lines were left out, if any were and half of the
+    /// capacity is free.
     pub fn report_left_out(&mut self)
-        ensures kept { is_reported (log_state self.old) ≡ false → log_state self.new ≡ log_state self.old }
+        ensures kept { is_reported (log_state self.old) ≡ false
+            → log_state self.new ≡ log_state self.old }
         ensures reported { is_reported (log_state self.old) ≡ true → (line : List ℕ)
-            × (log_state self.new ≡ record (log_state self.old) { queued = (log_state self.old).queued ++ line; left_out = 0 }) }
+            × (log_state self.new
+            ≡ record (log_state self.old) {
+              queued = (log_state self.old).queued
+                  ++ line;
+              left_out = 0;
+            }) }
     {
         if self.left_out > 0 && self.queue.len() <= REPORTED_BELOW {
             self.queue.push(left_out_line(self.left_out).as_bytes());
@@ -97,7 +109,7 @@ impl LogQueue {
         }
     }
 
-    /// Queues the line that is at its end, or leaves it out.
+    /// Ends the current line: queues it, or leaves it out.
     fn end_line(&mut self)
         ensures { log_state self.new ≡ ended (log_state self.old) }
     {
@@ -129,13 +141,13 @@ impl Write for LogQueue {
         Ok(buf.len())
     }
 
-    /// It keeps what is queued: only its reader takes it.
+    /// The bytes stay queued: only the reader removes them.
     fn flush(&mut self) -> io::Result<()> {
         Ok(())
     }
 }
 
-/// `log: 1 line left out`, or how many, with its line feed.
+/// The line `log: 1 line left out`, or the number of lines, with its line feed.
 fn left_out_line(count: u64) -> ArrayString<64> {
     let mut line = ArrayString::new();
     line.push_str("log: ");

@@ -1,4 +1,4 @@
--- What of an order a run depends on.
+-- The part of an order that a run depends on.
 use Rattle.std.proofs.Common.{◌≡◌, ℕ, List, Option, Some, None, refl, subst}
 use Rattle.std.specs.Borrow.{Bor}
 use Rattle.std.specs.Option.{option_copied}
@@ -9,7 +9,7 @@ use Rattle.bus_server.specs.declared.losses.Losses.{Losses}
 use Rattle.bus_server.specs.Applied.{initial_state}
 use Rattle.bus_server.specs.Draws.{IsSeeded}
 use Rattle.bus_server.specs.Runs.{IsRun}
-use Rattle.lbserver.specs.Serving.{ServesOrder, clients_of, entries_in, unlogged}
+use Rattle.lbserver.specs.Execution.{ServesOrder, clients_of, entries_in, unlogged}
 
 pub same_order : (a b : ServerOrder) (entries : List Entry) → a.turns ≡ b.turns → a.lose ≡ b.lose → a.seed ≡ b.seed → a.clients ≡ b.clients → ServesOrder a entries → ServesOrder b entries
 same_order a b entries turns lose seed clients served =

@@ -1,10 +1,10 @@
-//! The clients of the bus on their sockets, and what each page of them was told of the decoders.
+//! The clients of the bus on their sockets, and the decoder states that their pages have received.
 ghost use Rattle.std.specs.Prelude.{None};
 
 use crate::standard_output::{STANDARD_OUTPUT, StandardOutput};
 use bus_log::{LogQueue, PageStates, Printer};
 use bus_server::{AfterRound, IoOutcome, Transport};
-use console::Unwritten;
+use console::WriteError;
 use layout_core::World;
 use mio::Poll;
 use mio::net::TcpListener;
@@ -15,8 +15,8 @@ use std::io::Write;
 use std::net::{Net, SocketAddr};
 use std::time::Clock;
 
-/// The sockets, what the page at each place was told of the decoders, and the clock by which those who ask for a page are
-/// waited for.
+/// The sockets, the decoder states that the page at each client index has received, and the clock
+/// that measures the deadlines of HTTP connections.
 #[derive(Drop)]
 pub(crate) struct Clients<'a, R> {
     pub(crate) sockets: Sockets,
@@ -26,7 +26,7 @@ pub(crate) struct Clients<'a, R> {
 }
 
 impl<'a, R: Net + AllocGlobal + Clock> Clients<'a, R> {
-    /// Listens on an address and a port. It takes all its memory at once.
+    /// Listens on an address and a port. All memory is allocated here.
     pub(crate) fn bind(rt: &'a R, address: SocketAddr) -> io::Result<Clients<'a, R>> {
         let poll = Poll::new(rt)?;
         let listener = TcpListener::bind(rt, address)?;
@@ -84,7 +84,8 @@ impl<R: Clock> Transport for Clients<'_, R> {
     }
 }
 
-/// Between two rounds pages receive the decoder states, and the queued lines of the log are written.
+/// Between two rounds pages receive the decoder states, and the queued lines of the log are
+/// written.
 impl<'o, 'w, 'p, R: Clock, O: Write> AfterRound<Clients<'w, R>, Printer<'p, LogQueue>>
     for StandardOutput<'o, O> {
     fn after_round(
@@ -92,7 +93,7 @@ impl<'o, 'w, 'p, R: Clock, O: Write> AfterRound<Clients<'w, R>, Printer<'p, LogQ
         transport: &mut Clients<'w, R>,
         printer: &mut Printer<'p, LogQueue>,
         world: &World,
-    ) -> Result<(), Unwritten> {
+    ) -> Result<(), WriteError> {
         transport
             .page_states
             .send_all(&mut transport.sockets, printer, world);

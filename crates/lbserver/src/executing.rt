@@ -1,21 +1,21 @@
-//! The program on its words, its port and its clock.
+//! Running the program on its arguments, its port and its clock.
 ghost use Rattle.std.specs.Prelude.{◌≡◌, ◌≤◌, OnOk, map};
 ghost use Rattle.bus_log.specs.Decoders.{entries_of, specs_of};
 ghost use Rattle.bus_server.specs.Progress.{ObservesLayout, state_of};
 ghost use Rattle.command_line.specs.declared.words.ServerOrder.{ServerOrder as OrderValue};
 ghost use Rattle.console.specs.Files.{IsRosterOf};
-ghost use Rattle.lbserver.specs.Serving.{IsNewServer, ServesOrder, ServesWords, clients_of, entries_in};
+ghost use Rattle.lbserver.specs.Execution.{IsNewServer, ServesOrder, ServesWords, clients_of, entries_in};
 
 use crate::clients::Clients;
 use crate::standard_output::StandardOutput;
 use bus_log::{LogQueue, Printer, decoders, print_listening, write_queued};
 use bus_server::{Losses, Server, Stop};
 use command_line::{FileName, ServerOrder, server_order};
-use console::{RunFault, read_roster, read_whole, tell_as};
+use console::{RunFault, read_roster, read_whole};
 use mio::Poll;
 use roster::Roster;
 use sockets::{Sockets, Stopwatch, Ticking};
-use std::io::{ErrorKind, Write};
+use std::io::Write;
 use std::net::SocketAddr;
 use std::time::Duration;
 
@@ -28,12 +28,13 @@ const PAGE_FILE: &'static str = "pages/throttle.html";
 /// The longest page, in bytes.
 const LONGEST_PAGE: usize = 1_048_576;
 
-/// How long the last lines wait for a reader that takes none, in milliseconds.
+/// How long the last lines wait for a reader that accepts none, in milliseconds.
 const LAST_WAIT_MILLIS: u64 = 1_000;
 
-/// Runs the program on the words behind its name, and answers its exit status, 0 to 6.
+/// Runs the program on the arguments after its name, and returns its exit status, 0 to 6.
 ///
-/// Where the status is not 0, `faults` gets one line `lbserver: ..`, or what `clap` tells of the command line.
+/// If the status is not 0, one line `lbserver: ..`, or the text of `clap` for the command line, is
+/// written to `faults`.
 pub(crate) fn execute<O: Write, E: Write>(
     rt: &HostRuntime,
     words: &[&str],
@@ -41,27 +42,27 @@ pub(crate) fn execute<O: Write, E: Write>(
     faults: &mut E,
 ) -> u8
     ensures most { result ≤ 6 }
-    // Status 0 comes only behind a whole run of what the words ask for.
+    // Status 0 is returned only after a whole run of the order.
     ensures serves { result ≡ 0 → ServesWords (map (λ word. word.now) words.entry.now) }
 {
-    match obey(rt, words, output) {
+    match run(rt, words, output) {
         Ok(()) => 0,
-        Err(fault) => tell_as(NAME, &fault, faults),
+        Err(fault) => report_as(NAME, &fault, faults),
     }
 }
 
-/// Does what the words ask for.
+/// Carries out the order of the arguments.
 ///
 /// It goes on from function to function, each of which makes one thing and lends it, since one that may return early with
 /// something to let go is dear to prove.
-fn obey<O: Write>(rt: &HostRuntime, words: &[&str], output: &mut O) -> Result<(), RunFault>
+fn run<O: Write>(rt: &HostRuntime, words: &[&str], output: &mut O) -> Result<(), RunFault>
     ensures serves { OnOk result (ServesWords (map (λ word. word.now) words.entry.now)) }
 {
     let mut order = server_order(rt.alloc(), words)?;
     with_roster(rt, &mut order, output)
 }
 
-/// Does it with the roster that is named.
+/// Continues with the roster of the order.
 fn with_roster<O: Write>(
     rt: &HostRuntime,
     order: &mut ServerOrder,
@@ -73,7 +74,7 @@ fn with_roster<O: Write>(
     with_server(rt, order, roster.as_ref(), output)
 }
 
-/// Does it with a server for the decoders of this roster.
+/// Continues with a server for the decoders of this roster.
 fn with_server<O: Write>(
     rt: &HostRuntime,
     order: &mut ServerOrder,
@@ -87,7 +88,7 @@ fn with_server<O: Write>(
     with_sockets(rt, order, roster, &mut server, output)
 }
 
-/// Does it with the sockets on which clients come.
+/// Continues with the sockets of the clients.
 fn with_sockets<O: Write>(
     rt: &HostRuntime,
     order: &mut ServerOrder,
@@ -108,7 +109,7 @@ fn with_sockets<O: Write>(
     served
 }
 
-/// Does it with the page, if one is served.
+/// Continues with the page, if one is served.
 fn with_page<O: Write>(
     rt: &HostRuntime,
     order: &mut ServerOrder,
@@ -128,7 +129,7 @@ fn with_page<O: Write>(
     with_printer(rt, order, roster, server, clients, output)
 }
 
-/// Serves, with a log of what happens on standard output.
+/// Continues with a log on standard output.
 fn with_printer<O: Write>(
     rt: &HostRuntime,
     order: &ServerOrder,
@@ -164,11 +165,11 @@ fn with_log<O: Write>(
     ensures serves { OnOk result (ServesOrder order.now (entries_of roster.entry)) }
 {
     let mut log = LogQueue::new(rt.alloc())?;
-    tell_addresses(&clients.sockets, &mut log)?;
+    report_addresses(&clients.sockets, &mut log)?;
     write_queued(&mut log, output)?;
     let mut printer = Printer::new(log, roster, order.track, server.world());
     let served = serve(rt, order, server, clients, &mut printer, output);
-    // A reader that takes nothing for so long is not waited for.
+    // A reader that accepts nothing for this long is not waited for.
     output.longest = Duration::from_millis(LAST_WAIT_MILLIS);
     let written = printer.write_queued(output);
     served?;
@@ -196,18 +197,19 @@ fn read_page(rt: &HostRuntime, file: Option<FileName>) -> Result<Vec<u8>, RunFau
         Some(file) => file,
         None => FileName::new(rt.alloc(), PAGE_FILE)?,
     };
-    read_whole(rt, file, LONGEST_PAGE)
+    Ok(read_whole(rt, file, LONGEST_PAGE)?)
 }
 
 /// Tells the addresses and the ports that are bound, at once.
-fn tell_addresses<O: Write>(sockets: &Sockets, output: &mut O) -> Result<(), RunFault> {
+fn report_addresses<O: Write>(sockets: &Sockets, output: &mut O) -> Result<(), RunFault> {
     let Ok((bus, page)) = sockets.addresses() else {
         return Err(RunFault::Network);
     };
     Ok(print_listening(output, bus, page)?)
 }
 
-/// Serves an order until as many clients as it says have disconnected; without a number for ever, which is 2 ^ 64 rounds.
+/// Serves an order until the given number of clients have disconnected; without a number for ever,
+/// which is 2 ^ 64 rounds.
 fn serve<O: Write>(
     rt: &HostRuntime,
     order: &ServerOrder,
@@ -233,7 +235,7 @@ fn serve<O: Write>(
     }
 }
 
-/// How many clients have to disconnect until the server ends.
+/// Returns how many clients have to disconnect before the server ends.
 fn most_clients(clients: Option<u32>) -> u64
     ensures { result ≡ clients_of clients }
 {

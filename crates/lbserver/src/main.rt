@@ -5,8 +5,8 @@ mod clients;
 mod executing;
 mod standard_output;
 
-use command_line::no_server_text;
-use console::{RunFault, read_words, tell_as, texts};
+use command_line::not_utf8_server_text;
+use console::{RunFault, read_words, report_as, texts};
 use executing::{NAME, execute};
 use std::io;
 use std::process::ExitCode;
@@ -17,13 +17,14 @@ mod tests;
 fn main(rt: HostRuntime) -> ExitCode {
     ExitCode::from(match run_words(&rt) {
         Ok(status) => status,
-        Err(fault) => tell_as(NAME, &fault, &mut rt.stderr()),
+        Err(fault) => report_as(NAME, &fault, &mut rt.stderr()),
     })
 }
 
-/// Runs the program on its words, and answers its exit status, where the words can be had.
+/// Runs the program on its arguments, and returns its exit status. Fails if the arguments cannot be
+/// read.
 fn run_words(rt: &HostRuntime) -> Result<u8, RunFault> {
-    let words = read_words(rt.alloc(), rt, |alloc| no_server_text(alloc))?;
+    let words = read_words(rt.alloc(), rt, |alloc| not_utf8_server_text(alloc))?;
     let texts = texts(rt.alloc(), words.as_slice())?;
     Ok(execute(rt, texts.as_slice(), &mut io::writer(rt), &mut rt.stderr()))
 }

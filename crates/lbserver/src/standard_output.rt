@@ -1,8 +1,8 @@
-//! Standard output, written to only when it takes bytes.
+//! Standard output, written only while it accepts bytes.
 ghost use Rattle.std.specs.Prelude.{◌≤◌, IfOk, length};
 
 use bus_log::LogOutput;
-use console::Unwritten;
+use console::WriteError;
 use mio::unix::SourceFd;
 use mio::{Events, Interest, Poll, Token};
 use std::alloc::Global;
@@ -14,9 +14,10 @@ use std::time::Duration;
 /// The file descriptor of standard output.
 pub(crate) const STANDARD_OUTPUT: RawFd = 1;
 
-/// An output behind standard output's file descriptor: it is written to only when that takes bytes.
+/// An output for standard output's file descriptor, written only while that accepts bytes.
 ///
-/// A pipe or a terminal is registered for readiness. A file cannot be, and always takes bytes.
+/// A pipe or a terminal is registered for readiness. A file cannot be registered, and always
+/// accepts bytes.
 #[derive(Drop)]
 pub(crate) struct StandardOutput<'a, O> {
     output: &'a mut O,
@@ -28,7 +29,7 @@ pub(crate) struct StandardOutput<'a, O> {
 }
 
 impl<'a, O: Write> StandardOutput<'a, O> {
-    /// The output, which is not waited for.
+    /// Creates the output, with no waiting time.
     ///
     /// # Errors
     ///
@@ -48,12 +49,12 @@ impl<'a, O: Write> StandardOutput<'a, O> {
         })
     }
 
-    /// Returns whether standard output takes bytes now.
-    fn is_ready(&mut self) -> bool {
+    /// Returns whether standard output accepts bytes now.
+    fn is_writable(&mut self) -> bool {
         if !self.is_pollable {
             return true;
         }
-        // Registering anew reports what is ready already.
+        // Registering again reports a state that is ready already.
         let mut source = SourceFd(&STANDARD_OUTPUT);
         let _ = self
             .poll
@@ -67,19 +68,19 @@ impl<'a, O: Write> StandardOutput<'a, O> {
 }
 
 impl<O: Write> LogOutput for StandardOutput<'_, O> {
-    fn write_ready(&mut self, bytes: &[u8]) -> Result<usize, Unwritten> {
-        if !self.is_ready() {
+    fn write_ready(&mut self, bytes: &[u8]) -> Result<usize, WriteError> {
+        if !self.is_writable() {
             return Ok(0);
         }
         match self.output.write(bytes) {
             Ok(count) => Ok(count),
-            Err(error) if is_later(&error) => Ok(0),
-            Err(_) => Err(Unwritten),
+            Err(error) if is_retryable(&error) => Ok(0),
+            Err(_) => Err(WriteError),
         }
     }
 }
 
-/// Whether a write only has to be tried again later.
-fn is_later(error: &io::Error) -> bool {
+/// Whether the write is to be retried later.
+fn is_retryable(error: &io::Error) -> bool {
     matches!(error.kind(), ErrorKind::WouldBlock | ErrorKind::Interrupted)
 }

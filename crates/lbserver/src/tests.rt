@@ -1,6 +1,7 @@
-//! What no clause says: words and what is told of them, and clients and browsers over loopback.
+//! Tests of what no clause states: arguments and the reports for them, and clients and browsers
+//! over loopback.
 
 mod browsers;
 mod desk;
-mod serving;
+mod text_clients;
 mod words;

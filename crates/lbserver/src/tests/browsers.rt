@@ -1,14 +1,14 @@
-//! Browsers: what they are replied, and pages that are clients.
+//! Browsers: the responses to them, and pages that are clients.
 
 use crate::tests::desk::Step::{
-    At, Browses, Connects, Hears, HearsTheEnd, IsGone, IsTold, Leaves, Printed, Says,
+    At, Browses, Connects, Disconnects, IsGone, Printed, Reads, ReadsEnd, ReceivesMessages, Writes,
 };
 use crate::tests::desk::{
     Desk, OK, POWER_OFF, POWER_ON, Place, SLOT_1, Step, TAKE_3, VERSION, play_cuts,
 };
 use std::test::Fail;
 
-/// What the page is replied.
+/// The response that holds the page.
 const PAGE_REPLY: &'static str =
     "HTTP/1.1 200 OK\r\nContent-Type: text/html; charset=utf-8\r\nContent-Length: 37\r\nConnection: close\r\nCache-Control: no-store\r\nX-Content-Type-Options: nosniff\r\nReferrer-Policy: no-referrer\r\nContent-Security-Policy: default-src 'none'; style-src 'unsafe-inline'; script-src 'unsafe-inline'; connect-src 'self'; img-src data:; base-uri 'none'; form-action 'none'; frame-ancestors 'none'\r\n\r\n<!DOCTYPE html><title>Station</title>";
 
@@ -16,14 +16,14 @@ const PAGE_REPLY: &'static str =
 const JOINS: &'static [u8] =
     b"GET /bus HTTP/1.1\r\nHost: 127.0.0.1:8080\r\nUpgrade: websocket\r\nConnection: Upgrade\r\nSec-WebSocket-Key: dGhlIHNhbXBsZSBub25jZQ==\r\nOrigin: http://127.0.0.1:8080\r\nSec-WebSocket-Version: 13\r\n\r\n";
 
-/// What it is replied there.
+/// The response to that handshake.
 const JOINED: &'static str =
     "HTTP/1.1 101 Switching Protocols\r\nconnection: Upgrade\r\nupgrade: websocket\r\nsec-websocket-accept: s3pPLMBiTxaQ9kYGzzhZRbK+xOo=\r\n\r\n";
 
-/// What a page is told when it joins.
+/// The version message that a page receives first.
 const GREETING: &'static str = "VERSION lbserver station";
 
-/// Requests, and how their replies begin.
+/// Requests, and the beginnings of their responses.
 const REPLIES: [(&'static [u8], &'static [&'static str]); 9] = [
     (
         b"GET / HTTP/1.1\r\nHost: 127.0.0.1:8080\r\n\r\n",
@@ -64,9 +64,9 @@ fn requests_are_replied(rt: HostRuntime) -> Result<(), Fail> {
 
 fn ask_all<R: Place>(rt: &R, desk: &mut Desk<'_>) -> Result<(), Fail> {
     for (request, reply) in REPLIES {
-        desk.play(rt, &[Browses(0), Says(0, request), Hears(0, reply)])?;
+        desk.play(rt, &[Browses(0), Writes(0, request), Reads(0, reply)])?;
     }
-    // A page that is read is no client, and nobody who was refused is one.
+    // A browser that reads the page is no client, nor is one that was rejected.
     desk.play(rt, &[Printed("")])
 }
 
@@ -77,45 +77,51 @@ fn a_request_in_every_cut(rt: HostRuntime) -> Result<(), Fail> {
         &mut Desk::new(&rt, 1, None)?,
         &[Browses(0)],
         JOINS,
-        &[Hears(0, &[JOINED]), IsTold(0, &[GREETING]), Leaves(0)],
+        &[
+            Reads(0, &[JOINED]),
+            ReceivesMessages(0, &[GREETING]),
+            Disconnects(0),
+        ],
     )
 }
 
-/// The page ends where its connection does.
+/// The page ends with its connection.
 const WHOLE_PAGE: &'static [Step] = &[
     Browses(0),
-    Says(0, b"GET / HTTP/1.1\r\n\r\n"),
-    Hears(0, &[PAGE_REPLY]),
-    HearsTheEnd(0),
+    Writes(0, b"GET / HTTP/1.1\r\n\r\n"),
+    Reads(0, &[PAGE_REPLY]),
+    ReadsEnd(0),
 ];
 
-/// A head that is not whole after five seconds is refused, and one that is too long is at once.
+/// A head that is incomplete after five seconds is rejected, and one that is too long is rejected
+/// at once.
 const SLOW_AND_LONG_HEADS: &'static [Step] = &[
     Browses(0),
-    Says(0, b"GET / HTTP/1.1\r\n"),
+    Writes(0, b"GET / HTTP/1.1\r\n"),
     At(4_999_999, 1),
-    Says(0, b"Host: "),
+    Writes(0, b"Host: "),
     At(5_000_000, 2),
-    Hears(0, &["HTTP/1.1 408 Request Timeout\r\n"]),
+    Reads(0, &["HTTP/1.1 408 Request Timeout\r\n"]),
     Browses(1),
-    Says(1, b"GET / HTTP/1.1\r\nX: "),
-    Says(1, &[b'x'; 2_048]),
-    Says(1, &[b'x'; 2_048]),
-    Says(1, &[b'x'; 2_048]),
-    Says(1, &[b'x'; 2_048]),
-    Hears(1, &["HTTP/1.1 431 Request Header Fields Too Large\r\n"]),
+    Writes(1, b"GET / HTTP/1.1\r\nX: "),
+    Writes(1, &[b'x'; 2_048]),
+    Writes(1, &[b'x'; 2_048]),
+    Writes(1, &[b'x'; 2_048]),
+    Writes(1, &[b'x'; 2_048]),
+    Reads(1, &["HTTP/1.1 431 Request Header Fields Too Large\r\n"]),
 ];
 
-/// A page takes a locomotive and hears what others say, and nothing from before it joined.
+/// A page takes a locomotive and receives the messages of others, but none from before it
+/// connected.
 const A_CLIENT: &'static [Step] = &[
     Connects(0),
-    Says(0, b"SEND 82 7D\n"),
+    Writes(0, b"SEND 82 7D\n"),
     Browses(1),
-    Says(1, JOINS),
-    Hears(1, &[JOINED]),
-    IsTold(1, &[GREETING]),
-    Says(1, b"\x81\x90\0\0\0\0SEND BF 00 03 43"),
-    IsTold(
+    Writes(1, JOINS),
+    Reads(1, &[JOINED]),
+    ReceivesMessages(1, &[GREETING]),
+    Writes(1, b"\x81\x90\0\0\0\0SEND BF 00 03 43"),
+    ReceivesMessages(
         1,
         &[
             "RECEIVE BF 00 03 43",
@@ -123,26 +129,26 @@ const A_CLIENT: &'static [Step] = &[
             "RECEIVE E7 0E 01 23 03 00 00 06 00 00 00 00 00 31",
         ],
     ),
-    Says(0, b"SEND 83 7C\n"),
-    IsTold(1, &["RECEIVE 83 7C"]),
-    Hears(0, &[VERSION, POWER_OFF, OK, TAKE_3, SLOT_1, POWER_ON, OK]),
+    Writes(0, b"SEND 83 7C\n"),
+    ReceivesMessages(1, &["RECEIVE 83 7C"]),
+    Reads(0, &[VERSION, POWER_OFF, OK, TAKE_3, SLOT_1, POWER_ON, OK]),
 ];
 
-/// A page that goes without a word leaves its place, and costs itself alone.
+/// A page that disconnects without a close frame frees its index, and disturbs no other client.
 const GOES_WITHOUT_A_WORD: &'static [Step] = &[
     Browses(0),
-    Says(0, JOINS),
-    Hears(0, &[JOINED]),
-    IsTold(0, &[GREETING]),
-    Says(0, b"\x81\x85\0\0"),
+    Writes(0, JOINS),
+    Reads(0, &[JOINED]),
+    ReceivesMessages(0, &[GREETING]),
+    Writes(0, b"\x81\x85\0\0"),
     IsGone(0),
     Connects(1),
-    Says(1, b"SEND 83 7C\n"),
-    Hears(1, &[VERSION, POWER_ON, OK]),
+    Writes(1, b"SEND 83 7C\n"),
+    Reads(1, &[VERSION, POWER_ON, OK]),
     Printed("client 1 joins\nclient 1 leaves\nclient 1 joins\nmsg 83 7C power on\n"),
 ];
 
-/// What happens where each message has a turn behind it.
+/// The scenes, and the turns after each message.
 const SCENES: [(&'static [Step], u8); 4] = [
     (WHOLE_PAGE, 1),
     (SLOW_AND_LONG_HEADS, 1),
@@ -158,8 +164,8 @@ fn browsers(rt: HostRuntime) -> Result<(), Fail> {
     Ok(())
 }
 
-/// Sixteen connections are heard at once. A seventeenth waits until they have had their five seconds, and the second in which
-/// they could have read why.
+/// Sixteen connections are served at once. A seventeenth waits until they have had their five
+/// seconds, and the second for reading the reason.
 #[test]
 fn a_seventeenth_waits(rt: HostRuntime) -> Result<(), Fail> {
     wait_for_a_door(&rt, &mut Desk::new(&rt, 1, None)?)
@@ -172,15 +178,15 @@ fn wait_for_a_door<R: Place>(rt: &R, desk: &mut Desk<'_>) -> Result<(), Fail> {
     desk.play(
         rt,
         &[
-            Says(16, b"GET / HTTP/1.1\r\n\r\n"),
+            Writes(16, b"GET / HTTP/1.1\r\n\r\n"),
             At(5_000_000, 4),
             At(6_000_000, 4),
-            Hears(16, &[PAGE_REPLY]),
+            Reads(16, &[PAGE_REPLY]),
         ],
     )
 }
 
-/// A ninth page is told so, and closed.
+/// A ninth page receives that the server is full, and is closed.
 #[test]
 fn a_ninth_page_is_turned_away(rt: HostRuntime) -> Result<(), Fail> {
     join_nine_times(&rt, &mut Desk::new(&rt, 1, None)?)
@@ -190,21 +196,25 @@ fn join_nine_times<R: Place>(rt: &R, desk: &mut Desk<'_>) -> Result<(), Fail> {
     for page in 0..9usize {
         desk.play(
             rt,
-            &[Browses(page), Says(page, JOINS), Hears(page, &[JOINED])],
+            &[Browses(page), Writes(page, JOINS), Reads(page, &[JOINED])],
         )?;
     }
     desk.play(
         rt,
-        &[IsTold(7, &[GREETING]), IsTold(8, &["ERROR no place"])],
+        &[
+            ReceivesMessages(7, &[GREETING]),
+            ReceivesMessages(8, &["ERROR no place"]),
+        ],
     )
 }
 
-/// A page is told each decoder when it joins, and then the one that has changed; and so is the one that takes its place.
+/// A page receives each decoder when it connects, and then the one that has changed; so does the
+/// page that follows it at its index.
 const DECODERS: &'static [Step] = &[
     Browses(0),
-    Says(0, JOINS),
-    Hears(0, &[JOINED]),
-    IsTold(
+    Writes(0, JOINS),
+    Reads(0, &[JOINED]),
+    ReceivesMessages(
         0,
         &[
             GREETING,
@@ -213,9 +223,9 @@ const DECODERS: &'static [Step] = &[
         ],
     ),
     Connects(1),
-    Says(1, b"SEND 83 7C\nSEND BF 00 03 43\n"),
-    Says(1, b"SEND BA 01 01 45\nSEND A0 01 40 1E\n"),
-    IsTold(
+    Writes(1, b"SEND 83 7C\nSEND BF 00 03 43\n"),
+    Writes(1, b"SEND BA 01 01 45\nSEND A0 01 40 1E\n"),
+    ReceivesMessages(
         0,
         &[
             "RECEIVE 83 7C",
@@ -227,11 +237,11 @@ const DECODERS: &'static [Step] = &[
             "NODE node shunter short 3 step 63 of 128 forward F 0000000000000",
         ],
     ),
-    Leaves(0),
+    Disconnects(0),
     Browses(2),
-    Says(2, JOINS),
-    Hears(2, &[JOINED]),
-    IsTold(
+    Writes(2, JOINS),
+    Reads(2, &[JOINED]),
+    ReceivesMessages(
         2,
         &[
             GREETING,

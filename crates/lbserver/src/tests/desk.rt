@@ -1,4 +1,4 @@
-//! A server, and those who are connected to it over loopback, in one thread with it.
+//! A server, and its clients over loopback, in one thread with it.
 ghost use Rattle.bus_log.specs.Decoders.{entries_of, specs_of};
 ghost use Rattle.bus_server.specs.Progress.{ObservesLayout};
 
@@ -12,7 +12,7 @@ use std::net::{Ipv4Addr, Net, Shutdown, SocketAddr, TcpListener, TcpStream};
 use std::process::Abort;
 use std::test::Fail;
 
-/// What a client is told when it joins.
+/// The version line that a client receives first.
 pub(crate) const VERSION: &'static str = "VERSION lbserver station\r\n";
 
 pub(crate) const TAKE_3: &'static str = "RECEIVE BF 00 03 43\r\n";
@@ -25,10 +25,10 @@ pub(crate) const POWER_OFF: &'static str = "RECEIVE 82 7D\r\n";
 
 pub(crate) const OK: &'static str = "SENT OK\r\n";
 
-/// What is served as the page.
+/// The page that is served.
 pub(crate) const PAGE: &'static str = "<!DOCTYPE html><title>Station</title>";
 
-/// Where a desk stands: there are sockets and memory, and a test that fails ends.
+/// The system under a desk: sockets, memory, and the end of a failed test.
 pub(crate) trait Place: Net<Listener = TcpListener, Stream = TcpStream> + AllocGlobal + Abort {}
 
 impl<R: Net<Listener = TcpListener, Stream = TcpStream> + AllocGlobal + Abort> Place for R {}
@@ -36,32 +36,32 @@ impl<R: Net<Listener = TcpListener, Stream = TcpStream> + AllocGlobal + Abort> P
 /// The most connections of a scene.
 const MOST: usize = 17;
 
-/// What happens at a desk. A connection is told by its number, below 17.
+/// A step of a scene. A connection is named by its number, below 17.
 #[derive(Clone, Copy, Debug)]
 pub(crate) enum Step {
     /// A program connects.
     Connects(usize),
     /// A browser connects.
     Browses(usize),
-    /// It writes these bytes, and is heard.
-    Says(usize, &'static [u8]),
-    /// It is told just these texts next.
-    Hears(usize, &'static [&'static str]),
-    /// It is told just these messages next: frames of text, not masked (RFC 6455, section 5.2).
-    IsTold(usize, &'static [&'static str]),
-    /// It is told nothing more: what it reads next is the end.
-    HearsTheEnd(usize),
-    /// It ends the connection both ways.
-    Leaves(usize),
-    /// It is gone, whatever it could still have read.
+    /// It writes these bytes, and they are received.
+    Writes(usize, &'static [u8]),
+    /// It receives exactly these texts next.
+    Reads(usize, &'static [&'static str]),
+    /// It receives exactly these messages next: frames of text, not masked (RFC 6455, section 5.2).
+    ReceivesMessages(usize, &'static [&'static str]),
+    /// It receives nothing more: its next read finds the end.
+    ReadsEnd(usize),
+    /// It closes the connection in both directions.
+    Disconnects(usize),
+    /// It is closed, whatever it could still have read.
     IsGone(usize),
-    /// So many microseconds after the start, so many rounds.
+    /// This number of rounds, at this number of microseconds after the start.
     At(u64, u32),
-    /// This was printed so far.
+    /// This is the log so far.
     Printed(&'static str),
 }
 
-/// Those who are connected, by their numbers.
+/// The connections, by their numbers.
 #[derive(Drop)]
 pub(crate) struct Streams {
     streams: [Option<TcpStream>; MOST],
@@ -77,7 +77,7 @@ impl Streams {
         }
     }
 
-    /// The stream of one who is connected.
+    /// The stream of a connection.
     pub(crate) fn of(&mut self, who: usize) -> Result<&mut TcpStream, Fail> {
         match self.streams.get_mut(who) {
             Some(Some(stream)) => Ok(stream),
@@ -85,7 +85,7 @@ impl Streams {
         }
     }
 
-    /// Puts a stream in the place of the one that was there, which is gone then.
+    /// Puts a stream at a number; the stream that was there is closed.
     fn put(&mut self, who: usize, stream: Option<TcpStream>) {
         if who < MOST {
             self.streams[who] = stream;
@@ -93,7 +93,7 @@ impl Streams {
     }
 }
 
-/// A server on a port of its own, with turns behind messages and not in time.
+/// A server on a free port, with turns after messages and not in time.
 #[derive(Drop)]
 pub(crate) struct Desk<'a> {
     pub(crate) server: Server,
@@ -107,7 +107,7 @@ pub(crate) struct Desk<'a> {
 }
 
 impl<'a> Desk<'a> {
-    /// A layout with the decoders of a roster, if there is one, and its page.
+    /// Creates a layout with the decoders of a roster, if there is one, and its page.
     pub(crate) fn new<R: Place>(
         rt: &R,
         turns: u8,
@@ -126,7 +126,7 @@ impl<'a> Desk<'a> {
         })
     }
 
-    /// So many rounds.
+    /// Runs `count` rounds.
     pub(crate) fn rounds(&mut self, count: u32) -> Result<(), Fail> {
         for _round in 0..count {
             self.sockets.serve_http(self.now);
@@ -137,7 +137,7 @@ impl<'a> Desk<'a> {
         Ok(())
     }
 
-    /// What happens here, one after another.
+    /// Runs these steps, one after another.
     pub(crate) fn play<R: Place>(&mut self, rt: &R, steps: &[Step]) -> Result<(), Fail> {
         for step in steps {
             self.step(rt, step)?;
@@ -168,18 +168,18 @@ impl<'a> Desk<'a> {
                 self.streams.put(*who, None);
                 self.rounds(4)
             }
-            Step::Says(who, text) => self.say(*who, text),
-            Step::Hears(who, _)
-            | Step::IsTold(who, _)
-            | Step::HearsTheEnd(who)
-            | Step::Leaves(who) => {
+            Step::Writes(who, text) => self.say(*who, text),
+            Step::Reads(who, _)
+            | Step::ReceivesMessages(who, _)
+            | Step::ReadsEnd(who)
+            | Step::Disconnects(who) => {
                 hear(rt, self.streams.of(*who)?, step)?;
                 self.rounds(4)
             }
         }
     }
 
-    /// Somebody connects, and is let in.
+    /// A connection is made and accepted.
     fn connect<R: Place>(&mut self, rt: &R, who: usize, address: SocketAddr) -> Result<(), Fail> {
         let stream = TcpStream::connect(rt, address)?;
         stream.set_nodelay(true)?;
@@ -187,13 +187,14 @@ impl<'a> Desk<'a> {
         self.rounds(4)
     }
 
-    /// Somebody writes this, and is heard.
+    /// A connection writes this, and it is received.
     fn say(&mut self, who: usize, text: &[u8]) -> Result<(), Fail> {
         self.streams.of(who)?.write_all(text)?;
         self.rounds(4)
     }
 
-    /// Somebody writes a line of the longest message, and is told what it brings, 399 bytes, after a single round.
+    /// A connection writes a line of the longest message, and receives the result, 399 bytes, after
+    /// a single round.
     pub(crate) fn send(&mut self, who: usize, line: &[u8]) -> Result<[u8; 399], Fail> {
         self.streams.of(who)?.write_all(line)?;
         self.rounds(1)?;
@@ -202,13 +203,14 @@ impl<'a> Desk<'a> {
         Ok(told)
     }
 
-    /// Whether this was printed so far.
+    /// Whether this is the log so far.
     fn has_printed(&self, text: &str) -> bool {
         self.printer.output().as_slice() == text.as_bytes()
     }
 }
 
-/// Connection 0 writes a text in two pieces, cut at each place in turn, and the same happens before it and behind it.
+/// Connection 0 writes a text in two pieces, divided at each point in turn, with the same steps
+/// before it and after it.
 pub(crate) fn play_cuts<R: Place>(
     rt: &R,
     desk: &mut Desk<'_>,
@@ -220,7 +222,7 @@ pub(crate) fn play_cuts<R: Place>(
         desk.play(rt, before)?;
         desk.play(
             rt,
-            &[Step::Says(0, &text[..cut]), Step::Says(0, &text[cut..])],
+            &[Step::Writes(0, &text[..cut]), Step::Writes(0, &text[cut..])],
         )?;
         desk.play(rt, behind)?;
     }
@@ -237,32 +239,32 @@ fn bound<R: Place>(rt: &R) -> Result<Sockets, Fail> {
     Ok(sockets)
 }
 
-/// A port of its own on this machine.
+/// A free port of this machine.
 fn loopback() -> SocketAddr {
     SocketAddr::from((Ipv4Addr::LOCALHOST, 0))
 }
 
-/// What one who is connected hears, or does to its stream alone.
+/// Checks what a connection receives, or acts on its stream only.
 fn hear<R: Place>(rt: &R, stream: &mut TcpStream, step: &Step) -> Result<(), Fail> {
     match step {
-        Step::Hears(_, texts) => {
+        Step::Reads(_, texts) => {
             for text in *texts {
                 hears(rt, stream, text)?;
             }
         }
-        Step::IsTold(_, messages) => {
+        Step::ReceivesMessages(_, messages) => {
             for message in *messages {
                 is_told(rt, stream, message)?;
             }
         }
-        Step::HearsTheEnd(_) => assert!(rt; stream.read(&mut [0; 1])? == 0),
-        Step::Leaves(_) => stream.shutdown(Shutdown::Both)?,
+        Step::ReadsEnd(_) => assert!(rt; stream.read(&mut [0; 1])? == 0),
+        Step::Disconnects(_) => stream.shutdown(Shutdown::Both)?,
         _ => {}
     }
     Ok(())
 }
 
-/// Somebody is told just this text next.
+/// Asserts that a connection receives exactly this text next.
 fn hears<R: Place>(rt: &R, stream: &mut TcpStream, text: &str) -> Result<(), Fail> {
     let mut told = Vec::from_elem(rt.alloc(), 0, text.len())?;
     stream.read_exact(told.as_mut_slice())?;
@@ -270,7 +272,7 @@ fn hears<R: Place>(rt: &R, stream: &mut TcpStream, text: &str) -> Result<(), Fai
     Ok(())
 }
 
-/// A page is told just this message next.
+/// Asserts that a page receives exactly this message next.
 fn is_told<R: Place>(rt: &R, page: &mut TcpStream, message: &str) -> Result<(), Fail> {
     let mut head = [0; 2];
     page.read_exact(&mut head)?;

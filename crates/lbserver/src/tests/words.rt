@@ -1,13 +1,13 @@
-//! The words of the command line.
+//! The arguments of the command line.
 
 use crate::executing::execute;
-use command_line::{OrderFault, ServerOrder, no_server_text, server_order};
-use console::{read_words, tell_as};
-use test_support::{Given, has_all};
+use command_line::{OrderFault, ServerOrder, not_utf8_server_text, server_order};
+use console::{read_words, report_as};
 use std::net::Ipv4Addr;
 use std::test::Fail;
+use test_support::{Given, has_all};
 
-/// The values of an order that stand beside its roster.
+/// The values of an order other than its roster.
 #[derive(Clone, Copy, Debug, PartialEq, Eq)]
 struct Held {
     octets: [u8; 4],
@@ -20,7 +20,7 @@ struct Held {
     seed: u32,
 }
 
-/// What stands for the options.
+/// The defaults of the options.
 const DEFAULTS: Held = Held {
     octets: [127, 0, 0, 1],
     port: 1234,
@@ -32,8 +32,8 @@ const DEFAULTS: Held = Held {
     seed: 0,
 };
 
-/// Words, the roster that they name, and what else they hold.
-const ORDERS: [(&'static [&'static str], Option<&'static str>, Held); 5] = [
+/// Arguments, the roster that they name, and their other values.
+const ORDERS: [(&'static [&'static str], Option<&'static str>, Held); 7] = [
     (&[], None, DEFAULTS),
     (
         &["--roster", "a b.toml", "--port", "1", "--turns", "0"],
@@ -111,7 +111,7 @@ fn orders(rt: HostRuntime) -> Result<(), Fail> {
 
 #[test]
 fn words_that_are_no_order(rt: HostRuntime) {
-    let rows: [&[&str]; 20] = [
+    let rows: [&[&str]; 19] = [
         &["--help"],
         &["help"],
         &["1234"],
@@ -141,7 +141,7 @@ fn words_that_are_no_order(rt: HostRuntime) {
     }
 }
 
-/// Words, and parts of what standard error is told.
+/// Arguments, and parts of the text on standard error.
 const TOLD: [(&'static [&'static str], &'static [&'static str]); 5] = [
     (
         &["--help"],
@@ -197,11 +197,11 @@ fn a_word_that_is_not_utf_8(rt: HostRuntime) -> Result<(), Fail> {
     let given = Given {
         words: &[b"lbserver", b"--roster", b"caf\xE9.toml"],
     };
-    let fault = read_words(rt.alloc(), &given, |alloc| no_server_text(alloc))
+    let fault = read_words(rt.alloc(), &given, |alloc| not_utf8_server_text(alloc))
         .err()
         .ok_or("a fault")?;
     let mut faults = Vec::new(rt.alloc());
-    assert_eq!(rt; tell_as("lbserver", &fault, &mut faults), 1);
+    assert_eq!(rt; report_as("lbserver", &fault, &mut faults), 1);
     assert!(rt;
         has_all(
             faults.as_slice(),

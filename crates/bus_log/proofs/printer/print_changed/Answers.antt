@@ -2,10 +2,10 @@ use Rattle.std.proofs.Common.{◌≡◌, ◌<◌, ◌∙◌, ℕ, List, [], Opti
 use Rattle.std.proofs.lemmas.List.{get_or-map, length-map}
 use Rattle.std.specs.Io.KnownBytes.{Appends}
 use Rattle.decoder_node.specs.declared.node.NodeSpec.{NodeSpec}
-use Rattle.layout_core.specs.declared.standing.Standing.{Standing}
+use Rattle.layout_core.specs.declared.decoder_state.DecoderState.{DecoderState}
 use Rattle.layout_core.specs.declared.node.Node.{Node}
 use Rattle.layout_core.specs.Nodes.{node_of, spec_of}
-use Rattle.layout_core.specs.Standings.{decoder_line, standing_of}
+use Rattle.layout_core.specs.DecoderStates.{decoder_line, decoder_state_of}
 use Rattle.roster.specs.Entry.{Entry, spec_of as entry_spec}
 use Rattle.console.specs.Printed.{lines_text}
 use Rattle.bus_log.proofs.Changed.{changed, line_if, rest_more, unchanged}
@@ -16,21 +16,21 @@ pub loop-i-preserved : goal.loop-i-preserved
 loop-i-preserved g c =
     let i = c.loop-i.i in
     let entries : List Entry = c.args.roster.now in
-    let before : List Standing = c.args.before.now in
+    let before : List DecoderState = c.args.before.now in
     let nodes : List Node = c.args.world.now.nodes in
     let specs : List NodeSpec = c.as_slice-spec-items.result.now in
     let spec : NodeSpec = c.spec-item.result in
     let none : Entry = record { name = []; spec = spec } in
-    let last : Standing = get_or before i (record { running = None; outputs = None }) in
-    let now : Standing = c.standing-now.result in
+    let last : DecoderState = get_or before i (record { running = None; outputs = None }) in
+    let now : DecoderState = c.decoder_state-now.result in
     let contents = g.O.Write.contents in
     let are : specs ≡ map entry_spec entries = c.as_slice-spec-items.ensures.value ∙ c.nodes.ensures.nodes in
     let below : i < length specs = c.loop-i-test.true in
     let inside : i < length entries = omega (arith, below, ap length are, length-map entries entry_spec) in
     let count : length nodes ≡ length entries = sym (length-map nodes spec_of) ∙ ap length c.requires.decoders ∙ length-map entries entry_spec in
-    let all : length (map standing_of nodes) ≡ length entries = length-map nodes standing_of ∙ count in
+    let all : length (map decoder_state_of nodes) ≡ length entries = length-map nodes decoder_state_of ∙ count in
     let listens : i < length nodes = omega (arith, inside, count) in
-    let stands : get_or (map standing_of nodes) i now ≡ now = get_or-map standing_of nodes i (node_of spec) now listens ∙ sym (c.standing-now.ensures.standing (node_of spec)) in
+    let stands : get_or (map decoder_state_of nodes) i now ≡ now = get_or-map decoder_state_of nodes i (node_of spec) now listens ∙ sym (c.decoder_state-now.ensures.decoder_state (node_of spec)) in
     let entry : Entry = get_or entries i none in
     let one : Appends (contents c.loop-i.output) (contents c.if-not-is_same.output) (lines_text (line_if entry last now)) = elim c.if-not-is_same.branch [
       | then-not-is_same+in_ok-print_to w ↦
@@ -41,6 +41,6 @@ loop-i-preserved g c =
           (changed entry last now w.line.result.bytes (contents c.loop-i.output) (contents w.print_to.new.writer) (sym c.is_same.ensures ∙ w.if-not-is_same.true) line w.in_ok-print_to.ensures)
       | else-not-is_same w ↦ unchanged entry last now (contents c.loop-i.output) (contents c.if-not-is_same.output) (sym c.is_same.ensures ∙ w.if-not-is_same.false) (ap contents w.output-is)
     ] in
-    rest_more entries before (map standing_of nodes) i none (record { running = None; outputs = None }) now (contents c.args.output.now) (contents c.loop-i.output) (contents c.if-not-is_same.output)
+    rest_more entries before (map decoder_state_of nodes) i none (record { running = None; outputs = None }) now (contents c.args.output.now) (contents c.loop-i.output) (contents c.if-not-is_same.output)
     inside c.requires.as_many all c.loop-i.invariant
-    (subst (λ (s : Standing). Appends (contents c.loop-i.output) (contents c.if-not-is_same.output) (lines_text (line_if entry last s))) (sym stands) one)
+    (subst (λ (s : DecoderState). Appends (contents c.loop-i.output) (contents c.if-not-is_same.output) (lines_text (line_if entry last s))) (sym stands) one)

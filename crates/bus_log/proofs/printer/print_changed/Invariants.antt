@@ -1,8 +1,8 @@
 use Rattle.std.proofs.Common.{map}
-use Rattle.layout_core.specs.Standings.{standing_of}
+use Rattle.layout_core.specs.DecoderStates.{decoder_state_of}
 use Rattle.bus_log.proofs.Changed.{Rest}
 use Rattle.bus_log.proofs.printer.print_changed.Given as goal
 
--- what is printed of the rest makes up the whole
+-- the output for the rest completes the whole
 abbrev pub invariant-loop-i : goal.invariant-loop-i
-invariant-loop-i g l = Rest l.roster l.before (map standing_of l.world.nodes) l.i (g.O.Write.contents l.fn.output) (g.O.Write.contents l.output)
+invariant-loop-i g l = Rest l.roster l.before (map decoder_state_of l.world.nodes) l.i (g.O.Write.contents l.fn.output) (g.O.Write.contents l.output)

@@ -3,7 +3,7 @@ use Rattle.std.proofs.lemmas.Result.{on_ok_weaker}
 use Rattle.bus_log.specs.Decoders.{entries_of, specs_of}
 use Rattle.bus_server.specs.Progress.{state_of}
 use Rattle.bus_server.specs.Runs.{IsRun}
-use Rattle.lbserver.specs.Serving.{IsNewServer, ServesOrder, ServesWords, clients_of, entries_in, unlogged}
+use Rattle.lbserver.specs.Execution.{IsNewServer, ServesOrder, ServesWords, clients_of, entries_in, unlogged}
 use Rattle.lbserver.proofs.executing.serve.Goals as goal
 
 pub returns-in-Ok-run : goal.returns-in-Ok-run

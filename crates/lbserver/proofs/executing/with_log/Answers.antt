@@ -1,6 +1,6 @@
 use Rattle.std.proofs.Common.{subst}
 use Rattle.bus_log.specs.Decoders.{entries_of}
-use Rattle.lbserver.specs.Serving.{ServesOrder}
+use Rattle.lbserver.specs.Execution.{ServesOrder}
 use Rattle.lbserver.proofs.executing.with_log.Goals as goal
 
 pub returns : goal.returns

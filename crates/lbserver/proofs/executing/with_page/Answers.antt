@@ -4,7 +4,7 @@ use Rattle.command_line.specs.declared.words.ServerOrder.{ServerOrder}
 use Rattle.bus_log.specs.Decoders.{entries_of}
 use Rattle.console.specs.Files.{IsRosterOf}
 use Rattle.roster.specs.Entry.{Entry}
-use Rattle.lbserver.specs.Serving.{ServesOrder, entries_in}
+use Rattle.lbserver.specs.Execution.{ServesOrder, entries_in}
 use Rattle.lbserver.proofs.Orders.{entries_copied, same_order}
 use Rattle.lbserver.proofs.executing.with_page.Goals.{in-Some+in_ok-bind_page, in_default}
 use Rattle.lbserver.proofs.executing.with_page.Goals as goal

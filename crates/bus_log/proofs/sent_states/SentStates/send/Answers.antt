@@ -1,5 +1,5 @@
 use Rattle.std.proofs.Common.{◌∙◌, Bool, [], ◌∷◌, arith, false, map, subst, sym, true}
-use Rattle.layout_core.specs.Standings.{standing_of}
+use Rattle.layout_core.specs.DecoderStates.{decoder_state_of}
 use Rattle.bus.specs.Log.{Extends}
 use Rattle.bus_server.specs.PageEvents.{Sending}
 use Rattle.bus_log.specs.Decoders.{entries_of}
@@ -7,7 +7,7 @@ use Rattle.bus_log.proofs.Sending.{node-none, node-refused, node-same, node-take
 use Rattle.bus_log.proofs.sent_states.SentStates.send.Goals as goal
 
 pub loop-decoder-init : goal.loop-decoder-init
-loop-decoder-init g c = rest-all c.args.client (entries_of c.args.printer.now.roster) (map standing_of c.args.world.now.nodes) c.args.self.now.sent (g.G.PageClients.page_log c.args.page_clients.now)
+loop-decoder-init g c = rest-all c.args.client (entries_of c.args.printer.now.roster) (map decoder_state_of c.args.world.now.nodes) c.args.self.now.sent (g.G.PageClients.page_log c.args.page_clients.now)
 
 pub loop-decoder-preserved-then-is_sent : goal.loop-decoder-preserved-then-is_sent
 loop-decoder-preserved-then-is_sent g c =

@@ -1,6 +1,8 @@
 //! Programs that are clients.
 
-use crate::tests::desk::Step::{At, Connects, Hears, HearsTheEnd, IsGone, Leaves, Printed, Says};
+use crate::tests::desk::Step::{
+    At, Connects, Disconnects, IsGone, Printed, Reads, ReadsEnd, Writes,
+};
 use crate::tests::desk::{
     Desk, OK, POWER_OFF, POWER_ON, Place, SLOT_1, Step, TAKE_3, VERSION, play_cuts,
 };
@@ -9,16 +11,16 @@ use std::test::Fail;
 
 const NO_MESSAGE: &'static str = "SENT ERROR no whole message\r\n";
 
-/// Two clients speak in each other's lines.
+/// Two clients send in the middle of each other's lines.
 const INTERLEAVED: &'static [Step] = &[
     Connects(0),
     Connects(1),
-    Says(0, b"SEND BF 0"),
-    Says(1, b"SEND 8"),
-    Says(0, b"0 03 43\r"),
-    Says(1, b"3 7D\nSEND 83 7C\r\n"),
-    Hears(0, &[VERSION, TAKE_3, OK, SLOT_1, POWER_ON]),
-    Hears(
+    Writes(0, b"SEND BF 0"),
+    Writes(1, b"SEND 8"),
+    Writes(0, b"0 03 43\r"),
+    Writes(1, b"3 7D\nSEND 83 7C\r\n"),
+    Reads(0, &[VERSION, TAKE_3, OK, SLOT_1, POWER_ON]),
+    Reads(
         1,
         &[
             VERSION,
@@ -31,22 +33,22 @@ const INTERLEAVED: &'static [Step] = &[
     ),
 ];
 
-/// A line goes with its client, and another takes its place.
+/// An unfinished line is discarded with its client, and another client gets the index.
 const GOES_IN_MID_LINE: &'static [Step] = &[
     Connects(0),
     Connects(1),
-    Says(1, b"SEND 83"),
-    Leaves(1),
+    Writes(1, b"SEND 83"),
+    Disconnects(1),
     Connects(2),
-    Says(2, b" 7C\nSEND 82 7D\n"),
-    Hears(2, &[VERSION, POWER_OFF, OK]),
-    Hears(0, &[VERSION, POWER_OFF]),
+    Writes(2, b" 7C\nSEND 82 7D\n"),
+    Reads(2, &[VERSION, POWER_OFF, OK]),
+    Reads(0, &[VERSION, POWER_OFF]),
     Printed(
         "client 1 joins\nclient 2 joins\nclient 2 leaves\nclient 2 joins\nmsg 82 7D power off\n",
     ),
 ];
 
-/// A ninth is turned away.
+/// A ninth client is rejected.
 const NINTH: &'static [Step] = &[
     Connects(0),
     Connects(1),
@@ -57,24 +59,24 @@ const NINTH: &'static [Step] = &[
     Connects(6),
     Connects(7),
     Connects(8),
-    Hears(8, &["ERROR no place\r\n"]),
-    HearsTheEnd(8),
+    Reads(8, &["ERROR no place\r\n"]),
+    ReadsEnd(8),
 ];
 
-/// A client that is gone while it still has text to read is reset, and costs itself alone.
+/// A client that closes while it still has text to read is reset, and disturbs no other client.
 const RESET: &'static [Step] = &[
     Connects(0),
     Connects(1),
-    Says(1, b"SEND 83 7C\n"),
+    Writes(1, b"SEND 83 7C\n"),
     IsGone(1),
-    Says(0, b"SEND 82 7D\n"),
-    Hears(0, &[VERSION, POWER_ON, POWER_OFF, OK]),
+    Writes(0, b"SEND 82 7D\n"),
+    Reads(0, &[VERSION, POWER_ON, POWER_OFF, OK]),
 ];
 
-/// Behind each message come its turns, three here, and none else.
+/// Each message is followed by its turns, three here, and no others.
 const TURNS: &'static [Step] = &[
     Connects(0),
-    Says(0, b"SEND 85 7A\nSEND 83 7C\nSEND 85 7A\n"),
+    Writes(0, b"SEND 85 7A\nSEND 83 7C\nSEND 85 7A\n"),
     At(0, 20),
     Printed(
         "client 1 joins\nmsg 85 7A force idle\nmsg 83 7C power on\nmsg 85 7A force idle\ntrack 7 00 51 51\ntrack 8 00 51 51\ntrack 9 00 51 51\n",
@@ -98,7 +100,7 @@ fn programs(rt: HostRuntime) -> Result<(), Fail> {
     Ok(())
 }
 
-/// Eight clients say half a line each, and then the other half, in the other order.
+/// Eight clients send half a line each, and then the other half, in the other order.
 #[test]
 fn eight_clients_are_told_all(rt: HostRuntime) -> Result<(), Fail> {
     let mut desk = Desk::new(&rt, 0, None)?;
@@ -108,37 +110,38 @@ fn eight_clients_are_told_all(rt: HostRuntime) -> Result<(), Fail> {
 
 fn say_halves<R: Place>(rt: &R, desk: &mut Desk<'_>) -> Result<(), Fail> {
     for client in 0..8usize {
-        desk.play(rt, &[Connects(client), Says(client, b"SEND 8")])?;
+        desk.play(rt, &[Connects(client), Writes(client, b"SEND 8")])?;
     }
     for client in 0..8usize {
-        desk.play(rt, &[Says(7 - client, b"2 7D\n")])?;
+        desk.play(rt, &[Writes(7 - client, b"2 7D\n")])?;
     }
     Ok(())
 }
 
 fn hear_all<R: Place>(rt: &R, desk: &mut Desk<'_>) -> Result<(), Fail> {
     for client in 0..8usize {
-        desk.play(rt, &[Hears(client, &[VERSION])])?;
+        desk.play(rt, &[Reads(client, &[VERSION])])?;
         for said in 0..8usize {
             let texts: &'static [&'static str] = if said + client == 7 {
                 &[POWER_OFF, OK]
             } else {
                 &[POWER_OFF]
             };
-            desk.play(rt, &[Hears(client, texts)])?;
+            desk.play(rt, &[Reads(client, texts)])?;
         }
     }
     Ok(())
 }
 
-/// One client never reads, and goes when 65,536 bytes wait behind what the system keeps; another drives on.
+/// One client never reads, and is disconnected when 65,536 bytes are queued beyond what the system
+/// buffers; another drives on.
 #[test]
 fn who_never_reads_is_let_go(rt: HostRuntime) -> Result<(), Fail> {
     drive_on(&rt, &mut Desk::new(&rt, 0, None)?)
 }
 
 fn drive_on<R: Place>(rt: &R, desk: &mut Desk<'_>) -> Result<(), Fail> {
-    desk.play(rt, &[Connects(0), Connects(1), Hears(0, &[VERSION])])?;
+    desk.play(rt, &[Connects(0), Connects(1), Reads(0, &[VERSION])])?;
     let message = long_message();
     for _message in 0..40_000u32 {
         let told = desk.send(0, &message)?;
@@ -154,7 +157,7 @@ fn drive_on<R: Place>(rt: &R, desk: &mut Desk<'_>) -> Result<(), Fail> {
     Ok(())
 }
 
-/// A message that brings as many bytes as a line can.
+/// A message that causes as many bytes as a line can.
 fn long_message() -> [u8; 386] {
     let mut message = [0; 386];
     message[..10].copy_from_slice(b"SEND E5 7F");
@@ -165,7 +168,7 @@ fn long_message() -> [u8; 386] {
     message
 }
 
-/// A megabyte without the end of a line asks nothing, and holds nobody up.
+/// A megabyte without a line end makes no request, and delays no other client.
 #[test]
 fn a_flood_holds_nobody_up(rt: HostRuntime) -> Result<(), Fail> {
     flood(&rt, &mut Desk::new(&rt, 0, None)?)
@@ -181,24 +184,24 @@ fn flood<R: Place>(rt: &R, desk: &mut Desk<'_>) -> Result<(), Fail> {
     desk.play(
         rt,
         &[
-            Says(1, b"SEND 82 7D\n"),
-            Hears(1, &[VERSION, POWER_OFF, OK]),
-            Says(0, b"\nSEND 83 7C\n"),
-            Hears(0, &[VERSION, POWER_OFF, POWER_ON, OK]),
+            Writes(1, b"SEND 82 7D\n"),
+            Reads(1, &[VERSION, POWER_OFF, OK]),
+            Writes(0, b"\nSEND 83 7C\n"),
+            Reads(0, &[VERSION, POWER_OFF, POWER_ON, OK]),
         ],
     )
 }
 
-/// A text asks the same wherever it is cut.
+/// A text makes the same requests wherever it is divided.
 #[test]
 fn text_in_every_cut(rt: HostRuntime) -> Result<(), Fail> {
     let mut desk = Desk::new(&rt, 0, None)?;
-    desk.play(&rt, &[Connects(0), Hears(0, &[VERSION])])?;
+    desk.play(&rt, &[Connects(0), Reads(0, &[VERSION])])?;
     play_cuts(
         &rt,
         &mut desk,
         &[],
         b"SEND 82 7D\r\n\r\nhello\nSEND 83\n",
-        &[Hears(0, &[POWER_OFF, OK, NO_MESSAGE])],
+        &[Reads(0, &[POWER_OFF, OK, NO_MESSAGE])],
     )
 }

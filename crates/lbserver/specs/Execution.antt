@@ -1,4 +1,4 @@
--- What `lbserver` does for the words behind its name: it serves, with what they ask for.
+-- The effect of `lbserver` for the arguments after its name: it serves as they order.
 use Rattle.std.specs.Prelude.{ℕ, ◌≡◌, ◌-◌, ◌^◌, List, [], Option, Some, None}
 use Rattle.command_line.specs.declared.words.ServerOrder.{ServerOrder}
 use Rattle.command_line.specs.ServerLine.{IsServerOrderOf}
@@ -10,7 +10,8 @@ use Rattle.bus_server.specs.Applied.{ServerState, initial_state}
 use Rattle.bus_server.specs.Draws.{IsSeeded}
 use Rattle.bus_server.specs.Runs.{IsRun, RunSnapshot}
 
--- how many clients have to disconnect until the server ends; without a number, as many as can be counted
+-- how many clients have to disconnect before the server ends; without a number, as many as can be
+-- counted
 abbrev pub clients_of : Option ℕ → ℕ
 clients_of None = 2 ^ 64 - 1
 clients_of (Some clients) = clients
@@ -20,7 +21,8 @@ abbrev pub entries_in : Option (List Entry) → List Entry
 entries_in None = []
 entries_in (Some entries) = entries
 
--- a new server for an order: the decoders of its roster, its turns, and losses of its share, drawn from its seed
+-- a new server for an order: the decoders of its roster, its turns, and losses of its share, drawn
+-- from its seed
 abbrev pub IsNewServer : ServerOrder → List Entry → ServerState → Type 0
 IsNewServer order entries start =
     (losses : Losses) × IsSeeded order.lose order.seed losses × (start ≡ initial_state (specs_of entries) order.turns losses)
@@ -29,12 +31,12 @@ IsNewServer order entries start =
 abbrev pub unlogged : ServerState → RunSnapshot
 unlogged state = record { log = None; readings = None; observed = None; state = state }
 
--- A run of a new server for this order, until as many clients as it says have disconnected.
+-- A run of a new server for this order, until the given number of clients have disconnected.
 abbrev pub ServesOrder : ServerOrder → List Entry → Type 0
 ServesOrder order entries =
     (start end : ServerState) × IsNewServer order entries start × IsRun (clients_of order.clients) (unlogged start) (unlogged end)
 
--- The words are those of an order, and it is served, with its roster.
+-- The arguments are those of an order, and it is served, with its roster.
 abbrev pub ServesWords : List (List ℕ) → Type 0
 ServesWords words =
     (order : ServerOrder) × (roster : Option (List Entry)) × IsServerOrderOf words order × IsRosterOf order.roster roster × ServesOrder order (entries_in roster)
