@@ -1,4 +1,4 @@
--- A text that a number chooses, and how long it is.
+-- The text that a number selects, and its length.
 use Rattle.std.proofs.Common.{◌≡◌, ℕ, zero, suc, ◌<◌, ◌≤◌, List, [], ◌∷◌, length, get_or, refl, arith}
 use Rattle.std.proofs.Math.Nat.{le-max_left, le-max_right}
 use Rattle.std.specs.Borrow.{Bor}

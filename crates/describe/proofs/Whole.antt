@@ -1,4 +1,4 @@
--- A message that bytes are.
+-- The message of whole bytes.
 use Rattle.std.proofs.Common.{◌≡◌, ℕ, Bool, true, false, List, if◌then◌else◌, refl}
 use Rattle.std.specs.Prelude.{Some, None}
 use Rattle.ln_frame.specs.Message.{is_whole}

@@ -1,4 +1,4 @@
--- What stands in the bytes of a message or a packet. Positions count from 0.
+-- Fields in the bytes of a message or a packet. Positions count from 0.
 use Rattle.std.specs.Prelude.{ℕ, ◌+◌, ◌-◌, ◌*◌, ◌/◌, ◌%◌, ◌^◌, nat_lt, if◌then◌else◌, List, length, slice_index}
 use Rattle.describe.specs.declared.fields.Field.{Field}
 use Rattle.describe.specs.declared.fields.Field.TheVariants.{Length, Byte, Bit, Top, LowTwo, LowThree, LowFour, LowFive, LowSeven, Acknowledged, Switch, Sensor, LightAndFour, PeerDestination, PeerByte, ClockHour, ClockMinute, Task, TaskVariable, TaskValue, TaskAddress, Variable, Step, BinaryState, Decoder, Output}
@@ -7,11 +7,13 @@ use Rattle.describe.specs.declared.fields.Field.TheVariants.{Length, Byte, Bit, 
 abbrev pub top_of : ℕ → ℕ → ℕ
 top_of byte bit = byte / 2 ^ (bit % 8)
 
--- LocoNet, OPC_SW_REQ, OPC_SW_REP: SW1 is A6 to A0, bits 3 to 0 of SW2 are A10 to A7. Users count from 1.
+-- LocoNet, OPC_SW_REQ, OPC_SW_REP: SW1 is A6 to A0, bits 3 to 0 of SW2 are A10 to A7. Users count
+-- from 1.
 abbrev pub switch_of : List ℕ → ℕ
 switch_of m = slice_index m 2 % 16 * 128 + slice_index m 1 + 1
 
--- LocoNet, OPC_INPUT_REP: bit 5 of IN2 is the lowest bit of the sensor's number, below A0. Layout software counts from 1.
+-- LocoNet, OPC_INPUT_REP: bit 5 of IN2 is the lowest bit of the sensor's number, below A0. Layout
+-- software counts from 1.
 abbrev pub sensor_of : List ℕ → ℕ
 sensor_of m = 2 * (slice_index m 2 % 16 * 128 + slice_index m 1) + slice_index m 2 / 32 % 2 + 1
 
@@ -19,14 +21,14 @@ sensor_of m = 2 * (slice_index m 2 % 16 * 128 + slice_index m 1) + slice_index m
 abbrev pub light_and_four : ℕ → ℕ
 light_and_four dirf = dirf / 16 % 2 + 2 * (dirf % 16)
 
--- LocoNet, OPC_PEER_XFER, E5 10 SRC DSTL DSTH PXCT1 D1 D2 D3 D4 PXCT2 D5 D6 D7 D8: bits 0 to 3 of PXCT1 are bit 7 of D1 to
--- D4, and those of PXCT2 are bit 7 of D5 to D8
+-- LocoNet, OPC_PEER_XFER, E5 10 SRC DSTL DSTH PXCT1 D1 D2 D3 D4 PXCT2 D5 D6 D7 D8: bits 0 to 3 of
+-- PXCT1 are bit 7 of D1 to D4, and those of PXCT2 are bit 7 of D5 to D8
 abbrev pub peer_byte : List ℕ → ℕ → ℕ
 peer_byte m number =
     let first = if nat_lt number 4 then 5 else 10 in
     top_of (slice_index m first) (number % 4) % 2 * 128 + slice_index m (first + 1 + number % 4)
 
--- LocoNet, fast clock: a byte tells 256 less hours or less minutes, without its bit 7
+-- LocoNet, fast clock: a byte holds 256 less hours or less minutes, without its bit 7
 abbrev pub clock_of : ℕ → ℕ
 clock_of byte = (128 - byte % 128) % 128
 
@@ -38,13 +40,13 @@ variable_of high low = high % 4 * 256 + low + 1
 abbrev pub decoder_of : List ℕ → ℕ
 decoder_of m = slice_index m 0 % 64 + 64 * (7 - slice_index m 1 / 16 % 8)
 
--- S-9.2.1, 2.4: bits 2 and 1 of the second byte are the pair of outputs, four to a decoder. Users count from 1, the first of
--- decoder 1.
+-- S-9.2.1, 2.4: bits 2 and 1 of the second byte are the pair of outputs, four to a decoder. Users
+-- count from 1, the first of decoder 1.
 abbrev pub output_of : List ℕ → ℕ
 output_of m = (4 * decoder_of m + slice_index m 1 / 2 % 4 + 1) - 4
 
--- LocoNet, fast clock, EF 0E 7B CLK_RATE FRAC_MINSL FRAC_MINSH 256-MINS TRK 256-HRS DAYS CLK_CNTRL ID1 ID2, and programming
--- track, EF 0E 7C PCMD PSTAT HOPSA LOPSA TRK CVH CVL DATA7
+-- LocoNet, fast clock, EF 0E 7B CLK_RATE FRAC_MINSL FRAC_MINSH 256-MINS TRK 256-HRS DAYS CLK_CNTRL
+-- ID1 ID2, and programming track, EF 0E 7C PCMD PSTAT HOPSA LOPSA TRK CVH CVL DATA7
 abbrev pub slot_value : Field → List ℕ → ℕ
 slot_value ClockHour m = clock_of (slice_index m 8)
 slot_value ClockMinute m = clock_of (slice_index m 6)

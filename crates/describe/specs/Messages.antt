@@ -1,4 +1,4 @@
--- What messages of a LocoNet line say, in plain words (LocoNet Personal Use Edition 1.0).
+-- Explanations of LocoNet messages in plain words (LocoNet Personal Use Edition 1.0).
 use Rattle.std.specs.Prelude.{ℕ, ◌+◌, ◌-◌, ◌*◌, ◌/◌, ◌%◌, ◌==◌, ◌&&◌, Bool, true, false, nat_lt, nat_le, if◌then◌else◌, List, [], ◌∷◌, ◌++◌, map, take, codes}
 use Rattle.std.specs.Fmt.{decimal}
 use Rattle.ln_frame.specs.Message.{are_data, has_form, is_whole}
@@ -14,7 +14,7 @@ use Rattle.describe.specs.Packets.{direction_words, packet_words, switch_words}
 use Rattle.describe.specs.Pieces.{eight_on, four_on, functions_words}
 use Rattle.describe.specs.Rows.{Row, at, row_text}
 
--- `slot N` and what is told of it
+-- `slot N` and its explanation
 unfoldable pub slot_label : ℕ → List ℕ
 slot_label slot = codes "slot " ++ decimal slot
 
@@ -63,12 +63,14 @@ leader_words slot = codes "speed of slot " ++ decimal slot
 unfoldable pub slot_speed : ℕ → ℕ → List ℕ
 slot_speed stat spd = if is_linked stat then leader_words spd else spd_words spd
 
--- those of F0 to F8 that are on, where there are any: DIRF has F0 to F4, and SND has F5 to F8, the lowest in bit 0
+-- those of F0 to F8 that are on, if any are: DIRF has F0 to F4, and SND has F5 to F8, the lowest in
+-- bit 0
 unfoldable pub slot_functions : ℕ → ℕ → List ℕ
 slot_functions dirf snd =
     if light_and_four dirf + snd % 16 == 0 then [] else codes "," ++ eight_on 0 (light_and_four dirf) ++ four_on 5 snd ++ codes " on"
 
--- TRK: bit 0 power, bit 1 is 0 while all are stopped, bit 3 programming track busy, bit 2 LocoNet 1.1
+-- TRK: bit 0 power, bit 1 is 0 while all are stopped, bit 3 programming track busy, bit 2 LocoNet
+-- 1.1
 abbrev pub track_state : ℕ → List ℕ
 track_state trk = if trk % 2 == 0 then codes "; track off" else (if trk / 2 % 2 == 0 then codes "; track paused" else codes "; track on")
 
@@ -81,7 +83,7 @@ version_words trk = if trk / 4 % 2 == 1 then [] else codes ", no LocoNet 1.1"
 unfoldable pub track_words : ℕ → List ℕ
 track_words trk = track_state trk ++ programming_words trk ++ version_words trk
 
--- ID1 and ID2, seven bits each: the throttle of the slot, where it has told its number
+-- ID1 and ID2, seven bits each: the throttle of the slot, if it has sent its number
 unfoldable pub throttle_words : ℕ → List ℕ
 throttle_words number = if number == 0 then [] else codes "; throttle " ++ decimal number
 
@@ -106,13 +108,14 @@ use_words slot = codes "use slot " ++ decimal slot
 unfoldable pub moved_words : ℕ → ℕ → List ℕ
 moved_words src dest = codes "move slot " ++ decimal src ++ codes " to slot " ++ decimal dest
 
--- OPC_MOVE_SLOTS: from slot 0 the dispatched one is taken, to slot 0 one is dispatched, and to itself one is taken into use
+-- OPC_MOVE_SLOTS: from slot 0 the dispatched slot is taken, to slot 0 a slot is dispatched, and to
+-- itself it is taken into use
 abbrev pub move_words : ℕ → ℕ → List ℕ
 move_words src dest =
     if src == 0 then codes "take the dispatched slot" else
     (if dest == 0 then dispatch_words src else (if src == dest then use_words src else moved_words src dest))
 
--- OPC_RQ_SL_DATA: some slots stand for something else
+-- OPC_RQ_SL_DATA: some slots have special meanings
 unfoldable pub read_words : ℕ → List ℕ
 read_words slot =
     if slot == 123 then codes "read the fast clock" else
@@ -122,7 +125,7 @@ read_words slot =
 unfoldable pub sent_words : List ℕ → List ℕ
 sent_words bytes = codes "send to the track: " ++ packet_words (with_check bytes)
 
--- OPC_IMM_PACKET: the packet has the first so many bytes, and its check; the message has five
+-- OPC_IMM_PACKET: the packet has the first `count` bytes, and its check; the message has five
 abbrev pub imm_words : ℕ → List ℕ → List ℕ
 imm_words count bytes =
     if nat_le 2 count && nat_le count 5 then sent_words (take count bytes) else codes "send to the track: wrong length"
@@ -149,15 +152,15 @@ taken_words high low = codes "take locomotive " ++ decimal (address_with high lo
 unfoldable pub written_words : SlotBytes → List ℕ
 written_words f = codes "write " ++ slot_words f
 
--- whether the text below says what an operation is; the others are told by the table
-abbrev pub is_told : Op → Bool
-is_told (LongAck opc ack) = false
-is_told (SlotData f) = is_slot f.slot
-is_told (SlotWrite f) = is_slot f.slot
-is_told Other = false
-is_told op = true
+-- whether the text below explains an operation; the others are explained by the table
+abbrev pub is_reported : Op → Bool
+is_reported (LongAck opc ack) = false
+is_reported (SlotData f) = is_slot f.slot
+is_reported (SlotWrite f) = is_slot f.slot
+is_reported Other = false
+is_reported op = true
 
--- what an operation asks or tells. Switches count from 1.
+-- the explanation of an operation; switches count from 1
 abbrev pub op_words : Op → List ℕ
 op_words PowerOff = codes "track power off"
 op_words PowerOn = codes "track power on"
@@ -180,21 +183,21 @@ op_words op = []
 abbrev pub message_rows : List Row
 message_rows = map (λ row. (at row.0.now, at (map (λ said. (said.0, at (map (λ text. at text.now) said.1.now))) row.1.now))) messages
 
--- what a whole message says by the table
+-- the explanation of a whole message by the table
 unfoldable pub table_words : List ℕ → List ℕ
 table_words bytes = row_text message_rows bytes
 
--- what a whole message says
+-- the explanation of a whole message
 abbrev pub whole_words : Op → List ℕ → List ℕ
-whole_words op bytes = if is_told op then op_words op else table_words bytes
+whole_words op bytes = if is_reported op then op_words op else table_words bytes
 
--- why bytes are no whole message
+-- why bytes are not a whole message
 abbrev pub fault_words : List ℕ → List ℕ
 fault_words [] = codes "no opcode"
 fault_words (first ∷ rest) =
     if nat_lt first 128 then codes "no opcode" else
     (if are_data rest then (if has_form (first ∷ rest) then codes "wrong check" else codes "wrong length") else codes "data above 7F")
 
--- what the bytes of a message say, the check last
+-- the explanation of the bytes of a message, the check last
 abbrev pub message_words : List ℕ → List ℕ
 message_words bytes = if is_whole bytes then whole_words (op_of bytes) bytes else fault_words bytes

@@ -1,4 +1,4 @@
--- What packets of the track say, in plain words (S-9.2 and S-9.2.1).
+-- Explanations of DCC packets in plain words (S-9.2 and S-9.2.1).
 use Rattle.std.specs.Prelude.{ℕ, ◌+◌, ◌-◌, ◌*◌, ◌/◌, ◌%◌, ◌==◌, ◌&&◌, Bool, nat_lt, nat_le, if◌then◌else◌, List, [], ◌∷◌, ◌++◌, map, Option, Some, None, codes}
 use Rattle.std.specs.Fmt.{decimal}
 use Rattle.dcc_packet.specs.declared.address.Address.{Address}
@@ -34,7 +34,8 @@ step_28_words low =
     if nat_lt number 2 then codes "stop" else
     (if nat_lt number 4 then codes "emergency stop" else codes "step " ++ decimal (number - 3) ++ codes " of 28")
 
--- 2.3.3, CSSSS: with 14 steps C is F0, with 28 it is the lowest bit of the step. Without C a stop is one with both.
+-- 2.3.3, CSSSS: with 14 steps C is F0, with 28 it is the lowest bit of the step. Without C a stop
+-- is one with both.
 abbrev pub both_words : ℕ → List ℕ
 both_words low =
     step_words (low % 16) 14
@@ -49,7 +50,7 @@ speed_words address forward code = address_words address ++ codes ": " ++ step_w
 abbrev pub low_speed_words : Address → Bool → ℕ → List ℕ
 low_speed_words address forward low = address_words address ++ codes ": " ++ both_words low ++ direction_words forward
 
--- a switch, where it is to go, and whether its output is switched on or off
+-- a switch, its direction, and whether its output is switched on or off
 unfoldable pub switch_words : ℕ → Bool → Bool → List ℕ
 switch_words number closed on =
     codes "switch " ++ decimal number ++ (if closed then codes " closed" else codes " thrown") ++ (if on then codes ", on" else codes ", off")
@@ -76,38 +77,40 @@ instruction_rows = map (λ row. (at row.0.now, at (map (λ said. (said.0, at (ma
 abbrev pub accessory_rows : List Row
 accessory_rows = map (λ row. (at row.0.now, at (map (λ said. (said.0, at (map (λ text. at text.now) said.1.now))) row.1.now))) accessories
 
--- what a locomotive is told by bytes that no decoder of this project obeys, the check last: by the table
+-- an instruction to a locomotive that no decoder of this project obeys, by its bytes, the check
+-- last: by the table
 unfoldable pub instruction_words : List ℕ → List ℕ
 instruction_words bytes = row_text instruction_rows bytes
 
--- what accessory decoders are told by a packet that none of this project obeys: by the table
+-- an instruction to accessory decoders that none of this project obeys: by the table
 unfoldable pub accessory_words : List ℕ → List ℕ
 accessory_words bytes = row_text accessory_rows bytes
 
-abbrev pub told_words : Address → List ℕ → List ℕ
-told_words address told = address_words address ++ codes ": " ++ instruction_words told
+abbrev pub requested_words : Address → List ℕ → List ℕ
+requested_words address requested = address_words address ++ codes ": " ++ instruction_words requested
 
 abbrev pub all_words : List ℕ → List ℕ
-all_words told = codes "all locomotives: " ++ instruction_words told
+all_words requested = codes "all locomotives: " ++ instruction_words requested
 
--- behind a first byte from 192 to 231, the rest of an address of two bytes
+-- after a first byte from 192 to 231, the rest of a two-byte address
 unfoldable pub long_words : ℕ → List ℕ → List ℕ
-long_words high (low ∷ told) = told_words (Long ((high - 192) * 256 + low)) told
+long_words high (low ∷ requested) = requested_words (Long ((high - 192) * 256 + low)) requested
 long_words high [] = codes "unknown form"
 
--- 2.1, by the address partitions. The table for accessory decoders has a row for every other first byte.
+-- 2.1, by the address partitions. The table for accessory decoders has a row for every other first
+-- byte.
 abbrev pub unread_words : List ℕ → List ℕ
-unread_words (first ∷ told) =
-    if first == 0 then all_words told else
-    (if nat_le 1 first && nat_le first 127 then told_words (Short first) told else
-    (if nat_le 192 first && nat_le first 231 then long_words first told else accessory_words (first ∷ told)))
+unread_words (first ∷ requested) =
+    if first == 0 then all_words requested else
+    (if nat_le 1 first && nat_le first 127 then requested_words (Short first) requested else
+    (if nat_le 192 first && nat_le first 231 then long_words first requested else accessory_words (first ∷ requested)))
 unread_words [] = codes "unknown form"
 
 abbrev pub read_words : Option Instr → List ℕ → List ℕ
 read_words (Some instr) bytes = instr_words instr
 read_words None bytes = unread_words bytes
 
--- what the bytes of a packet say, the check last
+-- the explanation of the bytes of a packet, the check last
 abbrev pub packet_words : List ℕ → List ℕ
 packet_words bytes =
     if has_packet_length bytes then (if is_checked bytes then read_words (instruction_of bytes) bytes else codes "wrong check")

@@ -1,4 +1,4 @@
--- What a table says of bytes: the first row that applies, its parts one after another.
+-- The explanation of bytes by a table: the first row that applies, its parts in order.
 use Rattle.std.specs.Prelude.{ℕ, zero, suc, ◌+◌, ◌%◌, ◌==◌, ◌&&◌, Bool, true, max, nat_le, if◌then◌else◌, List, [], ◌∷◌, ◌++◌, length}
 use Rattle.std.specs.Borrow.{Bor}
 use Rattle.std.specs.List.{list_all}
@@ -9,25 +9,26 @@ use Rattle.describe.specs.declared.rows.Part.TheVariants.{Text, Number, Hex, Cho
 use Rattle.describe.specs.Fields.{value_of}
 use Rattle.describe.specs.Pieces.{hex_pair, eight_on}
 
--- the text at this place, and nothing behind the last
+-- the text at this index, and nothing after the last
 unfoldable pub choice_text : List (Bor (List ℕ)) → ℕ → List ℕ
 choice_text [] n = []
 choice_text (text ∷ texts) zero = text.now
 choice_text (text ∷ texts) (suc n) = choice_text texts n
 
--- what a constant refers to, wherever it lies in memory
+-- the text of a constant, wherever it is in memory
 abbrev pub at : {X : Type 0} → X → Bor X
 at x = record { ref_ptr = (0, 0); now = x }
 
 -- how a part is made, and its texts
-abbrev pub Said : Type 0
-Said = Part × Bor (List (Bor (List ℕ)))
+abbrev pub Phrase : Type 0
+Phrase = Part × Bor (List (Bor (List ℕ)))
 
--- which number each of some fields must have, and what is said then
+-- the values that fields must have, and the explanation
 abbrev pub Row : Type 0
-Row = Bor (List (Field × ℕ)) × Bor (List Said)
+Row = Bor (List (Field × ℕ)) × Bor (List Phrase)
 
--- a part: its text, a field in decimal or hexadecimal digits, a text that a field chooses, or the functions that are on
+-- a part: its text, a field in decimal or hexadecimal digits, a text that a field selects, or the
+-- functions that are on
 abbrev pub made_text : List ℕ → Part → List (Bor (List ℕ)) → List ℕ
 made_text bytes Text texts = choice_text texts 0
 made_text bytes (Number field) texts = decimal (value_of field bytes)
@@ -35,32 +36,32 @@ made_text bytes (Hex field) texts = hex_pair (value_of field bytes % 256)
 made_text bytes (Choice field) texts = choice_text texts (value_of field bytes)
 made_text bytes (On first field) texts = eight_on first (value_of field bytes)
 
-abbrev pub part_text : List ℕ → Said → List ℕ
+abbrev pub part_text : List ℕ → Phrase → List ℕ
 part_text bytes said = made_text bytes said.0 said.1.now
 
 -- parts one after another
-unfoldable pub parts_text : List ℕ → List Said → List ℕ
+unfoldable pub parts_text : List ℕ → List Phrase → List ℕ
 parts_text bytes [] = []
 parts_text bytes (said ∷ parts) = part_text bytes said ++ parts_text bytes parts
 
--- each field has its number
+-- each field has its value
 abbrev pub applies : List (Field × ℕ) → List ℕ → Bool
 applies when bytes = list_all (λ test. value_of test.0 bytes == test.1) when
 
--- what the first row that applies says, and nothing where none does
-unfoldable pub parts_of : List Row → List ℕ → List Said
+-- the explanation of the first row that applies, and nothing if none does
+unfoldable pub parts_of : List Row → List ℕ → List Phrase
 parts_of [] bytes = []
 parts_of (row ∷ rows) bytes = if applies row.0.now bytes then row.1.now else parts_of rows bytes
 
 abbrev pub row_text : List Row → List ℕ → List ℕ
 row_text rows bytes = parts_text bytes (parts_of rows bytes)
 
--- how long a text can be that is one of these
+-- the greatest length of one of these texts
 unfoldable pub longest : List (Bor (List ℕ)) → ℕ
 longest [] = 0
 longest (text ∷ texts) = max (length text.now) (longest texts)
 
--- how long a part can be
+-- the greatest length of a part
 abbrev pub made_most : Part → List (Bor (List ℕ)) → ℕ
 made_most Text texts = longest texts
 made_most (Number field) texts = 5
@@ -68,15 +69,15 @@ made_most (Hex field) texts = 2
 made_most (Choice field) texts = longest texts
 made_most (On first field) texts = 56
 
-abbrev pub part_most : Said → ℕ
+abbrev pub part_most : Phrase → ℕ
 part_most said = made_most said.0 said.1.now
 
--- how long parts can be together
-unfoldable pub most_of : List Said → ℕ
+-- the greatest length of parts together
+unfoldable pub most_of : List Phrase → ℕ
 most_of [] = 0
 most_of (said ∷ parts) = part_most said + most_of parts
 
--- no row says more than 250 bytes
+-- no row gives more than 250 bytes
 unfoldable pub fits : List Row → Bool
 fits [] = true
 fits (row ∷ rows) = nat_le (most_of row.1.now) 250 && fits rows

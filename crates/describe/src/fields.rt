@@ -1,65 +1,68 @@
-//! What stands in the bytes of a message or a packet: numbers of one byte, and of several together.
+//! Fields of a message or a packet: numbers of one byte or of several.
 ghost use Rattle.std.specs.Prelude.{◌≡◌, ◌<◌, ◌^◌, length, slice_index};
 ghost use Rattle.describe.specs.Fields.{clock_of, decoder_of, joined_value, light_and_four, output_of, peer_byte, sensor_of, slot_value, switch_of, top_of, value_of, variable_of};
 
-/// A number in the bytes of a message or a packet. Positions count from 0, and a byte behind the last is 0.
+/// A number in the bytes of a message or a packet. Positions count from 0; bytes after the last
+/// read as 0.
 #[derive(Clone, Copy)]
 pub(crate) enum Field {
-    /// How many bytes there are.
+    /// The number of bytes.
     Length,
     /// The byte at a position.
     Byte(u8),
-    /// Its bit of this number, 0 to 7.
+    /// One bit, 0 to 7, of the byte at a position.
     Bit(u8, u8),
-    /// Its bits from this number on, 0 to 7.
+    /// The bits of the byte at a position, from this bit on, 0 to 7.
     Top(u8, u8),
-    /// Its low two bits.
+    /// The low two bits of the byte at a position.
     LowTwo(u8),
-    /// Its low three bits.
+    /// The low three bits of the byte at a position.
     LowThree(u8),
-    /// Its low four bits.
+    /// The low four bits of the byte at a position.
     LowFour(u8),
-    /// Its low five bits.
+    /// The low five bits of the byte at a position.
     LowFive(u8),
-    /// Its low seven bits.
+    /// The low seven bits of the byte at a position.
     LowSeven(u8),
-    /// The opcode that a long acknowledge is for, of which it tells seven bits.
+    /// The opcode that a long acknowledge answers, of which it holds seven bits.
     Acknowledged,
-    /// The number of a switch, from 1.
+    /// The number of a switch, counted from 1.
     Switch,
-    /// The number of a sensor, from 1.
+    /// The number of a sensor, counted from 1.
     Sensor,
     /// The functions F0 to F4 of DIRF at a position, F0 in bit 0.
     LightAndFour(u8),
     /// The destination of a peer transfer.
     PeerDestination,
-    /// One of its eight bytes, from 0.
+    /// One of the eight bytes of a peer transfer, counted from 0.
     PeerByte(u8),
     /// The hour of the fast clock.
     ClockHour,
-    /// Its minute.
+    /// The minute of the fast clock.
     ClockMinute,
-    /// What the programmer is to do, bits 2 to 5 of PCMD.
+    /// The operation of the programmer, bits 2 to 5 of PCMD.
     Task,
-    /// The number of the variable that it reads or writes, from 1.
+    /// The number of the variable that the programmer reads or writes, counted from 1.
     TaskVariable,
     /// The variable's value.
     TaskValue,
-    /// The address of the locomotive on the main track that has it.
+    /// The address of the locomotive programmed on the main track.
     TaskAddress,
-    /// The number of the variable that a packet names by two bytes, from 1, the first at a position.
+    /// The number, counted from 1, of the variable that a packet names by two bytes, the first at a
+    /// position.
     Variable(u8),
-    /// The step of 126 that seven bits of a byte tell, which count from 2.
+    /// The step of 126 in seven bits of a byte, which count from 2.
     Step(u8),
     /// The number of a binary state, of two bytes.
     BinaryState,
     /// The number of an accessory decoder.
     Decoder,
-    /// The number of its switch or signal, from 1 where the decoder has not number 0.
+    /// The number of the decoder's switch or signal, counted from 1 unless the decoder has number
+    /// 0.
     Output,
 }
 
-/// The byte at a position, or 0 behind the last.
+/// Returns the byte at a position, or 0 after the last.
 fn byte(bytes: &[u8], at: usize) -> u8
     ensures { result ≡ slice_index bytes.now at }
 {
@@ -69,14 +72,14 @@ fn byte(bytes: &[u8], at: usize) -> u8
     }
 }
 
-/// The bits of a byte from one on.
+/// Returns the bits of `byte` from bit `bit` on.
 fn top_of(byte: u8, bit: u8) -> u8
     ensures { result ≡ top_of byte bit }
 {
     byte >> (bit % 8)
 }
 
-/// The number of a switch, from 1.
+/// Returns the number of a switch, counted from 1.
 fn switch_of(bytes: &[u8]) -> u16
     ensures value { result ≡ switch_of bytes.now }
     ensures range { result < 2305 }
@@ -84,28 +87,28 @@ fn switch_of(bytes: &[u8]) -> u16
     u16::from(byte(bytes, 2) % 16) * 128 + u16::from(byte(bytes, 1)) + 1
 }
 
-/// The number of a sensor, from 1.
+/// Returns the number of a sensor, counted from 1.
 fn sensor_of(bytes: &[u8]) -> u16
     ensures { result ≡ sensor_of bytes.now }
 {
     2 * (switch_of(bytes) - 1) + u16::from(byte(bytes, 2) / 32 % 2) + 1
 }
 
-/// The number of a variable, from 1.
+/// Returns the number of a variable, counted from 1.
 fn variable_of(high: u8, low: u8) -> u16
     ensures { result ≡ variable_of high low }
 {
     u16::from(high % 4) * 256 + u16::from(low) + 1
 }
 
-/// The functions F0 to F4, F0 in bit 0.
+/// Returns the functions F0 to F4, F0 in bit 0.
 pub(crate) fn light_and_four(dirf: u8) -> u16
     ensures { result ≡ light_and_four dirf }
 {
     u16::from(dirf / 16 % 2 + 2 * (dirf % 16))
 }
 
-/// One of the eight bytes of a peer transfer.
+/// Returns one of the eight bytes of a peer transfer.
 fn peer_byte(bytes: &[u8], number: u8) -> u16
     ensures { result ≡ peer_byte bytes.now number }
 {
@@ -114,14 +117,14 @@ fn peer_byte(bytes: &[u8], number: u8) -> u16
     u16::from(top) * 128 + u16::from(byte(bytes, first + 1 + usize::from(number % 4)))
 }
 
-/// What a byte of the clock stands for, which is as far below 256 as its seven bits are below 128.
+/// Returns the value of a byte of the clock: as far below 256 as its seven bits are below 128.
 fn clock_of(byte: u8) -> u16
     ensures { result ≡ clock_of byte }
 {
     (128 - u16::from(byte % 128)) % 128
 }
 
-/// The number of an accessory decoder.
+/// Returns the number of an accessory decoder.
 fn decoder_of(bytes: &[u8]) -> u16
     ensures value { result ≡ decoder_of bytes.now }
     ensures range { result < 512 }
@@ -129,14 +132,14 @@ fn decoder_of(bytes: &[u8]) -> u16
     u16::from(byte(bytes, 0) % 64) + 64 * (7 - u16::from(byte(bytes, 1) / 16 % 8))
 }
 
-/// The number of its switch or signal, from 1.
+/// Returns the number of the decoder's switch or signal, counted from 1.
 fn output_of(bytes: &[u8]) -> u16
     ensures { result ≡ output_of bytes.now }
 {
     (4 * decoder_of(bytes) + u16::from(byte(bytes, 1) / 2 % 4) + 1).saturating_sub(4)
 }
 
-/// The number in a field of slot data for the clock or the programmer.
+/// Returns the number in a field of slot data for the clock or the programmer.
 fn slot_value(field: Field, bytes: &[u8]) -> u16
     ensures { result ≡ slot_value field bytes.now }
 {
@@ -157,7 +160,7 @@ fn slot_value(field: Field, bytes: &[u8]) -> u16
     }
 }
 
-/// The number in a field of several bytes.
+/// Returns the number in a field of several bytes.
 fn joined_value(field: Field, bytes: &[u8]) -> u16
     ensures { result ≡ joined_value field bytes.now }
 {
@@ -180,7 +183,7 @@ fn joined_value(field: Field, bytes: &[u8]) -> u16
     }
 }
 
-/// The number in a field.
+/// Returns the number in a field.
 pub(crate) fn value_of(field: Field, bytes: &[u8]) -> u16
     requires { length bytes.now < 2 ^ 16 }
     ensures { result ≡ value_of field bytes.now }

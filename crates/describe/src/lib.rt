@@ -1,6 +1,13 @@
-//! What the messages of a LocoNet line and the packets of a track say, in plain words.
+//! Explanations of LocoNet messages and DCC packets in plain words.
 //!
-//! Its tests stand in `library_tests/src/test_describe.rt`.
+//! [`message_words`] explains the bytes of a message and [`packet_words`] those of a packet, as
+//! [`Words`], ASCII text of at most 400 bytes.
+//!
+//! ```ignore
+//! let words = message_words(&[0x83, 0x7C]);  // "track power on"
+//! ```
+//!
+//! The tests are in `library_tests/src/test_describe.rt` and `test_describe_forms.rt`.
 #![tactic(auto)]
 
 mod fields;
@@ -12,6 +19,6 @@ mod pieces;
 mod rows;
 mod slots;
 
-pub use messages::{message_words, tell_message};
-pub use packets::{packet_words, tell_packet};
+pub use messages::{describe_message, message_words};
+pub use packets::{describe_packet, packet_words};
 pub use pieces::Words;

@@ -1,4 +1,5 @@
-//! What messages say that the station skips, or that tell more than their operation (LocoNet Personal Use Edition 1.0).
+//! Explanations of messages that the station ignores, or that hold more than their operation
+//! (LocoNet Personal Use Edition 1.0).
 use crate::fields::Field::{
     Acknowledged, Bit, Byte, ClockHour, ClockMinute, LightAndFour, LowFour, LowTwo, PeerByte,
     PeerDestination, Sensor, Switch, Task, TaskAddress, TaskValue, TaskVariable,
@@ -6,7 +7,7 @@ use crate::fields::Field::{
 use crate::rows::Part::{Choice, Hex, Number, On, Text};
 use crate::rows::Row;
 
-/// How a programmer's task is done, by bits 2 to 5 of its command.
+/// The mode of a programmer's task, by bits 2 to 5 of its command.
 const TASK_MODES: [&'static str; 16] = [
     ", unknown mode",
     ", unknown mode",
@@ -26,7 +27,7 @@ const TASK_MODES: [&'static str; 16] = [
     ", unknown mode",
 ];
 
-/// What a whole message says, by its bytes.
+/// The explanation of a whole message, by its bytes.
 pub(crate) const MESSAGES: [Row; 53] = [
     // OPC_BUSY
     (&[(Byte(0), 0x81)], &[(Text, &["busy"])]),
@@ -64,7 +65,7 @@ pub(crate) const MESSAGES: [Row; 53] = [
             (Choice(Bit(2, 4)), &[" low", " high"]),
         ],
     ),
-    // OPC_LONG_ACK: the opcode that it is for, without bit 7, and a code
+    // OPC_LONG_ACK: the opcode that it answers, without bit 7, and a code
     (
         &[(Byte(0), 0xB4), (Byte(1), 0x3F), (Byte(2), 0)],
         &[(Text, &["no free slot for the locomotive"])],
@@ -112,7 +113,8 @@ pub(crate) const MESSAGES: [Row; 53] = [
         &[(Byte(0), 0xB4), (Byte(1), 0x6F), (Byte(2), 0x40)],
         &[(Text, &["programmer: task accepted, no result follows"])],
     ),
-    // the standard prints the opcodes of a slot write and of a packet with all seven bits set but one, or none
+    // the standard prints the opcodes of a slot write and of a packet with all seven bits set but
+    // one, or none
     (
         &[(Byte(0), 0xB4), (Byte(1), 0x7F), (Byte(2), 0x7F)],
         &[(Text, &["programmer: task not known"])],
@@ -261,7 +263,7 @@ pub(crate) const MESSAGES: [Row; 53] = [
         &[(Byte(0), 0xEF), (Byte(1), 0x0E), (Byte(2), 0)],
         &[(Text, &["write slot 0"])],
     ),
-    // fast clock: bit 6 of CLK_CNTRL is 0 where its data is not valid
+    // fast clock: bit 6 of CLK_CNTRL is 0 if its data is not valid
     (
         &[
             (Byte(0), 0xE7),
@@ -369,7 +371,7 @@ pub(crate) const MESSAGES: [Row; 53] = [
             (Choice(Task), &TASK_MODES),
         ],
     ),
-    // its result: PSTAT is 0 where the task was done
+    // its result: PSTAT is 0 if the task was done
     (
         &[
             (Byte(0), 0xE7),

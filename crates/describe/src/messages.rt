@@ -1,4 +1,4 @@
-//! What messages of a LocoNet line say.
+//! Explanations of LocoNet messages.
 ghost use Rattle.std.specs.Prelude.{◌≡◌, ◌≤◌, ◌<◌, ◌+◌, ◌++◌, codes, false, length};
 ghost use Rattle.arrayvec.specs.ArrayVec.{array_vec_len};
 ghost use Rattle.dcc_packet.specs.Form.{with_check};
@@ -6,7 +6,7 @@ ghost use Rattle.dcc_packet.specs.Packet.{xor_of};
 ghost use Rattle.ln_frame.specs.Message.{are_data, is_whole};
 ghost use Rattle.ln_ops.specs.Message.{IsOfData, op_of};
 ghost use Rattle.ln_ops.specs.Slot.{is_slot};
-ghost use Rattle.describe.specs.Messages.{acknowledged_words, dirf_words, dispatch_words, fault_words, imm_words, is_told, message_words, move_words, moved_words, op_words, read_words, sent_words, slot_label, snd_words, speed_words, status_words, table_words, taken_words, use_words, whole_words, written_words};
+ghost use Rattle.describe.specs.Messages.{acknowledged_words, dirf_words, dispatch_words, fault_words, imm_words, is_reported, message_words, move_words, moved_words, op_words, read_words, sent_words, slot_label, snd_words, speed_words, status_words, table_words, taken_words, use_words, whole_words, written_words};
 
 use crate::fields::light_and_four;
 use crate::message_rows::MESSAGES;
@@ -18,7 +18,7 @@ use arrayvec::ArrayVec;
 use ln_frame::Msg;
 use ln_ops::{Op, SlotFields, read};
 
-/// The slots that stand for locomotives.
+/// The slots of locomotives.
 fn is_slot(slot: u8) -> bool
     ensures { result ≡ is_slot slot }
 {
@@ -43,7 +43,7 @@ fn push_use(words: &mut Words, slot: u8)
     push_byte(words, "use slot ", slot);
 }
 
-/// A slot whose locomotive goes to another.
+/// A slot whose locomotive is moved to another.
 #[tactic(auto, unfolding(crate::specs::Messages::moved_words))]
 fn push_moved(words: &mut Words, src: u8, dest: u8)
     requires { array_vec_len words.old + 40 ≤ 400 }
@@ -53,7 +53,7 @@ fn push_moved(words: &mut Words, src: u8, dest: u8)
     push_byte(words, " to slot ", dest);
 }
 
-/// What a move of slots asks.
+/// The operation of a move of slots.
 fn push_move(words: &mut Words, src: u8, dest: u8)
     requires { array_vec_len words.old + 40 ≤ 400 }
     ensures { words.new.items ≡ words.old.items ++ move_words src dest }
@@ -69,7 +69,7 @@ fn push_move(words: &mut Words, src: u8, dest: u8)
     }
 }
 
-/// Which slot is asked for.
+/// The slot that is requested.
 #[tactic(auto, unfolding(crate::specs::Messages::read_words))]
 fn push_read(words: &mut Words, slot: u8)
     requires { array_vec_len words.old + 40 ≤ 400 }
@@ -83,7 +83,7 @@ fn push_read(words: &mut Words, slot: u8)
     }
 }
 
-/// The bytes of a packet, and behind them their check.
+/// The bytes of a packet, followed by their check.
 fn checked(body: &[u8]) -> ArrayVec<u8, 6>
     requires { length body.now ≤ 5 }
     ensures { result.items ≡ with_check body.now }
@@ -103,7 +103,7 @@ fn check_of(bytes: &[u8]) -> u8
     bytes.iter().fold(0, |sum, byte| sum ^ byte)
 }
 
-/// The packet that is to be sent, without its check.
+/// The packet to be sent, without its check.
 fn push_sent(words: &mut Words, body: &[u8])
     requires size { length body.now ≤ 5 }
     requires room { array_vec_len words.old + 330 ≤ 400 }
@@ -114,7 +114,7 @@ fn push_sent(words: &mut Words, body: &[u8])
     push_packet(words, packet.as_slice());
 }
 
-/// The first so many of the bytes that a message has for a packet.
+/// The first `count` of the bytes that a message has for a packet.
 fn push_imm(words: &mut Words, count: u8, bytes: [u8; 5])
     requires { array_vec_len words.old + 330 ≤ 400 }
     ensures { words.new.items ≡ words.old.items ++ imm_words count bytes }
@@ -146,7 +146,7 @@ fn push_snd(words: &mut Words, slot: u8, snd: u8)
     push_functions(words, ": F5 to F8:", 5, u16::from(snd % 16));
 }
 
-/// `slot N: `, before what is said of the slot.
+/// `slot N: `, before the explanation of the slot.
 fn push_slot_before(words: &mut Words, slot: u8)
     requires { array_vec_len words.old + 12 ≤ 400 }
     ensures text { words.new.items ≡ words.old.items ++ slot_label slot ++ codes ": " }
@@ -186,7 +186,7 @@ fn push_acknowledged_switch(words: &mut Words, number: u16, closed: bool, on: bo
     push_text(words, ", to be acknowledged");
 }
 
-/// Slot data that is to be written.
+/// Slot data to be written.
 #[tactic(auto, unfolding(crate::specs::Messages::written_words))]
 fn push_written(words: &mut Words, fields: &SlotFields)
     requires { array_vec_len words.old + 300 ≤ 400 }
@@ -196,9 +196,9 @@ fn push_written(words: &mut Words, fields: &SlotFields)
     push_slot_data(words, fields);
 }
 
-/// Whether the words below say what an operation is.
-fn is_told(op: &Op) -> bool
-    ensures { result ≡ is_told op.now }
+/// Whether the function below explains the operation.
+fn is_reported(op: &Op) -> bool
+    ensures { result ≡ is_reported op.now }
 {
     match *op {
         Op::LongAck { .. } | Op::Other => false,
@@ -208,7 +208,7 @@ fn is_told(op: &Op) -> bool
     }
 }
 
-/// What an operation asks or tells.
+/// The explanation of an operation.
 fn push_op(words: &mut Words, op: &Op)
     requires data { IsOfData op.now }
     requires room { array_vec_len words.old ≤ 0 }
@@ -241,7 +241,7 @@ fn push_op(words: &mut Words, op: &Op)
     }
 }
 
-/// The locomotive that is asked for.
+/// The locomotive that is requested.
 #[tactic(auto, unfolding(crate::specs::Messages::taken_words))]
 fn push_address(words: &mut Words, high: u8, low: u8)
     requires { array_vec_len words.old + 40 ≤ 400 }
@@ -250,7 +250,7 @@ fn push_address(words: &mut Words, high: u8, low: u8)
     push_halves(words, "take locomotive ", high, low);
 }
 
-/// What a whole message says by the table.
+/// The explanation of a whole message by the table.
 #[tactic(auto, unfolding(crate::specs::Rows::fits, crate::specs::Rows::most_of, crate::specs::Rows::longest))]
 fn push_by_table(words: &mut Words, bytes: &[u8])
     requires size { length bytes.now ≤ 127 }
@@ -261,7 +261,7 @@ fn push_by_table(words: &mut Words, bytes: &[u8])
     push_row(words, &MESSAGES, bytes);
 }
 
-/// Why bytes are no whole message.
+/// Why bytes are not a whole message.
 fn fault_words(bytes: &[u8]) -> &'static str
     requires { is_whole bytes.now ≡ false }
     ensures text { result.now ≡ fault_words bytes.now }
@@ -282,21 +282,24 @@ fn are_data(bytes: &[u8]) -> bool
     bytes.iter().all(|byte| *byte < 128)
 }
 
-/// What the bytes of a LocoNet message say, the check last, in plain words (LocoNet Personal Use Edition 1.0).
+/// Explains the bytes of a LocoNet message, the check last, in plain words (LocoNet Personal Use
+/// Edition 1.0).
 ///
-/// Every message of the standard is told, also those that a command station skips. Slots have their own numbers; switches
-/// and sensors count from 1. The packet of OPC_IMM_PACKET is told by [`packet_words`](crate::packet_words). Bytes that are
-/// no whole message say why: `no opcode`, `data above 7F`, `wrong length` or `wrong check`, the first of these that holds.
+/// Every message of the standard is explained, including those that a command station ignores.
+/// Slots have their own numbers; switches and sensors count from 1. The packet of OPC_IMM_PACKET is
+/// explained by [`packet_words`](crate::packet_words). Bytes that are not a whole message give the
+/// reason: `no opcode`, `data above 7F`, `wrong length` or `wrong check`, the first that applies.
 pub fn message_words(bytes: &[u8]) -> Words
     ensures { result.items ≡ message_words bytes.now }
 {
     let mut words = Words::new();
-    tell_message(&mut words, bytes);
+    describe_message(&mut words, bytes);
     words
 }
 
-/// [`message_words`] in a room that is there, in place of what it held: for who tells many messages.
-pub fn tell_message(words: &mut Words, bytes: &[u8])
+/// Writes [`message_words`] over the contents of an existing buffer, for a caller that explains
+/// many messages.
+pub fn describe_message(words: &mut Words, bytes: &[u8])
     ensures { words.new.items ≡ message_words bytes.now }
 {
     words.clear();
@@ -306,13 +309,13 @@ pub fn tell_message(words: &mut Words, bytes: &[u8])
     }
 }
 
-/// What a whole message says.
+/// The explanation of a whole message.
 fn push_whole(words: &mut Words, message: &Msg)
     requires { array_vec_len words.old ≤ 0 }
     ensures { words.new.items ≡ words.old.items ++ whole_words (op_of message.now) message.now }
 {
     let op = read(message);
-    if is_told(&op) {
+    if is_reported(&op) {
         push_op(words, &op);
     } else {
         push_by_table(words, message.bytes());

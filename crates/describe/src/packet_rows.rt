@@ -1,4 +1,4 @@
-//! What packets say that no decoder of this project obeys (S-9.2.1).
+//! Explanations of packets that no decoder of this project obeys (S-9.2.1).
 use crate::fields::Field::{
     BinaryState, Bit, Byte, Decoder, Length, LightAndFour, LowFour, LowSeven, LowThree, Output,
     Step, Top, Variable,
@@ -6,7 +6,8 @@ use crate::fields::Field::{
 use crate::rows::Part::{Choice, Number, On, Text};
 use crate::rows::Row;
 
-/// What a decoder is told, from the first byte behind its address to the check, which counts as one.
+/// What a packet tells a decoder, from the first byte after its address to the check, which counts
+/// as one.
 pub(crate) const INSTRUCTIONS: [Row; 42] = [
     // nothing but the check
     (&[(Length, 1)], &[(Text, &["unknown form"])]),
@@ -85,7 +86,8 @@ pub(crate) const INSTRUCTIONS: [Row; 42] = [
             (Number(Byte(2)), &[]),
         ],
     ),
-    // 2.3.3, speed and direction to all: 01DCSSSS, of which a locomotive's own and a stop are read elsewhere
+    // 2.3.3, speed and direction to all: 01DCSSSS; a locomotive's own and a stop are handled
+    // elsewhere
     (
         &[(Length, 2), (Top(0, 6), 1)],
         &[
@@ -268,14 +270,14 @@ pub(crate) const INSTRUCTIONS: [Row; 42] = [
     (&[], &[(Text, &["unknown form"])]),
 ];
 
-/// What accessory decoders are told, by the whole packet.
+/// What a packet tells accessory decoders, by the whole packet.
 pub(crate) const ACCESSORIES: [Row; 14] = [
     // 2.1: the first byte of an accessory decoder is 10AAAAAA
     (
         &[(Bit(0, 7), 1), (Bit(0, 6), 1)],
         &[(Text, &["unknown form: address "]), (Number(Byte(0)), &[])],
     ),
-    // 2.4.1, basic: 10AAAAAA 1AAACDDD, of which decoders 1 to 510 are read elsewhere
+    // 2.4.1, basic: 10AAAAAA 1AAACDDD; decoders 1 to 510 are handled elsewhere
     (
         &[(Length, 3), (Bit(1, 7), 1), (Decoder, 511)],
         &[
@@ -325,8 +327,8 @@ pub(crate) const ACCESSORIES: [Row; 14] = [
             (Choice(Byte(2)), &[" (stop)"]),
         ],
     ),
-    // 2.4.4, configuration variables: basic 10AAAAAA 1AAACDDD, extended 10AAAAAA 0AAA0AA1, and behind it 1110CCVV VVVVVVVV
-    // DDDDDDDD
+    // 2.4.4, configuration variables: basic 10AAAAAA 1AAACDDD, extended 10AAAAAA 0AAA0AA1, followed
+    // by 1110CCVV VVVVVVVV DDDDDDDD
     (
         &[(Length, 6), (Bit(1, 7), 1), (Top(2, 2), 57)],
         &[

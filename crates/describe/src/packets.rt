@@ -1,7 +1,7 @@
-//! What packets of the track say.
+//! Explanations of DCC packets.
 ghost use Rattle.std.specs.Prelude.{◌≡◌, ◌≤◌, ◌+◌, ◌++◌, codes, length};
 ghost use Rattle.arrayvec.specs.ArrayVec.{array_vec_len};
-ghost use Rattle.describe.specs.Packets.{accessory_words, address_words, both_words, direction_words, group_words, instr_words, instruction_words, packet_words, all_words, told_words, long_words, step_28_words, step_words, switch_words, unread_words};
+ghost use Rattle.describe.specs.Packets.{accessory_words, address_words, both_words, direction_words, group_words, instr_words, instruction_words, packet_words, all_words, requested_words, long_words, step_28_words, step_words, switch_words, unread_words};
 
 use crate::fields::light_and_four;
 use crate::packet_rows::{ACCESSORIES, INSTRUCTIONS};
@@ -49,7 +49,7 @@ fn push_step(words: &mut Words, code: u8, of: u16)
     }
 }
 
-/// The same of 28 steps, by the five bits that the packet has for them.
+/// The same for 28 steps, by the five speed bits of the packet.
 fn push_step_28(words: &mut Words, low: u8)
     requires { array_vec_len words.old + 19 ≤ 400 }
     ensures text { words.new.items ≡ words.old.items ++ step_28_words low }
@@ -65,7 +65,7 @@ fn push_step_28(words: &mut Words, low: u8)
     }
 }
 
-/// A speed of five bits, which the packet alone does not tell to be of 14 or of 28 steps.
+/// A speed of five bits; the packet alone does not show whether it means 14 or 28 steps.
 fn push_both(words: &mut Words, low: u8)
     requires { array_vec_len words.old + 60 ≤ 400 }
     ensures text { words.new.items ≡ words.old.items ++ both_words low }
@@ -85,7 +85,7 @@ fn push_both(words: &mut Words, low: u8)
     }
 }
 
-/// `locomotive A: `, before what it is told.
+/// `locomotive A: `, before its instruction.
 fn push_address_before(words: &mut Words, address: Address)
     requires { array_vec_len words.old + 42 ≤ 400 }
     ensures text { words.new.items ≡ words.old.items ++ address_words address ++ codes ": " }
@@ -119,7 +119,7 @@ pub(crate) fn push_switch(words: &mut Words, number: u16, closed: bool, on: bool
     push_text(words, if on { ", on" } else { ", off" });
 }
 
-/// What an instruction says.
+/// The explanation of an instruction.
 fn push_instr(words: &mut Words, instr: Instr)
     requires { array_vec_len words.old + 140 ≤ 400 }
     ensures text { words.new.items ≡ words.old.items ++ instr_words instr }
@@ -163,7 +163,8 @@ fn push_instr(words: &mut Words, instr: Instr)
     }
 }
 
-/// What a locomotive is told by bytes that no decoder of this project obeys, the check last.
+/// An instruction to a locomotive that no decoder of this project obeys, by its bytes, the check
+/// last.
 #[tactic(auto, unfolding(crate::specs::Rows::fits, crate::specs::Rows::most_of, crate::specs::Rows::longest))]
 fn push_instruction(words: &mut Words, bytes: &[u8])
     requires size { length bytes.now ≤ 6 }
@@ -174,7 +175,7 @@ fn push_instruction(words: &mut Words, bytes: &[u8])
     push_row(words, &INSTRUCTIONS, bytes);
 }
 
-/// What accessory decoders are told by a packet that none of this project obeys.
+/// An instruction to accessory decoders that none of this project obeys, by the packet.
 #[tactic(auto, unfolding(crate::specs::Rows::fits, crate::specs::Rows::most_of, crate::specs::Rows::longest))]
 fn push_accessory(words: &mut Words, bytes: &[u8])
     requires size { length bytes.now ≤ 6 }
@@ -185,49 +186,52 @@ fn push_accessory(words: &mut Words, bytes: &[u8])
     push_row(words, &ACCESSORIES, bytes);
 }
 
-/// An address and what its decoder is told by bytes that none of this project obeys, the check last.
-fn push_told(words: &mut Words, address: Address, told: &[u8])
-    requires size { length told.now ≤ 6 }
+/// An address and an instruction that no decoder of this project obeys, by its bytes, the check
+/// last.
+fn push_requested(words: &mut Words, address: Address, requested: &[u8])
+    requires size { length requested.now ≤ 6 }
     requires room { array_vec_len words.old + 300 ≤ 400 }
-    ensures text { words.new.items ≡ words.old.items ++ told_words address told.now }
+    ensures text { words.new.items ≡ words.old.items ++ requested_words address requested.now }
     ensures len { array_vec_len words.new ≤ array_vec_len words.old + 300 }
 {
     push_address_before(words, address);
-    push_instruction(words, told);
+    push_instruction(words, requested);
 }
 
-/// What the bytes behind the first of an address of two bytes, the check last, say.
+/// The explanation of the bytes after the first of a two-byte address, the check last.
 #[tactic(auto, unfolding(crate::specs::Packets::long_words))]
-fn push_long(words: &mut Words, high: u8, told: &[u8])
+fn push_long(words: &mut Words, high: u8, requested: &[u8])
     requires low { 192 ≤ high }
     requires high { high ≤ 231 }
-    requires size { length told.now ≤ 6 }
+    requires size { length requested.now ≤ 6 }
     requires room { array_vec_len words.old + 300 ≤ 400 }
-    ensures text { words.new.items ≡ words.old.items ++ long_words high told.now }
+    ensures text { words.new.items ≡ words.old.items ++ long_words high requested.now }
     ensures len { array_vec_len words.new ≤ array_vec_len words.old + 300 }
 {
-    match told {
-        [low, told @ ..] => push_told(
+    match requested {
+        [low, requested @ ..] => push_requested(
             words,
             Address::Long(u16::from(high - 192) * 256 + u16::from(*low)),
-            told,
+            requested,
         ),
         [] => push_text(words, "unknown form"),
     }
 }
 
-/// What all locomotives are told by bytes that no decoder of this project obeys, the check last.
-fn push_all(words: &mut Words, told: &[u8])
-    requires size { length told.now ≤ 6 }
+/// An instruction to all locomotives that no decoder of this project obeys, by its bytes, the check
+/// last.
+fn push_all(words: &mut Words, requested: &[u8])
+    requires size { length requested.now ≤ 6 }
     requires room { array_vec_len words.old + 300 ≤ 400 }
-    ensures text { words.new.items ≡ words.old.items ++ all_words told.now }
+    ensures text { words.new.items ≡ words.old.items ++ all_words requested.now }
     ensures len { array_vec_len words.new ≤ array_vec_len words.old + 300 }
 {
     push_text(words, "all locomotives: ");
-    push_instruction(words, told);
+    push_instruction(words, requested);
 }
 
-/// What a packet with a right check says that no decoder of this project obeys, by the address partitions (2.1).
+/// The explanation of a packet with a correct check that no decoder of this project obeys, by the
+/// address partitions (2.1).
 fn push_unread(words: &mut Words, bytes: &[u8])
     requires size { length bytes.now ≤ 6 }
     requires room { array_vec_len words.old + 300 ≤ 400 }
@@ -235,15 +239,19 @@ fn push_unread(words: &mut Words, bytes: &[u8])
     ensures len { array_vec_len words.new ≤ array_vec_len words.old + 300 }
 {
     match bytes {
-        [0, told @ ..] => push_all(words, told),
-        [number @ 1..=127, told @ ..] => push_told(words, Address::Short(*number), told),
-        [high @ 192..=231, told @ ..] => push_long(words, *high, told),
+        [0, requested @ ..] => push_all(words, requested),
+        [number @ 1..=127, requested @ ..] => push_requested(
+            words,
+            Address::Short(*number),
+            requested,
+        ),
+        [high @ 192..=231, requested @ ..] => push_long(words, *high, requested),
         [_, ..] => push_accessory(words, bytes),
         [] => push_text(words, "unknown form"),
     }
 }
 
-/// What a packet says.
+/// The explanation of a packet.
 pub(crate) fn push_packet(words: &mut Words, bytes: &[u8])
     requires { array_vec_len words.old + 300 ≤ 400 }
     ensures text { words.new.items ≡ words.old.items ++ packet_words bytes.now }
@@ -261,11 +269,12 @@ pub(crate) fn push_packet(words: &mut Words, bytes: &[u8])
     }
 }
 
-/// What the bytes of a packet of the track say, the check last, in plain words (S-9.2 and S-9.2.1).
+/// Explains the bytes of a DCC packet, the check last, in plain words (S-9.2 and S-9.2.1).
 ///
-/// Every form that a receiver may meet is told, also those that no decoder of this project obeys. Functions, steps and
-/// variables have the standard's numbers; switches and signals count from 1, four to a decoder, the first of decoder 1.
-/// Bytes that are fewer than 3 or more than 6, or whose check is wrong, say `wrong length` or `wrong check`.
+/// Every form that a receiver may meet is explained, including those that no decoder of this
+/// project obeys. Functions, steps and variables have the standard's numbers; switches and signals
+/// count from 1, four to a decoder, the first of decoder 1. Fewer than 3 or more than 6 bytes give
+/// `wrong length`, and a wrong check gives `wrong check`.
 pub fn packet_words(bytes: &[u8]) -> Words
     ensures { result.items ≡ packet_words bytes.now }
 {
@@ -274,8 +283,9 @@ pub fn packet_words(bytes: &[u8]) -> Words
     words
 }
 
-/// [`packet_words`] in a room that is there, in place of what it held: for who tells many packets.
-pub fn tell_packet(words: &mut Words, bytes: &[u8])
+/// Writes [`packet_words`] over the contents of an existing buffer, for a caller that explains many
+/// packets.
+pub fn describe_packet(words: &mut Words, bytes: &[u8])
     ensures { words.new.items ≡ packet_words bytes.now }
 {
     words.clear();

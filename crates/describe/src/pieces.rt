@@ -1,17 +1,15 @@
-//! The words of an explanation, and what is appended to them.
+//! The text of an explanation, and the functions that append to it.
 ghost use Rattle.std.specs.Prelude.{◌≡◌, ◌≤◌, ◌<◌, ◌+◌, ◌*◌, ◌/◌, ◌%◌, ◌++◌, length, [], ◌∷◌};
 ghost use Rattle.std.specs.Fmt.{decimal};
 ghost use Rattle.arrayvec.specs.ArrayVec.{array_vec_len};
 ghost use Rattle.ln_ops.specs.Slot.{address_with};
-ghost use Rattle.describe.specs.Pieces.{hex_byte, hex_pair, one_on, four_on, eight_on, functions_words};
+ghost use Rattle.describe.specs.Pieces.{hex_pair, one_on, four_on, eight_on, functions_words};
 
 use arrayvec::ArrayVec;
+use ascii_words::hex_char;
 
 /// An explanation: ASCII text without a line feed, at most 400 bytes.
 pub type Words = ArrayVec<u8, 400>;
-
-/// The digits of the numbers below 16.
-const HEX_DIGITS: [u8; 16] = *b"0123456789ABCDEF";
 
 /// Appends a text.
 pub(crate) fn push_text(words: &mut Words, text: &str)
@@ -41,13 +39,6 @@ pub(crate) fn push_field(words: &mut Words, label: &str, n: u16)
     push_number(words, n);
 }
 
-fn hex_digit(n: u8) -> u8
-    requires { n < 16 }
-    ensures { result ≡ hex_byte n }
-{
-    HEX_DIGITS[n as usize]
-}
-
 /// Appends a label and a byte in decimal digits.
 pub(crate) fn push_byte(words: &mut Words, label: &str, n: u8)
     requires { array_vec_len words.old + length label.now + 5 ≤ 400 }
@@ -60,23 +51,24 @@ pub(crate) fn push_byte(words: &mut Words, label: &str, n: u8)
 /// Appends a label and an address, of which a message has two halves.
 pub(crate) fn push_halves(words: &mut Words, label: &str, high: u8, low: u8)
     requires { array_vec_len words.old + length label.now + 5 ≤ 400 }
-    ensures text { words.new.items ≡ words.old.items ++ (label.now ++ decimal (address_with high low)) }
+    ensures text { words.new.items
+        ≡ words.old.items ++ (label.now ++ decimal (address_with high low)) }
     ensures len { array_vec_len words.new ≤ array_vec_len words.old + length label.now + 5 }
 {
     push_field(words, label, u16::from(high) * 128 + u16::from(low));
 }
 
-/// Appends a byte as two digits.
+/// Appends a byte as two hexadecimal digits.
 pub(crate) fn push_hex(words: &mut Words, byte: u8)
     requires { array_vec_len words.old + 2 ≤ 400 }
     ensures text { words.new.items ≡ words.old.items ++ hex_pair byte }
     ensures len { array_vec_len words.new ≡ array_vec_len words.old + 2 }
 {
-    words.push(hex_digit(byte / 16));
-    words.push(hex_digit(byte % 16));
+    words.push(hex_char(byte / 16));
+    words.push(hex_char(byte % 16));
 }
 
-/// Appends the name of a function that is on.
+/// Appends the name of a function if it is on.
 fn push_one_on(words: &mut Words, number: u16, on: bool)
     requires { array_vec_len words.old + 7 ≤ 400 }
     ensures text { words.new.items ≡ words.old.items ++ one_on number on }
@@ -111,7 +103,8 @@ pub(crate) fn push_eight_on(words: &mut Words, first: u16, bits: u16)
     push_four_on(words, first + 4, bits / 16);
 }
 
-/// Appends the label of a group of functions and those of them that are on, the first in bit 0.
+/// Appends the label of a group of functions and the names of those that are on, the first in bit
+/// 0.
 #[tactic(auto, unfolding(crate::specs::Pieces::functions_words))]
 pub(crate) fn push_functions(words: &mut Words, label: &str, first: u16, bits: u16)
     requires label { length label.now ≤ 12 }

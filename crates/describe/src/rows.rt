@@ -1,4 +1,4 @@
-//! Tables of what bytes say: the first row that applies, its parts one after another.
+//! Tables of explanations: the first row that applies is used, its parts in order.
 ghost use Rattle.std.specs.Prelude.{◌≡◌, ◌≤◌, ◌<◌, ◌+◌, ◌^◌, ◌++◌, length, IsTrue};
 ghost use Rattle.arrayvec.specs.ArrayVec.{array_vec_len};
 ghost use Rattle.describe.specs.Rows.{applies, choice_text, fits, longest, most_of, part_text, parts_of, parts_text, part_most, row_text};
@@ -6,7 +6,7 @@ ghost use Rattle.describe.specs.Rows.{applies, choice_text, fits, longest, most_
 use crate::fields::{Field, value_of};
 use crate::pieces::{Words, push_eight_on, push_hex, push_number, push_text};
 
-/// How a part of what a row says is made, of the texts beside it.
+/// How a part of an explanation is made, with the texts next to it.
 #[derive(Clone, Copy)]
 pub(crate) enum Part {
     /// The first text.
@@ -15,23 +15,24 @@ pub(crate) enum Part {
     Number(Field),
     /// A field in two hexadecimal digits.
     Hex(Field),
-    /// The text that a field chooses, the first at 0, and nothing behind the last.
+    /// The text that a field selects, the first at 0, and nothing after the last.
     Choice(Field),
-    /// The names of those of eight functions that are on: the number of the first, and the field that has it in bit 0.
+    /// The names of those of eight functions that are on: the number of the first, and the field
+    /// that holds it in bit 0.
     On(u8, Field),
 }
 
-/// A field, and the number that it must have.
+/// A field, and the value that it must have.
 pub(crate) type Test = (Field, u16);
 
 /// A part, and its texts.
-pub(crate) type Said = (Part, &'static [&'static str]);
+pub(crate) type Phrase = (Part, &'static [&'static str]);
 
-/// A row of a table: what bytes must have for it, and what they say then. Rows are tuples, since clauses see a constant
-/// only where no type of one's own in it holds a reference.
-pub(crate) type Row = (&'static [Test], &'static [Said]);
+/// A row of a table: the values that fields must have, and the explanation. Rows are tuples,
+/// because clauses see a constant only if none of its own types holds a reference.
+pub(crate) type Row = (&'static [Test], &'static [Phrase]);
 
-/// Whether each field has its number.
+/// Whether each field has its value.
 fn applies(when: &[Test], bytes: &[u8]) -> bool
     requires { length bytes.now < 2 ^ 16 }
     ensures { result ≡ applies when.now bytes.now }
@@ -40,9 +41,9 @@ fn applies(when: &[Test], bytes: &[u8]) -> bool
         .all(|(field, number)| value_of(*field, bytes) == *number)
 }
 
-/// What the first row that applies says.
+/// Returns the explanation of the first row that applies.
 #[tactic(auto, unfolding(crate::specs::Rows::parts_of, crate::specs::Rows::fits, crate::specs::Rows::most_of))]
-fn parts_of(rows: &[Row], bytes: &[u8]) -> &'static [Said]
+fn parts_of(rows: &[Row], bytes: &[u8]) -> &'static [Phrase]
     requires size { length bytes.now < 2 ^ 16 }
     requires fits { IsTrue (fits rows.now) }
     ensures value { result.now ≡ parts_of rows.now bytes.now }
@@ -57,7 +58,7 @@ fn parts_of(rows: &[Row], bytes: &[u8]) -> &'static [Said]
     &[]
 }
 
-/// Appends the text that a number chooses.
+/// Appends the text that a number selects.
 #[tactic(auto, using(crate::proofs::Choices::choice_at, crate::proofs::Choices::choice_past, crate::proofs::Choices::longest_at))]
 fn push_choice(words: &mut Words, texts: &[&str], number: u16)
     requires { array_vec_len words.old + longest texts.now ≤ 400 }
@@ -71,7 +72,7 @@ fn push_choice(words: &mut Words, texts: &[&str], number: u16)
 }
 
 /// Appends a part.
-fn push_part(words: &mut Words, said: &Said, bytes: &[u8])
+fn push_part(words: &mut Words, said: &Phrase, bytes: &[u8])
     requires size { length bytes.now < 2 ^ 16 }
     requires room { array_vec_len words.old + part_most said.now ≤ 400 }
     ensures text { words.new.items ≡ words.old.items ++ part_text bytes.now said.now }
@@ -89,7 +90,7 @@ fn push_part(words: &mut Words, said: &Said, bytes: &[u8])
 
 /// Appends parts.
 #[tactic(auto, unfolding(crate::specs::Rows::parts_text, crate::specs::Rows::most_of))]
-fn push_parts(words: &mut Words, parts: &[Said], bytes: &[u8])
+fn push_parts(words: &mut Words, parts: &[Phrase], bytes: &[u8])
     requires size { length bytes.now < 2 ^ 16 }
     requires room { array_vec_len words.old + most_of parts.now ≤ 400 }
     ensures text { words.new.items ≡ words.old.items ++ parts_text bytes.now parts.now }
@@ -100,7 +101,7 @@ fn push_parts(words: &mut Words, parts: &[Said], bytes: &[u8])
     }
 }
 
-/// Appends what the first row that applies says.
+/// Appends the explanation of the first row that applies.
 pub(crate) fn push_row(words: &mut Words, rows: &[Row], bytes: &[u8])
     requires size { length bytes.now < 2 ^ 16 }
     requires fits { IsTrue (fits rows.now) }

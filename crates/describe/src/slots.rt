@@ -1,4 +1,4 @@
-//! What the bytes of a slot say (LocoNet, slot data).
+//! Explanations of slot data (LocoNet, slot data).
 ghost use Rattle.std.specs.Prelude.{◌≡◌, ◌≤◌, ◌<◌, ◌+◌, ◌/◌, ◌%◌, ◌==◌, ◌++◌, length};
 ghost use Rattle.arrayvec.specs.ArrayVec.{array_vec_len};
 ghost use Rattle.describe.specs.Messages.{consist_words, is_forward, is_linked, kind_words, leader_words, locomotive_words, programming_words, slot_functions, slot_head, slot_label, slot_speed, slot_words, spd_words, stat_words, state_words, throttle_words, track_state, track_words, version_words};
@@ -36,7 +36,7 @@ pub(crate) fn push_spd(words: &mut Words, spd: u8)
     }
 }
 
-/// Whether DIRF says forward.
+/// Whether DIRF means forward.
 pub(crate) fn is_forward(dirf: u8) -> bool
     ensures { result ≡ is_forward dirf }
 {
@@ -97,7 +97,7 @@ pub(crate) fn push_stat(words: &mut Words, stat: u8)
     push_text(words, consist_words(stat / 8 % 2 == 1, is_linked(stat)));
 }
 
-/// Whether STAT1 says that the slot is linked to another.
+/// Whether STAT1 links the slot to another.
 fn is_linked(stat: u8) -> bool
     ensures { result ≡ is_linked stat }
 {
@@ -128,7 +128,7 @@ fn push_slot_speed(words: &mut Words, stat: u8, spd: u8)
     }
 }
 
-/// Those of F0 to F8 that are on.
+/// The names of those of F0 to F8 that are on.
 #[tactic(auto, unfolding(crate::specs::Messages::slot_functions))]
 fn push_slot_functions(words: &mut Words, dirf: u8, snd: u8)
     requires { array_vec_len words.old + 90 ≤ 400 }
@@ -190,7 +190,7 @@ fn version_words(trk: u8) -> &'static str
     }
 }
 
-/// The number of a throttle that has told it.
+/// The number of a throttle, if it has sent one.
 #[tactic(auto, unfolding(crate::specs::Messages::throttle_words))]
 fn push_throttle(words: &mut Words, number: u16)
     requires { array_vec_len words.old + 16 ≤ 400 }

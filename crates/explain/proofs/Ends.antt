@@ -3,7 +3,7 @@ use Rattle.std.proofs.Common.{◌≡◌, ℕ, ◌+◌, ◌≤◌, ◌==◌, true
 use Rattle.std.proofs.lemmas.Bool.{and_parts, not-true, cases_Bool}
 use Rattle.explain.specs.Explained.{shown}
 use Rattle.explain.specs.Lines.{body_of, end_of, is_end, is_open}
-use Rattle.explain.specs.Subjects.{note_of}
+use Rattle.explain.specs.LineKinds.{note_of}
 
 -- what ends no line ends none in its parts
 pub open-parts : (xs ys : List ℕ) → is_open (xs ++ ys) ≡ true → (is_open xs ≡ true) × (is_open ys ≡ true)
@@ -25,7 +25,7 @@ first-open x xs h = not-true (x == 10) (and_parts (not (x == 10)) (is_open xs) h
 pub rest-open : (x : ℕ) (xs : List ℕ) → is_open (x ∷ xs) ≡ true → is_open xs ≡ true
 rest-open x xs h = (and_parts (not (x == 10)) (is_open xs) h).1
 
--- no end begins with a byte before one that is no line feed
+-- no line end begins with a byte before one that is not a line feed
 not_end : (x y : ℕ) (zs : List ℕ) → (x == 10) ≡ false → (y == 10) ≡ false → is_end (x ∷ y ∷ zs) ≡ false
 not_end x y zs a b = elim (cases_Bool (x == 13)) [ inl e ↦ rw (a, b, e) refl | inr e ↦ rw (a, e) refl ]
 
@@ -86,7 +86,7 @@ end-feed (y ∷ z ∷ zs) x h a b =
     let rest = rest-open y (z ∷ zs) h in
     end-in y z (zs ++ x ∷ 10 ∷ []) (first-open y (z ∷ zs) h) (first-open z zs rest) ∙ end-feed (z ∷ zs) x rest a b
 
--- Before a line feed comes a line with nothing, one that a carriage return ends, or any other.
+-- Before a line feed is an empty line, one that a carriage return ends, or any other.
 
 pub nothing-body : (line : List ℕ) → length line ≡ 0 → line ≡ body_of (line ++ 10 ∷ [])
 nothing-body [] h = refl
@@ -123,12 +123,12 @@ pub shown-last : (line : List ℕ) → is_open line ≡ true → shown line ≡ 
 shown-last line h =
     ap₂ (λ (body end : List ℕ). body ++ note_of body ++ end) (body-open line h) (end-open line h) ∙ append-nil (line ++ note_of line)
 
--- a line is what stands before its end, and its end
+-- a line is its text and its end
 pub whole : (line : List ℕ) → body_of line ++ end_of line ≡ line
 whole [] = refl
 whole (b ∷ line) = elim (cases_Bool (is_end (b ∷ line))) [ inl e ↦ rw e refl | inr e ↦ rw e (ap (λ (l : List ℕ). b ∷ l) (whole line)) ]
 
--- of a line that begins so, no more than a carriage return goes to the end
+-- of a line that begins so, at most a carriage return belongs to the end
 pub body-front : (xs ys : List ℕ) → is_open xs ≡ true → length xs ≤ length (body_of (xs ++ ys)) + 1
 body-front [] ys h = omega arith
 body-front (x ∷ []) ys h = omega arith

@@ -1,4 +1,4 @@
--- What a piece of a text does to what is still to be written.
+-- The effect of a piece of a text on the output still to be written.
 use Rattle.std.proofs.Common.{◌≡◌, ℕ, ◌+◌, ◌<◌, Bool, true, false, List, [], ◌∷◌, ◌++◌, length, length-append, append_assoc, append-nil, refl, ap, sym, ◌∙◌, arith}
 use Rattle.std.specs.Prelude.{flat_map}
 use Rattle.std.proofs.lemmas.Bool.{lt-ltb}
@@ -6,8 +6,8 @@ use Rattle.ascii_words.specs.Words.{words_of}
 use Rattle.loconet_tcp.specs.Requests.{are_pairs, bytes_of, leading_bytes}
 use Rattle.explain.specs.Explained.{explained, shown}
 use Rattle.explain.specs.Lines.{body_of, end_of, is_open, lines_of, onto_line}
-use Rattle.explain.specs.Subjects.{message_in, note_of}
-use Rattle.explain.specs.Unfinished.{passed, to_write}
+use Rattle.explain.specs.LineKinds.{message_in, note_of}
+use Rattle.explain.specs.Unfinished.{copied, to_write}
 use Rattle.explain.proofs.Ends.{body-front, first-open, open-both, rest-open, shown-last, whole}
 
 -- bytes before the first line
@@ -37,16 +37,16 @@ lines-ended (x ∷ xs) more h = lines-open (x ∷ xs) (10 ∷ more) h ∙ onto-s
 
 -- Within a line that is too long, its bytes are written.
 
-passed-one : (x : ℕ) (lines : List (List ℕ)) → passed (onto_line x lines) ≡ x ∷ passed lines
-passed-one x [] = refl
-passed-one x (line ∷ lines) = refl
+copied-one : (x : ℕ) (lines : List (List ℕ)) → copied (onto_line x lines) ≡ x ∷ copied lines
+copied-one x [] = refl
+copied-one x (line ∷ lines) = refl
 
-passed-onto : (xs : List ℕ) (lines : List (List ℕ)) → passed (all_onto xs lines) ≡ xs ++ passed lines
-passed-onto [] lines = refl
-passed-onto (x ∷ xs) lines = passed-one x (all_onto xs lines) ∙ ap (λ (bs : List ℕ). x ∷ bs) (passed-onto xs lines)
+copied-onto : (xs : List ℕ) (lines : List (List ℕ)) → copied (all_onto xs lines) ≡ xs ++ copied lines
+copied-onto [] lines = refl
+copied-onto (x ∷ xs) lines = copied-one x (all_onto xs lines) ∙ ap (λ (bs : List ℕ). x ∷ bs) (copied-onto xs lines)
 
-passed-piece : (piece more : List ℕ) → is_open piece ≡ true → passed (lines_of (piece ++ more)) ≡ piece ++ passed (lines_of more)
-passed-piece piece more h = ap passed (lines-open piece more h) ∙ passed-onto piece (lines_of more)
+copied-piece : (piece more : List ℕ) → is_open piece ≡ true → copied (lines_of (piece ++ more)) ≡ piece ++ copied (lines_of more)
+copied-piece piece more h = ap copied (lines-open piece more h) ∙ copied-onto piece (lines_of more)
 
 -- A line that begins with more than 401 bytes is too long, and is shown as it is.
 
@@ -56,11 +56,11 @@ no_note line h = rw (lt-ltb 400 (length line) h) refl
 shown-long : (xs ys : List ℕ) → is_open xs ≡ true → 401 < length xs → shown (xs ++ ys) ≡ xs ++ ys
 shown-long xs ys h l =
     let long : 400 < length (body_of (xs ++ ys)) = omega (arith, l, body-front xs ys h) in
-    ap (λ (note : List ℕ). body_of (xs ++ ys) ++ note ++ end_of (xs ++ ys)) (no_note (body_of (xs ++ ys)) long)
+    ap (λ (comment : List ℕ). body_of (xs ++ ys) ++ comment ++ end_of (xs ++ ys)) (no_note (body_of (xs ++ ys)) long)
     ∙ ap (λ (bs : List ℕ). bs ++ end_of (xs ++ ys)) (append-nil (body_of (xs ++ ys)))
     ∙ whole (xs ++ ys)
 
-shown-all : (xs : List ℕ) (lines : List (List ℕ)) → is_open xs ≡ true → 401 < length xs → flat_map shown (all_onto xs lines) ≡ xs ++ passed lines
+shown-all : (xs : List ℕ) (lines : List (List ℕ)) → is_open xs ≡ true → 401 < length xs → flat_map shown (all_onto xs lines) ≡ xs ++ copied lines
 shown-all [] lines h l = absurd (omega arith)
 shown-all (x ∷ xs) [] h l =
     ap (flat_map shown) (onto-none x xs)
@@ -70,7 +70,7 @@ shown-all (x ∷ xs) (line ∷ lines) h l =
     ∙ ap (λ (bs : List ℕ). bs ++ flat_map shown lines) (shown-long (x ∷ xs) line h l)
     ∙ append_assoc (x ∷ xs) line (flat_map shown lines)
 
-explained-long : (xs more : List ℕ) → is_open xs ≡ true → 401 < length xs → explained (xs ++ more) ≡ xs ++ passed (lines_of more)
+explained-long : (xs more : List ℕ) → is_open xs ≡ true → 401 < length xs → explained (xs ++ more) ≡ xs ++ copied (lines_of more)
 unfolding explained
 explained-long xs more h l = ap (flat_map shown) (lines-open xs more h) ∙ shown-all xs (lines_of more) h l
 
@@ -88,9 +88,9 @@ explained-last [] h = explained-none
 explained-last (x ∷ xs) h =
     ap (flat_map shown) (lines-open (x ∷ xs) [] h ∙ onto-none x xs) ∙ append-nil (shown (x ∷ xs))
 
--- What is still to be written, by whether the line is too long.
+-- The output still to be written, by whether the line is too long.
 
-write-long : (is_long : Bool) (held text : List ℕ) → is_long ≡ true → to_write is_long held text ≡ passed (lines_of text)
+write-long : (is_long : Bool) (held text : List ℕ) → is_long ≡ true → to_write is_long held text ≡ copied (lines_of text)
 unfolding to_write
 write-long is_long held text e = rw e refl
 
@@ -98,26 +98,26 @@ write-short : (is_long : Bool) (held text : List ℕ) → is_long ≡ false → 
 unfolding to_write
 write-short is_long held text e = rw e refl
 
--- An end of what is written goes over to what was written.
+-- The last part of the output still to be written is written.
 moved : (before after part left right : List ℕ) → left ≡ part ++ right → after ≡ before ++ part → before ++ left ≡ after ++ right
 moved before after part left right e a =
     ap (λ (bs : List ℕ). before ++ bs) e ∙ sym (append_assoc before part right) ∙ ap (λ (bs : List ℕ). bs ++ right) (sym a)
 
-pub hold-long : (is_long : Bool) (held piece more before after : List ℕ) → is_long ≡ true → is_open piece ≡ true → after ≡ before ++ piece
+pub keep-long : (is_long : Bool) (held piece more before after : List ℕ) → is_long ≡ true → is_open piece ≡ true → after ≡ before ++ piece
     → before ++ to_write is_long held (piece ++ more) ≡ after ++ to_write is_long held more
-hold-long is_long held piece more before after e h a =
+keep-long is_long held piece more before after e h a =
     moved before after piece (to_write is_long held (piece ++ more)) (to_write is_long held more)
-    (write-long is_long held (piece ++ more) e ∙ passed-piece piece more h ∙ ap (λ (bs : List ℕ). piece ++ bs) (sym (write-long is_long held more e))) a
+    (write-long is_long held (piece ++ more) e ∙ copied-piece piece more h ∙ ap (λ (bs : List ℕ). piece ++ bs) (sym (write-long is_long held more e))) a
 
-pub hold-short : (is_long : Bool) (held piece more before left : List ℕ) → is_long ≡ false → left ≡ held ++ piece
+pub keep-short : (is_long : Bool) (held piece more before left : List ℕ) → is_long ≡ false → left ≡ held ++ piece
     → before ++ to_write is_long held (piece ++ more) ≡ before ++ to_write is_long left more
-hold-short is_long held piece more before left e h =
+keep-short is_long held piece more before left e h =
     ap (λ (bs : List ℕ). before ++ bs)
     (write-short is_long held (piece ++ more) e ∙ ap explained (sym (append_assoc held piece more) ∙ ap (λ (bs : List ℕ). bs ++ more) (sym h)) ∙ sym (write-short is_long left more e))
 
-pub hold-over : (is_long : Bool) (held piece more before middle after left : List ℕ) → is_long ≡ false → is_open held ≡ true → is_open piece ≡ true → 401 < length held + length piece
+pub keep-over : (is_long : Bool) (held piece more before middle after left : List ℕ) → is_long ≡ false → is_open held ≡ true → is_open piece ≡ true → 401 < length held + length piece
     → middle ≡ before ++ held → after ≡ middle ++ piece → before ++ to_write is_long held (piece ++ more) ≡ after ++ to_write true left more
-hold-over is_long held piece more before middle after left e h p l m a =
+keep-over is_long held piece more before middle after left e h p l m a =
     let long : 401 < length (held ++ piece) = omega (arith, l, length-append held piece) in
     moved before after (held ++ piece) (to_write is_long held (piece ++ more)) (to_write true left more)
     (write-short is_long held (piece ++ more) e ∙ ap explained (sym (append_assoc held piece more)) ∙ explained-long (held ++ piece) more (open-both held piece h p) long
@@ -146,11 +146,11 @@ finish-short is_long held before after e h a =
     let is : shown held ≡ held ++ note_of held ++ [] = shown-last held h ∙ sym (append-nil (held ++ note_of held)) in
     a ∙ ap (λ (bs : List ℕ). before ++ bs) (sym (write-short is_long held [] e ∙ explained-last held h ∙ is))
 
--- a piece, a line feed behind it, and the rest
-pub one_line : (rest piece behind more : List ℕ) → rest ≡ piece ++ 10 ∷ behind → rest ++ more ≡ piece ++ 10 ∷ (behind ++ more)
-one_line rest piece behind more e = ap (λ (bs : List ℕ). bs ++ more) e ∙ append_assoc piece (10 ∷ behind) more
+-- a piece, the line feed after it, and the rest
+pub one_line : (rest piece rest_after more : List ℕ) → rest ≡ piece ++ 10 ∷ rest_after → rest ++ more ≡ piece ++ 10 ∷ (rest_after ++ more)
+one_line rest piece rest_after more e = ap (λ (bs : List ℕ). bs ++ more) e ∙ append_assoc piece (10 ∷ rest_after) more
 
--- a line that nothing is held of
+-- a line of which nothing is held
 pub line-whole : (is_long : Bool) (held piece more before after : List ℕ) → is_long ≡ false → length held ≡ 0 → is_open piece ≡ true → after ≡ before ++ shown (piece ++ 10 ∷ [])
     → before ++ to_write is_long held (piece ++ 10 ∷ more) ≡ after ++ to_write is_long held more
 line-whole is_long [] piece more before after e none h a =
@@ -158,9 +158,9 @@ line-whole is_long [] piece more before after e none h a =
     (write-short is_long [] (piece ++ 10 ∷ more) e ∙ explained-ended piece more h ∙ ap (λ (bs : List ℕ). shown (piece ++ 10 ∷ []) ++ bs) (sym (write-short is_long [] more e))) a
 line-whole is_long (x ∷ xs) piece more before after e none h a = absurd (omega (arith, none))
 
-pub ruleset hears_line = (line-whole)
+pub ruleset pushes_line = (line-whole)
 
-pub ruleset holds = (hold-long, hold-short, hold-over)
+pub ruleset holds = (keep-long, keep-short, keep-over)
 
 pub ruleset ends_line = (end-long, end-short)
 

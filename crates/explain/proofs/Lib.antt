@@ -1,5 +1,5 @@
 mod Ends
 mod Held
-mod Passing
+mod Copying
 mod Pieces
-mod Told
+mod Messages

@@ -1,4 +1,4 @@
--- A text is cut at its line feeds.
+-- A text is split at its line feeds.
 use Rattle.std.proofs.Common.{◌≡◌, ℕ, ◌+◌, ◌<◌, ◌≤◌, ◌==◌, true, false, List, [], ◌∷◌, ◌++◌, suc, length, take, drop, Some, None, position, refl, ap, sym, inl, inr, ◌∙◌, eqb-true, arith}
 use Rattle.std.specs.List.{position_or_len}
 use Rattle.std.proofs.lemmas.Bool.Decides.{nat_tests}
@@ -21,7 +21,7 @@ place-end b text e = rw e refl
 place-in : (b : ℕ) (text : List ℕ) → (b == 10) ≡ false → place (b ∷ text) ≡ 1 + place text
 place-in b text e = rw e refl
 
--- what stands before the first line feed ends no line
+-- the bytes before the first line feed end no line
 open-before : (text : List ℕ) → is_open (take (place text) text) ≡ true
 open-before [] = refl
 open-before (b ∷ text) = elim (cases_Bool (b == 10)) [

@@ -1,9 +1,9 @@
--- What is written of a text (own).
+-- The output for a text (own).
 use Rattle.std.specs.Prelude.{ℕ, List, ◌++◌, flat_map}
 use Rattle.explain.specs.Lines.{body_of, end_of, lines_of}
-use Rattle.explain.specs.Subjects.{note_of}
+use Rattle.explain.specs.LineKinds.{note_of}
 
--- a line, and behind it what it says, before its end
+-- a line, with its explanation before its end
 abbrev pub shown : List ℕ → List ℕ
 shown line = body_of line ++ note_of (body_of line) ++ end_of line
 

@@ -3,5 +3,5 @@ pub mod Explained
 pub mod Fault
 pub mod Lines
 pub mod Streams
-pub mod Subjects
+pub mod LineKinds
 pub mod Unfinished

@@ -12,16 +12,17 @@ abbrev pub onto_line : ℕ → List (List ℕ) → List (List ℕ)
 onto_line b [] = (b ∷ []) ∷ []
 onto_line b (line ∷ lines) = (b ∷ line) ∷ lines
 
--- the lines of a text: each goes to its line feed, and the last to the end of the text, if anything is behind the others
+-- the lines of a text: each ends with its line feed, and the last with the text, if anything
+-- follows the others
 abbrev pub lines_of : List ℕ → List (List ℕ)
 lines_of [] = []
 lines_of (b ∷ text) = if b == 10 then (10 ∷ []) ∷ lines_of text else onto_line b (lines_of text)
 
--- a line feed, or a carriage return and it
+-- a line feed, or a carriage return and a line feed
 abbrev pub is_end : List ℕ → Bool
 is_end text = bytes_eq text (10 ∷ []) || bytes_eq text (13 ∷ 10 ∷ [])
 
--- what stands before the end of a line
+-- the text of a line before its end
 abbrev pub body_of : List ℕ → List ℕ
 body_of [] = []
 body_of (b ∷ line) = if is_end (b ∷ line) then [] else b ∷ body_of line

@@ -1,33 +1,33 @@
--- What a run does with its streams.
+-- The effect of a run on its streams.
 use Rattle.std.specs.Prelude.{ℕ, Bool, ◌≡◌, List, ◌++◌, Option}
 use Rattle.std.specs.Io.KnownBytes.{Appends, Consumes}
 use Rattle.explain.specs.Explained.{explained}
 use Rattle.explain.specs.Unfinished.{to_write}
 
--- Some text was read, and what was written is that text explained.
+-- Some text was read, and the explained text was written.
 abbrev pub Explains : (old_input new_input old_output new_output : Option (List ℕ)) → Type 0
 Explains old_input new_input old_output new_output =
     (text : List ℕ) × Consumes old_input new_input text × Appends old_output new_output (explained text)
 
--- Some text was read, and what was written is a front of that text explained.
+-- Some text was read, and a prefix of the explained text was written.
 abbrev pub ExplainsFront : (old_input new_input old_output new_output : Option (List ℕ)) → Type 0
 ExplainsFront old_input new_input old_output new_output =
     (text : List ℕ) × (written : List ℕ) × (left : List ℕ) × Consumes old_input new_input text × Appends old_output new_output written
     × (explained text ≡ written ++ left)
 
--- Behind what is held some text was read, and what it ends was written: however the text goes on, nothing is lost and
--- nothing is made up.
+-- After the bytes held some text was read, and the output that it completes was written: whatever
+-- text follows, no output is lost and none is invented.
 abbrev pub Follows : (old_input new_input old_output new_output : Option (List ℕ)) → (was_long : Bool) → (was_held : List ℕ) → (is_long : Bool) → (held : List ℕ) → Type 0
 Follows old_input new_input old_output new_output was_long was_held is_long held =
     (text : List ℕ) × (written : List ℕ) × Consumes old_input new_input text × Appends old_output new_output written
     × ((more : List ℕ) → to_write was_long was_held (text ++ more) ≡ written ++ to_write is_long held more)
 
--- Behind what is held some text was read, and of what it comes to a front was written.
+-- After the bytes held some text was read, and a prefix of the output for it was written.
 abbrev pub Begins : (old_input new_input old_output new_output : Option (List ℕ)) → (is_long : Bool) → (held : List ℕ) → Type 0
 Begins old_input new_input old_output new_output is_long held =
     (text : List ℕ) × (written : List ℕ) × (left : List ℕ) × Consumes old_input new_input text × Appends old_output new_output written
     × (to_write is_long held text ≡ written ++ left)
 
--- a front of a text was written
+-- a prefix of a text was written
 abbrev pub AppendsFront : (old new : Option (List ℕ)) → List ℕ → Type 0
 AppendsFront old new text = (written : List ℕ) × (left : List ℕ) × Appends old new written × (text ≡ written ++ left)

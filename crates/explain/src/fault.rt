@@ -1,4 +1,4 @@
-//! Why a run ends with a status other than 0.
+//! The faults of a run that ends with a status other than 0.
 ghost use Rattle.std.specs.Prelude.{◌≡◌};
 ghost use Rattle.explain.specs.declared.fault.ExplainFault.TheVariants.{NoMemory, Output};
 ghost use Rattle.explain.specs.Fault.{status_of};
@@ -7,7 +7,7 @@ use input_text::Broken;
 use std::alloc::AllocError;
 use thiserror::Error;
 
-/// Why a run ends with a status other than 0. Its text is what follows `explain: ` on standard error.
+/// Why a run ends with a status other than 0. Its text follows `explain: ` on standard error.
 #[derive(Clone, Copy, Debug, Error)]
 pub enum ExplainFault {
     /// Status 2: standard input could not be read.
@@ -16,13 +16,13 @@ pub enum ExplainFault {
     /// Status 4: standard output could not be written.
     #[error("output")]
     Output = 4,
-    /// Status 6: want of memory.
+    /// Status 6: out of memory.
     #[error("no memory")]
     NoMemory = 6,
 }
 
 impl ExplainFault {
-    /// The exit status.
+    /// Returns the exit status.
     pub fn status(self) -> u8
         ensures { result ≡ status_of self }
     {
@@ -38,7 +38,7 @@ impl From<AllocError> for ExplainFault {
     }
 }
 
-/// Of standard output.
+/// The fault of a failed write to standard output.
 impl From<Broken> for ExplainFault {
     ghost from_gives = { λ _ fault. fault ≡ Output };
 

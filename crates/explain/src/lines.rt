@@ -1,18 +1,16 @@
-//! Lines, and what is written of them.
+//! Lines, and the output for them.
 ghost use Rattle.std.specs.Prelude.{◌≡◌, ◌<◌, ◌∷◌, ◌++◌, [], IsTrue, IfSome, OnOk, Some, None, length};
 ghost use Rattle.explain.specs.Explained.{shown};
 ghost use Rattle.explain.specs.Lines.{body_of, end_of, is_open};
-ghost use Rattle.explain.specs.Subjects.{note_of};
+ghost use Rattle.explain.specs.LineKinds.{note_of};
 
-use crate::subjects::tell_line;
+use crate::line_kinds::describe_line;
 use ascii_words::line_feed_at;
 use describe::Words;
+use loconet_tcp::LONGEST_LINE;
 use std::alloc::AllocError;
 
-/// The most characters of a line that is explained.
-pub(crate) const LONGEST: usize = 400;
-
-/// What stands before the first line feed, and what stands behind it.
+/// Splits a text at its first line feed: the bytes before it, and the bytes after it.
 #[tactic(auto, using(crate::proofs::Pieces::cuts))]
 pub(crate) fn cut_line(text: &[u8]) -> Option<(&[u8], &[u8])>
     ensures none { result ≡ None → IsTrue (is_open text.now) }
@@ -24,7 +22,7 @@ pub(crate) fn cut_line(text: &[u8]) -> Option<(&[u8], &[u8])>
     Some((&text[..at], &text[at + 1..]))
 }
 
-/// What stands before the end of a line, and that end, where a line feed follows these bytes.
+/// Splits a line that a line feed follows into its text and its end.
 #[tactic(auto, using(crate::proofs::Ends::ends))]
 fn body_and_end(line: &[u8]) -> (&[u8], &[u8])
     requires { IsTrue (is_open line.now) }
@@ -37,14 +35,14 @@ fn body_and_end(line: &[u8]) -> (&[u8], &[u8])
     }
 }
 
-/// Appends two spaces and what a line says, if it says anything; `words` lends the room to say it in.
+/// Appends two spaces and the explanation of a line, if it has one; `words` is a buffer for it.
 fn push_note(line: &[u8], words: &mut Words, text: &mut Vec<u8>) -> Result<(), AllocError>
     ensures { OnOk result (text.new.items ≡ text.old.items ++ note_of line.now) }
 {
-    if line.len() > LONGEST {
+    if line.len() > LONGEST_LINE {
         return Ok(());
     }
-    tell_line(line, words);
+    describe_line(line, words);
     if words.is_empty() {
         return Ok(());
     }
@@ -52,21 +50,22 @@ fn push_note(line: &[u8], words: &mut Words, text: &mut Vec<u8>) -> Result<(), A
     text.extend_from_slice(words.as_slice())
 }
 
-/// Appends what stands before the end of a line, what it says, and the end.
+/// Appends the text of a line, its explanation, and its end.
 pub(crate) fn push_line(
     body: &[u8],
     end: &[u8],
     words: &mut Words,
     text: &mut Vec<u8>,
 ) -> Result<(), AllocError>
-    ensures { OnOk result (text.new.items ≡ text.old.items ++ (body.now ++ note_of body.now ++ end.now)) }
+    ensures { OnOk result
+        (text.new.items ≡ text.old.items ++ (body.now ++ note_of body.now ++ end.now)) }
 {
     text.extend_from_slice(body)?;
     push_note(body, words, text)?;
     text.extend_from_slice(end)
 }
 
-/// Appends a line that a line feed ends, given without it, and what it says before its end.
+/// Appends a line given without its line feed, with its explanation before its end.
 pub(crate) fn push_ended(
     line: &[u8],
     words: &mut Words,

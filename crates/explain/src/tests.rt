@@ -1,19 +1,23 @@
-//! What is written of lines, devices that fail, and want of memory.
+//! The output for lines, devices that fail, and lack of memory.
 
 mod devices;
 mod lines;
 mod memory;
 
 use crate::execute;
-use test_support::{Program, Streams};
 use input_text::{Input, Output};
 use std::alloc::Global;
 use std::io::Write;
+use test_support::{Program, Streams};
 
 /// The program, as the tests run it.
 struct Explain;
 
 impl Program for Explain {
+    fn name(&self) -> &'static str {
+        "explain"
+    }
+
     fn execute<I: Input, O: Output, E: Write>(
         &self,
         alloc: Global,

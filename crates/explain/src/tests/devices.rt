@@ -1,12 +1,12 @@
-//! Standard streams that fail, and what is written when.
+//! Standard streams that fail, and when output is written.
 
 use super::Explain;
-use test_support::{Broken, Rough, Stuck, Uneven, run_from, run_to, run_untold};
 use std::alloc::Global;
 use std::io;
 use std::io::{ErrorKind, Write};
+use test_support::{Broken, Rough, Stuck, Uneven, run_from, run_to, run_unreported};
 
-// What was written, with a bar wherever it was let go out.
+// The output, with a bar at each flush.
 #[derive(Drop)]
 struct Outward {
     text: Vec<u8>,
@@ -59,7 +59,7 @@ fn a_line_goes_out_when_its_end_is_read(rt: HostRuntime) {
     let mut input = two_lines(ErrorKind::Other);
     let (status, _) = run_to(&Explain, rt.alloc(), &mut input, &mut output);
     assert_eq!(rt; status, 2);
-    // The second read ends no line, and what is held goes out at the end.
+    // The second read ends no line, and the bytes held are written at the end.
     assert_eq!(rt;
         output.text.as_slice(),
         b"track 1 FF 00 FF  idle\n||track 2 off  no power, nothing is sent|".as_slice()
@@ -82,15 +82,15 @@ fn standard_output_cannot_be_written(rt: HostRuntime) {
 #[test]
 fn a_line_is_written_or_it_is_told(rt: HostRuntime) {
     let explained = b"track 1 FF 00 FF  idle\n";
-    // How many calls in a row are interrupted, how many writes take five bytes, and what comes behind them: a failure, or a
-    // write of no byte. Then the status, and how many bytes are written.
+    // How many calls in a row are interrupted, how many writes accept five bytes, and what follows
+    // them: a failure, or a write of no byte. Then the status, and how many bytes are written.
     let rows: [(u32, u32, Option<ErrorKind>, u8, usize); 7] = [
         (0, 100, Some(ErrorKind::Other), 0, 23),
         (1, 100, Some(ErrorKind::Other), 0, 23),
         (2, 100, Some(ErrorKind::Other), 0, 23),
         (0, 0, Some(ErrorKind::Other), 4, 0),
         (1, 2, None, 4, 10),
-        // All is written, and does not go out; and does.
+        // All is written, and the flush fails; and succeeds.
         (2, 5, Some(ErrorKind::Other), 4, 23),
         (2, 5, None, 0, 23),
     ];
@@ -114,5 +114,5 @@ fn standard_output_cannot_go_out(rt: HostRuntime) {
 
 #[test]
 fn standard_error_cannot_be_written(rt: HostRuntime) {
-    assert_eq!(rt; run_untold(&Explain, rt.alloc(), &mut Broken::new()), 2);
+    assert_eq!(rt; run_unreported(&Explain, rt.alloc(), &mut Broken::new()), 2);
 }

@@ -1,18 +1,19 @@
-//! Lines, and what is written behind them, worked out by hand from LocoNet Personal Use Edition 1.0 and from S-9.2 and
-//! S-9.2.1. Each text comes at once, in two pieces cut at every place, and byte by byte.
+//! Lines and their explanations, worked out by hand from LocoNet Personal Use Edition 1.0 and from
+//! S-9.2 and S-9.2.1. Each text is read at once, in two pieces divided at every point, and byte by
+//! byte.
 
 use super::Explain;
-use test_support::{Uneven, run_from};
 use std::alloc::Global;
 use std::io::Read;
 use std::test::Fail;
+use test_support::{Uneven, run_from};
 
-/// Whether a run on what this reader gives comes to this.
+/// Whether a run on this reader writes this.
 fn comes_so<R: Read>(rt: &HostRuntime, reader: &mut R, wanted: &[u8]) -> bool {
     run_from(&Explain, rt.alloc(), reader).is(0, wanted, b"")
 }
 
-/// Whether a text comes to this, however it is cut.
+/// Whether a run on a text writes this, however the text is divided.
 fn comes_to(rt: &HostRuntime, text: &[u8], wanted: &[u8]) -> bool {
     for first in 1..=text.len() {
         let mut pieces = Read::chain(&text[..first], &text[first..]);
@@ -23,7 +24,7 @@ fn comes_to(rt: &HostRuntime, text: &[u8], wanted: &[u8]) -> bool {
     comes_so(rt, &mut Uneven::new(text, 1, None), wanted)
 }
 
-// What stands before the end of a line, its end, and what is written between the two.
+// The text of a line, its end, and the explanation written between the two.
 type Row = (&'static [u8], &'static [u8], &'static [u8]);
 
 const PRINTED: [Row; 12] = [
@@ -49,7 +50,7 @@ const PRINTED: [Row; 12] = [
     ),
     (b"track 18446744073709551615 FF 00 FF", b"\n", b"  idle"),
     (b"track 3 off", b"\n", b"  no power, nothing is sent"),
-    // The same five bytes are a message behind one word, and a packet behind the other.
+    // The same five bytes are a message after one word, and a packet after the other.
     (b"reply 0 81 7E", b"\n", b"  busy"),
     (b"track 0 81 7E", b"\n", b"  wrong length"),
     (
@@ -75,7 +76,7 @@ const CAPTURED: [Row; 15] = [
     (b" 83 7C ", b"\r\n", b"  track power on"),
     (b"a0 01 40 1e", b"", b"  slot 1: speed 63 of 126"),
     (b"track 2 off", b"", b"  no power, nothing is sent"),
-    // What is no right message or packet is told to be none.
+    // The explanation of an invalid message or packet is the reason.
     (b"83 7D", b"\n", b"  wrong check"),
     (b"83 7C 00", b"\n", b"  wrong length"),
     (b"03", b"\n", b"  no opcode"),
@@ -98,7 +99,7 @@ const UNCHANGED: [Row; 31] = [
     (b"node yard module 1 outputs 00000000", b"\n", b""),
     (b"# Power on (OPC_GPON).", b"\n", b""),
     (b"line 0 83 7C", b"\n", b""),
-    // Words without bytes behind them.
+    // Words without bytes after them.
     (b"reply", b"\n", b""),
     (b"reply 0", b"\n", b""),
     (b"track", b"\n", b""),
@@ -116,26 +117,26 @@ const UNCHANGED: [Row; 31] = [
     (b"SEND 8 37C", b"\n", b""),
     (b"83 7G", b"\n", b""),
     (b"83,7C", b"\n", b""),
-    // A carriage return belongs to the end before a line feed alone.
+    // A carriage return belongs to the line end only before a line feed.
     (b"83 7C\r", b"", b""),
     (b"83 7C\r", b"\r\n", b""),
     (b"\x00\xFF 83 7C", b"\n", b""),
 ];
 
-/// The texts of lines one after another, or what is written of them.
+/// The texts of lines one after another, or the output for them.
 fn all_of(alloc: Global, rows: &[Row], with_notes: bool) -> Result<Vec<u8>, Fail> {
     let mut text = Vec::new(alloc);
-    for (line, end, note) in rows {
+    for (line, end, comment) in rows {
         text.extend_from_slice(line)?;
         if with_notes {
-            text.extend_from_slice(note)?;
+            text.extend_from_slice(comment)?;
         }
         text.extend_from_slice(end)?;
     }
     Ok(text)
 }
 
-/// The place of the first row that comes to something else.
+/// The index of the first row with another output.
 fn first_other(rt: &HostRuntime, rows: &[Row]) -> Result<Option<usize>, Fail> {
     for (place, row) in rows.iter().enumerate() {
         let one = [*row];
@@ -164,14 +165,14 @@ fn lines_are_explained_one_after_another(rt: HostRuntime) -> Result<(), Fail> {
     Ok(())
 }
 
-/// `83 7C` and spaces, so many characters in all, then the end, and a line behind it.
-fn padded(alloc: Global, length: usize, note: &[u8], end: &[u8]) -> Result<Vec<u8>, Fail> {
+/// `83 7C` and spaces, `length` characters in all, then the end, and a line after it.
+fn padded(alloc: Global, length: usize, comment: &[u8], end: &[u8]) -> Result<Vec<u8>, Fail> {
     let mut text = Vec::new(alloc);
     text.extend_from_slice(b"83 7C")?;
     for _ in 5..length {
         text.push(b' ')?;
     }
-    text.extend_from_slice(note)?;
+    text.extend_from_slice(comment)?;
     text.extend_from_slice(end)?;
     Ok(text)
 }
@@ -191,9 +192,9 @@ fn long_lines_are_passed(rt: HostRuntime) -> Result<(), Fail> {
         (500, b"\r\n", b""),
         (803, b"\n", b""),
     ];
-    for (length, end, note) in rows {
+    for (length, end, comment) in rows {
         let mut text = padded(rt.alloc(), length, b"", end)?;
-        let mut wanted = padded(rt.alloc(), length, note, end)?;
+        let mut wanted = padded(rt.alloc(), length, comment, end)?;
         if end.ends_with(b"\n") {
             text.extend_from_slice(b"81 7E")?;
             wanted.extend_from_slice(b"81 7E  busy")?;

@@ -4,4 +4,4 @@ use Rattle.describe.proofs.packets.push_all.Goals as goal
 
 pub returns-clause-text : goal.returns-clause-text
 returns-clause-text c =
-    c.push_instruction.ensures.text ∙ ap (λ text. text ++ instruction_words c.args.told.now) c.push_text.ensures.text ∙ append_assoc _ (codes "all locomotives: ") _
+    c.push_instruction.ensures.text ∙ ap (λ text. text ++ instruction_words c.args.requested.now) c.push_text.ensures.text ∙ append_assoc _ (codes "all locomotives: ") _

@@ -1,4 +1,4 @@
-use Rattle.explain.proofs.Passing.{front-part}
+use Rattle.explain.proofs.Copying.{front-part}
 use Rattle.explain.proofs.streams.write_text.Goals as goal
 
 pub returns-in_err-put_all-clause-front : goal.returns-in_err-put_all-clause-front

@@ -1,21 +1,22 @@
--- What LocoNet over TCP tells is read back.
+-- The lines of LocoNet over TCP are read back.
 use Rattle.std.proofs.Common.{◌≡◌, ℕ, ◌/◌, ◌%◌, Bool, true, false, List, [], ◌∷◌, ◌++◌, length, Option, Some, None, nat_lt, if◌then◌else◌, ap}
 use Rattle.std.specs.Prelude.{codes}
 use Rattle.ln_frame.specs.Message.{has_form, is_whole}
+use Rattle.ascii_words.specs.Words.{hex_char}
 use Rattle.loconet_tcp.specs.declared.request.Request.TheVariants.{Send, Invalid}
 use Rattle.loconet_tcp.specs.declared.request.Reason.TheVariants.{TooLong, NoMessage, WrongCheck}
 use Rattle.ascii_words.specs.Words.{words_of}
 use Rattle.loconet_tcp.specs.Requests.{are_pairs, parse_send, request_of, bytes_of, leading_bytes}
-use Rattle.loconet_tcp.specs.ClientLines.{hex_char, hex_words}
+use Rattle.loconet_tcp.specs.ClientLines.{hex_words}
 use Rattle.describe.specs.Messages.{message_words}
-use Rattle.explain.specs.Subjects.{message_in, said_by, words_about}
+use Rattle.explain.specs.LineKinds.{message_in, said_by, words_about}
 
 whole_sent : (whole form : Bool) (bytes message : List ℕ) → (if whole then Send bytes else if form then Invalid WrongCheck else Invalid NoMessage) ≡ Send message → bytes ≡ message
 whole_sent true form bytes message e = cc
 whole_sent false true bytes message e = cc
 whole_sent false false bytes message e = cc
 
--- what is asked to be sent was written
+-- a message requested to be sent was written
 sent : (long : Bool) (written : Option (List ℕ)) (message : List ℕ) → Some (if long then Invalid TooLong else parse_send written) ≡ Some (Send message) → written ≡ Some message
 sent true written message e = cc
 sent false None message e = cc
@@ -23,7 +24,7 @@ sent false (Some bytes) message e =
     let same : parse_send (Some bytes) ≡ Send message = cc in
     ap Some (whole_sent (is_whole bytes) (has_form bytes) bytes message same)
 
--- behind the first word
+-- after the first word
 abbrev tail : ℕ → List ℕ → List ℕ
 tail b bs = hex_char (b / 16) ∷ hex_char (b % 16) ∷ hex_words bs
 

@@ -1,8 +1,8 @@
 use Rattle.std.proofs.Common.{◌≡◌, ◌-◌, ◌^◌, false}
 use Rattle.explain.specs.Streams.{Follows}
-use Rattle.explain.proofs.streams.hear_all.Given as goal
+use Rattle.explain.proofs.streams.push_all.Given as goal
 
--- what was heard so far
+-- the bytes read so far
 abbrev pub invariant-loop-end : goal.invariant-loop-end
 invariant-loop-end g l = record {
   followed : Follows (g.I.Input.left l.initial.input) (g.I.Input.left l.input) (g.O.Sink.held l.initial.output) (g.O.Sink.held l.output)
@@ -11,6 +11,6 @@ invariant-loop-end g l = record {
   writes : g.O.Sink.failed l.output ≡ false;
 }
 
--- an input gives less than 2^64 bytes
+-- an input delivers less than 2^64 bytes
 abbrev pub decreases-loop-end : goal.decreases-loop-end
 decreases-loop-end g l = 2 ^ 64 - g.I.Input.given l.input

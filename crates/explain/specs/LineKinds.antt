@@ -1,4 +1,5 @@
--- What a line is about, and what is said of it (own). What the words say is that of `describe`.
+-- The subject of a line, and its explanation (own). The explanations of messages and packets are
+-- those of `describe`.
 use Rattle.std.specs.Prelude.{ℕ, Bool, if◌then◌else◌, nat_lt, List, [], ◌∷◌, length, Option, Some, None, codes}
 use Rattle.std.specs.List.{before_first, after_first}
 use Rattle.std.specs.Str.{bytes_eq}
@@ -7,7 +8,7 @@ use Rattle.loconet_tcp.specs.Requests.{bytes_of, leading_bytes}
 use Rattle.describe.specs.Messages.{message_words}
 use Rattle.describe.specs.Packets.{packet_words}
 
--- what some bytes say; nothing is said of none, or where a word is no pair of digits
+-- the explanation of bytes; none if there are no bytes, or if a word is not a pair of digits
 abbrev pub said_by : (List ℕ → List ℕ) → Option (List ℕ) → List ℕ
 said_by say None = []
 said_by say (Some []) = []
@@ -21,13 +22,13 @@ message_in text = said_by message_words (bytes_of (words_of text))
 unfoldable pub turn_in : List ℕ → List ℕ
 turn_in text = if bytes_eq text (codes "off") then codes "no power, nothing is sent" else said_by packet_words (bytes_of (words_of text))
 
--- a message, and behind it words that tell it another way, none of which begins with a pair
+-- a message, followed by words that describe it, none of which begins with a pair
 unfoldable pub monitored_in : List ℕ → List ℕ
 monitored_in text = said_by message_words (Some (leading_bytes (words_of text)))
 
--- what stands behind the first word
-abbrev pub behind : List ℕ → List ℕ
-behind text = after_first is_blank text
+-- the text after the first word
+abbrev pub rest_after : List ℕ → List ℕ
+rest_after text = after_first is_blank text
 
 abbrev pub begins_with : List ℕ → List ℕ → Bool
 begins_with word line = bytes_eq (before_first is_blank line) word
@@ -36,17 +37,17 @@ begins_with word line = bytes_eq (before_first is_blank line) word
 -- that begins with none of these words is a message, or says nothing.
 abbrev pub words_about : List ℕ → List ℕ
 words_about line =
-    if begins_with (codes "reply") line then message_in (behind (behind line)) else
-    (if begins_with (codes "track") line then turn_in (behind (behind line)) else
-    (if begins_with (codes "msg") line then monitored_in (behind line) else
-    (if begins_with (codes "RECEIVE") line then message_in (behind line) else
-    (if begins_with (codes "SEND") line then message_in (behind line) else message_in line))))
+    if begins_with (codes "reply") line then message_in (rest_after (rest_after line)) else
+    (if begins_with (codes "track") line then turn_in (rest_after (rest_after line)) else
+    (if begins_with (codes "msg") line then monitored_in (rest_after line) else
+    (if begins_with (codes "RECEIVE") line then message_in (rest_after line) else
+    (if begins_with (codes "SEND") line then message_in (rest_after line) else message_in line))))
 
 -- two spaces before words
 abbrev pub set_off : List ℕ → List ℕ
 set_off [] = []
 set_off (w ∷ words) = 32 ∷ 32 ∷ w ∷ words
 
--- what is written behind a line, given without its end: nothing behind one of more than 400 characters
+-- the explanation added to a line, given without its end: none for one of more than 400 characters
 abbrev pub note_of : List ℕ → List ℕ
 note_of line = if nat_lt 400 (length line) then [] else set_off (words_about line)

@@ -1,5 +1,5 @@
-use Rattle.explain.proofs.Told.{received-words, sent-words}
-use Rattle.explain.proofs.laws.told_is_explained.Goals as goal
+use Rattle.explain.proofs.Messages.{received-words, sent-words}
+use Rattle.explain.proofs.laws.messages_are_explained.Goals as goal
 
 pub returns-clause-received : goal.returns-clause-received
 returns-clause-received c message whole bytes = received-words message (c.received_is_sendable.ensures message whole bytes)

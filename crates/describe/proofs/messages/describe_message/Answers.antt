@@ -2,7 +2,7 @@ use Rattle.std.proofs.Common.{◌++◌, ap, sym, ◌∙◌}
 use Rattle.ln_ops.specs.Message.{op_of}
 use Rattle.describe.specs.Messages.{whole_words}
 use Rattle.describe.proofs.Whole.{whole_of}
-use Rattle.describe.proofs.messages.tell_message.Goals as goal
+use Rattle.describe.proofs.messages.describe_message.Goals as goal
 
 pub returns-in-Some : goal.returns-in-Some
 returns-in-Some c =

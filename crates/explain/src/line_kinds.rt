@@ -1,0 +1,88 @@
+//! The subject of a line, and its explanation.
+ghost use Rattle.std.specs.Prelude.{◌≡◌, ◌≤◌, length, Option, Some, None, MatchOption};
+ghost use Rattle.ascii_words.specs.Words.{words_of};
+ghost use Rattle.describe.specs.Messages.{message_words};
+ghost use Rattle.loconet_tcp.specs.Requests.{leading_bytes};
+ghost use Rattle.explain.specs.LineKinds.{message_in, monitored_in, said_by, turn_in, words_about};
+
+use ascii_words::cut_piece;
+use describe::{Words, describe_message, describe_packet};
+use loconet_tcp::{Bytes, bytes_of, leading_bytes};
+
+/// Explains words that are a message and nothing else.
+#[tactic(auto, unfolding(crate::specs::LineKinds::message_in))]
+fn describe_message_in(text: &[u8], words: &mut Words)
+    requires { length text.now ≤ 400 }
+    ensures { words.new.items ≡ message_in text.now }
+{
+    match bytes_of(text) {
+        Some(bytes) => describe_some(&bytes, words),
+        None => words.clear(),
+    }
+}
+
+/// Explains the bytes of a message, if there are any.
+fn describe_some(bytes: &Bytes, words: &mut Words)
+    ensures { words.new.items ≡ said_by message_words (Some bytes.now.items) }
+{
+    if bytes.is_empty() {
+        words.clear();
+    } else {
+        describe_message(words, bytes.as_slice());
+    }
+}
+
+/// Explains what a turn sent: `off`, or the words of a packet and nothing else.
+#[tactic(auto, unfolding(crate::specs::LineKinds::turn_in))]
+fn describe_turn(text: &[u8], words: &mut Words)
+    requires { length text.now ≤ 400 }
+    ensures { words.new.items ≡ turn_in text.now }
+{
+    if text == b"off".as_slice() {
+        return write_text(b"no power, nothing is sent", words);
+    }
+    match bytes_of(text) {
+        Some(bytes) if !bytes.is_empty() => describe_packet(words, bytes.as_slice()),
+        _ => words.clear(),
+    }
+}
+
+/// Sets the explanation to this text.
+fn write_text(text: &[u8], words: &mut Words)
+    requires { length text.now ≤ 400 }
+    ensures { words.new.items ≡ text.now }
+{
+    words.clear();
+    let _fits = words.try_extend_from_slice(text);
+}
+
+/// Explains a message followed by words that describe it.
+#[tactic(auto, unfolding(crate::specs::LineKinds::monitored_in))]
+fn describe_monitored(text: &[u8], words: &mut Words)
+    requires { length text.now ≤ 400 }
+    ensures { words.new.items ≡ monitored_in text.now }
+{
+    describe_some(&leading_bytes(text), words);
+}
+
+/// What a line of at most 400 characters says, by its first word; nothing, if it is about neither a message nor a packet.
+/// It is told in place of what the words were.
+pub(crate) fn describe_line(line: &[u8], words: &mut Words)
+    requires { length line.now ≤ 400 }
+    ensures { words.new.items ≡ words_about line.now }
+{
+    let (first, rest_after) = cut_piece(line);
+    if first == b"reply".as_slice() {
+        return describe_message_in(cut_piece(rest_after).1, words);
+    }
+    if first == b"track".as_slice() {
+        return describe_turn(cut_piece(rest_after).1, words);
+    }
+    if first == b"msg".as_slice() {
+        return describe_monitored(rest_after, words);
+    }
+    if first == b"RECEIVE".as_slice() || first == b"SEND".as_slice() {
+        return describe_message_in(rest_after, words);
+    }
+    describe_message_in(line, words);
+}
