@@ -1,7 +1,7 @@
--- What is left of a list, and what is drawn of it.
+-- The rest of a list, and the drawing of it.
 use Rattle.std.proofs.Common.{◌≡◌, ℕ, ◌+◌, List, [], ◌∷◌, ◌++◌, Option, Some, None, ap, sym, ◌∙◌, append_assoc}
 use Rattle.std.proofs.lemmas.List.{append-nil}
-use Rattle.trace.specs.declared.standing.Seen.{Seen}
+use Rattle.trace.specs.declared.reported_state.Seen.{Seen}
 use Rattle.timeline.specs.declared.event.Event.{Event}
 use Rattle.timeline.specs.declared.mark.Mark.{Mark}
 use Rattle.timeline.specs.declared.row.Kind.{Kind}

@@ -1,4 +1,4 @@
--- What is drawn, one thing after another.
+-- The drawing, one thing after another.
 use Rattle.std.proofs.Common.{◌≡◌, ℕ, List, [], ◌∷◌, ◌++◌, Option, Some, None, refl, ap, sym, subst, ◌∙◌, append_assoc}
 use Rattle.std.proofs.lemmas.List.{append-nil}
 use Rattle.std.proofs.KnownBytes.{Appends-nil, Appends-trans}
@@ -16,7 +16,7 @@ pub then_ok : {A E : Type 0} (r : Result A E) (a b c : Option (List ℕ)) (xs ys
 then_ok (Ok x) a b c xs ys first second = Appends-trans a b c xs ys first second
 then_ok (Err e) a b c xs ys first second = tt
 
--- What was written and what is left to write is all.
+-- The text written and the text still to be written are together the whole.
 pub record HasWritten (all left : List ℕ) (old now : Option (List ℕ)) : Type 0 where
   pub written : List ℕ
   pub appended : Appends old now written
@@ -32,7 +32,7 @@ written_more all left next rest old now new has parts here = record {
   whole = append_assoc has.written next rest ∙ ap (λ (bs : List ℕ). has.written ++ bs) (sym parts) ∙ has.whole;
 }
 
--- where nothing is written
+-- if nothing is written
 pub written_same : (all left rest : List ℕ) (old now : Option (List ℕ)) → HasWritten all left old now → left ≡ rest → HasWritten all rest old now
 written_same all left rest old now has same = subst (λ (bs : List ℕ). HasWritten all bs old now) same has
 

@@ -1,10 +1,11 @@
--- The picture of a run as a text: a Scalable Vector Graphics image (W3C, SVG 1.1), 1,200 pixels wide.
+-- The picture of a run as a text: a Scalable Vector Graphics image (W3C, SVG 1.1), 1,200 pixels
+-- wide.
 use Rattle.std.specs.Prelude.{ℕ, ◌+◌, ◌-◌, ◌*◌, ◌/◌, ◌==◌, ◌&&◌, Bool, true, false, if◌then◌else◌, List, [], ◌∷◌, ◌++◌, Option, Some, None, codes, max}
 use Rattle.std.specs.Fmt.{decimal}
 use Rattle.std.specs.List.{fold}
 use Rattle.dcc_packet.specs.declared.address.Address.TheVariants.{Short, Long}
-use Rattle.trace.specs.declared.standing.Standing.{Standing}
-use Rattle.trace.specs.declared.standing.Standing.TheVariants as stands
+use Rattle.trace.specs.declared.reported_state.ReportedState.{ReportedState}
+use Rattle.trace.specs.declared.reported_state.ReportedState.TheVariants as stands
 use Rattle.timeline.specs.declared.event.Event.{Event}
 use Rattle.timeline.specs.declared.event.Event.TheVariants.{Sent, Off, Shown}
 use Rattle.timeline.specs.declared.mark.Mark.{Mark}
@@ -16,7 +17,7 @@ use Rattle.timeline.specs.declared.row.Part.{Part}
 use Rattle.timeline.specs.declared.row.Part.TheVariants.{Locomotives, Accessories, Everyone, Idle, Unpowered}
 use Rattle.timeline.specs.Rows.{height_of, rows_of}
 
--- Turns are counted by the lines that tell of them, from 1; what is told before the first is at 0.
+-- Turns are counted by their lines, from 1; events before the first are at 0.
 abbrev pub turn_after : ℕ → Event → ℕ
 turn_after turn (Sent packet) = turn + 1
 turn_after turn Off = turn + 1
@@ -25,11 +26,11 @@ turn_after turn (Shown seen) = turn
 abbrev pub turns_from : ℕ → List Event → ℕ
 turns_from turn events = fold turn_after turn events
 
--- a thousand pixels for all turns, behind 170 for names
+-- a thousand pixels for all turns, after 170 for names
 abbrev pub x_of : (turns turn : ℕ) → ℕ
 x_of turns turn = 170 + turn * 1000 / max 1 turns
 
--- What a row shows of events, one after another, of those of which it shows something.
+-- The events of which a row shows anything, in order.
 
 abbrev pub with_mark : ℕ → Option ℕ → List Mark → List Mark
 with_mark x (Some height) marks = record { x = x; height = height } ∷ marks
@@ -40,7 +41,7 @@ marks_of row turns turn [] = []
 marks_of row turns turn (event ∷ events) =
     with_mark (x_of turns (turn_after turn event)) (height_of row event) (marks_of row turns (turn_after turn event) events)
 
--- a row that is a stepped line, and not of marks that stand alone
+-- a row that is a stepped line, and not of separate marks
 abbrev pub is_line : Row → Bool
 is_line (Strip part) = false
 is_line (Lane lane Packets) = false
@@ -48,7 +49,8 @@ is_line (Lane lane Stops) = false
 is_line (Lane lane Emergencies) = false
 is_line row = true
 
--- The strokes of a mark that stands alone, from its point on (SVG 1.1, 8.3): a tick up or down, one through, a dot, a cross.
+-- The strokes of a separate mark, from its point on (SVG 1.1, 8.3): a tick up or down, one through,
+-- a dot, a cross.
 
 abbrev pub part_strokes : Part → List ℕ
 part_strokes Locomotives = codes "v-6"
@@ -71,7 +73,8 @@ point_text x y = codes "M" ++ decimal x ++ codes " " ++ decimal y
 abbrev pub step_text : ℕ → ℕ → List ℕ
 step_text x y = codes "H" ++ decimal x ++ codes "V" ++ decimal y
 
--- A stepped line begins at its first mark, with a dot, so that one alone is seen, and goes on to each other. A mark that stands alone is drawn where it is.
+-- A stepped line begins at its first mark, with a dot, so that a single mark is visible, and
+-- continues to each other. A separate mark is drawn at its position.
 abbrev pub joined_text : Option Mark → ℕ → ℕ → List ℕ
 joined_text None x y = point_text x y ++ codes "h1"
 joined_text (Some last) x y = step_text x y
@@ -106,23 +109,23 @@ part_name Unpowered = codes "power off"
 abbrev pub module_name : ℕ → List ℕ
 module_name number = codes "packets, module " ++ decimal number
 
-abbrev pub address_name : Standing → List ℕ
+abbrev pub address_name : ReportedState → List ℕ
 address_name (stands.Loco (Short number) motion forward functions) = codes "packets, short " ++ decimal number
 address_name (stands.Loco (Long number) motion forward functions) = codes "packets, long " ++ decimal number
 address_name (stands.Accessory number outputs) = module_name number
 
-abbrev pub kind_name : Kind → Standing → List ℕ
-kind_name Packets standing = address_name standing
-kind_name Speed standing = codes "speed"
-kind_name Stops standing = codes "stop"
-kind_name Emergencies standing = codes "emergency"
-kind_name Direction standing = codes "forward is high"
-kind_name (Function number) standing = codes "F" ++ decimal number
-kind_name (Output number) standing = codes "output " ++ decimal number
+abbrev pub kind_name : Kind → ReportedState → List ℕ
+kind_name Packets reported_state = address_name reported_state
+kind_name Speed reported_state = codes "speed"
+kind_name Stops reported_state = codes "stop"
+kind_name Emergencies reported_state = codes "emergency"
+kind_name Direction reported_state = codes "forward is high"
+kind_name (Function number) reported_state = codes "F" ++ decimal number
+kind_name (Output number) reported_state = codes "output " ++ decimal number
 
 abbrev pub name_of : Row → List ℕ
 name_of (Strip part) = part_name part
-name_of (Lane lane kind) = lane.name ++ codes " " ++ kind_name kind lane.standing
+name_of (Lane lane kind) = lane.name ++ codes " " ++ kind_name kind lane.reported_state
 
 -- The look of a row: thick, dashed, thin or dotted, and never by colour.
 abbrev pub style_of : Row → List ℕ
@@ -131,7 +134,7 @@ style_of (Lane lane Direction) = codes "1\" stroke-dasharray=\"6 3"
 style_of (Lane lane (Output number)) = codes "1\" stroke-dasharray=\"2 2"
 style_of row = codes "1"
 
--- How high a row is, with the room above it.
+-- The height of a row, with the space above it.
 abbrev pub room_of : Row → ℕ
 room_of (Strip part) = 18
 room_of (Lane lane Packets) = 30
@@ -155,12 +158,12 @@ head_text row base = label_open base ++ name_of row ++ base_line base ++ path_op
 unfoldable pub row_text : Row → (turns : ℕ) → List Event → (base : ℕ) → List ℕ
 row_text row turns events base = head_text row base ++ marks_text row base None (marks_of row turns 0 events) ++ codes "\"/>\n"
 
--- rows one below another, the first below this place
+-- rows one below another, the first below this height
 unfoldable pub rows_text : (turns : ℕ) → List Event → (top : ℕ) → List Row → List ℕ
 rows_text turns events top [] = []
 rows_text turns events top (row ∷ rows) = row_text row turns events (top + room_of row) ++ rows_text turns events (top + room_of row) rows
 
--- where they end
+-- the bottom of the rows
 abbrev pub bottom_of : (top : ℕ) → List Row → ℕ
 bottom_of top rows = fold (λ bottom row. bottom + room_of row) top rows
 

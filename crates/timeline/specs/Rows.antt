@@ -10,9 +10,9 @@ use Rattle.dcc_packet.specs.declared.instr.Instr.TheVariants as says
 use Rattle.dcc_packet.specs.declared.steps.Motion.{Motion}
 use Rattle.dcc_packet.specs.declared.steps.Motion.TheVariants.{Stop, Emergency, Step}
 use Rattle.trace.specs.Node.{is_on, last_of}
-use Rattle.trace.specs.declared.standing.Seen.{Seen}
-use Rattle.trace.specs.declared.standing.Standing.{Standing}
-use Rattle.trace.specs.declared.standing.Standing.TheVariants as stands
+use Rattle.trace.specs.declared.reported_state.Seen.{Seen}
+use Rattle.trace.specs.declared.reported_state.ReportedState.{ReportedState}
+use Rattle.trace.specs.declared.reported_state.ReportedState.TheVariants as stands
 use Rattle.timeline.specs.declared.event.Event.{Event}
 use Rattle.timeline.specs.declared.event.Event.TheVariants.{Sent, Off, Shown}
 use Rattle.timeline.specs.declared.row.Kind.{Kind}
@@ -22,7 +22,7 @@ use Rattle.timeline.specs.declared.row.Row.TheVariants.{Strip, Lane}
 use Rattle.timeline.specs.declared.row.Part.{Part}
 use Rattle.timeline.specs.declared.row.Part.TheVariants.{Locomotives, Accessories, Everyone, Idle, Unpowered}
 
--- Where a packet goes: to a locomotive, to an accessory decoder, to nobody, or to all.
+-- The receivers of a packet: a locomotive, an accessory decoder, none, or all.
 abbrev pub part_of : Option Instr → Part
 part_of (Some (says.Speed address d low)) = Locomotives
 part_of (Some (says.Speed128 address d s)) = Locomotives
@@ -35,7 +35,7 @@ part_of (Some says.Reset) = Everyone
 part_of (Some (says.StopAll emergency)) = Everyone
 part_of None = Everyone
 
--- the places of the parts, which tell them apart
+-- the numbers of the parts, which distinguish them
 abbrev pub place_of : Part → ℕ
 place_of Locomotives = 0
 place_of Accessories = 1
@@ -46,7 +46,7 @@ place_of Unpowered = 4
 abbrev pub is_part : Part → Part → Bool
 is_part one other = place_of one == place_of other
 
--- what a turn did
+-- the event of a turn
 abbrev pub is_in : Part → Event → Bool
 is_in part (Sent packet) = is_part part (part_of (instruction_of packet))
 is_in part Off = is_part part Unpowered
@@ -58,7 +58,7 @@ is_address (Long one) (Long other) = one == other
 is_address (Short one) (Long other) = false
 is_address (Long one) (Short other) = false
 
--- A packet goes to this locomotive, or to this module.
+-- A packet is sent to this locomotive, or to this module.
 
 abbrev pub is_for_loco : Address → Option Instr → Bool
 is_for_loco own (Some (says.Speed address d low)) = is_address own address
@@ -74,23 +74,15 @@ is_for_loco own None = false
 
 abbrev pub is_for_module : ℕ → Option Instr → Bool
 is_for_module own (Some (says.Accessory number pair closed on)) = own == number
-is_for_module own (Some (says.Speed address d low)) = false
-is_for_module own (Some (says.Speed128 address d s)) = false
-is_for_module own (Some (says.GroupOne address bits)) = false
-is_for_module own (Some (says.GroupTwo address bits)) = false
-is_for_module own (Some (says.GroupThree address bits)) = false
-is_for_module own (Some says.Idle) = false
-is_for_module own (Some says.Reset) = false
-is_for_module own (Some (says.StopAll emergency)) = false
-is_for_module own None = false
+is_for_module own instr = false
 
-abbrev pub is_for : Standing → Option Instr → Bool
+abbrev pub is_for : ReportedState → Option Instr → Bool
 is_for (stands.Loco address motion forward functions) instr = is_for_loco address instr
 is_for (stands.Accessory number outputs) instr = is_for_module number instr
 
 -- Heights are in pixels above the base of a row.
 
--- of the last step 48, of a step of so many that part of it, rounded down
+-- for the last step 48, for each other step that fraction of it, rounded down
 abbrev pub speed_height : Motion → ℕ
 speed_height Stop = 0
 speed_height Emergency = 0
@@ -113,61 +105,52 @@ is_emergency Stop = false
 is_emergency Emergency = true
 is_emergency (Step steps n) = false
 
--- what a row of this kind shows of a decoder that stands so
-abbrev pub standing_height : Kind → Standing → Option ℕ
-standing_height Speed (stands.Loco address motion forward functions) = Some (speed_height motion)
-standing_height Stops (stands.Loco address motion forward functions) = mark_if (is_stop motion)
-standing_height Emergencies (stands.Loco address motion forward functions) = mark_if (is_emergency motion)
-standing_height Direction (stands.Loco address motion forward functions) = Some (switch_height forward)
-standing_height (Function number) (stands.Loco address motion forward functions) = Some (switch_height (is_on functions number))
-standing_height (Output number) (stands.Loco address motion forward functions) = None
-standing_height Packets (stands.Loco address motion forward functions) = None
-standing_height (Output number) (stands.Accessory own outputs) = Some (switch_height (is_on outputs number))
-standing_height Speed (stands.Accessory own outputs) = None
-standing_height Stops (stands.Accessory own outputs) = None
-standing_height Emergencies (stands.Accessory own outputs) = None
-standing_height Direction (stands.Accessory own outputs) = None
-standing_height (Function number) (stands.Accessory own outputs) = None
-standing_height Packets (stands.Accessory own outputs) = None
+-- what a row of this kind shows of a decoder in this state
+abbrev pub state_height : Kind → ReportedState → Option ℕ
+state_height Speed (stands.Loco address motion forward functions) = Some (speed_height motion)
+state_height Stops (stands.Loco address motion forward functions) = mark_if (is_stop motion)
+state_height Emergencies (stands.Loco address motion forward functions) = mark_if (is_emergency motion)
+state_height Direction (stands.Loco address motion forward functions) = Some (switch_height forward)
+state_height (Function number) (stands.Loco address motion forward functions) = Some (switch_height (is_on functions number))
+state_height (Output number) (stands.Loco address motion forward functions) = None
+state_height Packets (stands.Loco address motion forward functions) = None
+state_height (Output number) (stands.Accessory own outputs) = Some (switch_height (is_on outputs number))
+state_height Speed (stands.Accessory own outputs) = None
+state_height Stops (stands.Accessory own outputs) = None
+state_height Emergencies (stands.Accessory own outputs) = None
+state_height Direction (stands.Accessory own outputs) = None
+state_height (Function number) (stands.Accessory own outputs) = None
+state_height Packets (stands.Accessory own outputs) = None
 
 abbrev pub is_packets : Kind → Bool
 is_packets Packets = true
-is_packets Speed = false
-is_packets Stops = false
-is_packets Emergencies = false
-is_packets Direction = false
-is_packets (Function number) = false
-is_packets (Output number) = false
+is_packets kind = false
 
--- what the row of this kind shows of an event, in the lane of a decoder that was first seen so
+-- what the row of this kind shows of an event, in the lane of a decoder given in its first state
 abbrev pub lane_height : Seen → Kind → Event → Option ℕ
-lane_height lane kind (Sent packet) = mark_if (is_packets kind && is_for lane.standing (instruction_of packet))
+lane_height lane kind (Sent packet) = mark_if (is_packets kind && is_for lane.reported_state (instruction_of packet))
 lane_height lane kind Off = None
-lane_height lane kind (Shown seen) = if bytes_eq seen.name lane.name then standing_height kind seen.standing else None
+lane_height lane kind (Shown seen) = if bytes_eq seen.name lane.name then state_height kind seen.reported_state else None
 
 abbrev pub height_of : Row → Event → Option ℕ
 height_of (Strip part) event = mark_if (is_in part event)
 height_of (Lane lane kind) event = lane_height lane kind event
 
--- of a function or an output it counts only that it is on
+-- for a function or an output only that it is on
 abbrev pub is_switch : Kind → Bool
-is_switch Packets = false
-is_switch Speed = false
-is_switch Stops = false
-is_switch Emergencies = false
-is_switch Direction = false
 is_switch (Function number) = true
 is_switch (Output number) = true
+is_switch kind = false
 
 abbrev pub counts : Bool → Option ℕ → Bool
 counts switch (Some height) = if switch then nat_lt 0 height else true
 counts switch None = false
 
--- a row of this kind has something to show
+-- a row of this kind has anything to show
 abbrev pub is_shown : Seen → List Event → Kind → Bool
 is_shown lane events kind = list_any (λ event. counts (is_switch kind) (lane_height lane kind event)) events
 
--- a lane has these rows, of which those are shown that have something to show
+-- a lane has these rows, of which those are shown that have anything to show
 abbrev pub kinds : List Kind
 kinds =
     Packets ∷ Speed ∷ Stops ∷ Emergencies ∷ Direction

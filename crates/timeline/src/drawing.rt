@@ -9,10 +9,10 @@ use crate::row::Row;
 use std::io;
 use std::io::Write;
 
-/// Where the rows begin, in pixels from the top.
+/// The top of the rows, in pixels.
 const TOP: u64 = 52;
 
-/// How many turns events have.
+/// Returns the number of turns in events.
 pub(crate) fn turns_in(events: &[Event]) -> u64
     requires { length events.now < 2 ^ 32 }
     ensures value { result ≡ turns_from 0 events.now }
@@ -25,7 +25,7 @@ pub(crate) fn turns_in(events: &[Event]) -> u64
     turn
 }
 
-/// Where the rows end.
+/// Returns the bottom of the rows, in pixels.
 pub(crate) fn bottom_of(rows: &[Row]) -> u64
     requires { length rows.now < 2 ^ 48 }
     ensures value { result ≡ bottom_of 52 rows.now }
@@ -40,7 +40,8 @@ pub(crate) fn bottom_of(rows: &[Row]) -> u64
 
 fn write_open<O: Write>(bottom: u64, output: &mut O) -> io::Result<()>
     requires { bottom < 2 ^ 60 }
-    ensures { OnOk result (Appends (O.contents output.old) (O.contents output.new) (opening bottom)) }
+    ensures { OnOk result
+        (Appends (O.contents output.old) (O.contents output.new) (opening bottom)) }
 {
     let height = bottom + 60;
     writeln!(
@@ -61,14 +62,17 @@ fn write_title<O: Write>(output: &mut O) -> io::Result<()>
 }
 
 fn write_framed<O: Write>(first: &str, number: u64, second: &str, output: &mut O) -> io::Result<()>
-    ensures { OnOk result (Appends (O.contents output.old) (O.contents output.new) (framed first.now number second.now)) }
+    ensures { OnOk result
+        (Appends (O.contents output.old) (O.contents output.new)
+        (framed first.now number second.now)) }
 {
     write!(output, "{first}{number}{second}")
 }
 
-/// A number above a thin line to the end of the rows.
+/// A number above a thin line to the bottom of the rows.
 fn write_turn_at<O: Write>(x: u64, turn: u64, bottom: u64, output: &mut O) -> io::Result<()>
-    ensures { OnOk result (Appends (O.contents output.old) (O.contents output.new) (turn_at x turn bottom)) }
+    ensures { OnOk result
+        (Appends (O.contents output.old) (O.contents output.new) (turn_at x turn bottom)) }
 {
     write_framed(
         "<text text-anchor=\"middle\" x=\"",
@@ -88,7 +92,8 @@ fn write_turn_at<O: Write>(x: u64, turn: u64, bottom: u64, output: &mut O) -> io
 
 fn write_turn<O: Write>(turns: u64, turn: u64, bottom: u64, output: &mut O) -> io::Result<()>
     requires { turn < 2 ^ 33 }
-    ensures { OnOk result (Appends (O.contents output.old) (O.contents output.new) (turn_text turns turn bottom)) }
+    ensures { OnOk result
+        (Appends (O.contents output.old) (O.contents output.new) (turn_text turns turn bottom)) }
 {
     let x = x_of(turns, turn);
     write_turn_at(x, turn, bottom, output)
@@ -96,7 +101,8 @@ fn write_turn<O: Write>(turns: u64, turn: u64, bottom: u64, output: &mut O) -> i
 
 fn write_axis<O: Write>(turns: u64, bottom: u64, output: &mut O) -> io::Result<()>
     requires { turns < 2 ^ 32 }
-    ensures { OnOk result (Appends (O.contents output.old) (O.contents output.new) (axis turns bottom)) }
+    ensures { OnOk result
+        (Appends (O.contents output.old) (O.contents output.new) (axis turns bottom)) }
 {
     write_turn(turns, 0, bottom, output)?;
     write_turn(turns, turns / 4, bottom, output)?;
@@ -113,7 +119,9 @@ fn write_rows<O: Write>(
 ) -> io::Result<()>
     requires few { length events.now < 2 ^ 32 }
     requires rows { length rows.now < 2 ^ 48 }
-    ensures { OnOk result (Appends (O.contents output.old) (O.contents output.new) (rows_text turns events.now 52 rows.now)) }
+    ensures { OnOk result
+        (Appends (O.contents output.old) (O.contents output.new)
+        (rows_text turns events.now 52 rows.now)) }
 {
     let mut base = TOP;
     for row in rows {
@@ -125,7 +133,8 @@ fn write_rows<O: Write>(
 
 fn write_legend<O: Write>(bottom: u64, output: &mut O) -> io::Result<()>
     requires { bottom < 2 ^ 60 }
-    ensures { OnOk result (Appends (O.contents output.old) (O.contents output.new) (legend bottom)) }
+    ensures { OnOk result
+        (Appends (O.contents output.old) (O.contents output.new) (legend bottom)) }
 {
     let top = bottom + 28;
     writeln!(output, "<g transform=\"translate(8 {top})\">")?;
@@ -138,7 +147,7 @@ fn write_legend<O: Write>(bottom: u64, output: &mut O) -> io::Result<()>
     output.write_all(b"</g>\n</svg>\n")
 }
 
-/// Writes the picture of rows, of so many turns and to this bottom.
+/// Writes the picture of rows, for `turns` turns and with this bottom.
 pub(crate) fn write_picture<O: Write>(
     rows: &[Row],
     turns: u64,
@@ -150,7 +159,9 @@ pub(crate) fn write_picture<O: Write>(
     requires turns { turns < 2 ^ 32 }
     requires rows { length rows.now < 2 ^ 48 }
     requires bottom { bottom < 2 ^ 60 }
-    ensures { OnOk result (Appends (O.contents output.old) (O.contents output.new) (picture_with turns bottom events.now rows.now)) }
+    ensures { OnOk result
+        (Appends (O.contents output.old) (O.contents output.new)
+        (picture_with turns bottom events.now rows.now)) }
 {
     write_open(bottom, output)?;
     write_title(output)?;

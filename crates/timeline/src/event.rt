@@ -1,14 +1,14 @@
-//! What a line of `station` tells.
+//! The event of a line of `station`.
 use dcc_packet::Packet;
 use trace::Seen;
 
-/// What a line of `station` tells.
+/// The event of a line of `station`.
 #[derive(Clone, Debug, Drop, PartialEq, Eq)]
 pub enum Event {
     /// A turn sent this packet.
     Sent(Packet),
     /// A turn sent nothing, as the power is off.
     Off,
-    /// A decoder stands so.
+    /// A decoder has this state.
     Shown(Seen),
 }

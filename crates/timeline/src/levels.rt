@@ -3,14 +3,14 @@ ghost use Rattle.std.specs.Prelude.{◌≡◌, ◌≤◌, ◌<◌, Some, IfSome}
 ghost use Rattle.std.specs.Str.{bytes_eq};
 ghost use Rattle.dcc_packet.specs.Reading.{instruction_of};
 ghost use Rattle.trace.specs.Node.{is_on};
-ghost use Rattle.timeline.specs.Rows.{counts, height_of, is_address, is_emergency, is_for, is_for_loco, is_for_module, is_in, is_packets, is_part, is_stop, is_switch, lane_height, mark_if, part_of, speed_height, standing_height, switch_height};
+ghost use Rattle.timeline.specs.Rows.{counts, height_of, is_address, is_emergency, is_for, is_for_loco, is_for_module, is_in, is_packets, is_part, is_stop, is_switch, lane_height, mark_if, part_of, speed_height, state_height, switch_height};
 
 use crate::event::Event;
 use crate::row::{Kind, Part, Row};
 use dcc_packet::{Address, Instr, Module, Motion, Packet, read};
-use trace::{Name, Seen, Standing, Switches, last_of};
+use trace::{Name, ReportedState, Seen, Switches, last_of};
 
-/// Where a packet goes.
+/// The kind of decoder that a packet is sent to.
 fn part_of(instr: &Option<Instr>) -> Part
     ensures { result ≡ part_of instr.now }
 {
@@ -79,17 +79,17 @@ fn is_for_module(own: Module, instr: &Option<Instr>) -> bool
     }
 }
 
-/// Whether a packet goes to the decoder that stands so.
-fn is_for(standing: &Standing, packet: &Packet) -> bool
-    ensures { result ≡ is_for standing.now (instruction_of packet.now) }
+/// Whether a packet is sent to the decoder of this state.
+fn is_for(reported_state: &ReportedState, packet: &Packet) -> bool
+    ensures { result ≡ is_for reported_state.now (instruction_of packet.now) }
 {
-    match standing {
-        Standing::Loco { address, .. } => is_for_loco(*address, &read(packet)),
-        Standing::Accessory { module, .. } => is_for_module(*module, &read(packet)),
+    match reported_state {
+        ReportedState::Loco { address, .. } => is_for_loco(*address, &read(packet)),
+        ReportedState::Accessory { module, .. } => is_for_module(*module, &read(packet)),
     }
 }
 
-/// 48 for the last step, and for the others that part of it.
+/// Returns 48 for the last step, and for each other step that fraction of it.
 fn speed_height(motion: Motion) -> u64
     ensures value { result ≡ speed_height motion }
     ensures most { result ≤ 48 }
@@ -139,13 +139,13 @@ fn is_on(switches: &Switches, number: u8) -> Option<u64>
     Some(switch_height(switches.is_on(usize::from(number))))
 }
 
-/// What a row of this kind shows of a decoder that stands so.
-fn standing_height(kind: Kind, standing: &Standing) -> Option<u64>
-    ensures value { result ≡ standing_height kind standing.now }
+/// What a row of this kind shows of a decoder in this state.
+fn state_height(kind: Kind, reported_state: &ReportedState) -> Option<u64>
+    ensures value { result ≡ state_height kind reported_state.now }
     ensures most { IfSome result (λ height. height ≤ 48) }
 {
-    match standing {
-        Standing::Loco {
+    match reported_state {
+        ReportedState::Loco {
             motion,
             forward,
             functions,
@@ -158,7 +158,7 @@ fn standing_height(kind: Kind, standing: &Standing) -> Option<u64>
             Kind::Function(number) => is_on(functions, number),
             Kind::Output(_) | Kind::Packets => None,
         },
-        Standing::Accessory { outputs, .. } => match kind {
+        ReportedState::Accessory { outputs, .. } => match kind {
             Kind::Output(number) => is_on(outputs, number),
             _ => None,
         },
@@ -186,11 +186,11 @@ pub(crate) fn lane_height(lane: &Seen, kind: Kind, event: &Event) -> Option<u64>
     ensures most { IfSome result (λ height. height ≤ 48) }
 {
     match event {
-        Event::Sent(packet) => mark_if(is_packets(kind) && is_for(&lane.standing, packet)),
+        Event::Sent(packet) => mark_if(is_packets(kind) && is_for(&lane.reported_state, packet)),
         Event::Off => None,
         Event::Shown(seen) => {
             if is_named(seen, &lane.name) {
-                standing_height(kind, &seen.standing)
+                state_height(kind, &seen.reported_state)
             } else {
                 None
             }
@@ -198,7 +198,8 @@ pub(crate) fn lane_height(lane: &Seen, kind: Kind, event: &Event) -> Option<u64>
     }
 }
 
-/// The height in pixels of what a row shows of an event, at most 48, or `None` where it shows nothing.
+/// Returns the height in pixels of what a row shows of an event, at most 48, or `None` if it shows
+/// nothing.
 pub(crate) fn height_of(row: &Row, event: &Event) -> Option<u64>
     ensures value { result ≡ height_of row.now event.now }
     ensures most { IfSome result (λ height. height ≤ 48) }
@@ -218,8 +219,8 @@ fn is_switch(kind: Kind) -> bool
     }
 }
 
-/// Whether the row of this kind in a lane has something to show of an event.
-pub(crate) fn is_told(lane: &Seen, kind: Kind, event: &Event) -> bool
+/// Whether the row of this kind in a lane shows anything of an event.
+pub(crate) fn is_parsed(lane: &Seen, kind: Kind, event: &Event) -> bool
     ensures { result ≡ counts (is_switch kind) (lane_height lane.now kind event.now) }
 {
     match lane_height(lane, kind, event) {

@@ -1,4 +1,5 @@
-//! `timeline`: what `station` prints as a picture, turn by turn: the packets, and how each decoder stands.
+//! `timeline`: draws the output of `station` as a picture, turn by turn: the packets, and the state
+//! of each decoder.
 #![tactic(auto)]
 
 mod drawing;
@@ -14,9 +15,9 @@ mod timeline;
 pub use event::Event;
 pub use mark::Mark;
 pub use row::{Kind, Part, Row};
-use trace::draw_standard;
 use std::process::ExitCode;
 pub use timeline::Timeline;
+use trace::draw_standard;
 
 #[cfg(test)]
 mod tests;

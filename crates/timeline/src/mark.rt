@@ -1,6 +1,7 @@
 //! A mark of a picture.
 
-/// A mark of a picture: its place from the left in pixels, and its height above the base of its row.
+/// A mark of a picture: its distance from the left in pixels, and its height above the base of its
+/// row.
 #[derive(Clone, Copy, Debug, PartialEq, Eq)]
 pub struct Mark {
     pub x: u64,

@@ -8,11 +8,11 @@ use crate::levels::height_of;
 use crate::mark::Mark;
 use crate::row::{Kind, Part, Row};
 use dcc_packet::Address;
-use trace::Standing;
 use std::io;
 use std::io::Write;
+use trace::ReportedState;
 
-/// The turn of an event, where this was the turn before it.
+/// Returns the turn of an event, if `turn` was the turn before it.
 pub(crate) fn turn_after(turn: u64, event: &Event) -> u64
     requires { turn < 2 ^ 32 }
     ensures value { result ≡ turn_after turn event.now }
@@ -24,7 +24,7 @@ pub(crate) fn turn_after(turn: u64, event: &Event) -> u64
     }
 }
 
-/// How far from the left a turn is.
+/// Returns the distance of a turn from the left, in pixels.
 pub(crate) fn x_of(turns: u64, turn: u64) -> u64
     requires { turn < 2 ^ 33 }
     ensures { result ≡ x_of turns turn }
@@ -56,7 +56,7 @@ fn part_strokes(part: Part) -> &'static str
     }
 }
 
-/// The strokes of a mark that stands alone.
+/// The strokes of a mark that is not part of a line.
 fn strokes_of(row: &Row) -> &'static str
     ensures { result.now ≡ strokes_of row.now }
 {
@@ -72,7 +72,8 @@ fn strokes_of(row: &Row) -> &'static str
 }
 
 fn write_joined<O: Write>(last: &Option<Mark>, x: u64, y: u64, output: &mut O) -> io::Result<()>
-    ensures { OnOk result (Appends (O.contents output.old) (O.contents output.new) (joined_text last.now x y)) }
+    ensures { OnOk result
+        (Appends (O.contents output.old) (O.contents output.new) (joined_text last.now x y)) }
 {
     match last {
         None => write!(output, "M{x} {y}h1"),
@@ -98,7 +99,9 @@ fn write_next<O: Write>(
     output: &mut O,
 ) -> io::Result<()>
     requires { mark.height ≤ base }
-    ensures { OnOk result (Appends (O.contents output.old) (O.contents output.new) (next_text row.now base last.now mark)) }
+    ensures { OnOk result
+        (Appends (O.contents output.old) (O.contents output.new)
+        (next_text row.now base last.now mark)) }
 {
     if is_same(last, mark) {
         return Ok(());
@@ -125,28 +128,37 @@ fn part_name(part: Part) -> &'static str
 }
 
 fn write_module<O: Write>(number: u16, output: &mut O) -> io::Result<()>
-    ensures { OnOk result (Appends (O.contents output.old) (O.contents output.new) (module_name number)) }
+    ensures { OnOk result
+        (Appends (O.contents output.old) (O.contents output.new) (module_name number)) }
 {
     write!(output, "packets, module {number}")
 }
 
-fn write_address<O: Write>(standing: &Standing, output: &mut O) -> io::Result<()>
-    ensures { OnOk result (Appends (O.contents output.old) (O.contents output.new) (address_name standing.now)) }
+fn write_address<O: Write>(reported_state: &ReportedState, output: &mut O) -> io::Result<()>
+    ensures { OnOk result
+        (Appends (O.contents output.old) (O.contents output.new)
+        (address_name reported_state.now)) }
 {
-    match standing {
-        Standing::Loco { address, .. } => match address {
+    match reported_state {
+        ReportedState::Loco { address, .. } => match address {
             Address::Short(number) => write!(output, "packets, short {number}"),
             Address::Long(number) => write!(output, "packets, long {number}"),
         },
-        Standing::Accessory { module, .. } => write_module(module.number(), output),
+        ReportedState::Accessory { module, .. } => write_module(module.number(), output),
     }
 }
 
-fn write_kind<O: Write>(kind: Kind, standing: &Standing, output: &mut O) -> io::Result<()>
-    ensures { OnOk result (Appends (O.contents output.old) (O.contents output.new) (kind_name kind standing.now)) }
+fn write_kind<O: Write>(
+    kind: Kind,
+    reported_state: &ReportedState,
+    output: &mut O,
+) -> io::Result<()>
+    ensures { OnOk result
+        (Appends (O.contents output.old) (O.contents output.new)
+        (kind_name kind reported_state.now)) }
 {
     match kind {
-        Kind::Packets => write_address(standing, output),
+        Kind::Packets => write_address(reported_state, output),
         Kind::Speed => output.write_all(b"speed"),
         Kind::Stops => output.write_all(b"stop"),
         Kind::Emergencies => output.write_all(b"emergency"),
@@ -157,19 +169,20 @@ fn write_kind<O: Write>(kind: Kind, standing: &Standing, output: &mut O) -> io::
 }
 
 fn write_name<O: Write>(row: &Row, output: &mut O) -> io::Result<()>
-    ensures { OnOk result (Appends (O.contents output.old) (O.contents output.new) (name_of row.now)) }
+    ensures { OnOk result
+        (Appends (O.contents output.old) (O.contents output.new) (name_of row.now)) }
 {
     match row {
         Row::Strip(part) => output.write_all(part_name(*part).as_bytes()),
         Row::Lane(lane, kind) => {
             output.write_all(lane.name.bytes())?;
             output.write_all(b" ")?;
-            write_kind(*kind, &lane.standing, output)
+            write_kind(*kind, &lane.reported_state, output)
         }
     }
 }
 
-/// The width of the strokes of a row, and how they are dashed.
+/// The width of the strokes of a row, and their dashes.
 fn style_of(row: &Row) -> &'static str
     ensures { result.now ≡ style_of row.now }
 {
@@ -184,7 +197,7 @@ fn style_of(row: &Row) -> &'static str
     }
 }
 
-/// How high a row is in pixels, with the room above it.
+/// The height of a row in pixels, with the space above it.
 pub(crate) fn room_of(row: &Row) -> u64
     ensures value { result ≡ room_of row.now }
     ensures most { result ≤ 60 }
@@ -200,13 +213,15 @@ pub(crate) fn room_of(row: &Row) -> u64
 }
 
 fn write_label_open<O: Write>(base: u64, output: &mut O) -> io::Result<()>
-    ensures { OnOk result (Appends (O.contents output.old) (O.contents output.new) (label_open base)) }
+    ensures { OnOk result
+        (Appends (O.contents output.old) (O.contents output.new) (label_open base)) }
 {
     write!(output, "<text x=\"8\" y=\"{base}\">")
 }
 
 fn write_base<O: Write>(base: u64, output: &mut O) -> io::Result<()>
-    ensures { OnOk result (Appends (O.contents output.old) (O.contents output.new) (base_line base)) }
+    ensures { OnOk result
+        (Appends (O.contents output.old) (O.contents output.new) (base_line base)) }
 {
     writeln!(
         output,
@@ -215,20 +230,23 @@ fn write_base<O: Write>(base: u64, output: &mut O) -> io::Result<()>
 }
 
 fn write_style<O: Write>(style: &str, output: &mut O) -> io::Result<()>
-    ensures { OnOk result (Appends (O.contents output.old) (O.contents output.new) (path_open style.now)) }
+    ensures { OnOk result
+        (Appends (O.contents output.old) (O.contents output.new) (path_open style.now)) }
 {
     write!(output, "<path stroke-width=\"{style}\" d=\"")
 }
 
 fn write_end<O: Write>(output: &mut O) -> io::Result<()>
-    ensures { OnOk result (Appends (O.contents output.old) (O.contents output.new) (codes "\"/>\n")) }
+    ensures { OnOk result
+        (Appends (O.contents output.old) (O.contents output.new) (codes "\"/>\n")) }
 {
     output.write_all(b"\"/>\n")
 }
 
 /// Writes a row up to its marks: its name, its base and the beginning of a path.
 fn write_head<O: Write>(row: &Row, base: u64, output: &mut O) -> io::Result<()>
-    ensures { OnOk result (Appends (O.contents output.old) (O.contents output.new) (head_text row.now base)) }
+    ensures { OnOk result
+        (Appends (O.contents output.old) (O.contents output.new) (head_text row.now base)) }
 {
     write_label_open(base, output)?;
     write_name(row, output)?;
@@ -246,7 +264,9 @@ pub(crate) fn write_row<O: Write>(
 ) -> io::Result<()>
     requires few { length events.now < 2 ^ 32 }
     requires base { 48 ≤ base }
-    ensures { OnOk result (Appends (O.contents output.old) (O.contents output.new) (row_text row.now turns events.now base)) }
+    ensures { OnOk result
+        (Appends (O.contents output.old) (O.contents output.new)
+        (row_text row.now turns events.now base)) }
 {
     write_head(row, base, output)?;
     let mut turn = 0;

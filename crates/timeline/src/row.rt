@@ -1,16 +1,16 @@
 //! The rows of a picture.
 use trace::Seen;
 
-/// Where a packet goes, or that none was sent.
+/// The receivers of a packet, or that none was sent.
 #[derive(Clone, Copy, Debug, PartialEq, Eq)]
 pub enum Part {
-    /// To a locomotive decoder.
+    /// Sent to a locomotive decoder.
     Locomotives,
-    /// To an accessory decoder.
+    /// Sent to an accessory decoder.
     Accessories,
-    /// To all decoders, or of no form that is known.
+    /// Sent to all decoders, or of an unknown form.
     Everyone,
-    /// To none.
+    /// Sent to none.
     Idle,
     /// No packet: the power is off.
     Unpowered,
@@ -23,9 +23,9 @@ pub enum Kind {
     Packets,
     /// Its speed.
     Speed,
-    /// Where it stands by a stop.
+    /// Where it is stopped by a stop.
     Stops,
-    /// Where it stands by an emergency stop.
+    /// Where it is stopped by an emergency stop.
     Emergencies,
     /// Its direction.
     Direction,
@@ -38,8 +38,8 @@ pub enum Kind {
 /// A row of a picture.
 #[derive(Clone, Debug, Drop, PartialEq, Eq)]
 pub enum Row {
-    /// One part of the strip of packets.
+    /// A part of the strip of packets.
     Strip(Part),
-    /// One row in the lane of the decoder that was first seen so.
+    /// A row in the lane of a decoder, given in the state that was first shown.
     Lane(Seen, Kind),
 }

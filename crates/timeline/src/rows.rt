@@ -5,13 +5,12 @@ ghost use Rattle.trace.specs.declared.fault.DrawFault.TheVariants.{NoMemory};
 ghost use Rattle.timeline.specs.Rows.{is_known, is_shown, lane_rows, lanes_of, row_if, rows_in, rows_of, strip, with_lane};
 
 use crate::event::Event;
-use crate::levels::{is_named, is_told};
+use crate::levels::{is_named, is_parsed};
 use crate::row::{Kind, Part, Row};
-use trace::DrawFault;
-use trace::{Name, Seen};
 use std::alloc::Global;
+use trace::{DrawFault, Name, Seen};
 
-/// The rows that a lane may have.
+/// The possible rows of a lane.
 const KINDS: [Kind; 26] = [
     Kind::Packets,
     Kind::Speed,
@@ -47,7 +46,7 @@ fn is_known(lanes: &[Seen], name: &Name) -> bool
     lanes.iter().any(|lane| is_named(lane, name))
 }
 
-/// Adds a lane where an event shows a decoder that has none.
+/// Adds a lane if an event shows a decoder that has none.
 fn add_lane(lanes: &mut Vec<Seen>, event: &Event) -> Result<(), DrawFault>
     ensures lanes { IfOk result (λ _. lanes.new.items ≡ with_lane lanes.old.items event.now) }
     ensures few { IfOk result (λ _. vec_len lanes.new ≤ vec_len lanes.old + 1) }
@@ -63,7 +62,8 @@ fn add_lane(lanes: &mut Vec<Seen>, event: &Event) -> Result<(), DrawFault>
     Ok(())
 }
 
-/// The decoders that events show, in the order in which they are first shown, each as it stands then.
+/// Returns the decoders that events show, in the order in which they are first shown, each in the
+/// state shown then.
 fn lanes_of(alloc: Global, events: &[Event]) -> Result<Vec<Seen>, DrawFault>
     ensures lanes { IfOk result (λ v. v.items ≡ lanes_of events.now) }
     ensures few { IfOk result (λ v. vec_len v ≤ length events.now) }
@@ -76,15 +76,18 @@ fn lanes_of(alloc: Global, events: &[Event]) -> Result<Vec<Seen>, DrawFault>
     Ok(lanes)
 }
 
-/// Whether the row of this kind in a lane has something to show.
+/// Whether the row of this kind in a lane has anything to show.
 fn is_shown(lane: &Seen, events: &[Event], kind: Kind) -> bool
     ensures { result ≡ is_shown lane.now events.now kind }
 {
-    events.iter().any(|event| is_told(lane, kind, event))
+    events.iter().any(|event| is_parsed(lane, kind, event))
 }
 
 fn add_row(rows: &mut Vec<Row>, lane: &Seen, events: &[Event], kind: &Kind) -> Result<(), DrawFault>
-    ensures rows { IfOk result (λ _. rows.new.items ≡ rows.old.items ++ row_if (is_shown lane.now events.now kind.now) (Row.Lane lane.now kind.now)) }
+    ensures rows { IfOk result
+        (λ _. rows.new.items
+        ≡ rows.old.items
+        ++ row_if (is_shown lane.now events.now kind.now) (Row.Lane lane.now kind.now)) }
     ensures few { IfOk result (λ _. vec_len rows.new ≤ vec_len rows.old + 1) }
     ensures fault { IfErr result (λ e. e ≡ NoMemory) }
 {
@@ -95,14 +98,15 @@ fn add_row(rows: &mut Vec<Row>, lane: &Seen, events: &[Event], kind: &Kind) -> R
     Ok(())
 }
 
-/// Adds those of these rows of a lane that have something to show.
+/// Adds those of these rows of a lane that have anything to show.
 fn add_rows(
     rows: &mut Vec<Row>,
     lane: &Seen,
     events: &[Event],
     kinds: &[Kind],
 ) -> Result<(), DrawFault>
-    ensures rows { IfOk result (λ _. rows.new.items ≡ rows.old.items ++ rows_in lane.now events.now kinds.now) }
+    ensures rows { IfOk result
+        (λ _. rows.new.items ≡ rows.old.items ++ rows_in lane.now events.now kinds.now) }
     ensures few { IfOk result (λ _. vec_len rows.new ≤ vec_len rows.old + length kinds.now) }
     ensures fault { IfErr result (λ e. e ≡ NoMemory) }
 {
@@ -136,7 +140,8 @@ fn add_strip(rows: &mut Vec<Row>) -> Result<(), DrawFault>
 
 /// Adds the rows of each lane.
 fn add_lanes(rows: &mut Vec<Row>, lanes: &[Seen], events: &[Event]) -> Result<(), DrawFault>
-    ensures rows { IfOk result (λ _. rows.new.items ≡ rows.old.items ++ lane_rows events.now lanes.now) }
+    ensures rows { IfOk result
+        (λ _. rows.new.items ≡ rows.old.items ++ lane_rows events.now lanes.now) }
     ensures few { IfOk result (λ _. vec_len rows.new ≤ vec_len rows.old + 26 * length lanes.now) }
     ensures fault { IfErr result (λ e. e ≡ NoMemory) }
 {
@@ -146,7 +151,7 @@ fn add_lanes(rows: &mut Vec<Row>, lanes: &[Seen], events: &[Event]) -> Result<()
     Ok(())
 }
 
-/// The rows of a picture, from the top.
+/// Returns the rows of a picture, from the top.
 pub(crate) fn rows_of(alloc: Global, events: &[Event]) -> Result<Vec<Row>, DrawFault>
     ensures rows { IfOk result (λ v. v.items ≡ rows_of events.now) }
     ensures few { IfOk result (λ v. length v.items ≤ 5 + 26 * length events.now) }

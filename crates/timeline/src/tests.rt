@@ -1,14 +1,27 @@
-//! What is drawn, which lines are refused, devices that fail, and want of memory.
+//! The drawing of lines, lines that are refused, devices that fail, and lack of memory.
 
 mod devices;
 mod lines;
 mod memory;
 
 use crate::Timeline;
-use test_support::Drawn;
+use input_text::{Input, Output};
+use std::alloc::Global;
+use std::io::Write;
+use test_support::{Program, Streams};
+use trace::execute;
 
-/// The program, as the tests run it.
-const PROGRAM: Drawn<Timeline> = Drawn {
-    drawing: Timeline,
-    name: "timeline",
-};
+impl Program for Timeline {
+    fn name(&self) -> &'static str {
+        "timeline"
+    }
+
+    fn execute<I: Input, O: Output, E: Write>(
+        &self,
+        alloc: Global,
+        on: Streams<'_, I, O, E>,
+    ) -> u8 {
+        let Streams(input, output, faults) = on;
+        execute(&Timeline, alloc, input, output, faults)
+    }
+}

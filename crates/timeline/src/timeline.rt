@@ -1,23 +1,23 @@
-//! What the program draws: the picture of what turns did and of how decoders stood.
+//! The drawing program: a picture of turns and of the states of decoders.
 ghost use Rattle.std.specs.Prelude.{true};
 ghost use Rattle.timeline.specs.Picture.{picture_of};
 ghost use Rattle.timeline.specs.Run.{Shows};
 
 use crate::drawing::{bottom_of, turns_in, write_picture};
 use crate::event::Event;
-use crate::reading::event_told;
+use crate::reading::event_in;
 use crate::rows::rows_of;
 use input_text::{Output, put_all};
-use trace::{BadLine, DrawFault, Drawing};
 use std::alloc::Global;
+use trace::{BadLine, DrawFault, Drawing};
 
 /// The picture of a run. It is drawn whole before it is written.
 pub struct Timeline;
 
 impl Drawing for Timeline {
-    type Told = Event;
+    type Item = Event;
 
-    ghost tells = { Shows };
+    ghost parses = { Shows };
 
     ghost drawn = { picture_of };
 
@@ -32,7 +32,7 @@ impl Drawing for Timeline {
     }
 
     fn read(&self, line: &[u8]) -> Result<Option<Event>, BadLine> {
-        event_told(line)
+        event_in(line)
     }
 
     fn draw<O: Output>(

@@ -1,5 +1,4 @@
-pub mod Cuts
-pub mod FirstWords
-pub mod Telling
+pub mod Parsing
 pub mod Turns
+pub mod FirstWords
 pub mod Whole

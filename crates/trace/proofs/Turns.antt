@@ -10,8 +10,9 @@ use Rattle.std.proofs.lemmas.Fmt.{decimal_is_IsNumeral}
 use Rattle.std.proofs.lemmas.List.{append-nil, take_all}
 use Rattle.std.proofs.lemmas.List.Folds.{list_all-append}
 use Rattle.dcc_packet.specs.Packet.{IsPacket, has_packet_length, is_checked}
-use Rattle.show_text.specs.Lines.{hex_byte, hex_word, hex_words, off_text, track_text}
-use Rattle.trace.specs.Traffic.{Tells, is_of_turn}
+use Rattle.ascii_words.specs.Words.{hex_char}
+use Rattle.show_text.specs.Lines.{hex_word, hex_words, off_text, track_text}
+use Rattle.trace.specs.Traffic.{Parses, is_of_turn}
 
 not_space : (digit : ℕ) → digit_value digit < 10 → (digit == 32) ≡ false
 not_space digit small = elim (cases_eq digit 32) [
@@ -39,21 +40,21 @@ place text turn rest small is =
     let inside : length (decimal turn) < length text = (let all : length text ≡ length (decimal turn) + suc (length rest) = ap length is ∙ length-append (decimal turn) (32 ∷ rest) in omega (arith, all)) in
     grind (arith, nat_tests)
 
--- there is a space behind the number
+-- there is a space after the number
 pub some_space : (text : List ℕ) (turn : ℕ) (rest : List ℕ) → turn < 2 ^ 64 → text ≡ decimal turn ++ 32 ∷ rest → position (λ b. b == 32) text ≡ None → ⊥
 some_space text turn rest small is none =
     let there : Some (length (decimal turn)) ≡ None = sym (place text turn rest small is) ∙ none in
     cc
 
--- and the first one cuts the line behind it
+-- and the first one splits the line after it
 pub cut_there : (text : List ℕ) (end turn : ℕ) (rest : List ℕ) → turn < 2 ^ 64 → text ≡ decimal turn ++ 32 ∷ rest → position (λ b. b == 32) text ≡ Some end
     → (take end text ≡ decimal turn) × (take (length text - end) (drop end text) ≡ 32 ∷ rest)
 cut_there text end turn rest small is found =
     let same : Some (length (decimal turn)) ≡ Some end = sym (place text turn rest small is) ∙ found in
     let at : length (decimal turn) ≡ end = cc in
-    let behind : drop end text ≡ 32 ∷ rest = ap (λ n. drop n text) (sym at) ∙ ap (drop (length (decimal turn))) is ∙ back (decimal turn) (32 ∷ rest) in
+    let rest_after : drop end text ≡ 32 ∷ rest = ap (λ n. drop n text) (sym at) ∙ ap (drop (length (decimal turn))) is ∙ back (decimal turn) (32 ∷ rest) in
     let whole : take (length text - end) (drop end text) ≡ drop end text = take_all (length text - end) (drop end text) (omega (arith, length-drop end text)) in
-    (ap (λ n. take n text) (sym at) ∙ ap (take (length (decimal turn))) is ∙ front (decimal turn) (32 ∷ rest), whole ∙ behind)
+    (ap (λ n. take n text) (sym at) ∙ ap (take (length (decimal turn))) is ∙ front (decimal turn) (32 ∷ rest), whole ∙ rest_after)
 
 -- the bytes of a packet are below 256, and at least three
 some_byte : (packet items : List ℕ) (x : ℕ) (xs : List ℕ) → IsPacket packet → items ++ x ∷ xs ≡ packet → x < 256
@@ -67,11 +68,12 @@ some_byte packet items x xs is parts =
 few : (packet : List ℕ) → IsPacket packet → (3 ≤ length packet) × (length packet ≤ 6)
 few packet is = (grind (arith, nat_tests), grind (arith, nat_tests))
 
--- Where words are those of a packet, these bytes are its first, and what is left are the words of the others.
+-- If words are those of a packet, these bytes are its first, and the remaining words are those of
+-- the others.
 abbrev pub HasRead : List ℕ → List ℕ → List ℕ → Type 0
 HasRead words items rest = (packet : List ℕ) → IsPacket packet → words ≡ hex_words packet → (left : List ℕ) × (items ++ left ≡ packet) × (rest ≡ hex_words left)
 
--- what words begin with, as far as they are those of a packet
+-- the leading bytes of words, as far as they are those of a packet
 abbrev pub Cuts : List ℕ → Option (ℕ × List ℕ) → Type 0
 Cuts words None = (byte : ℕ) (rest : List ℕ) → byte < 256 → words ≡ hex_word byte ++ rest → ⊥
 Cuts words (Some cut) = (byte : ℕ) (rest : List ℕ) → byte < 256 → words ≡ hex_word byte ++ rest → (cut.0 ≡ byte) × (cut.1 ≡ rest)
@@ -124,76 +126,76 @@ made packet bytes items all is same whole long =
     let now : (if has_packet_length items then Some items else None) ≡ Some items = rw long refl in
     is ∙ ap (λ bs. if has_packet_length bs then Some bs else None) same ∙ now ∙ ap Some whole
 
--- a text that was compared and found to be another
+-- a text that was compared and differs
 pub is_other : {line text : List ℕ} {result : Bool} → (IsTrue result → line ≡ text) × (line ≡ text → IsTrue result) → result ≡ false → line ≡ text → ⊥
 is_other compared other same = let both : true ≡ false = sym (compared.1 same) ∙ other in cc
 
--- What stands behind the number of a line of a turn that tells this.
+-- The text after the number of a line of a turn with this packet.
 abbrev pub Behind : Option (List ℕ) → List ℕ → Type 0
 Behind (Some packet) rest = IsPacket packet × (is_checked packet ≡ true) × (rest ≡ hex_words packet)
 Behind None rest = rest ≡ codes " off"
 
--- a line of a turn that tells this
-pub record IsTurn (line : List ℕ) (told : Option (List ℕ)) : Type 0 where
+-- a line of a turn with this packet
+pub record IsTurn (line : List ℕ) (item : Option (List ℕ)) : Type 0 where
   pub turn : ℕ
   pub rest : List ℕ
   pub small : turn < 2 ^ 64
   pub line_is : line ≡ codes "track " ++ decimal turn ++ 32 ∷ rest
-  pub behind : Behind told (32 ∷ rest)
+  pub rest_after : Behind item (32 ∷ rest)
 
-pub is_turn : (line : List ℕ) (told : Option (List ℕ)) → Tells line told → is_of_turn line ≡ true → IsTurn line told
-is_turn line (Some []) tells as_turn = absurd (let many = few [] tells.2 in omega (arith, many.0))
-is_turn line (Some (b ∷ bs)) tells as_turn = record { turn = tells.0; rest = hex_byte (b / 16) ∷ hex_byte (b % 16) ∷ hex_words bs; small = tells.1; line_is = tells.4; behind = (tells.2, tells.3, refl) }
+pub is_turn : (line : List ℕ) (item : Option (List ℕ)) → Parses line item → is_of_turn line ≡ true → IsTurn line item
+is_turn line (Some []) parses as_turn = absurd (let many = few [] parses.2 in omega (arith, many.0))
+is_turn line (Some (b ∷ bs)) parses as_turn = record { turn = parses.0; rest = hex_char (b / 16) ∷ hex_char (b % 16) ∷ hex_words bs; small = parses.1; line_is = parses.4; rest_after = (parses.2, parses.3, refl) }
 is_turn line None (inl other) as_turn = absurd (let both : true ≡ false = sym as_turn ∙ other in cc)
-is_turn line None (inr off) as_turn = record { turn = off.0; rest = codes "off"; small = off.1; line_is = off.2; behind = refl }
+is_turn line None (inr off) as_turn = record { turn = off.0; rest = codes "off"; small = off.1; line_is = off.2; rest_after = refl }
 
--- what was cut of such a line
-pub record IsCut (line : List ℕ) (told : Option (List ℕ)) (turn : ℕ) (rest : List ℕ) : Type 0 where
+-- the part split off such a line
+pub record IsCut (line : List ℕ) (item : Option (List ℕ)) (turn : ℕ) (rest : List ℕ) : Type 0 where
   pub line_is : line ≡ codes "track " ++ decimal turn ++ rest
-  pub behind : Behind told rest
+  pub rest_after : Behind item rest
 
-pub is_cut : (line : List ℕ) (told : Option (List ℕ)) (turn : ℕ) (rest : List ℕ) → Tells line told → is_of_turn line ≡ true
-    → ((t : ℕ) (r : List ℕ) → t < 2 ^ 64 → line ≡ codes "track " ++ decimal t ++ 32 ∷ r → (turn ≡ t) × (rest ≡ 32 ∷ r)) → IsCut line told turn rest
-is_cut line told turn rest tells as_turn cut =
-    let is : IsTurn line told = is_turn line told tells as_turn in
+pub is_cut : (line : List ℕ) (item : Option (List ℕ)) (turn : ℕ) (rest : List ℕ) → Parses line item → is_of_turn line ≡ true
+    → ((t : ℕ) (r : List ℕ) → t < 2 ^ 64 → line ≡ codes "track " ++ decimal t ++ 32 ∷ r → (turn ≡ t) × (rest ≡ 32 ∷ r)) → IsCut line item turn rest
+is_cut line item turn rest parses as_turn cut =
+    let is : IsTurn line item = is_turn line item parses as_turn in
     let same = cut is.turn is.rest is.small is.line_is in
     record {
       line_is = is.line_is ∙ sym (ap₂ (λ (t : ℕ) (r : List ℕ). codes "track " ++ decimal t ++ r) same.0 same.1);
-      behind = subst (Behind told) (sym same.1) is.behind;
+      rest_after = subst (Behind item) (sym same.1) is.rest_after;
     }
 
 length-hex_words : (bs : List ℕ) → length (hex_words bs) ≡ 3 * length bs
 length-hex_words [] = refl
 length-hex_words (b ∷ bs) = omega (arith, length-hex_words bs)
 
--- the line of a turn that sent nothing tells no packet
-pub tells_off : (line : List ℕ) (told : Option (List ℕ)) (turn : ℕ) (rest : List ℕ) → IsCut line told turn rest → line ≡ off_text turn → None ≡ told
+-- the line of a turn that sent nothing has no packet
+pub tells_off : (line : List ℕ) (item : Option (List ℕ)) (turn : ℕ) (rest : List ℕ) → IsCut line item turn rest → line ≡ off_text turn → None ≡ item
 tells_off line None turn rest is off = refl
 tells_off line (Some packet) turn rest is off = absurd (
     let same : codes "track " ++ (decimal turn ++ rest) ≡ codes "track " ++ (decimal turn ++ codes " off") = sym is.line_is ∙ off in
     let longer : length (decimal turn ++ rest) ≡ length (decimal turn ++ codes " off") = ap (λ bs. length (drop 6 bs)) same in
     let left : length (decimal turn ++ rest) ≡ length (decimal turn) + length rest = length-append (decimal turn) rest in
     let right : length (decimal turn ++ codes " off") ≡ length (decimal turn) + 4 = length-append (decimal turn) (codes " off") in
-    let words : length rest ≡ 3 * length packet = ap length is.behind.2 ∙ length-hex_words packet in
-    let some : 3 ≤ length packet = (few packet is.behind.0).0 in
+    let words : length rest ≡ 3 * length packet = ap length is.rest_after.2 ∙ length-hex_words packet in
+    let some : 3 ≤ length packet = (few packet is.rest_after.0).0 in
     omega (arith, longer, left, right, words, some))
 
--- and any other tells the packet that is read
-pub tells_packet : (line : List ℕ) (told : Option (List ℕ)) (turn : ℕ) (rest packet : List ℕ) → IsCut line told turn rest → (line ≡ off_text turn → ⊥)
-    → ((p : List ℕ) → IsPacket p → rest ≡ hex_words p → Some packet ≡ Some p) → Some packet ≡ told
-tells_packet line None turn rest packet is on read = absurd (on (is.line_is ∙ ap (λ (r : List ℕ). codes "track " ++ decimal turn ++ r) is.behind))
-tells_packet line (Some p) turn rest packet is on read = read p is.behind.0 is.behind.2
+-- and any other has the packet that is read
+pub tells_packet : (line : List ℕ) (item : Option (List ℕ)) (turn : ℕ) (rest packet : List ℕ) → IsCut line item turn rest → (line ≡ off_text turn → ⊥)
+    → ((p : List ℕ) → IsPacket p → rest ≡ hex_words p → Some packet ≡ Some p) → Some packet ≡ item
+tells_packet line None turn rest packet is on read = absurd (on (is.line_is ∙ ap (λ (r : List ℕ). codes "track " ++ decimal turn ++ r) is.rest_after))
+tells_packet line (Some p) turn rest packet is on read = read p is.rest_after.0 is.rest_after.2
 
 -- unless none is
-pub tells_nothing : (line : List ℕ) (told : Option (List ℕ)) (turn : ℕ) (rest : List ℕ) → IsCut line told turn rest → (line ≡ off_text turn → ⊥)
+pub tells_nothing : (line : List ℕ) (item : Option (List ℕ)) (turn : ℕ) (rest : List ℕ) → IsCut line item turn rest → (line ≡ off_text turn → ⊥)
     → ((p : List ℕ) → IsPacket p → is_checked p ≡ true → rest ≡ hex_words p → line ≡ track_text turn p → ⊥) → ⊥
-tells_nothing line None turn rest is on read = on (is.line_is ∙ ap (λ (r : List ℕ). codes "track " ++ decimal turn ++ r) is.behind)
-tells_nothing line (Some p) turn rest is on read = read p is.behind.0 is.behind.1 is.behind.2 (is.line_is ∙ ap (λ (r : List ℕ). codes "track " ++ decimal turn ++ r) is.behind.2)
+tells_nothing line None turn rest is on read = on (is.line_is ∙ ap (λ (r : List ℕ). codes "track " ++ decimal turn ++ r) is.rest_after)
+tells_nothing line (Some p) turn rest is on read = read p is.rest_after.0 is.rest_after.1 is.rest_after.2 (is.line_is ∙ ap (λ (r : List ℕ). codes "track " ++ decimal turn ++ r) is.rest_after.2)
 
--- a line whose first word is another tells of none
-pub no_turn : (line : List ℕ) (told : Option (List ℕ)) → Tells line told → is_of_turn line ≡ false → None ≡ told
-no_turn line None tells other = refl
-no_turn line (Some packet) tells other =
-    let as_turn : is_of_turn (track_text tells.0 packet) ≡ true = refl in
-    let both : true ≡ false = sym as_turn ∙ ap is_of_turn (sym tells.4) ∙ other in
+-- a line with another first word has none
+pub no_turn : (line : List ℕ) (item : Option (List ℕ)) → Parses line item → is_of_turn line ≡ false → None ≡ item
+no_turn line None parses other = refl
+no_turn line (Some packet) parses other =
+    let as_turn : is_of_turn (track_text parses.0 packet) ≡ true = refl in
+    let both : true ≡ false = sym as_turn ∙ ap is_of_turn (sym parses.4) ∙ other in
     cc

@@ -10,21 +10,21 @@ use Rattle.trace.specs.declared.fault.DrawFault.TheVariants.{Unreadable, Output,
 use Rattle.trace.specs.Drawn.{DrawsInput, FailsInput, IsBroken, IsRefusal, RefusesInput}
 use Rattle.trace.specs.Fault.{Refuses}
 use Rattle.input_text.specs.Read.{ReadsMost}
-use Rattle.trace.specs.Text.{TextTells}
-use Rattle.trace.specs.Told.{FailsAt}
-use Rattle.trace.proofs.Telling.{fails_once, never_both}
+use Rattle.trace.specs.Text.{TextParses}
+use Rattle.trace.specs.Parsed.{FailsAt}
+use Rattle.trace.proofs.Parsing.{fails_once, never_both}
 
--- one thing more behind those of the lines before, or none
-pub with_one : {A : Type 0} (things now : List A) (thing : A) (told : Option A) → now ≡ things ++ thing ∷ [] → told ≡ Some thing → now ≡ things ++ option_to_list told
-with_one {A} things now thing told pushed is = pushed ∙ ap (λ (o : Option A). things ++ option_to_list o) (sym is)
+-- one result more after those of the lines before, or none
+pub with_one : {A : Type 0} (things now : List A) (thing : A) (item : Option A) → now ≡ things ++ thing ∷ [] → item ≡ Some thing → now ≡ things ++ option_to_list item
+with_one {A} things now thing item pushed is = pushed ∙ ap (λ (o : Option A). things ++ option_to_list o) (sym is)
 
-pub with_none : {A : Type 0} (things : List A) (told : Option A) → told ≡ None → things ≡ things ++ option_to_list told
-with_none {A} things told none = sym (append-nil things) ∙ ap (λ (o : Option A). things ++ option_to_list o) (sym none)
+pub with_none : {A : Type 0} (things : List A) (item : Option A) → item ≡ None → things ≡ things ++ option_to_list item
+with_none {A} things item none = sym (append-nil things) ∙ ap (λ (o : Option A). things ++ option_to_list o) (sym none)
 
 at_end : (old new : Option (List ℕ)) (bytes : List ℕ) → ReadsMost old new 16777217 bytes → length bytes ≤ 16777216 → IsAtEnd new
 at_end old new bytes read short = elim read.enough [ inl long ↦ absurd (omega (arith, long, short)) | inr end ↦ end ]
 
--- A text that is not too long is read whole, and of any other too much for one.
+-- A text that is not too long is read whole, and of any other one byte too many.
 
 consumed : (text : List ℕ) (new : Option (List ℕ)) (bytes : List ℕ) → Consumes (Some text) new bytes → (left : List ℕ) × (text ≡ bytes ++ left) × (IsAtEnd new → left ≡ [])
 consumed text None bytes taken = absurd taken
@@ -52,14 +52,14 @@ if_err : {B : Type 0} (result : Result B DrawFault) (P : DrawFault → Type 0) �
 if_err (Ok a) P is = tt
 if_err (Err e) P is = is
 
-module _ {A : Type 0} (Tells : List ℕ → Option A → Type 0) where
-  -- what is read has the fault of the text
-  same_fault : (text : List ℕ) (new : Option (List ℕ)) (bytes : List ℕ) (fault e : DrawFault) → ReadsMost (Some text) new 16777217 bytes → Refuses Tells text fault → Refuses Tells bytes e → e ≡ fault
+module _ {A : Type 0} (Parses : List ℕ → Option A → Type 0) where
+  -- the input read has the fault of the text
+  same_fault : (text : List ℕ) (new : Option (List ℕ)) (bytes : List ℕ) (fault e : DrawFault) → ReadsMost (Some text) new 16777217 bytes → Refuses Parses text fault → Refuses Parses bytes e → e ≡ fault
   same_fault text new bytes TooLong TooLong read refused found = refl
   same_fault text new bytes TooLong (BadLine number) read refused found = absurd (let same : length text ≡ length bytes = ap length (whole text new bytes read found.0) in omega (arith, same, refused, found.0))
   same_fault text new bytes (BadLine number) TooLong read refused found = absurd (omega (arith, refused.0, found, no_longer text new bytes read))
   same_fault text new bytes (BadLine number) (BadLine other) read refused found =
-      ap BadLine (fails_once Tells (lines bytes) other number found.1 (subst (λ (bs : List ℕ). FailsAt Tells (lines bs) number) (whole text new bytes read found.0) refused.1))
+      ap BadLine (fails_once Parses (lines bytes) other number found.1 (subst (λ (bs : List ℕ). FailsAt Parses (lines bs) number) (whole text new bytes read found.0) refused.1))
   same_fault text new bytes Unreadable e read refused found = absurd refused
   same_fault text new bytes Output e read refused found = absurd refused
   same_fault text new bytes NoMemory e read refused found = absurd refused
@@ -67,33 +67,33 @@ module _ {A : Type 0} (Tells : List ℕ → Option A → Type 0) where
   same_fault text new bytes fault Output read refused found = absurd found
   same_fault text new bytes fault NoMemory read refused found = absurd found
 
-  -- and things are told of a text without one
-  no_fault : (text : List ℕ) (new : Option (List ℕ)) (bytes : List ℕ) (things : List A) (fault : DrawFault) → ReadsMost (Some text) new 16777217 bytes → TextTells Tells bytes things → Refuses Tells text fault → ⊥
-  no_fault text new bytes things TooLong read told refused = let same : length text ≡ length bytes = ap length (whole text new bytes read told.0) in omega (arith, same, refused, told.0)
-  no_fault text new bytes things (BadLine number) read told refused = never_both Tells (lines bytes) number things (subst (λ (bs : List ℕ). FailsAt Tells (lines bs) number) (whole text new bytes read told.0) refused.1) told.1
-  no_fault text new bytes things Unreadable read told refused = refused
-  no_fault text new bytes things Output read told refused = refused
-  no_fault text new bytes things NoMemory read told refused = refused
+  -- and a text without a fault has results
+  no_fault : (text : List ℕ) (new : Option (List ℕ)) (bytes : List ℕ) (things : List A) (fault : DrawFault) → ReadsMost (Some text) new 16777217 bytes → TextParses Parses bytes things → Refuses Parses text fault → ⊥
+  no_fault text new bytes things TooLong read item refused = let same : length text ≡ length bytes = ap length (whole text new bytes read item.0) in omega (arith, same, refused, item.0)
+  no_fault text new bytes things (BadLine number) read item refused = never_both Parses (lines bytes) number things (subst (λ (bs : List ℕ). FailsAt Parses (lines bs) number) (whole text new bytes read item.0) refused.1) item.1
+  no_fault text new bytes things Unreadable read item refused = refused
+  no_fault text new bytes things Output read item refused = refused
+  no_fault text new bytes things NoMemory read item refused = refused
 
-  pub draws : {B E : Type 0} (drawn : List A → List ℕ) (r : Result B E) (old new : Option (List ℕ)) (bytes : List ℕ) (things those : List A) (old_output new_output : Option (List ℕ)) → ReadsMost old new 16777217 bytes → TextTells Tells bytes things
-      → those ≡ things → OnOk r (Appends old_output new_output (drawn those)) → OnOk r (DrawsInput Tells drawn old new old_output new_output)
-  draws drawn (Ok a) old new bytes things those old_output new_output read told same appended =
-      (bytes, things, read.taken, at_end old new bytes read told.0, told, subst (λ (ps : List A). Appends old_output new_output (drawn ps)) same appended)
-  draws drawn (Err e) old new bytes things those old_output new_output read told same appended = tt
+  pub draws : {B E : Type 0} (drawn : List A → List ℕ) (r : Result B E) (old new : Option (List ℕ)) (bytes : List ℕ) (things those : List A) (old_output new_output : Option (List ℕ)) → ReadsMost old new 16777217 bytes → TextParses Parses bytes things
+      → those ≡ things → OnOk r (Appends old_output new_output (drawn those)) → OnOk r (DrawsInput Parses drawn old new old_output new_output)
+  draws drawn (Ok a) old new bytes things those old_output new_output read item same appended =
+      (bytes, things, read.taken, at_end old new bytes read item.0, item, subst (λ (ps : List A). Appends old_output new_output (drawn ps)) same appended)
+  draws drawn (Err e) old new bytes things those old_output new_output read item same appended = tt
 
-  pub refuses : {B : Type 0} (up : Result B DrawFault) (e : DrawFault) (old new : Option (List ℕ)) (bytes : List ℕ) (output : Option (List ℕ)) → IsErrAnd up (λ f. f ≡ e) → ReadsMost old new 16777217 bytes → (e ≡ NoMemory) ⊎ Refuses Tells bytes e
-      → RefusesInput Tells old up output output
+  pub refuses : {B : Type 0} (up : Result B DrawFault) (e : DrawFault) (old new : Option (List ℕ)) (bytes : List ℕ) (output : Option (List ℕ)) → IsErrAnd up (λ f. f ≡ e) → ReadsMost old new 16777217 bytes → (e ≡ NoMemory) ⊎ Refuses Parses bytes e
+      → RefusesInput Parses old up output output
   refuses up e None new bytes output is read why = tt
   refuses up e (Some text) new bytes output is read why = λ fault refused.
       (refl, passed_up up e (IsRefusal fault) is (elim why [ inl memory ↦ inr (inr memory) | inr found ↦ inl (same_fault text new bytes fault e read refused found) ]))
 
-  pub refuses_none : {B : Type 0} (result : Result B DrawFault) (old new : Option (List ℕ)) (bytes : List ℕ) (things : List A) (old_output new_output : Option (List ℕ)) → ReadsMost old new 16777217 bytes → TextTells Tells bytes things
-      → RefusesInput Tells old result old_output new_output
-  refuses_none result None new bytes things old_output new_output read told = tt
-  refuses_none result (Some text) new bytes things old_output new_output read told = λ fault refused. absurd (no_fault text new bytes things fault read told refused)
+  pub refuses_none : {B : Type 0} (result : Result B DrawFault) (old new : Option (List ℕ)) (bytes : List ℕ) (things : List A) (old_output new_output : Option (List ℕ)) → ReadsMost old new 16777217 bytes → TextParses Parses bytes things
+      → RefusesInput Parses old result old_output new_output
+  refuses_none result None new bytes things old_output new_output read item = tt
+  refuses_none result (Some text) new bytes things old_output new_output read item = λ fault refused. absurd (no_fault text new bytes things fault read item refused)
 
-  pub fails : {B : Type 0} (up : Result B DrawFault) (e : DrawFault) (old new : Option (List ℕ)) (bytes : List ℕ) → IsErrAnd up (λ f. f ≡ e) → ReadsMost old new 16777217 bytes → ((things : List A) → TextTells Tells bytes things → e ≡ NoMemory)
-      → FailsInput Tells old up
+  pub fails : {B : Type 0} (up : Result B DrawFault) (e : DrawFault) (old new : Option (List ℕ)) (bytes : List ℕ) → IsErrAnd up (λ f. f ≡ e) → ReadsMost old new 16777217 bytes → ((things : List A) → TextParses Parses bytes things → e ≡ NoMemory)
+      → FailsInput Parses old up
   fails up e None new bytes is read why = tt
-  fails up e (Some text) new bytes is read why = λ things told.
-      if_err up IsBroken (passed_up up e IsBroken is (inr (inr (why things (subst (λ (bs : List ℕ). TextTells Tells bs things) (short_text text new bytes read told.0) told)))))
+  fails up e (Some text) new bytes is read why = λ things item.
+      if_err up IsBroken (passed_up up e IsBroken is (inr (inr (why things (subst (λ (bs : List ℕ). TextParses Parses bs things) (short_text text new bytes read item.0) item)))))

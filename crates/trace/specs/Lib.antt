@@ -1,6 +1,6 @@
+pub mod Node
+pub mod Parsed
+pub mod Traffic
 pub mod Drawn
 pub mod Fault
-pub mod Node
 pub mod Text
-pub mod Told
-pub mod Traffic

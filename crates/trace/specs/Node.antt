@@ -1,4 +1,4 @@
--- What a line tells of a decoder (own), word by word. A word ends at the next space.
+-- The state of the decoder of a line (own), word by word. A word ends at the next space.
 use Rattle.std.specs.Prelude.{ℕ, ◌+◌, ◌==◌, ◌||◌, ◌&&◌, nat_le, nat_eq, not, Bool, true, false, if◌then◌else◌, List, [], ◌∷◌, Option, Some, None, codes, length, take, drop}
 use Rattle.std.specs.Char.{is_ascii_alphanumeric}
 use Rattle.std.specs.List.{list_all, position_or_len, slice_index, starts_with}
@@ -12,9 +12,9 @@ use Rattle.dcc_packet.specs.declared.steps.Steps.TheVariants.{S14, S28, S128}
 use Rattle.dcc_packet.specs.declared.steps.Motion.{Motion}
 use Rattle.dcc_packet.specs.declared.steps.Motion.TheVariants.{Stop, Emergency, Step}
 use Rattle.show_text.specs.Words.{decimal_of}
-use Rattle.trace.specs.declared.standing.Standing.{Standing}
-use Rattle.trace.specs.declared.standing.Standing.TheVariants.{Loco, Accessory}
-use Rattle.trace.specs.declared.standing.Seen.{Seen}
+use Rattle.trace.specs.declared.reported_state.ReportedState.{ReportedState}
+use Rattle.trace.specs.declared.reported_state.ReportedState.TheVariants.{Loco, Accessory}
+use Rattle.trace.specs.declared.reported_state.Seen.{Seen}
 
 -- the first word, up to a space, is `node`
 abbrev pub is_of_node : List ℕ → Bool
@@ -24,9 +24,9 @@ is_of_node line = bytes_eq line (codes "node") || starts_with nat_eq line (codes
 unfoldable pub word_of : List ℕ → List ℕ
 word_of text = take (position_or_len (λ b. b == 32) text) text
 
--- what stands behind the first word and its space
-unfoldable pub behind : List ℕ → List ℕ
-behind text = drop (position_or_len (λ b. b == 32) text + 1) text
+-- the text after the first word and its space
+unfoldable pub rest_after : List ℕ → List ℕ
+rest_after text = drop (position_or_len (λ b. b == 32) text + 1) text
 
 -- an ASCII letter, a digit, `-` or `_`
 abbrev pub is_name_byte : ℕ → Bool
@@ -36,7 +36,7 @@ is_name_byte b = is_ascii_alphanumeric b || b == byte "-" || b == byte "_"
 abbrev pub is_name : List ℕ → Bool
 is_name name = nat_le 1 (length name) && nat_le (length name) 16 && list_all is_name_byte name
 
--- decimal digits, none of them a zero in front of others
+-- decimal digits without leading zeros
 abbrev pub is_plain : List ℕ → Bool
 is_plain [] = false
 is_plain (b ∷ []) = true
@@ -45,14 +45,14 @@ is_plain (b ∷ c ∷ bs) = not (b == 48)
 abbrev pub number_of : List ℕ → Option ℕ
 number_of word = if is_plain word then decimal_of word else None
 
--- so many digits, each 0 or 1
+-- `count` digits, each 0 or 1
 abbrev pub is_digit : ℕ → Bool
 is_digit b = b == 48 || b == 49
 
 abbrev pub switches_of : ℕ → List ℕ → Option (List ℕ)
 switches_of count text = if (length text == count) && list_all is_digit text then Some text else None
 
--- the address behind `short` or `long`
+-- the address after `short` or `long`
 abbrev pub short_of : Option ℕ → Option Address
 short_of (Some number) = if is_legal (Short number) then Some (Short number) else None
 short_of None = None
@@ -66,14 +66,14 @@ address_of kind number =
     if bytes_eq kind (codes "short") then short_of (number_of number) else
     (if bytes_eq kind (codes "long") then long_of (number_of number) else None)
 
--- what the steps are called
+-- the printed number of the steps
 abbrev pub steps_of : List ℕ → Option Steps
 steps_of word =
     if bytes_eq word (codes "14") then Some S14 else
     (if bytes_eq word (codes "28") then Some S28 else
     (if bytes_eq word (codes "128") then Some S128 else None))
 
--- the last of them: those that are called 128 are 126
+-- the last step: that of the steps printed as 128 is 126
 abbrev pub last_of : Steps → ℕ
 last_of S14 = 14
 last_of S28 = 28
@@ -91,11 +91,11 @@ motion_of text =
     if bytes_eq (word_of text) (codes "stop") then Some Stop else
     (if bytes_eq (word_of text) (codes "emergency") then Some Emergency else
     (if bytes_eq (word_of text) (codes "step")
-    then step_of (number_of (word_of (behind text))) (bytes_eq (word_of (behind (behind text))) (codes "of")) (steps_of (word_of (behind (behind (behind text)))))
+    then step_of (number_of (word_of (rest_after text))) (bytes_eq (word_of (rest_after (rest_after text))) (codes "of")) (steps_of (word_of (rest_after (rest_after (rest_after text)))))
     else None))
 
-abbrev pub behind_motion : List ℕ → List ℕ
-behind_motion text = if bytes_eq (word_of text) (codes "step") then behind (behind (behind (behind text))) else behind text
+abbrev pub after_motion : List ℕ → List ℕ
+after_motion text = if bytes_eq (word_of text) (codes "step") then rest_after (rest_after (rest_after (rest_after text))) else rest_after text
 
 -- whether it runs forward
 abbrev pub direction_of : List ℕ → Option Bool
@@ -103,7 +103,7 @@ direction_of word =
     if bytes_eq word (codes "forward") then Some true else
     (if bytes_eq word (codes "reverse") then Some false else None)
 
-abbrev pub loco_with : Option Address → Option Motion → Option Bool → Bool → Option (List ℕ) → Option Standing
+abbrev pub loco_with : Option Address → Option Motion → Option Bool → Bool → Option (List ℕ) → Option ReportedState
 loco_with (Some address) (Some motion) (Some forward) true (Some functions) = Some (Loco address motion forward functions)
 loco_with (Some address) (Some motion) (Some forward) true None = None
 loco_with (Some address) (Some motion) (Some forward) false functions = None
@@ -111,38 +111,38 @@ loco_with (Some address) (Some motion) None letter functions = None
 loco_with (Some address) None forward letter functions = None
 loco_with None motion forward letter functions = None
 
-abbrev pub direction_in : Option Address → Option Motion → List ℕ → Option Standing
+abbrev pub direction_in : Option Address → Option Motion → List ℕ → Option ReportedState
 direction_in address motion text =
-    loco_with address motion (direction_of (word_of text)) (bytes_eq (word_of (behind text)) (codes "F")) (switches_of 13 (behind (behind text)))
+    loco_with address motion (direction_of (word_of text)) (bytes_eq (word_of (rest_after text)) (codes "F")) (switches_of 13 (rest_after (rest_after text)))
 
 -- `short A` or `long A`, how it runs, and its functions F0 to F12
-abbrev pub loco_of : List ℕ → Option Standing
+abbrev pub loco_of : List ℕ → Option ReportedState
 loco_of text =
-    direction_in (address_of (word_of text) (word_of (behind text))) (motion_of (behind (behind text))) (behind_motion (behind (behind text)))
+    direction_in (address_of (word_of text) (word_of (rest_after text))) (motion_of (rest_after (rest_after text))) (after_motion (rest_after (rest_after text)))
 
-abbrev pub accessory_with : Option ℕ → Bool → Option (List ℕ) → Option Standing
+abbrev pub accessory_with : Option ℕ → Bool → Option (List ℕ) → Option ReportedState
 accessory_with (Some number) true (Some outputs) = if is_module number then Some (Accessory number outputs) else None
 accessory_with (Some number) true None = None
 accessory_with (Some number) false outputs = None
 accessory_with None word outputs = None
 
 -- its module and its outputs 0 to 7
-abbrev pub accessory_of : List ℕ → Option Standing
+abbrev pub accessory_of : List ℕ → Option ReportedState
 accessory_of text =
-    accessory_with (number_of (word_of (behind text))) (bytes_eq (word_of (behind (behind text))) (codes "outputs")) (switches_of 8 (behind (behind (behind text))))
+    accessory_with (number_of (word_of (rest_after text))) (bytes_eq (word_of (rest_after (rest_after text))) (codes "outputs")) (switches_of 8 (rest_after (rest_after (rest_after text))))
 
-abbrev pub standing_of : List ℕ → Option Standing
-standing_of text = if bytes_eq (word_of text) (codes "module") then accessory_of text else loco_of text
+abbrev pub reported_state_of : List ℕ → Option ReportedState
+reported_state_of text = if bytes_eq (word_of text) (codes "module") then accessory_of text else loco_of text
 
-abbrev pub seen_with : List ℕ → Option Standing → Option Seen
-seen_with name (Some standing) = if is_name name then Some (record { name = name; standing = standing }) else None
+abbrev pub seen_with : List ℕ → Option ReportedState → Option Seen
+seen_with name (Some reported_state) = if is_name name then Some (record { name = name; reported_state = reported_state }) else None
 seen_with name None = None
 
--- `node NAME` and how that decoder stands
+-- `node NAME` and the state of that decoder
 abbrev pub node_of : List ℕ → Option Seen
 node_of line =
-    if bytes_eq (word_of line) (codes "node") then seen_with (word_of (behind line)) (standing_of (behind (behind line))) else None
+    if bytes_eq (word_of line) (codes "node") then seen_with (word_of (rest_after line)) (reported_state_of (rest_after (rest_after line))) else None
 
--- a switch of this number, from 0, is on
+-- the switch of this number, from 0, is on
 abbrev pub is_on : List ℕ → ℕ → Bool
 is_on digits place = slice_index digits place == 49

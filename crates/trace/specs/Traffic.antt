@@ -9,8 +9,8 @@ use Rattle.show_text.specs.Lines.{off_text, track_text}
 abbrev pub is_of_turn : List ℕ → Bool
 is_of_turn line = bytes_eq line (codes "track") || starts_with nat_eq line (codes "track ")
 
--- A line tells a packet where it is what is printed of a turn that sent it. It tells of none where it is no line of a turn,
--- or is what is printed of a turn that sent nothing.
-abbrev pub Tells : List ℕ → Option (List ℕ) → Type 0
-Tells line (Some packet) = (turn : ℕ) × (turn < 2 ^ 64) × IsPacket packet × (is_checked packet ≡ true) × (line ≡ track_text turn packet)
-Tells line None = (is_of_turn line ≡ false) ⊎ ((turn : ℕ) × (turn < 2 ^ 64) × (line ≡ off_text turn))
+-- A line has a packet if it is printed of a turn that sent it. It has none if it is not the line of
+-- a turn, or is printed of a turn that sent nothing.
+abbrev pub Parses : List ℕ → Option (List ℕ) → Type 0
+Parses line (Some packet) = (turn : ℕ) × (turn < 2 ^ 64) × IsPacket packet × (is_checked packet ≡ true) × (line ≡ track_text turn packet)
+Parses line None = (is_of_turn line ≡ false) ⊎ ((turn : ℕ) × (turn < 2 ^ 64) × (line ≡ off_text turn))

@@ -1,13 +1,14 @@
-//! Why a run ends with a status other than 0.
+//! The faults of a run that ends with a status other than 0.
 ghost use Rattle.std.specs.Prelude.{◌≡◌};
 ghost use Rattle.trace.specs.Fault.{of_read, status_of};
-ghost use Rattle.trace.specs.declared.fault.DrawFault.TheVariants.{NoMemory as NoMemoryLeft, Output as Unwritten};
+ghost use Rattle.trace.specs.declared.fault.DrawFault.TheVariants.{NoMemory as OutOfMemory, Output as OutputFailed};
 
 use input_text::{Broken, ReadFault};
 use std::alloc::{AllocError, AllocFailed};
 use thiserror::Error;
 
-/// Why a run ends with a status other than 0. Its text is what follows the program's name on standard error.
+/// Why a run ends with a status other than 0. Its text follows the program's name on standard
+/// error.
 #[derive(Clone, Copy, Debug, Error)]
 pub enum DrawFault {
     /// Status 2: standard input could not be read.
@@ -16,13 +17,13 @@ pub enum DrawFault {
     /// Status 4: standard output could not be written.
     #[error("output")]
     Output,
-    /// Status 5: the line of this number, from 1, begins as one that is drawn and is none.
+    /// Status 5: the line of this number, from 1, begins like one that is drawn and is not one.
     #[error("line {0}: bad line")]
     BadLine(u64),
     /// Status 5: the input has more than 16,777,216 bytes.
     #[error("too long")]
     TooLong,
-    /// Status 6: want of memory.
+    /// Status 6: out of memory.
     #[error("no memory")]
     NoMemory,
 }
@@ -35,9 +36,9 @@ impl From<ReadFault> for DrawFault {
     }
 }
 
-/// Of standard output.
+/// The fault of a failed write to standard output.
 impl From<Broken> for DrawFault {
-    ghost from_gives = { λ _ fault. fault ≡ Unwritten };
+    ghost from_gives = { λ _ fault. fault ≡ OutputFailed };
 
     fn from(_error: Broken) -> DrawFault {
         DrawFault::Output
@@ -45,7 +46,7 @@ impl From<Broken> for DrawFault {
 }
 
 impl From<AllocError> for DrawFault {
-    ghost from_gives = { λ _ fault. fault ≡ NoMemoryLeft };
+    ghost from_gives = { λ _ fault. fault ≡ OutOfMemory };
 
     fn from(_error: AllocError) -> DrawFault {
         DrawFault::NoMemory
@@ -53,7 +54,7 @@ impl From<AllocError> for DrawFault {
 }
 
 impl<T: Drop> From<AllocFailed<T>> for DrawFault {
-    ghost from_gives = { λ _ fault. fault ≡ NoMemoryLeft };
+    ghost from_gives = { λ _ fault. fault ≡ OutOfMemory };
 
     fn from(_error: AllocFailed<T>) -> DrawFault {
         DrawFault::NoMemory
@@ -61,7 +62,7 @@ impl<T: Drop> From<AllocFailed<T>> for DrawFault {
 }
 
 impl DrawFault {
-    /// The exit status.
+    /// Returns the exit status.
     pub fn status(self) -> u8
         ensures { result ≡ status_of self }
     {

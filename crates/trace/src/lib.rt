@@ -1,26 +1,30 @@
-//! What `station` prints, read back, and what programs share that draw it: the input is read whole, each of its lines is
-//! read, and what they tell is drawn; a run that fails tells why. What a line tells and what is drawn is each program's own,
-//! by `Drawing`.
+//! What `station` prints, read back, and programs that draw it.
 //!
-//! Its tests are those of the programs, `track_signal` and `timeline`, by the crate `test_support`.
+//! [`packet_in`] and [`node_in`] read one line. A program implements [`Drawing`] (what one line says, and what is drawn of
+//! all of them), and [`execute`] reads the input whole, parses each line and writes the drawing; a run that fails reports
+//! the reason. Its tests are those of `track_signal` and `timeline`.
+//!
+//! ```text
+//! if let Ok(Some(packet)) = packet_in(b"track 1 FF 00 FF") { .. }
+//! execute(&TrackSignal, alloc, &mut input, &mut output, &mut faults)
+//! ```
 #![tactic(auto)]
 
 mod drawing;
 mod fault;
 mod line;
-mod lines;
 mod node;
 mod reading;
+mod reported_state;
 mod run;
 mod standard;
-mod standing;
 mod words;
 
 pub use drawing::{BadLine, Drawing};
 pub use fault::DrawFault;
-pub use line::{NoTurn, is_of_turn, packet_told};
-pub use lines::{LONGEST_TEXT, cut_line};
-pub use node::{is_of_node, last_of, node_told};
+pub use line::{NoTurn, is_of_turn, packet_in};
+pub use node::{is_of_node, last_of, node_in};
+pub use reading::LONGEST_TEXT;
+pub use reported_state::{Name, ReportedState, Seen, Switches};
 pub use run::execute;
 pub use standard::draw_standard;
-pub use standing::{Name, Seen, Standing, Switches};

@@ -1,27 +1,28 @@
-//! What one line of `station` tells of the rails.
+//! The lines of turns in the output of `station`.
 ghost use Rattle.std.specs.Prelude.{ℕ, ◌≡◌, ◌==◌, ◌<◌, ◌^◌, ◌∷◌, ◌++◌, ◌/◌, ◌%◌, ◌↔◌, List, Option, Some, Ok, IfOk, IfSome, IsTrue, MatchOption, codes, length, position};
 ghost use Rattle.std.specs.Fmt.{decimal};
 ghost use Rattle.dcc_packet.specs.Packet.{IsPacket};
-ghost use Rattle.show_text.specs.Lines.{hex_byte, hex_word, hex_words};
-ghost use Rattle.trace.specs.Traffic.{Tells, is_of_turn};
+ghost use Rattle.ascii_words.specs.Words.{hex_char};
+ghost use Rattle.show_text.specs.Lines.{hex_word, hex_words};
+ghost use Rattle.trace.specs.Traffic.{Parses, is_of_turn};
 
 use arrayvec::ArrayVec;
 use dcc_packet::Packet;
 use show_text::{Line, off_line, track_line};
 use std::str;
 
-/// Of a line that begins as the line of a turn and is none.
+/// The fault of a line that begins like the line of a turn and is not one.
 #[derive(Clone, Copy, Debug, PartialEq, Eq)]
 pub struct NoTurn;
 
-/// Whether the line is, by its first word, up to a space, that of a turn.
+/// Whether the first word of the line, up to a space, is that of a turn.
 pub fn is_of_turn(line: &[u8]) -> bool
     ensures { result ≡ is_of_turn line.now }
 {
     line == b"track".as_slice() || line.starts_with(b"track ".as_slice())
 }
 
-/// The number that these decimal digits write.
+/// Returns the number written by these decimal digits.
 fn number_of(digits: &[u8]) -> Option<u64>
     ensures { (n : ℕ) → n < 2 ^ 64 → digits.now ≡ decimal n → result ≡ Some n }
 {
@@ -37,9 +38,11 @@ fn space_at(text: &[u8]) -> Option<usize>
     text.iter().position(|byte| *byte == b' ')
 }
 
-/// The number of a turn, and what stands behind it, from the space on.
+/// Splits off the number of a turn; the rest begins with the space after it.
 fn cut_turn(line: &[u8]) -> Option<(u64, &[u8])>
-    ensures { (turn : ℕ) (rest : List ℕ) → turn < 2 ^ 64 → line.now ≡ codes "track " ++ decimal turn ++ 32 ∷ rest → MatchOption result ⊥ (λ cut. (cut.0 ≡ turn) × (cut.1.now ≡ 32 ∷ rest)) }
+    ensures { (turn : ℕ) (rest : List ℕ) → turn < 2 ^ 64
+        → line.now ≡ codes "track " ++ decimal turn ++ 32 ∷ rest
+        → MatchOption result ⊥ (λ cut. (cut.0 ≡ turn) × (cut.1.now ≡ 32 ∷ rest)) }
 {
     let text = line.strip_prefix(b"track ")?;
     let end = space_at(text)?;
@@ -47,10 +50,10 @@ fn cut_turn(line: &[u8]) -> Option<(u64, &[u8])>
     Some((turn, &text[end..]))
 }
 
-/// The number that an upper-case hexadecimal digit writes.
+/// Returns the value of an upper-case hexadecimal digit.
 fn digit_of(byte: u8) -> Option<u8>
     ensures below { (n : ℕ) → result ≡ Some n → n < 16 }
-    ensures value { (n : ℕ) → n < 16 → byte ≡ hex_byte n → result ≡ Some n }
+    ensures value { (n : ℕ) → n < 16 → byte ≡ hex_char n → result ≡ Some n }
 {
     match byte {
         b'0'..=b'9' => Some(byte - b'0'),
@@ -59,16 +62,18 @@ fn digit_of(byte: u8) -> Option<u8>
     }
 }
 
-/// The byte that two upper-case hexadecimal digits write, the high one first.
+/// Returns the byte written by two upper-case hexadecimal digits, the high one first.
 fn byte_of(high: u8, low: u8) -> Option<u8>
-    ensures { (byte : ℕ) → byte < 256 → high ≡ hex_byte (byte / 16) → low ≡ hex_byte (byte % 16) → result ≡ Some byte }
+    ensures { (byte : ℕ) → byte < 256 → high ≡ hex_char (byte / 16) → low ≡ hex_char (byte % 16)
+        → result ≡ Some byte }
 {
     Some(16 * digit_of(high)? + digit_of(low)?)
 }
 
-/// The byte that the words begin with, a space and two digits, and what follows it.
+/// Returns the byte at the beginning of the words, a space and two digits, and the text after it.
 fn cut_byte(words: &[u8]) -> Option<(u8, &[u8])>
-    ensures byte { (byte : ℕ) (rest : List ℕ) → byte < 256 → words.now ≡ hex_word byte ++ rest → MatchOption result ⊥ (λ cut. (cut.0 ≡ byte) × (cut.1.now ≡ rest)) }
+    ensures byte { (byte : ℕ) (rest : List ℕ) → byte < 256 → words.now ≡ hex_word byte ++ rest
+        → MatchOption result ⊥ (λ cut. (cut.0 ≡ byte) × (cut.1.now ≡ rest)) }
     ensures shorter { IfSome result (λ cut. length cut.1.now < length words.now) }
 {
     match words {
@@ -77,9 +82,10 @@ fn cut_byte(words: &[u8]) -> Option<(u8, &[u8])>
     }
 }
 
-/// The packet of these words, or of the first six.
+/// Returns the packet of these words, or of the first six.
 fn packet_of(words: &[u8]) -> Option<Packet>
-    ensures { (packet : List ℕ) → IsPacket packet → words.now ≡ hex_words packet → result ≡ Some packet }
+    ensures { (packet : List ℕ) → IsPacket packet → words.now ≡ hex_words packet
+        → result ≡ Some packet }
 {
     let mut bytes: ArrayVec<u8, 6> = ArrayVec::new();
     let mut rest = words;
@@ -97,12 +103,13 @@ fn is_text(line: &[u8], text: &Line) -> bool
     line == text.as_str().as_bytes()
 }
 
-/// The packet that a line tells, or `None` where it tells of none: as it is no line of a turn, or the turn sent nothing.
+/// Returns the packet of a line, or `None` if the line is not of a turn or the turn sent nothing.
 ///
-/// What is read is printed again and compared, so that a line counts exactly where `station` prints it.
-pub fn packet_told(line: &[u8]) -> Result<Option<Packet>, NoTurn>
-    ensures told { IfOk result (λ told. Tells line.now told) }
-    ensures exact { (told : Option (List ℕ)) → Tells line.now told → result ≡ Ok told }
+/// The packet is printed again and compared, so that exactly the lines that `station` prints are
+/// accepted.
+pub fn packet_in(line: &[u8]) -> Result<Option<Packet>, NoTurn>
+    ensures item { IfOk result (λ item. Parses line.now item) }
+    ensures exact { (item : Option (List ℕ)) → Parses line.now item → result ≡ Ok item }
 {
     if !is_of_turn(line) {
         return Ok(None);

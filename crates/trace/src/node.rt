@@ -1,14 +1,14 @@
-//! What one line of `station` tells of a decoder.
+//! The lines of decoders in the output of `station`.
 ghost use Rattle.std.specs.Prelude.{◌≡◌};
-ghost use Rattle.trace.specs.Node.{accessory_of, behind_motion, is_of_node, last_of, loco_of, motion_of, node_of, standing_of};
+ghost use Rattle.trace.specs.Node.{accessory_of, after_motion, is_of_node, last_of, loco_of, motion_of, node_of, reported_state_of};
 
-use crate::standing::{Seen, Standing};
+use crate::reported_state::{ReportedState, Seen};
 use crate::words::{
-    address, behind, direction, first_word, is_word, module, name, number, steps, switches,
+    address, direction, first_word, is_word, module, name, number, rest_after, steps, switches,
 };
 use dcc_packet::{Motion, Steps};
 
-/// Whether the line is, by its first word, up to a space, that of a decoder.
+/// Whether the first word of the line, up to a space, is that of a decoder.
 pub fn is_of_node(line: &[u8]) -> bool
     ensures { result ≡ is_of_node line.now }
 {
@@ -26,7 +26,7 @@ pub fn last_of(steps: Steps) -> u32
     }
 }
 
-/// What `stop`, `emergency` or `step N of M` tells.
+/// Parses `stop`, `emergency` or `step N of M`.
 fn motion(text: &[u8]) -> Option<Motion>
     ensures { result ≡ motion_of text.now }
 {
@@ -40,40 +40,40 @@ fn motion(text: &[u8]) -> Option<Motion>
     if !is_word(word, "step") {
         return None;
     }
-    let n = number(first_word(behind(text)))?;
-    if !is_word(first_word(behind(behind(text))), "of") {
+    let n = number(first_word(rest_after(text)))?;
+    if !is_word(first_word(rest_after(rest_after(text))), "of") {
         return None;
     }
-    let of = steps(first_word(behind(behind(behind(text)))))?;
+    let of = steps(first_word(rest_after(rest_after(rest_after(text)))))?;
     if n < 1 || n > last_of(of) {
         return None;
     }
     Some(Motion::Step { of, n: n as u8 })
 }
 
-fn behind_motion(text: &[u8]) -> &[u8]
-    ensures { result.now ≡ behind_motion text.now }
+fn after_motion(text: &[u8]) -> &[u8]
+    ensures { result.now ≡ after_motion text.now }
 {
     if is_word(first_word(text), "step") {
-        behind(behind(behind(behind(text))))
+        rest_after(rest_after(rest_after(rest_after(text))))
     } else {
-        behind(text)
+        rest_after(text)
     }
 }
 
 /// `short A MOTION DIR F fffffffffffff`, or with `long A`.
-fn loco(text: &[u8]) -> Option<Standing>
+fn loco(text: &[u8]) -> Option<ReportedState>
     ensures { result ≡ loco_of text.now }
 {
-    let address = address(first_word(text), first_word(behind(text)))?;
-    let motion = motion(behind(behind(text)))?;
-    let rest = behind_motion(behind(behind(text)));
+    let address = address(first_word(text), first_word(rest_after(text)))?;
+    let motion = motion(rest_after(rest_after(text)))?;
+    let rest = after_motion(rest_after(rest_after(text)));
     let forward = direction(first_word(rest))?;
-    if !is_word(first_word(behind(rest)), "F") {
+    if !is_word(first_word(rest_after(rest)), "F") {
         return None;
     }
-    let functions = switches(13, behind(behind(rest)))?;
-    Some(Standing::Loco {
+    let functions = switches(13, rest_after(rest_after(rest)))?;
+    Some(ReportedState::Loco {
         address,
         motion,
         forward,
@@ -82,20 +82,20 @@ fn loco(text: &[u8]) -> Option<Standing>
 }
 
 /// `module M outputs oooooooo`.
-fn accessory(text: &[u8]) -> Option<Standing>
+fn accessory(text: &[u8]) -> Option<ReportedState>
     ensures { result ≡ accessory_of text.now }
 {
-    let number = number(first_word(behind(text)))?;
-    if !is_word(first_word(behind(behind(text))), "outputs") {
+    let number = number(first_word(rest_after(text)))?;
+    if !is_word(first_word(rest_after(rest_after(text))), "outputs") {
         return None;
     }
-    let outputs = switches(8, behind(behind(behind(text))))?;
+    let outputs = switches(8, rest_after(rest_after(rest_after(text))))?;
     let module = module(number)?;
-    Some(Standing::Accessory { module, outputs })
+    Some(ReportedState::Accessory { module, outputs })
 }
 
-fn standing(text: &[u8]) -> Option<Standing>
-    ensures { result ≡ standing_of text.now }
+fn reported_state(text: &[u8]) -> Option<ReportedState>
+    ensures { result ≡ reported_state_of text.now }
 {
     if is_word(first_word(text), "module") {
         accessory(text)
@@ -104,16 +104,19 @@ fn standing(text: &[u8]) -> Option<Standing>
     }
 }
 
-/// What a line tells of a decoder: its name and how it stands, or `None` where the line is none that `station` prints
-/// of a decoder.
-pub fn node_told(line: &[u8]) -> Option<Seen>
+/// Returns the name and the state of the decoder of a line, or `None` if the line is not one that
+/// `station` prints of a decoder.
+pub fn node_in(line: &[u8]) -> Option<Seen>
     ensures { result ≡ node_of line.now }
 {
     if !is_word(first_word(line), "node") {
         return None;
     }
-    let rest = behind(line);
-    let standing = standing(behind(rest))?;
+    let rest = rest_after(line);
+    let reported_state = reported_state(rest_after(rest))?;
     let name = name(first_word(rest))?;
-    Some(Seen { name, standing })
+    Some(Seen {
+        name,
+        reported_state,
+    })
 }

@@ -1,26 +1,31 @@
-//! What the lines of a text tell.
+//! Parsing the lines of a text.
 ghost use Rattle.std.specs.Prelude.{ℕ, ◌≡◌, ◌⊎◌, ◌≤◌, List, IfErr, IfOk, MatchResult, length};
 ghost use Rattle.trace.specs.declared.fault.DrawFault.TheVariants.{NoMemory};
 ghost use Rattle.trace.specs.Fault.{Refuses};
-ghost use Rattle.trace.specs.Text.{TextTells};
+ghost use Rattle.trace.specs.Text.{TextParses};
 
 use crate::drawing::Drawing;
 use crate::fault::DrawFault;
-use trace::{LONGEST_TEXT, cut_line};
+use show_text::cut_line;
 use std::alloc::Global;
+
+/// The most bytes of an input.
+pub const LONGEST_TEXT: usize = 16_777_216;
 
 /// What the lines of a text tell, in order.
 ///
-/// The first fault decides: a text longer than [`LONGEST_TEXT`], and then the first line that has a fault.
+/// The first fault is reported: a text longer than [`LONGEST_TEXT`], and then the first line that
+/// has a fault.
 pub(crate) fn read_lines<D: Drawing>(
     alloc: Global,
     drawing: &D,
     text: &[u8],
-) -> Result<Vec<D::Told>, DrawFault>
-    ensures told { IfOk result (λ v. TextTells D.tells text.now v.items) }
+) -> Result<Vec<D::Item>, DrawFault>
+    ensures item { IfOk result (λ v. TextParses D.parses text.now v.items) }
     ensures few { IfOk result (λ v. length v.items ≤ 16777216) }
-    ensures exact { (things : List D.Told) → TextTells D.tells text.now things → MatchResult result (λ v. v.items ≡ things) (λ e. e ≡ NoMemory) }
-    ensures fault { IfErr result (λ e. (e ≡ NoMemory) ⊎ Refuses D.tells text.now e) }
+    ensures exact { (things : List D.Item) → TextParses D.parses text.now things
+        → MatchResult result (λ v. v.items ≡ things) (λ e. e ≡ NoMemory) }
+    ensures fault { IfErr result (λ e. (e ≡ NoMemory) ⊎ Refuses D.parses text.now e) }
 {
     if text.len() > LONGEST_TEXT {
         return Err(DrawFault::TooLong);
@@ -31,10 +36,10 @@ pub(crate) fn read_lines<D: Drawing>(
     while !rest.is_empty() {
         let (line, after) = cut_line(rest);
         number += 1;
-        let Ok(told) = drawing.read(line) else {
+        let Ok(item) = drawing.read(line) else {
             return Err(DrawFault::BadLine(number));
         };
-        if let Some(thing) = told {
+        if let Some(thing) = item {
             if things.push(thing).is_err() {
                 return Err(DrawFault::NoMemory);
             }

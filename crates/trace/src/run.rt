@@ -1,19 +1,20 @@
-//! A program that draws, on its streams.
+//! Running a drawing program on its streams.
 ghost use Rattle.std.specs.Prelude.{◌≡◌, ◌≢◌, ◌==◌, false, true, IfErr, OnOk};
 ghost use Rattle.trace.specs.Drawn.{DrawsInput, EndsAs, FailsInput, RefusesInput};
-ghost use Rattle.trace.specs.Fault.{is_unread, is_unwritten, status_of};
+ghost use Rattle.trace.specs.Fault.{read_failed, is_unwritten, status_of};
 
+use crate::LONGEST_TEXT;
 use crate::drawing::Drawing;
 use crate::fault::DrawFault;
 use crate::reading::read_lines;
-use input_text::{Input, Output, read_most};
-use trace::LONGEST_TEXT;
+use input_text::{Input, Output, read_limited};
 use std::alloc::Global;
 use std::io::Write;
 
-/// Draws what the lines of `input` tell, to its end, and answers the exit status, 0 to 6.
+/// Draws the lines of `input`, read to its end, and returns the exit status, 0 to 6.
 ///
-/// What is drawn goes to `output`. Where the status is not 0, `faults` gets one line that begins with the program's name.
+/// The drawing is written to `output`. If the status is not 0, one line that begins with the
+/// program's name is written to `faults`.
 pub fn execute<D, I, O, E>(
     drawing: &D,
     alloc: Global,
@@ -28,23 +29,27 @@ where
     E: Write,
     requires reads { I.failed input.old ≡ false }
     requires writes { O.failed output.old ≡ false }
-    ensures status { EndsAs D.tells (I.left input.old) result }
-    ensures drawn { result ≡ 0 → DrawsInput D.tells D.drawn (I.left input.old) (I.left input.new) (O.held output.old) (O.held output.new) }
-    // The status is 2 exactly where a read failed.
+    ensures status { EndsAs D.parses (I.left input.old) result }
+    ensures drawn { result ≡ 0
+        → DrawsInput D.parses D.drawn (I.left input.old) (I.left input.new) (O.held output.old)
+        (O.held output.new) }
+    // The status is 2 exactly if a read failed.
     ensures unread { I.failed input.new ≡ (result == 2) }
-    // And 4 exactly where a write or a flush failed.
+    // It is 4 exactly if a write or a flush failed.
     ensures unwritten { O.failed output.new ≡ (result == 4) }
-    // Where the output did not fail, a fault writes nothing, but for want of memory where the drawing is not whole.
-    ensures kept { result ≢ 0 → result ≢ 4 → (result ≡ 6 → D.is_whole ≡ true) → output.new ≡ output.old }
+    // If the output did not fail, a fault writes nothing, unless memory runs out and the drawing is
+    // not whole.
+    ensures kept { result ≢ 0 → result ≢ 4 → (result ≡ 6 → D.is_whole ≡ true)
+        → output.new ≡ output.old }
 {
     match draw_input(drawing, alloc, input, output) {
         Ok(()) => 0,
-        Err(fault) => tell(drawing, fault, faults),
+        Err(fault) => report(drawing, fault, faults),
     }
 }
 
-/// Tells a fault, and answers its status. Where it cannot be told, nobody can be told that.
-fn tell<D: Drawing, E: Write>(drawing: &D, fault: DrawFault, faults: &mut E) -> u8
+/// Reports a fault and returns its status. A failure of this report cannot be reported.
+fn report<D: Drawing, E: Write>(drawing: &D, fault: DrawFault, faults: &mut E) -> u8
     ensures { result ≡ status_of fault }
 {
     let name = drawing.name();
@@ -58,7 +63,7 @@ fn tell<D: Drawing, E: Write>(drawing: &D, fault: DrawFault, faults: &mut E) -> 
     fault.status()
 }
 
-/// Reads the input, whole, and then draws what its lines tell. Where a line has a fault nothing is written.
+/// Reads the whole input and then draws its lines. Nothing is written if a line has a fault.
 fn draw_input<D: Drawing, I: Input, O: Output>(
     drawing: &D,
     alloc: Global,
@@ -67,14 +72,19 @@ fn draw_input<D: Drawing, I: Input, O: Output>(
 ) -> Result<(), DrawFault>
     requires reads { I.failed input.old ≡ false }
     requires writes { O.failed output.old ≡ false }
-    ensures drawn { OnOk result (DrawsInput D.tells D.drawn (I.left input.old) (I.left input.new) (O.held output.old) (O.held output.new)) }
-    ensures refused { RefusesInput D.tells (I.left input.old) result (O.held output.old) (O.held output.new) }
-    ensures failed { FailsInput D.tells (I.left input.old) result }
-    ensures unread { I.failed input.new ≡ is_unread result }
+    ensures drawn { OnOk result
+        (DrawsInput D.parses D.drawn (I.left input.old) (I.left input.new) (O.held output.old)
+        (O.held output.new)) }
+    ensures refused { RefusesInput D.parses (I.left input.old) result (O.held output.old)
+        (O.held output.new) }
+    ensures failed { FailsInput D.parses (I.left input.old) result }
+    ensures unread { I.failed input.new ≡ read_failed result }
     ensures unwritten { O.failed output.new ≡ is_unwritten result }
-    ensures kept { IfErr result (λ e. e ≢ DrawFault.Output → (e ≡ DrawFault.NoMemory → D.is_whole ≡ true) → output.new ≡ output.old) }
+    ensures kept { IfErr result
+        (λ e. e ≢ DrawFault.Output → (e ≡ DrawFault.NoMemory → D.is_whole ≡ true)
+        → output.new ≡ output.old) }
 {
-    let text = read_most(alloc, input, LONGEST_TEXT + 1)?;
+    let text = read_limited(alloc, input, LONGEST_TEXT + 1)?;
     let things = read_lines(alloc, drawing, text.as_slice())?;
     drawing.draw(alloc, things.as_slice(), output)
 }

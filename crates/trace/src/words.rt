@@ -1,11 +1,11 @@
-//! The words of a line, each up to the next space, and what single words say.
+//! The words of a line, each up to the next space, and the values of single words.
 ghost use Rattle.std.specs.Prelude.{◌≡◌, ◌≤◌, ◌==◌, Some, None, if◌then◌else◌, position, length};
 ghost use Rattle.std.specs.Str.{bytes_eq};
 ghost use Rattle.std.specs.List.{list_all};
 ghost use Rattle.dcc_packet.specs.Module.{is_module};
-ghost use Rattle.trace.specs.Node.{address_of, behind, direction_of, is_digit, is_name, is_name_byte, is_plain, long_of, number_of, short_of, steps_of, switches_of, word_of};
+ghost use Rattle.trace.specs.Node.{address_of, rest_after, direction_of, is_digit, is_name, is_name_byte, is_plain, long_of, number_of, short_of, steps_of, switches_of, word_of};
 
-use crate::standing::{Name, Switches};
+use crate::reported_state::{Name, Switches};
 use arrayvec::ArrayVec;
 use dcc_packet::{Address, Module, Steps};
 use show_text::decimal;
@@ -27,10 +27,10 @@ pub(crate) fn first_word(text: &[u8]) -> &[u8]
     }
 }
 
-/// What stands behind the first word and its space.
+/// Returns the text after the first word and its space.
 #[tactic(auto, using(crate::proofs::FirstWords::word_cuts))]
-pub(crate) fn behind(text: &[u8]) -> &[u8]
-    ensures { result.now ≡ behind text.now }
+pub(crate) fn rest_after(text: &[u8]) -> &[u8]
+    ensures { result.now ≡ rest_after text.now }
 {
     match space_at(text) {
         Some(at) => &text[at + 1..],
@@ -38,7 +38,7 @@ pub(crate) fn behind(text: &[u8]) -> &[u8]
     }
 }
 
-/// Whether a word is this one.
+/// Whether a word is `text`.
 pub(crate) fn is_word(word: &[u8], text: &str) -> bool
     ensures { result ≡ bytes_eq word.now text.now }
 {
@@ -55,7 +55,7 @@ fn is_plain(word: &[u8]) -> bool
     }
 }
 
-/// The number that a word of one to seven decimal digits writes, without a zero in front of others.
+/// Returns the number of a word of one to seven decimal digits without leading zeros.
 pub(crate) fn number(word: &[u8]) -> Option<u32>
     ensures { result ≡ number_of word.now }
 {
@@ -74,7 +74,7 @@ fn are_digits(text: &[u8]) -> bool
     text.iter().all(|byte| is_digit(*byte))
 }
 
-/// The switches that so many digits tell, at most 13.
+/// Returns the switches of a word of `count` digits, at most 13.
 pub(crate) fn switches(count: usize, text: &[u8]) -> Option<Switches>
     requires { count ≤ 13 }
     ensures { result ≡ switches_of count text.now }
@@ -101,7 +101,7 @@ fn are_name_bytes(bytes: &[u8]) -> bool
     bytes.iter().all(|byte| is_name_byte(*byte))
 }
 
-/// The name that a word is.
+/// Returns the name of a word.
 pub(crate) fn name(word: &[u8]) -> Option<Name>
     ensures { result ≡ (if is_name word.now then Some word.now else None) }
 {
@@ -133,7 +133,7 @@ fn long(number: u32) -> Option<Address>
     }
 }
 
-/// The address that two words tell, `short A` or `long A`.
+/// Returns the address of two words, `short A` or `long A`.
 pub(crate) fn address(kind: &[u8], word: &[u8]) -> Option<Address>
     ensures { result ≡ address_of kind.now word.now }
 {
@@ -156,7 +156,7 @@ pub(crate) fn module(number: u32) -> Option<Module>
     }
 }
 
-/// The steps that are called so.
+/// Returns the steps of this printed number.
 pub(crate) fn steps(word: &[u8]) -> Option<Steps>
     ensures { result ≡ steps_of word.now }
 {
@@ -171,7 +171,7 @@ pub(crate) fn steps(word: &[u8]) -> Option<Steps>
     }
 }
 
-/// Whether a word is that of running forward, and not in reverse.
+/// Whether a word means forward and not reverse.
 pub(crate) fn direction(word: &[u8]) -> Option<bool>
     ensures { result ≡ direction_of word.now }
 {

@@ -1,4 +1,4 @@
--- What is drawn, half-bit after half-bit and packet after packet.
+-- The drawing, half-bit after half-bit and packet after packet.
 use Rattle.std.proofs.Common.{◌≡◌, ℕ, ◌+◌, ◌*◌, ◌≤◌, Bool, true, false, not, sum, List, [], ◌∷◌, ◌++◌, map, replicate, length, Option, refl, ap, ap₂, sym, subst, ◌∙◌, append_assoc, arith}
 use Rattle.std.proofs.lemmas.List.{append-nil}
 use Rattle.std.proofs.lemmas.List.Sums.{sum_by-append, sum_by-cons}
@@ -21,7 +21,8 @@ sum-cons x xs = sum_by-cons (λ y. y) x xs
 sum-append : (xs ys : List ℕ) → sum (xs ++ ys) ≡ sum xs + sum ys
 sum-append xs ys = sum_by-append (λ y. y) xs ys
 
--- Within a packet: what was written, and what the half-bits that are left will be, is all.
+-- Within a packet: the text written, and the text of the remaining half-bits, are together the
+-- whole.
 pub record HasDrawn (start : ℕ) (all : List ℕ) (time : ℕ) (is_high : Bool) (left : List ℕ) (old now : Option (List ℕ)) : Type 0 where
   pub written : List ℕ
   pub appended : Appends old now written
@@ -97,7 +98,8 @@ begins_high : (packet : List ℕ) (time : ℕ) (rest : List ℕ) → changes_fro
 unfolding halves_of
 begins_high packet time rest = turned (replicate 14 true ++ (bits_of packet ++ true ∷ [])) time rest
 
--- Of a dump: what was written, and what the packets that are left will be, is all but the last time stamp.
+-- Of a dump: the text written, and the text of the remaining packets, are together all but the last
+-- time stamp.
 pub record HasDumped (all : List (List ℕ)) (time : ℕ) (left : List (List ℕ)) (old now : Option (List ℕ)) : Type 0 where
   pub written : List ℕ
   pub appended : Appends old now written

@@ -9,16 +9,16 @@ ghost use Rattle.track_signal.specs.Dump.{change_text, changes_from, changes_tex
 use dcc_packet::Packet;
 use half_bits::halves;
 use input_text::{Output, put_all};
-use trace::DrawFault;
 use std::alloc::Global;
 use std::io;
 use std::io::Write;
+use trace::DrawFault;
 
-/// What stands before the first time stamp: the unit of time and the one wire.
+/// The header before the first time stamp: the unit of time and the one wire.
 const HEADER: &[u8] =
     b"$timescale 1 us $end\n$scope module track $end\n$var wire 1 ! rails $end\n$upscope $end\n$enddefinitions $end\n";
 
-/// Room for a packet: at most 138 half-bits, each with at most 25 bytes.
+/// The buffer of a packet: at most 138 half-bits, each of at most 25 bytes.
 const ROOM: usize = 4096;
 
 /// Writes a time stamp.
@@ -28,19 +28,23 @@ fn write_stamp<O: Write>(time: u64, output: &mut O) -> io::Result<()>
     writeln!(output, "#{time}")
 }
 
-/// Writes that the rails turn to this side at this time.
+/// Writes the change of the rails to this side at this time.
 fn write_change<O: Write>(time: u64, is_high: bool, output: &mut O) -> io::Result<()>
-    ensures { OnOk result (Appends (O.contents output.old) (O.contents output.new) (change_text time is_high)) }
+    ensures { OnOk result
+        (Appends (O.contents output.old) (O.contents output.new) (change_text time is_high)) }
 {
     write_stamp(time, output)?;
     let value = if is_high { b"1!\n" } else { b"0!\n" };
     output.write_all(value)
 }
 
-/// Draws a packet that begins at this time, each bit a high half and then a low one. Gives the time at its end.
+/// Draws a packet that begins at time `start`, each bit as a high half and then a low one. Returns
+/// the time of its end.
 fn draw_packet<O: Write>(packet: &Packet, start: u64, output: &mut O) -> io::Result<u64>
     requires { start + 13800 < 2 ^ 64 }
-    ensures text { OnOk result (Appends (O.contents output.old) (O.contents output.new) (changes_text (changes_from start true (halves_of packet.now)))) }
+    ensures text { OnOk result
+        (Appends (O.contents output.old) (O.contents output.new)
+        (changes_text (changes_from start true (halves_of packet.now)))) }
     ensures end { IfOk result (λ end. end ≡ start + sum (halves_of packet.now)) }
     ensures soon { IfOk result (λ end. end ≤ start + 13800) }
 {
@@ -54,7 +58,7 @@ fn draw_packet<O: Write>(packet: &Packet, start: u64, output: &mut O) -> io::Res
     Ok(time)
 }
 
-/// The same by one write: `text` is cleared, and the packet drawn there first.
+/// Draws a packet by one write: `text` is cleared, and the packet drawn into it first.
 fn write_packet<O: Output>(
     packet: &Packet,
     start: u64,
@@ -63,7 +67,9 @@ fn write_packet<O: Output>(
 ) -> Result<u64, DrawFault>
     requires end { start + 13800 < 2 ^ 64 }
     requires writes { O.failed output.old ≡ false }
-    ensures text { OnOk result (Appends (O.held output.old) (O.held output.new) (changes_text (changes_from start true (halves_of packet.now)))) }
+    ensures text { OnOk result
+        (Appends (O.held output.old) (O.held output.new)
+        (changes_text (changes_from start true (halves_of packet.now)))) }
     ensures end { IfOk result (λ end. end ≡ start + sum (halves_of packet.now)) }
     ensures soon { IfOk result (λ end. end ≤ start + 13800) }
     ensures fault { IfErr result (λ e. (e ≡ Output) ⊎ (e ≡ NoMemory)) }
@@ -75,7 +81,7 @@ fn write_packet<O: Output>(
     Ok(end)
 }
 
-/// Writes the time stamp of the end, by one write: `text` is cleared, and the stamp written there first.
+/// Writes the last time stamp by one write: `text` is cleared, and the stamp written into it first.
 fn write_end<O: Output>(time: u64, text: &mut Vec<u8>, output: &mut O) -> Result<(), DrawFault>
     requires { O.failed output.old ≡ false }
     ensures text { OnOk result (Appends (O.held output.old) (O.held output.new) (stamp time)) }
@@ -87,7 +93,7 @@ fn write_end<O: Output>(time: u64, text: &mut Vec<u8>, output: &mut O) -> Result
     Ok(put_all(output, text.as_slice())?)
 }
 
-/// Draws packets that are sent one after another, from the header to the time at their end.
+/// Draws consecutive packets, from the header to the time of their end.
 pub(crate) fn draw_packets<O: Output>(
     alloc: Global,
     packets: &[Packet],
@@ -95,7 +101,8 @@ pub(crate) fn draw_packets<O: Output>(
 ) -> Result<(), DrawFault>
     requires few { length packets.now ≤ 16777216 }
     requires writes { O.failed output.old ≡ false }
-    ensures text { OnOk result (Appends (O.held output.old) (O.held output.new) (dump_of packets.now)) }
+    ensures text { OnOk result
+        (Appends (O.held output.old) (O.held output.new) (dump_of packets.now)) }
     ensures fault { IfErr result (λ e. (e ≡ Output) ⊎ (e ≡ NoMemory)) }
     ensures unwritten { O.failed output.new ≡ is_unwritten result }
 {

@@ -1,13 +1,13 @@
-//! `track_signal`: the signal on the rails, half-bit by half-bit, of the packets in what `station` prints, as a value
-//! change dump that wave viewers open.
+//! `track_signal`: writes the signal on the rails, half-bit by half-bit, of the packets in the
+//! output of `station`, as a value change dump for wave viewers.
 #![tactic(auto)]
 
 mod drawing;
 mod signal;
 
-use trace::draw_standard;
 pub use signal::TrackSignal;
 use std::process::ExitCode;
+use trace::draw_standard;
 
 #[cfg(test)]
 mod tests;

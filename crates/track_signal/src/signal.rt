@@ -1,22 +1,21 @@
-//! What the program draws: the dump of the packets.
+//! The drawing program: the dump of the packets.
 ghost use Rattle.std.specs.Prelude.{false};
-ghost use Rattle.trace.specs.Traffic.{Tells};
+ghost use Rattle.trace.specs.Traffic.{Parses};
 ghost use Rattle.track_signal.specs.Dump.{dump_of};
 
 use crate::drawing::draw_packets;
 use dcc_packet::Packet;
 use input_text::Output;
-use trace::{BadLine, DrawFault, Drawing};
-use trace::packet_told;
 use std::alloc::Global;
+use trace::{BadLine, DrawFault, Drawing, packet_in};
 
 /// The signal on the rails. It is written packet by packet.
 pub struct TrackSignal;
 
 impl Drawing for TrackSignal {
-    type Told = Packet;
+    type Item = Packet;
 
-    ghost tells = { Tells };
+    ghost parses = { Parses };
 
     ghost drawn = { dump_of };
 
@@ -31,7 +30,7 @@ impl Drawing for TrackSignal {
     }
 
     fn read(&self, line: &[u8]) -> Result<Option<Packet>, BadLine> {
-        packet_told(line).map_err(|_| BadLine)
+        packet_in(line).map_err(|_| BadLine)
     }
 
     fn draw<O: Output>(

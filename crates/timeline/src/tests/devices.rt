@@ -1,12 +1,12 @@
 //! Standard streams that fail, and an input without end.
 
-use super::PROGRAM;
-use test_support::first_not_stood;
+use crate::Timeline;
 use std::test::Fail;
+use test_support::first_failure;
 
 #[test]
 fn streams_may_fail(rt: HostRuntime) -> Result<(), Fail> {
-    let failed = first_not_stood(&PROGRAM, rt.alloc(), b"</svg>\n")?;
+    let failed = first_failure(&Timeline, rt.alloc(), b"</svg>\n")?;
     assert_eq!(rt; failed, None);
     Ok(())
 }

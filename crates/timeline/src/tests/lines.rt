@@ -1,10 +1,11 @@
-//! Lines, and what is drawn of them, worked out by hand: a turn is 1,000 pixels divided by all turns, from 170 on.
+//! Lines and their drawing, worked out by hand: a turn is 1,000 pixels divided by all turns, from
+//! 170 on.
 
-use super::PROGRAM;
-use test_support::run;
+use crate::Timeline;
 use std::test::Fail;
+use test_support::run;
 
-/// Whether one text stands in another.
+/// Whether one text is part of another.
 fn has(text: &[u8], part: &[u8]) -> bool {
     for at in 0..text.len() {
         if text[at..].starts_with(part) {
@@ -14,8 +15,9 @@ fn has(text: &[u8], part: &[u8]) -> bool {
     false
 }
 
-/// Texts, and what stands in the picture of each. The strip has its bases at 70, 88, 106, 124 and 142; a lane below it that
-/// was sent no packets its speed at 202, and then one each 16 pixels.
+/// Texts, and parts of the picture of each. The strip has its bases at 70, 88, 106, 124 and 142;
+/// the lane below it of a decoder that was sent no packets has its speed at 202, and then one row
+/// each 16 pixels.
 const MARKS: [(&'static [u8], &'static [u8]); 14] = [
     (b"", b"height=\"202\""),
     // Of four turns the second is 500 pixels along, and of three the second 666.
@@ -45,7 +47,7 @@ const MARKS: [(&'static [u8], &'static [u8]); 14] = [
         b"node s long 128 step 7 of 28 forward F 0000000000000\ntrack 1 C0 80 3F C0 BF\n",
         b">s packets, long 128</text>",
     ),
-    // It stands for two turns, and is in reverse behind the second.
+    // It is stopped for two turns, and is in reverse after the second.
     (
         b"node s short 3 stop forward F 0000000000000\ntrack 1 off\nnode s short 3 stop forward F 0000000000000\ntrack 2 off\nnode s short 3 emergency reverse F 0000000000000\n",
         b"d=\"M170 242h1H670V242H1170V250\"",
@@ -67,7 +69,7 @@ const MARKS: [(&'static [u8], &'static [u8]); 14] = [
 #[test]
 fn marks_are_drawn(rt: HostRuntime) {
     for (text, part) in MARKS {
-        let ran = run(&PROGRAM, rt.alloc(), text);
+        let ran = run(&Timeline, rt.alloc(), text);
         assert_eq!(rt; ran.status, 0);
         assert_eq!(rt; ran.faults.as_slice(), b"".as_slice());
         assert!(rt; has(ran.output.as_slice(), part));
@@ -77,7 +79,7 @@ fn marks_are_drawn(rt: HostRuntime) {
 #[test]
 fn what_is_never_on_has_no_row(rt: HostRuntime) {
     let ran = run(
-        &PROGRAM,
+        &Timeline,
         rt.alloc(),
         b"node s short 3 stop forward F 0010000000000\nnode y module 1 outputs 00000000\n",
     );
@@ -122,9 +124,9 @@ fn lines_with_a_fault_are_refused(rt: HostRuntime) -> Result<(), Fail> {
         ),
     ];
     for (text, line) in rows {
-        let ran = run(&PROGRAM, rt.alloc(), text);
-        let told = format!(in rt.alloc(); "timeline: line {line}: bad line\n")?;
-        assert!(rt; ran.is(5, b"", told.as_str().as_bytes()));
+        let ran = run(&Timeline, rt.alloc(), text);
+        let reported = format!(in rt.alloc(); "timeline: line {line}: bad line\n")?;
+        assert!(rt; ran.is(5, b"", reported.as_str().as_bytes()));
     }
     Ok(())
 }

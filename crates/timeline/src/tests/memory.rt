@@ -1,11 +1,12 @@
-//! Want of memory: a run with so few bytes left, from none until it succeeds. Its answer is want of memory or the
-//! ordinary one, and no third.
+//! Out of memory: a run with a limited number of bytes left, from none until it succeeds. Its
+//! result is that memory ran out or the ordinary one, and no third.
 //!
-//! This test takes the memory of the process, and so needs the allocator of the C library: `rt test`, and not `rt try`.
+//! This test takes the memory of the process, and so needs the allocator of the C library:
+//! `rt test`, and not `rt try`.
 
-use super::PROGRAM;
-use test_support::run_with_little_memory;
+use crate::Timeline;
 use std::test::Fail;
+use test_support::run_with_little_memory;
 
 /// A decoder, so that the list of rows grows more than once.
 const DECODER: &[u8] = b"node shunter short 3 step 63 of 128 reverse F 1010000000000\n";
@@ -13,7 +14,7 @@ const DECODER: &[u8] = b"node shunter short 3 step 63 of 128 reverse F 101000000
 #[test]
 fn a_run_grows_or_says_so(rt: HostRuntime) -> Result<(), Fail> {
     let end = b"</g>\n</svg>\n";
-    let (refused, drew_all) = run_with_little_memory(&PROGRAM, rt.alloc(), DECODER, end)?;
+    let (refused, drew_all) = run_with_little_memory(&Timeline, rt.alloc(), DECODER, end)?;
     println!(rt; "refused {refused} times")?;
     assert!(rt; refused > 0 && drew_all);
     Ok(())

@@ -1,10 +1,11 @@
-//! Lines, and what is drawn of them, worked out by hand from the figures of S-9.1 and S-9.2 and the format of IEEE 1364.
+//! Lines and their drawing, worked out by hand from the figures of S-9.1 and S-9.2 and the format
+//! of IEEE 1364.
 
-use super::PROGRAM;
-use test_support::run;
+use crate::TrackSignal;
 use std::alloc::Global;
 use std::io::Write;
 use std::test::Fail;
+use test_support::run;
 
 const HEADER: &[u8] = b"$timescale 1 us $end
 $scope module track $end
@@ -20,7 +21,8 @@ const IDLE: &[u8] = b"111111111111110111111110000000000111111111";
 const DRIVE_AND_IDLE: &[u8] =
     b"111111111111110000000110001111110110000000111111001111111111111110111111110000000000111111111";
 
-/// The dump of bits, each high and then low, for 58 microseconds each if it is a one and else for 100.
+/// The dump of bits, each high and then low, for 58 microseconds each if it is a one and otherwise
+/// for 100.
 fn drawn(alloc: Global, bits: &[u8]) -> Result<Vec<u8>, Fail> {
     let mut text = Vec::new(alloc);
     text.write_all(HEADER)?;
@@ -44,7 +46,7 @@ fn packets_are_drawn(rt: HostRuntime) -> Result<(), Fail> {
         // None of these is the line of a turn.
         (b"tracks 1\n track 1 FF 00 FF\nTRACK 1\ntracking\n", b""),
         (b"track 1 FF 00 FF\n", IDLE),
-        // The last line may lack its line feed, and a carriage return may stand before one.
+        // The last line may lack its line feed, and a carriage return may precede one.
         (b"track 1 off\r\ntrack 2 FF 00 FF", IDLE),
         (b"track 0 FF 00 FF\r\n", IDLE),
         (b"track 18446744073709551615 FF 00 FF\n", IDLE),
@@ -54,7 +56,7 @@ fn packets_are_drawn(rt: HostRuntime) -> Result<(), Fail> {
         ),
     ];
     for (text, bits) in rows {
-        let ran = run(&PROGRAM, rt.alloc(), text);
+        let ran = run(&TrackSignal, rt.alloc(), text);
         assert!(rt; ran.is(0, drawn(rt.alloc(), bits)?.as_slice(), b""));
     }
     Ok(())
@@ -64,7 +66,7 @@ fn packets_are_drawn(rt: HostRuntime) -> Result<(), Fail> {
 fn two_packets_end_at_their_sum(rt: HostRuntime) {
     // 7,596 microseconds and 5,796.
     let ran = run(
-        &PROGRAM,
+        &TrackSignal,
         rt.alloc(),
         b"track 1 03 3F C0 FC\ntrack 2 FF 00 FF\n",
     );
@@ -94,15 +96,15 @@ fn lines_with_a_fault_are_refused(rt: HostRuntime) -> Result<(), Fail> {
         (b"track 1 01 02 03 04 05 06 07", 1),
         // The check would be FF.
         (b"track 1 FF 00 FE", 1),
-        // The first fault decides.
+        // The first fault is reported.
         (b"track 1 FF 00 FF\n\ntrack 2 FF 00\ntrack x\n", 3),
         (b"reply 0 B4 3F 00 74\r\ntrack\r\ntrack 2 FF 00 FF", 2),
         (b"\n\n\ntrack 1 FF 00 FF\n\ntrack 2 on\n", 6),
     ];
     for (text, line) in rows {
-        let ran = run(&PROGRAM, rt.alloc(), text);
-        let told = format!(in rt.alloc(); "track_signal: line {line}: bad track line\n")?;
-        assert!(rt; ran.is(5, b"", told.as_str().as_bytes()));
+        let ran = run(&TrackSignal, rt.alloc(), text);
+        let expected = format!(in rt.alloc(); "track_signal: line {line}: bad track line\n")?;
+        assert!(rt; ran.is(5, b"", expected.as_str().as_bytes()));
     }
     Ok(())
 }

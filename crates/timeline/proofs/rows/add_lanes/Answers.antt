@@ -1,6 +1,6 @@
 use Rattle.std.proofs.Common.{◌∙◌, sym, ap, ◌+◌, ◌∷◌, ◌++◌, drop, drop_of_length-le as drop_all, arith}
 use Rattle.std.proofs.lemmas.List.{drop_more}
-use Rattle.trace.specs.declared.standing.Seen.{Seen}
+use Rattle.trace.specs.declared.reported_state.Seen.{Seen}
 use Rattle.timeline.specs.Rows.{lane_rows}
 use Rattle.timeline.proofs.Steps.{lanes_end, lanes_next}
 use Rattle.timeline.proofs.rows.add_lanes.Goals as goal

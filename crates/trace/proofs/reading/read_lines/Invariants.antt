@@ -1,11 +1,11 @@
 use Rattle.std.proofs.Common.{◌+◌, ◌≤◌, length, vec_len}
 use Rattle.std.specs.Str.Lines.{lines}
-use Rattle.trace.proofs.Telling.{HasTold}
+use Rattle.trace.proofs.Parsing.{HasParsed}
 use Rattle.trace.proofs.reading.read_lines.Given as goal
 
 abbrev pub invariant-loop-rest : goal.invariant-loop-rest
 invariant-loop-rest g l = record {
-  told : HasTold g.D.Drawing.tells (lines l.text) (lines l.rest) l.number l.things.items;
+  item : HasParsed g.D.Drawing.parses (lines l.text) (lines l.rest) l.number l.things.items;
   within : l.number + length l.rest ≤ length l.text;
   few : vec_len l.things ≤ l.number;
 }

@@ -1,4 +1,4 @@
-//! How decoders stand.
+//! The states of decoders, as lines show them.
 use arrayvec::ArrayVec;
 use dcc_packet::{Address, Module, Motion};
 use std::marker::Model;
@@ -19,7 +19,7 @@ impl Model for Name {
     ghost inverse = { λ bytes. record { bytes = record { items = bytes } } };
 }
 
-/// Which functions or outputs are on: a digit for each, from number 0 on, 1 for one that is on and else 0.
+/// Functions or outputs as digits, from number 0 on: 1 for one that is on, otherwise 0.
 #[derive(Clone, Debug, Drop, PartialEq, Eq)]
 pub struct Switches {
     pub(crate) digits: ArrayVec<u8, 13>,
@@ -35,9 +35,9 @@ impl Model for Switches {
     ghost inverse = { λ digits. record { digits = record { items = digits } } };
 }
 
-/// How a decoder stands.
+/// The state of a decoder.
 #[derive(Clone, Debug, Drop, PartialEq, Eq)]
-pub enum Standing {
+pub enum ReportedState {
     /// A locomotive decoder: its address, how it runs, and its functions F0 to F12.
     Loco {
         address: Address,
@@ -52,17 +52,17 @@ pub enum Standing {
     },
 }
 
-/// How the decoder of this name stands.
+/// The state of the decoder of this name.
 #[derive(Clone, Debug, Drop, PartialEq, Eq)]
 pub struct Seen {
     pub name: Name,
-    pub standing: Standing,
+    pub reported_state: ReportedState,
 }
 
 impl Name {
     ghost use Rattle.std.specs.Prelude.{◌≡◌};
 
-    /// Its bytes.
+    /// The bytes of the name.
     pub fn bytes(&self) -> &[u8]
         ensures { result.now ≡ self.now }
     {
@@ -74,7 +74,8 @@ impl Switches {
     ghost use Rattle.std.specs.Prelude.{◌≡◌, length};
     ghost use Rattle.trace.specs.Node.{is_on};
 
-    /// Whether the switch of this number, from 0, is on; one that is not there is off.
+    /// Whether the function or output of this number, from 0, is on; one that does not exist is
+    /// off.
     pub fn is_on(&self, place: usize) -> bool
         ensures { result ≡ is_on self.now place }
     {
