@@ -1,5 +1,6 @@
-//! The tests of the libraries of a layout and of those who connect to it, a file `test_CRATE.rt` for each: rows worked out by
-//! hand after the standards, and streams that fail. There is no other code here.
+//! The tests of `roster`, `layout_core`, `web` and the losses of `bus_server`, a file `test_CRATE.rt`
+//! for each: rows worked out by hand after the standards, and streams that fail. There is no other
+//! code here.
 #![tactic(auto)]
 
 #[cfg(test)]
@@ -9,6 +10,6 @@ mod test_layout_core_serving;
 #[cfg(test)]
 mod test_losses;
 #[cfg(test)]
-mod test_web;
-#[cfg(test)]
 mod test_roster;
+#[cfg(test)]
+mod test_web;

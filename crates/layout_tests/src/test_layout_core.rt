@@ -1,4 +1,4 @@
-//! What the decoders of a layout make of packets that were worked out by hand from S-9.2.1.
+//! The effect on the decoders of a layout of packets that were worked out by hand from S-9.2.1.
 
 use dcc_packet::{Module, Motion, Packet, Steps};
 use decoder_cv::CvSet;
@@ -38,7 +38,7 @@ fn hear_turns(nodes: &mut Nodes, turns: &[Turn]) -> Result<(), Fail> {
     Ok(())
 }
 
-/// How node `i` runs, and its outputs.
+/// Returns how node `i` runs, and its outputs.
 fn state(nodes: &Nodes, i: usize) -> (Option<Running>, Option<u8>) {
     if i < nodes.len() {
         (nodes.running(i), nodes.outputs(i))
@@ -47,7 +47,7 @@ fn state(nodes: &Nodes, i: usize) -> (Option<Running>, Option<u8>) {
     }
 }
 
-/// Whether these locomotives, from the first on, run so, each with no outputs.
+/// Whether these locomotives, from the first on, run so, each without outputs.
 fn all_run(nodes: &Nodes, how: &[(Motion, bool, u16)]) -> bool {
     let mut same = true;
     for (i, (motion, forward, functions)) in how.iter().enumerate() {
@@ -178,7 +178,7 @@ fn locomotives_and_accessory_decoders_share_a_track(rt: HostRuntime) -> Result<(
     Ok(())
 }
 
-/// A node of its own, as it is where nothing is said of it.
+/// A node in its default state.
 #[test]
 fn a_node_hears_by_itself(rt: HostRuntime) -> Result<(), Fail> {
     let mut nodes = nodes_of(&[NodeSpec::default()]);
@@ -196,8 +196,8 @@ const DRIVE: &[u8] = &[0xA0, 0x01, 0x40, 0x1E];
 /// DIRF 20 in slot 1: the other direction.
 const TURN_ROUND: &[u8] = &[0xA1, 0x01, 0x20, 0x7F];
 
-/// Two decoders of address 3 with their CV29, the messages on line 0, the nodes that miss each of sixteen turns, what
-/// the first turns send, and how the two run then.
+/// Two decoders of address 3 with their CV29, the messages on line 0, the nodes that miss each of
+/// sixteen turns, the packets of the first turns, and how the two run afterwards.
 #[derive(Clone, Copy, Drop)]
 struct Story {
     name: &'static str,
@@ -286,7 +286,8 @@ fn hear_bytes(world: &mut World, bytes: &[u8]) {
     }
 }
 
-/// Whether the decoders of the layout, from the first on, run so, each with no function on and no outputs.
+/// Whether the decoders of the layout, from the first on, run so, each with no function on and no
+/// outputs.
 fn all_run_in(world: &World, how: &[(Motion, bool)]) -> bool {
     let mut same = true;
     for (i, (motion, forward)) in how.iter().enumerate() {
@@ -295,7 +296,7 @@ fn all_run_in(world: &World, how: &[(Motion, bool)]) -> bool {
     same
 }
 
-/// The layout of a story, once its messages were heard.
+/// The layout of a story, after its messages.
 fn begin(rt: &impl AllocGlobal, story: &Story) -> Result<World, Fail> {
     let mut world = world_of(rt, &[at_3(story.cv29[0])?, at_3(story.cv29[1])?])?;
     for message in story.messages {
@@ -304,7 +305,7 @@ fn begin(rt: &impl AllocGlobal, story: &Story) -> Result<World, Fail> {
     Ok(world)
 }
 
-/// A turn that some nodes miss, and whether it sends this packet, if one is told.
+/// Runs a turn that some nodes miss, and returns whether it sends this packet, if one is given.
 fn turn_sends(world: &mut World, missed: u64, sent: Option<&&[u8]>) -> bool {
     let step = world.step(Event::Turn { missed });
     match (sent, &step) {
@@ -314,7 +315,7 @@ fn turn_sends(world: &mut World, missed: u64, sent: Option<&&[u8]>) -> bool {
     }
 }
 
-/// The turns of a story, and whether each sends its packet.
+/// Runs the turns of a story, and returns whether each sends its packet.
 fn turns_send(world: &mut World, story: &Story) -> bool {
     let mut sent = true;
     for (turn, missed) in story.missed.iter().enumerate() {
@@ -328,7 +329,7 @@ fn the_slots_reach_the_decoders_over_the_track_alone(rt: HostRuntime) -> Result<
     for story in STORIES {
         let mut world = begin(&rt, story)?;
         assert!(rt; world.nodes() == 2, "{}", story.name);
-        // A byte moves no decoder.
+        // A byte changes no decoder.
         assert!(rt;
             all_run_in(&world, &[(Motion::Stop, true); 2]),
             "{}",
@@ -386,7 +387,7 @@ fn take_turns(world: &mut World, turns: u8) {
     }
 }
 
-/// How decoder `i` of the layout runs, and its outputs.
+/// Returns how decoder `i` of the layout runs, and its outputs.
 fn state_in(world: &World, i: usize) -> (Option<Running>, Option<u8>) {
     if i < world.nodes() {
         (world.running(i), world.outputs(i))
@@ -395,8 +396,8 @@ fn state_in(world: &World, i: usize) -> (Option<Running>, Option<u8>) {
     }
 }
 
-/// How a decoder of this CV29 runs after these messages, one turn, a message and two turns, the last of which sends
-/// 03 78 7B.
+/// How a decoder of this CV29 runs after these messages, one turn, a message and two turns, the
+/// last of which sends 03 78 7B.
 fn after_a_mode(
     rt: &impl AllocGlobal,
     cv29: u8,
@@ -423,7 +424,7 @@ fn a_step_mode_gives_the_bytes_their_meaning(rt: HostRuntime) -> Result<(), Fail
     Ok(())
 }
 
-/// Bytes on line 0, with so many turns after each.
+/// Bytes on line 0, with this number of turns after each.
 fn hear_with_turns(world: &mut World, bytes: &[u8], turns: u8) {
     for byte in bytes {
         hear_bytes(world, &[*byte]);
@@ -431,7 +432,8 @@ fn hear_with_turns(world: &mut World, bytes: &[u8], turns: u8) {
     }
 }
 
-/// Whether a wrong check drives nothing and the right one does, with so many turns after each byte.
+/// Whether a wrong check has no effect and the correct one has, with this number of turns after
+/// each byte.
 fn a_check_decides(rt: &impl AllocGlobal, turns: u8) -> Result<bool, Fail> {
     let mut world = world_of(rt, &[at_3(2)?])?;
     hear_bytes(&mut world, IN_USE);
@@ -505,7 +507,7 @@ fn a_request_is_sent_twice_and_sets_its_output(rt: HostRuntime) -> Result<(), Fa
     Ok(())
 }
 
-/// Noise of these half-bits to node `i`, and whether each was answered with nothing.
+/// Passes noise of these half-bits to node `i`, and returns whether no half was answered.
 fn is_quiet(world: &mut World, node: u8, noise: &[u16]) -> bool {
     let mut quiet = true;
     for half in noise {
@@ -519,7 +521,7 @@ fn is_quiet(world: &mut World, node: u8, noise: &[u16]) -> bool {
     quiet
 }
 
-/// Noise to node `i` that spells this packet, and whether each half was answered with nothing.
+/// Passes noise that spells this packet to node `i`, and returns whether no half was answered.
 fn is_spelt_quietly(world: &mut World, node: u8, bytes: &[u8]) -> Result<bool, Fail> {
     let mut quiet = true;
     for half in halves(&Packet::of(bytes).ok_or("no packet")?) {
@@ -528,8 +530,8 @@ fn is_spelt_quietly(world: &mut World, node: u8, bytes: &[u8]) -> Result<bool, F
     Ok(quiet)
 }
 
-/// Messages, noise to a decoder of address 3 and then the halves of a packet as noise, and how it runs after so many
-/// turns.
+/// Messages, noise to a decoder of address 3 and then the halves of a packet as noise, and how it
+/// runs after a number of turns.
 #[derive(Clone, Copy, Drop)]
 struct Dirt {
     name: &'static str,
@@ -582,7 +584,7 @@ fn with_messages(rt: &impl AllocGlobal, messages: [&[u8]; 2]) -> Result<World, F
     Ok(world)
 }
 
-/// Whether the noise of this dirt is answered with nothing.
+/// Whether the noise of this dirt is not answered.
 fn is_heard_quietly(world: &mut World, dirt: &Dirt) -> Result<bool, Fail> {
     let mut quiet = is_quiet(world, 0, dirt.noise);
     for bytes in dirt.spelt {
@@ -608,8 +610,8 @@ fn a_cycle_ends_what_noise_began(rt: HostRuntime) -> Result<(), Fail> {
     Ok(())
 }
 
-/// The layout of two locomotives of which one hears a packet as noise, and one hears a half in its middle that no packet
-/// has, and whether all of it was answered with nothing.
+/// The layout of two locomotives, one of which hears a packet as noise, and one of which hears an
+/// invalid half in its middle; and whether none of it was answered.
 fn hit(rt: &impl AllocGlobal, hears: u8, is_hit: u8) -> Result<(World, bool), Fail> {
     let drive = Packet::of(DRIVEN_BYTES).ok_or("no packet")?;
     let mut world = world_of(rt, &[at_3(2)?, at_3(2)?])?;
@@ -655,7 +657,7 @@ fn noise_that_spells_its_packet_sets_an_output(rt: HostRuntime) -> Result<(), Fa
     Ok(())
 }
 
-/// What the two decoders run by, where node 1 is in the middle of a packet.
+/// The events by which the two decoders run, with node 1 in the middle of a packet.
 const NOISE_AND_A_TURN: &[Event] = &[
     Event::Noise {
         node: 0,

@@ -1,4 +1,4 @@
-//! Connections over readers and writers that fail, stop or take little at a time.
+//! Connections over readers and writers that fail, stop or accept little at a time.
 
 ghost use Rattle.std.specs.Prelude.{◌≡◌, ◌≤◌, IfOk, length};
 
@@ -33,7 +33,7 @@ track 9 FF 00 FF\n\
 reply 0 E7 0E 01 33 03 00 00 07 00 00 00 00 00 20\n\
 track 10 03 3F 80 BC\n";
 
-/// How many of the replies' bytes are written, and of the lines', once so many of the ten bytes are done.
+/// How many bytes of the replies and of the lines are written after this many of the ten bytes.
 const DONE: [(usize, usize); 11] = [
     (0, 0),
     (0, 12),
@@ -48,7 +48,8 @@ const DONE: [(usize, usize); 11] = [
     (28, 249),
 ];
 
-/// A reader whose piece ends at each byte with a set bit, and whose call number `bad` fails, counted from 1.
+/// A reader whose piece ends at each byte with a set bit, and whose call number `bad` fails,
+/// counted from 1.
 #[derive(Drop)]
 struct Pieces<'a> {
     bytes: &'a [u8],
@@ -69,11 +70,11 @@ impl Read for Pieces<'_> {
     }
 }
 
-/// A writer that takes so many bytes at a time, while it has room. Then it fails, or takes none, and so it does at call
-/// number `bad` alone, counted from 1.
+/// A writer that accepts a limited number of bytes at a time, while it has room. Then it fails, or
+/// accepts none; so does its call number `bad`, counted from 1.
 #[derive(Drop)]
 struct Room {
-    taken: Vec<u8>,
+    head_length: Vec<u8>,
     each: usize,
     room: usize,
     bad: u32,
@@ -98,7 +99,7 @@ impl Write for Room {
         let count = if most < buf.len() { most } else { buf.len() };
         self.room -= count;
         for byte in &buf[..count] {
-            self.taken.push(*byte)?;
+            self.head_length.push(*byte)?;
         }
         Ok(count)
     }
@@ -108,8 +109,9 @@ impl Write for Room {
     }
 }
 
-/// The devices of a connection: where its pieces end, which read fails, how many reads are allowed, how much each writer
-/// takes at a time and in all, which write fails, and whether it is an error or takes no byte.
+/// The devices of a connection: where its pieces end, which read fails, how many reads are allowed,
+/// how much each writer accepts at a time and in all, which write fails, and whether it is an error
+/// or accepts no byte.
 #[derive(Clone, Copy)]
 struct Devices {
     ends: u16,
@@ -124,10 +126,10 @@ struct Devices {
 }
 
 impl Devices {
-    /// A writer with this much room, of which this call fails.
+    /// A writer with this much room, whose call of this number fails.
     fn writer(&self, alloc: Global, room: usize, bad: u32) -> Room {
         Room {
-            taken: Vec::new(alloc),
+            head_length: Vec::new(alloc),
             each: self.each,
             room,
             bad,
@@ -149,7 +151,7 @@ const SOUND: Devices = Devices {
     fails: true,
 };
 
-/// The sum of the ten bytes in one read.
+/// The summary of the ten bytes in one read.
 const WHOLE: Summary = Summary {
     reads: 2,
     bytes: 10,
@@ -157,7 +159,8 @@ const WHOLE: Summary = Summary {
     turns: 10,
 };
 
-/// How a connection ended, how many bytes were left unread, what was written and traced, and the layout.
+/// How a connection ended, how many bytes were left unread, the bytes written and traced, and the
+/// layout.
 #[derive(Drop)]
 struct Served {
     outcome: Result<Summary, ServeFault>,
@@ -174,7 +177,7 @@ fn serve_ten(alloc: Global, devices: &Devices) -> Result<Served, Fail>
     Ok(serve_ten_on(alloc, world, devices))
 }
 
-/// The ten bytes on this layout.
+/// Serves the ten bytes on this layout.
 fn serve_ten_on(alloc: Global, mut world: World, devices: &Devices) -> Served
     requires { length world.station.lines ≡ 1 }
     ensures { length result.world.station.lines ≡ 1 }
@@ -194,8 +197,14 @@ fn serve_ten_on(alloc: Global, mut world: World, devices: &Devices) -> Served
         turns: 1,
     };
     let outcome = serve(&mut world, 0, &mut source, &mut sink, &mut trace, limits);
-    let Room { taken: written, .. } = written;
-    let Room { taken: traced, .. } = traced;
+    let Room {
+        head_length: written,
+        ..
+    } = written;
+    let Room {
+        head_length: traced,
+        ..
+    } = traced;
     Served {
         outcome,
         unread: pieces.bytes.len(),
@@ -205,7 +214,7 @@ fn serve_ten_on(alloc: Global, mut world: World, devices: &Devices) -> Served
     }
 }
 
-/// These bytes on the last line of a new layout of so many lines.
+/// Serves these bytes on the last line of a new layout of this number of lines.
 fn serve_last(alloc: Global, lines: u8, bytes: &[u8], limits: Limits) -> Result<Served, Fail>
     requires { 1 ≤ lines }
 {
@@ -233,7 +242,7 @@ fn serve_last(alloc: Global, lines: u8, bytes: &[u8], limits: Limits) -> Result<
     })
 }
 
-/// Whether it ended so, with so much of the replies and of the lines.
+/// Whether it ended so, with this much of the replies and of the lines.
 fn ended(served: &Served, outcome: Result<Summary, ServeFault>, done: (usize, usize)) -> bool {
     served.outcome == outcome
         && served.written.len() == done.0
@@ -252,7 +261,7 @@ fn is_served(
     Ok(ended(&serve_ten(alloc, devices)?, outcome, done))
 }
 
-/// Whether they end in this fault, and slot 1 is in use then.
+/// Whether they end in this fault, and slot 1 is in use afterwards.
 fn ends_in_use(
     alloc: Global,
     devices: &Devices,
@@ -264,7 +273,7 @@ fn ends_in_use(
     Ok(in_use && ended(&served, Err(fault), done))
 }
 
-/// The sum of a connection on which nothing was replied.
+/// The summary of a connection without replies.
 fn no_replies(reads: u32, bytes: u64, turns: u64) -> Summary {
     Summary {
         reads,
@@ -286,14 +295,14 @@ fn power_comes_on(rt: HostRuntime) -> Result<(), Fail> {
 
 #[test]
 fn a_read_asks_for_64_bytes(rt: HostRuntime) -> Result<(), Fail> {
-    // Two such reads, one of the byte behind them, and the one that finds the end.
+    // Two such reads, one of the byte after them, and the one that finds the end.
     let limits = Limits { reads: 4, turns: 0 };
     let served = serve_last(rt.alloc(), 1, &[0u8; 129], limits)?;
     assert!(rt; served.outcome == Ok(no_replies(4, 129, 0)));
     Ok(())
 }
 
-/// How many bytes of the replies are written once the trace has come so far.
+/// How many bytes of the replies are written when the trace has this length.
 fn replied_before(traced: usize) -> usize {
     match traced {
         0..36 => 0,
@@ -302,8 +311,8 @@ fn replied_before(traced: usize) -> usize {
     }
 }
 
-/// Whether the first message of the ten bytes, on line 1 of two, ends well and is traced so, with so many turns after each
-/// byte.
+/// Whether the first message of the ten bytes, on line 1 of two, is served and traced so, with this
+/// number of turns after each byte.
 fn turns_after(alloc: Global, turns: u8, lines: &[u8]) -> Result<bool, Fail> {
     let served = serve_last(alloc, 2, &TEN[..4], Limits { reads: 2, turns })?;
     let summary = Summary {
@@ -360,7 +369,8 @@ fn a_read_that_fails_ends_it(rt: HostRuntime) -> Result<(), Fail> {
     Ok(())
 }
 
-/// Whether so many reads of one byte are too few, with this much done, and the other bytes are left.
+/// Whether this number of reads of one byte is too few, with this much done, and the other bytes
+/// left.
 fn are_too_few(alloc: Global, reads: u32, done: (usize, usize)) -> Result<bool, Fail> {
     let devices = Devices {
         ends: 0x3FF,
@@ -423,7 +433,7 @@ fn a_write_that_fails_ends_it(rt: HostRuntime) -> Result<(), Fail> {
     Ok(())
 }
 
-/// Whether, where the first byte was heard and no other, the rest of the first message brings its reply.
+/// Whether the rest of the first message has its reply, if only its first byte was received.
 fn goes_on(alloc: Global, mut world: World) -> Result<bool, Fail>
     requires { length world.station.lines ≡ 1 }
 {
@@ -462,12 +472,13 @@ fn a_trace_that_fails_ends_it(rt: HostRuntime) -> Result<(), Fail> {
     Ok(())
 }
 
-/// The ten bytes end well, and this much is put out.
+/// The ten bytes are served, and this much is written.
 fn ends_well(alloc: Global, devices: &Devices) -> Result<bool, Fail> {
     Ok(ended(&serve_ten(alloc, devices)?, Ok(WHOLE), DONE[10]))
 }
 
-/// Each write of a reply fails alone, and then none does: after so many bytes, where so many are taken at a time.
+/// Each write of a reply fails once, and then none does: after a number of bytes, accepted a number
+/// at a time.
 #[test]
 fn each_write_may_fail_alone(rt: HostRuntime) -> Result<(), Fail> {
     for (each, fails) in [(1, true), (1, false), (14, true), (14, false)] {
@@ -494,8 +505,8 @@ fn each_write_may_fail_alone(rt: HostRuntime) -> Result<(), Fail> {
     Ok(())
 }
 
-/// How many bytes of the lines are traced before each call, where the trace takes all that it is given: a line comes by
-/// one call, and its line feed by another.
+/// How many bytes of the lines are traced before each call, if the trace accepts all bytes: a line
+/// is written by one call, and its line feed by another.
 fn starts_of_calls(alloc: Global) -> Result<Vec<usize>, Fail> {
     let mut starts = Vec::new(alloc);
     let mut at_start = true;
@@ -508,7 +519,7 @@ fn starts_of_calls(alloc: Global) -> Result<Vec<usize>, Fail> {
     Ok(starts)
 }
 
-/// Each call of the trace that starts so fails alone, and then none does.
+/// Each call of a trace that begins so fails once, and then none does.
 fn each_call_may_fail(
     rt: &impl Abort,
     alloc: Global,
@@ -555,7 +566,8 @@ fn each_byte_of_a_line_may_fail_alone(rt: HostRuntime) -> Result<(), Fail> {
     each_call_may_fail(&rt, rt.alloc(), 1, false, single.as_slice())
 }
 
-/// A device whose first call answers so, and whose later calls answer with a byte, and how many calls were made.
+/// A device whose first call has this result, and whose later calls return a byte, and the number
+/// of calls.
 #[derive(Drop)]
 struct Once {
     first: Result<usize, io::ErrorKind>,
@@ -563,7 +575,7 @@ struct Once {
 }
 
 impl Once {
-    fn answer(&mut self, most: usize) -> io::Result<usize>
+    fn response(&mut self, most: usize) -> io::Result<usize>
         ensures { IfOk result (λ n. n ≤ most) }
     {
         self.calls = self.calls.wrapping_add(1);
@@ -577,13 +589,13 @@ impl Once {
 
 impl Read for Once {
     fn read(&mut self, buf: &mut [u8]) -> io::Result<usize> {
-        self.answer(buf.len())
+        self.response(buf.len())
     }
 }
 
 impl Write for Once {
     fn write(&mut self, buf: &[u8]) -> io::Result<usize> {
-        self.answer(buf.len())
+        self.response(buf.len())
     }
 
     fn flush(&mut self) -> io::Result<()> {
@@ -593,7 +605,7 @@ impl Write for Once {
 
 type Count = Result<usize, Broken>;
 
-/// What a read gives where the device answers so at first, and how often the device was called.
+/// The result of a read for this first result of the device, and how often the device was called.
 fn get_once(first: Result<usize, io::ErrorKind>) -> (Count, u32) {
     let mut device = Once { first, calls: 0 };
     let given = Port::new(&mut device).get(&mut [0; 3]);
@@ -603,11 +615,11 @@ fn get_once(first: Result<usize, io::ErrorKind>) -> (Count, u32) {
 /// The same of a write.
 fn put_once(first: Result<usize, io::ErrorKind>) -> (Count, u32) {
     let mut device = Once { first, calls: 0 };
-    let taken = Port::new(&mut device).put(&[0; 3]);
-    (taken, device.calls)
+    let head_length = Port::new(&mut device).put(&[0; 3]);
+    (head_length, device.calls)
 }
 
-/// What the device answers, what a read gives then, and what a write gives.
+/// The result of the device, of a read, and of a write.
 const ANSWERS: &[(Result<usize, io::ErrorKind>, Count, Count)] = &[
     (Ok(0), Ok(0), Err(Broken)),
     (Ok(1), Ok(1), Ok(1)),
@@ -619,8 +631,8 @@ const ANSWERS: &[(Result<usize, io::ErrorKind>, Count, Count)] = &[
 
 #[test]
 fn a_port_calls_its_device_once(rt: HostRuntime) {
-    for (first, given, taken) in ANSWERS {
+    for (first, given, head_length) in ANSWERS {
         assert!(rt; get_once(*first) == (*given, 1));
-        assert!(rt; put_once(*first) == (*taken, 1));
+        assert!(rt; put_once(*first) == (*head_length, 1));
     }
 }

@@ -1,9 +1,10 @@
-//! What no clause says: what is drawn, and shares over many turns.
+//! Tests of what no clause states: the draws, and shares over many turns.
 
 use bus_server::Losses;
 
-/// Shares, and which of two decoders miss the first turn. The first two words of seed 0 end in 07 and 27: the table of
-/// upstream's `rand_pcg` has them as one number, 18195738587432868099, the first word below.
+/// Shares, and which of two decoders miss the first turn. The first two words of seed 0 end in 07
+/// and 27: the table of upstream's `rand_pcg` has them as one number, 18195738587432868099, the
+/// first word below.
 const FIRST: [(u8, u64); 6] = [(0, 0), (7, 0), (8, 1), (27, 1), (28, 3), (99, 3)];
 
 #[test]
@@ -25,7 +26,7 @@ fn shares_over_many_turns(rt: HostRuntime) {
             both = both.saturating_add(1);
         }
     }
-    // Of 640,000 draws 192,000, and 900 times both: within five times what chance gives.
+    // Of 640,000 draws 192,000, and 900 times both: within about five standard deviations.
     assert!(rt; all > 190_100 && all < 193_900);
     assert!(rt; both > 750 && both < 1050);
 }

@@ -10,7 +10,7 @@ use std::ops::RangeInclusive;
 use std::process::Abort;
 use std::test::Fail;
 
-/// A shunter, behind which its variables are to stand, and a turnout.
+/// A shunter, after which its variables follow, and a turnout.
 const SHUNTER: &str = "[[node]]\nname = \"shunter\"\nkind = \"loco\"\n";
 
 const YARD: &str = "[[node]]\nname = \"yard\"\nkind = \"accessory\"\nmodule = 1\n";
@@ -53,8 +53,8 @@ fn the_examples_of_both_versions_have_the_same_decoders(rt: HostRuntime) -> Resu
     Ok(())
 }
 
-/// What a text says: how many decoders there are, or the fault and its node.
-fn told(alloc: Global, text: &[u8]) -> Result<String, AllocError> {
+/// The result of a text: how many decoders there are, or the fault and its node.
+fn fault_text(alloc: Global, text: &[u8]) -> Result<String, AllocError> {
     match read(alloc, text) {
         Ok(roster) => {
             let count = roster.len();
@@ -65,13 +65,13 @@ fn told(alloc: Global, text: &[u8]) -> Result<String, AllocError> {
 }
 
 fn is_told(alloc: Global, text: &[u8], wanted: &str) -> bool {
-    match told(alloc, text) {
-        Ok(answer) => answer.as_str() == wanted,
+    match fault_text(alloc, text) {
+        Ok(response) => response.as_str() == wanted,
         Err(_) => false,
     }
 }
 
-/// Whether this is told of the text cut at each of these lengths.
+/// Whether the text shortened to each of these lengths has this result.
 fn are_told(alloc: Global, text: &str, lengths: RangeInclusive<usize>, wanted: &str) -> bool {
     for length in lengths {
         match text.as_bytes().get(..length) {
@@ -82,7 +82,7 @@ fn are_told(alloc: Global, text: &str, lengths: RangeInclusive<usize>, wanted: &
     true
 }
 
-/// The last length of the example for which each answer holds, from the answer before on.
+/// The last length of the example for which each result holds, from the result before on.
 const CUTS: &str = "\
 0: BadShape 0
 10: NotToml 0
@@ -129,7 +129,7 @@ fn the_example_cut_anywhere(rt: HostRuntime) -> Result<(), Fail> {
     Ok(())
 }
 
-/// Checks what is told of texts, which have a bar between them.
+/// Checks the results of texts, which are separated by a bar.
 fn check_texts(rt: &impl Abort, alloc: Global, texts: &[u8], wanted: &str) {
     for text in texts.split(|byte| *byte == b'|') {
         assert!(rt; is_told(alloc, text, wanted), "{text:?}");
@@ -159,7 +159,7 @@ fn faults_of_the_top_level(rt: HostRuntime) {
     );
 }
 
-/// Whether this is told of a text of this version with these nodes.
+/// Whether a text of this version with these nodes has this result.
 fn nodes_are(alloc: Global, version: u8, nodes: &str, wanted: &str) -> bool {
     match format!(in alloc; "version = {version}\nnode = [{nodes}]") {
         Ok(text) => is_told(alloc, text.as_bytes(), wanted),
@@ -167,7 +167,7 @@ fn nodes_are(alloc: Global, version: u8, nodes: &str, wanted: &str) -> bool {
     }
 }
 
-/// Whether a row tells what is told of its nodes, of version 1.
+/// Whether the nodes of a row, in version 1, have its result.
 fn is_right(alloc: Global, row: &str) -> bool {
     match row.split_once(": ") {
         Some((wanted, nodes)) => nodes_are(alloc, 1, nodes, wanted),
@@ -233,7 +233,7 @@ BadModule 1: {name='a', kind='accessory', module=-1}
 BadModule 1: {name='a', kind='accessory', module=65537}
 ";
 
-/// The first fault decides, node by node.
+/// The first fault is reported, node by node.
 const FIRST_FAULTS: &str = "\
 BadShape 1: {name='', kind='loco', cv1=0, cv29='2'}
 BadName 1: {name='', kind='loco', cv1=0, cv29=2}
@@ -248,7 +248,7 @@ fn names_and_values_of_nodes(rt: HostRuntime) {
     check_rows(&rt, rt.alloc(), FIRST_FAULTS);
 }
 
-/// Whether this is told of a locomotive of version 2 with this list, in these nodes.
+/// Whether a locomotive of version 2 with this list, in these nodes, has this result.
 fn list_is(alloc: Global, before: &str, list: &str, behind: &str, wanted: &str) -> bool {
     match format!(in alloc; "{before}, kind='loco'{list}}}{behind}") {
         Ok(nodes) => nodes_are(alloc, 2, nodes.as_str(), wanted),
@@ -256,9 +256,9 @@ fn list_is(alloc: Global, before: &str, list: &str, behind: &str, wanted: &str) 
     }
 }
 
-/// Whether this is told of a locomotive with the list, of one without a name, and of a second node.
-fn is_refused(alloc: Global, list: &str, told: [&str; 3]) -> bool {
-    let [first, nameless, second] = told;
+/// Whether a locomotive with the list, one without a name, and a second node have this result.
+fn is_refused(alloc: Global, list: &str, fault_text: [&str; 3]) -> bool {
+    let [first, nameless, second] = fault_text;
     list_is(alloc, "{name='a'", list, "", first)
         && list_is(alloc, "{name=''", list, "", nameless)
         && list_is(
@@ -270,13 +270,13 @@ fn is_refused(alloc: Global, list: &str, told: [&str; 3]) -> bool {
         )
 }
 
-fn check_lists(rt: &impl Abort, alloc: Global, lists: &str, told: [&str; 3]) {
+fn check_lists(rt: &impl Abort, alloc: Global, lists: &str, fault_text: [&str; 3]) {
     for list in lists.lines() {
-        assert!(rt; is_refused(alloc, list, told), "{list}");
+        assert!(rt; is_refused(alloc, list, fault_text), "{list}");
     }
 }
 
-/// What follows the name and the kind. All pairs are looked at, then all values, then the list.
+/// The text after the name and the kind. All pairs are checked, then all values, then the list.
 const NO_PAIRS: &str = "\
 , cv1=3, cv29=2
 
@@ -336,7 +336,7 @@ const NO_LOCOMOTIVES: &str = "\
 
 #[test]
 fn lists_that_are_none(rt: HostRuntime) {
-    // The shape counts before the name.
+    // The shape is checked before the name.
     let shape = ["BadShape 1", "BadShape 1", "BadShape 2"];
     check_lists(&rt, rt.alloc(), NO_PAIRS, shape);
     let list = ["BadCvList 1", "BadName 1", "BadCvList 2"];
@@ -350,7 +350,7 @@ fn values_in_lists(rt: HostRuntime) {
     check_lists(&rt, rt.alloc(), NO_LOCOMOTIVES, value);
 }
 
-/// A list of variables 1 to `last`, each with the value 0 but for 1 and 29, and then of one more pair.
+/// A list of variables 1 to `last`, each with the value 0 except 1 and 29, and then one more pair.
 fn long_list(alloc: Global, last: u16, more: &str) -> Result<String, Fail> {
     let mut text = String::from_str(alloc, "{name='a', kind='loco', cvs=[[1, 3]")?;
     for number in 2..=last {
@@ -379,7 +379,7 @@ fn a_list_names_1024_variables_at_most(rt: HostRuntime) -> Result<(), Fail> {
     Ok(())
 }
 
-/// Variables by their keys and as a list, and the address that they make.
+/// Variables by their keys and as a list, and the address of their settings.
 const ADDRESSES: [(&'static str, &'static str, Address); 6] = [
     (
         "cv1=127, cv29=0",
@@ -439,7 +439,22 @@ fn variables_left_out_have_their_default(rt: HostRuntime) {
     }
 }
 
-/// A roster of so many accessory decoders.
+/// Variables that a decoder does not have change nothing of it: 192 and 0 are the defaults of CV17
+/// and CV18.
+#[test]
+fn other_variables_change_no_decoder(rt: HostRuntime) -> Result<(), Fail> {
+    let decoder = Some(CvSet::new(3, 192, 0, 2)?);
+    for list in [
+        "cvs=[[1, 3], [29, 2]]",
+        "cvs=[[1, 3], [29, 2], [1024, 255]]",
+        "cvs=[[1024, 0], [29, 2], [2, 255], [1, 3]]",
+    ] {
+        assert!(rt; loco(rt.alloc(), 2, list) == decoder, "{list}");
+    }
+    Ok(())
+}
+
+/// A roster of `nodes` accessory decoders.
 fn yard(alloc: Global, nodes: u16) -> Result<String, Fail> {
     let mut text = String::from_str(alloc, "version = 1\n")?;
     for node in 0..nodes {

@@ -1,4 +1,5 @@
-//! What no clause says: requests, replies and frames from outside, streams that fail, and growths that are refused.
+//! Tests of what no clause states: requests, responses and frames from outside, streams that fail,
+//! and lack of memory.
 
 mod memory;
 mod page;

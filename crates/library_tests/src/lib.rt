@@ -1,5 +1,5 @@
-//! The tests of the libraries below, a file `test_CRATE.rt` for each: what the standards give as examples, and rows worked
-//! out by hand after them. There is no other code here.
+//! The tests of the libraries below the layout, a file `test_CRATE.rt` for each: the examples of the
+//! standards, and rows worked out by hand after them. There is no other code here.
 #![tactic(auto)]
 
 #[cfg(test)]
@@ -22,8 +22,6 @@ mod test_ln_frame;
 mod test_ln_ops;
 #[cfg(test)]
 mod test_loconet_tcp;
-#[cfg(test)]
-mod test_describe;
 #[cfg(test)]
 mod test_refresh_ring;
 #[cfg(test)]

@@ -2,7 +2,7 @@
 
 use ascii_words::*;
 
-// Texts, each with what stands before its first blank and what stands behind that.
+// Texts, each with the text before its first blank and the text after it.
 const CUT: [(&[u8], &[u8], &[u8]); 7] = [
     (b"", b"", b""),
     (b"SEND", b"SEND", b""),
@@ -29,7 +29,7 @@ const PAIRS: [(&[u8], Option<u8>); 12] = [
     (b"0@", None),
 ];
 
-// Texts, each with the place of its first line feed.
+// Texts, each with the index of its first line feed.
 const FEEDS: [(&[u8], Option<usize>); 5] = [
     (b"", None),
     (b"A\rB", None),

@@ -7,7 +7,7 @@ use dcc_packet::{
 use std::process::Abort;
 use std::test::Fail;
 
-/// Stops the test where the packet has other bytes.
+/// Asserts that the packet has these bytes.
 fn check(rt: &impl Abort, packet: &Packet, bytes: &[u8]) {
     assert_eq!(rt; packet.bytes(), bytes);
 }
@@ -138,7 +138,7 @@ fn other_packets_have_the_bytes_of_the_standard(rt: HostRuntime) {
 const READ_ROWS: [(&'static [u8], Option<Instr>); 14] = [
     (&[0xFF, 0x00, 0xFF], Some(Instr::Idle)),
     (&[0x00, 0x00, 0x00], Some(Instr::Reset)),
-    // Broadcast stop: S says which, D and C say nothing.
+    // Broadcast stop: S decides which, D and C are ignored.
     (
         &[0x00, 0x40, 0x40],
         Some(Instr::StopAll { emergency: false }),
@@ -161,7 +161,7 @@ const READ_ROWS: [(&'static [u8], Option<Instr>); 14] = [
     (&[0xBF, 0x8E, 0x31], None),
     // A wrong check.
     (&[0x03, 0x3F, 0xC0, 0xFD], None),
-    // A consist, and a longer form behind the byte of a listed one.
+    // A consist, and a longer form after the byte of a listed one.
     (&[0x03, 0x20, 0x23], None),
     (&[0x03, 0x80, 0x01, 0x82], None),
     // Addresses that are reserved.
@@ -169,7 +169,7 @@ const READ_ROWS: [(&'static [u8], Option<Instr>); 14] = [
     (&[0xFE, 0x00, 0xFE], None),
 ];
 
-/// Stops the test where the packet of these bytes says something else.
+/// Asserts that these bytes spell this instruction.
 fn check_reading(rt: &impl Abort, bytes: &[u8], instruction: Option<Instr>) -> Result<(), Fail> {
     let packet = Packet::of(bytes).ok_or("no packet")?;
     assert_eq!(rt; read(&packet), instruction, "{bytes:?}");
@@ -184,7 +184,8 @@ fn reads_listed_forms_alone(rt: HostRuntime) -> Result<(), Fail> {
     Ok(())
 }
 
-/// An address, steps, the bit of the direction, the bits of the speed, and the bytes that tell it.
+/// An address, steps, the bit of the direction, the bits of the speed, and the bytes of that
+/// packet.
 const TOLD_SPEEDS: [(Address, Steps, bool, u8, &'static [u8]); 4] = [
     (SHORT_55, S28, true, 0x14, &[0x37, 0x74, 0x43]),
     (SHORT_3, S28, false, 0x08, &[0x03, 0x48, 0x4B]),
@@ -212,7 +213,7 @@ fn reads_speeds(rt: HostRuntime) -> Result<(), Fail> {
     Ok(())
 }
 
-/// A function group, an address, the bits of the functions, and the bytes that tell them.
+/// A function group, an address, the bits of the functions, and the bytes of that packet.
 const TOLD_FUNCTIONS: [(u8, Address, u8, &'static [u8]); 4] = [
     (1, LONG_10239, 0, &[0xE7, 0xFF, 0x80, 0x98]),
     (1, SHORT_4, 0x10, &[0x04, 0x90, 0x94]),
@@ -321,7 +322,7 @@ fn modules_have_their_bounds(rt: HostRuntime) {
     }
 }
 
-/// How many bytes, and whether they are a packet.
+/// A number of bytes, and whether they are a packet.
 const LENGTH_ROWS: [(usize, bool); 4] = [(2, false), (3, true), (6, true), (7, false)];
 
 #[test]

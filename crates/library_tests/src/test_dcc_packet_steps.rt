@@ -1,5 +1,5 @@
-//! The step of each SPD, worked out from the rule that shares the 126 steps out: with 28 steps a step is four and a half
-//! of them, with 14 steps nine, each rounded down.
+//! The step of each SPD, worked out from the rule that shares the 126 steps out: with 28 steps a
+//! step is four and a half of them, with 14 steps nine, each rounded down.
 
 use dcc_packet::{Motion, Steps, steps_of};
 use std::process::Abort;
@@ -22,7 +22,7 @@ const OF_14: [u8; 126] = [
     13, 14, 14, 14, 14, 14, 14, 14, 14, 14,
 ];
 
-/// Stops the test where SPD from 2 on do not ask for these steps, one after another.
+/// Asserts the steps of SPD from 2 on, one after another.
 fn asks_for(rt: &impl Abort, of: Steps, steps: &[u8]) {
     for (spd, &n) in (2..128u8).zip(steps) {
         assert!(rt; spd < 128);
@@ -43,7 +43,7 @@ fn each_speed_has_its_step_of_14(rt: HostRuntime) {
     asks_for(&rt, Steps::S14, &OF_14);
 }
 
-/// SPD below 2 says no step.
+/// SPD below 2 means no step.
 const STANDING: [(u8, Motion); 2] = [(0, Motion::Stop), (1, Motion::Emergency)];
 
 #[test]

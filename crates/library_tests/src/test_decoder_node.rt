@@ -1,4 +1,4 @@
-//! What decoders make of packets that were worked out by hand from S-9.2 and S-9.2.1.
+//! The effect on decoders of packets that were worked out by hand from S-9.2 and S-9.2.1.
 
 use arrayvec::ArrayVec;
 use dcc_packet::{Module, Motion, Packet, Steps, read};
@@ -11,7 +11,7 @@ use std::test::Fail;
 /// Halves of 58 and 100 microseconds.
 type Wave = ArrayVec<u16, 138>;
 
-/// Two like halves more.
+/// Appends two equal halves.
 fn push_bit(wave: &mut Wave, bit: bool) {
     for _ in 0..2 {
         if !wave.is_full() {
@@ -20,7 +20,7 @@ fn push_bit(wave: &mut Wave, bit: bool) {
     }
 }
 
-/// A wave of these bytes behind 14 ones.
+/// A wave of these bytes after 14 ones.
 fn wave_of(bytes: &[u8]) -> Wave {
     let mut wave = Wave::new();
     for _ in 0..14 {
@@ -48,14 +48,15 @@ fn running(motion: Motion, forward: bool, functions: u16) -> Running {
     }
 }
 
-/// A packet, and how the decoder runs then.
+/// A packet, and how the decoder runs after it.
 type Row = (&'static [u8], Running);
 
 fn first() -> Running {
     running(Motion::Stop, true, 0)
 }
 
-// What a locomotive at address 3 with this CV29 hears, one after another, and how it runs then.
+// The packets that a locomotive at address 3 with this CV29 hears, one after another, and how it
+// runs after each.
 fn hears_in_turn(rt: &impl Abort, cv29: u8, rows: &[Row]) -> Result<(), Fail> {
     let mut loco = Loco::new(CvSet::new(3, 0, 0, cv29)?);
     assert!(rt; loco.running() == first());
@@ -104,7 +105,7 @@ fn a_locomotive_obeys_broadcasts_and_not_what_is_for_others(rt: HostRuntime) -> 
         (&[0x00, 0x51, 0x51], running(Motion::Emergency, false, 0)),
         (&[0x00, 0x00, 0x00], first()),
     ];
-    // No listed form, another address, a wrong check.
+    // An unlisted form, another address, a wrong check.
     let not_for_it: [Row; 3] = [
         (&[0x03, 0x20, 0x23], first()),
         (&[0x04, 0x3F, 0xC0, 0xFB], first()),
@@ -128,9 +129,10 @@ fn lost_power_forgets_all(rt: HostRuntime) -> Result<(), Fail> {
     Ok(())
 }
 
-/// A packet, and the outputs of module 1 then.
+/// A packet, and the outputs of module 1 after it.
 const OUTPUT_ROWS: [(&'static [u8], u8); 5] = [
-    // Pair 0 closed on, pair 1 not closed on, pair 0 closed off, another module, the emergency stop of locomotives.
+    // Pair 0 closed on, pair 1 not closed on, pair 0 closed off, another module, the emergency stop
+    // of locomotives.
     (&[0x81, 0xF9, 0x78], 0x02),
     (&[0x81, 0xFA, 0x7B], 0x06),
     (&[0x81, 0xF1, 0x70], 0x04),
@@ -157,7 +159,7 @@ fn a_list_of_decoders_is_filled_by_default(rt: HostRuntime) -> Result<(), Fail> 
     Ok(())
 }
 
-/// Packets, always the same ones: a linear congruence gives their bytes.
+/// Packets, always the same ones: a linear congruential generator gives their bytes.
 #[derive(Drop)]
 struct Packets {
     state: u16,
@@ -169,7 +171,7 @@ impl Packets {
         (self.state / 256) as u8
     }
 
-    /// Of the decoders' own addresses, of others, for all, and some with a wrong check.
+    /// For the decoders' own addresses, for others, for all, and some with a wrong check.
     fn packet(&mut self) -> Option<Packet> {
         let first = match self.byte() % 8 {
             0 => 0x00,
@@ -216,8 +218,8 @@ impl Pairs {
     }
 }
 
-/// How many halves of a wave came before: none, a part of its preamble, all of that and a half, a byte that begins, half
-/// of a bit in it, all its bits, and half a bit more.
+/// How many halves of a wave were heard before: none, a part of its preamble, all of that and a
+/// half, the beginning of a byte, half of a bit in it, all its bits, and half a bit more.
 const HEARD_BEFORE: [usize; 7] = [0, 9, 29, 30, 35, 46, 47];
 
 #[test]
@@ -231,7 +233,7 @@ fn a_packet_at_once_does_what_its_halves_do(rt: HostRuntime) -> Result<(), Fail>
     let mut packets = Packets { state: 1 };
     let mut changes = 0_usize;
     let before = wave_of(&[0x03, 0x68, 0x6B]);
-    // Behind a packet 18 one halves are enough, and 17 are not.
+    // After a packet 18 one halves suffice, and 17 do not.
     let probes = [wave_of(&[0x03, 0x81, 0x82]), wave_of(&[0x81, 0xFA, 0x7B])];
     for round in 0..40_usize {
         for cut in &HEARD_BEFORE {
@@ -249,7 +251,8 @@ fn a_packet_at_once_does_what_its_halves_do(rt: HostRuntime) -> Result<(), Fail>
             }
         }
     }
-    // Of 280 packets more than half come in mid-packet, and half of the others are for others or say nothing.
+    // Of 280 packets more than half begin in the middle of a packet, and half of the others are for
+    // others or have no effect.
     assert!(rt; changes > 20);
     Ok(())
 }

@@ -1,20 +1,20 @@
-//! What messages and packets say in plain words, worked out by hand from LocoNet Personal Use Edition 1.0 and from S-9.2
-//! and S-9.2.1.
+//! Explanations of messages and packets in plain words, worked out by hand from LocoNet Personal
+//! Use Edition 1.0 and from S-9.2 and S-9.2.1.
 
 use describe::{message_words, packet_words};
 use std::process::Abort;
 
-/// Bytes, the check last, and what they say.
+/// Bytes, the check last, and their explanation.
 type Row = (&'static [u8], &'static [u8]);
 
-/// Stops the test at a message that says something else.
+/// Asserts the explanation of a message.
 fn check_messages(rt: &impl Abort, rows: &[Row]) {
     for (bytes, words) in rows {
         assert_eq!(rt; message_words(bytes).as_slice(), *words);
     }
 }
 
-/// Stops the test at a packet that says something else.
+/// Asserts the explanation of a packet.
 fn check_packets(rt: &impl Abort, rows: &[Row]) {
     for (bytes, words) in rows {
         assert_eq!(rt; packet_words(bytes).as_slice(), *words);
@@ -29,7 +29,8 @@ const SHORT_MESSAGES: [Row; 4] = [
     (&[0x85, 0x7A], b"stop all locomotives"),
 ];
 
-// OPC_LOCO_SPD, OPC_LOCO_DIRF, OPC_LOCO_SND: speed 63 is 64 less the emergency stop; bit 5 of DIRF is reverse
+// OPC_LOCO_SPD, OPC_LOCO_DIRF, OPC_LOCO_SND: speed 63 is 64 less the emergency stop; bit 5 of DIRF
+// is reverse
 const SLOT_CHANGES: [Row; 10] = [
     (&[0xA0, 0x01, 0x40, 0x1E], b"slot 1: speed 63 of 126"),
     (&[0xA0, 0x01, 0x00, 0x5E], b"slot 1: stop"),
@@ -52,7 +53,8 @@ const SLOT_CHANGES: [Row; 10] = [
     (&[0xA2, 0x01, 0x00, 0x5C], b"slot 1: F5 to F8: all off"),
 ];
 
-// OPC_SW_REQ, OPC_SW_ACK, OPC_SW_STATE, OPC_SW_REP, OPC_INPUT_REP: addresses from 0 on the line, numbers from 1 here
+// OPC_SW_REQ, OPC_SW_ACK, OPC_SW_STATE, OPC_SW_REP, OPC_INPUT_REP: addresses from 0 on the line,
+// numbers from 1 here
 const SWITCHES_AND_SENSORS: [Row; 13] = [
     (&[0xB0, 0x04, 0x10, 0x5B], b"switch 5 thrown, on"),
     (&[0xB0, 0x04, 0x30, 0x7B], b"switch 5 closed, on"),
@@ -165,7 +167,8 @@ const SLOT_REQUESTS: [Row; 14] = [
     (&[0xBF, 0x24, 0x67, 0x03], b"take locomotive 4711"),
 ];
 
-// OPC_PEER_XFER: bits 1 and 3 of PXCT1 are bit 7 of D2 and D4, bits 2 and 3 of PXCT2 are bit 7 of D7 and D8
+// OPC_PEER_XFER: bits 1 and 3 of PXCT1 are bit 7 of D2 and D4, bits 2 and 3 of PXCT2 are bit 7 of
+// D7 and D8
 const PEER_TRANSFERS: [Row; 2] = [
     (
         &[
@@ -261,8 +264,8 @@ const SLOTS: [Row; 14] = [
     ),
 ];
 
-// Fast clock: 30 minutes are 256 less 30, E2, and 14 hours F2, each without bit 7; bit 6 of CLK_CNTRL is 1 for a valid
-// time
+// Fast clock: 30 minutes are 256 less 30, E2, and 14 hours F2, each without bit 7; bit 6 of
+// CLK_CNTRL is 1 for a valid time
 const CLOCKS: [Row; 4] = [
     (
         &[
@@ -290,8 +293,8 @@ const CLOCKS: [Row; 4] = [
     ),
 ];
 
-// Programming track: PCMD 68 writes in direct byte mode, 20 reads in paged mode, 64 and 2C work on the main track; CVH
-// 31 and CVL 7F are CV 1024
+// Programming track: PCMD 68 writes in direct byte mode, 20 reads in paged mode, 64 and 2C work on
+// the main track; CVH 31 and CVL 7F are CV 1024
 const TASKS: [Row; 12] = [
     (
         &[
@@ -393,7 +396,7 @@ const IMMEDIATE: [Row; 4] = [
     ),
 ];
 
-// Opcodes that the standard has not
+// Opcodes that the standard does not have
 const UNKNOWN_OPCODES: [Row; 3] = [
     (&[0x84, 0x7B], b"unknown opcode 84"),
     (&[0xA3, 0x00, 0x00, 0x5C], b"unknown opcode A3"),
@@ -434,7 +437,8 @@ const SPEEDS_TO_ALL: [Row; 8] = [
     ),
 ];
 
-// 2.3.2 and 2.3.3, speed and direction. 01DCSSSS with SSSS 8 is step 7 of 14, and of 28 step 13 with C 0, 14 with C 1.
+// 2.3.2 and 2.3.3, speed and direction. 01DCSSSS with SSSS 8 is step 7 of 14, and of 28 step 13
+// with C 0, 14 with C 1.
 const SPEEDS: [Row; 18] = [
     (
         &[0x03, 0x3F, 0xC0, 0xFC],
@@ -573,8 +577,8 @@ const FUNCTIONS: [Row; 26] = [
     ),
 ];
 
-// 2.4, accessory decoders: 10AAAAAA 1AAACDDD and 10AAAAAA 0AAA0AA1 000XXXXX, the high three bits of the address
-// complemented
+// 2.4, accessory decoders: 10AAAAAA 1AAACDDD and 10AAAAAA 0AAA0AA1 000XXXXX, the high three bits of
+// the address complemented
 const ACCESSORY_PACKETS: [Row; 20] = [
     (&[0x81, 0xF9, 0x78], b"switch 1 closed, on"),
     (&[0x81, 0xF8, 0x79], b"switch 1 thrown, on"),
@@ -619,8 +623,8 @@ const ACCESSORY_PACKETS: [Row; 20] = [
     (&[0x81, 0x70, 0x05, 0xF4], b"unknown form for signals"),
 ];
 
-// 2.3.1 and 2.3.7, decoder and consist control, and configuration variables: 1110CCVV VVVVVVVV DDDDDDDD, a bit by
-// 111CDBBB
+// 2.3.1 and 2.3.7, decoder and consist control, and configuration variables: 1110CCVV VVVVVVVV
+// DDDDDDDD, a bit by 111CDBBB
 const CONTROL: [Row; 24] = [
     (
         &[0x03, 0xEC, 0x07, 0x03, 0xEB],

@@ -103,7 +103,7 @@ const MESSAGES: [(&'static [u8], Op); 23] = [
     (&[0xD0, 0x00, 0x00, 0x00, 0x00, 0x2F], Op::Other),
 ];
 
-// Bytes, and what the message says that they end in.
+// Bytes, and the operation of the message that they end with.
 fn check_ops(rt: &impl Abort, rows: &[(&[u8], Op)]) -> Result<(), Fail> {
     for &(bytes, op) in rows {
         let message = message(bytes).ok_or("no message")?;
@@ -112,7 +112,7 @@ fn check_ops(rt: &impl Abort, rows: &[(&[u8], Op)]) -> Result<(), Fail> {
     Ok(())
 }
 
-// The first three bytes of a packet, behind which there is nothing.
+// The first three bytes of a packet, followed by nothing.
 fn packet(count: u8, [im1, im2, im3]: [u8; 3]) -> Op {
     Op::Imm {
         count,

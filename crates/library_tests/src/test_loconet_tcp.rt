@@ -1,4 +1,4 @@
-//! LocoNet over TCP: the requests in clients' lines, and the lines that clients get.
+//! LocoNet over TCP: the requests in clients' lines, and the lines sent to clients.
 
 use ln_frame::Msg;
 use loconet_tcp::*;
@@ -46,7 +46,7 @@ const IDLE: [&[u8]; 8] = [
     b"SEND 83 7C",
 ];
 
-// The request in a text, byte by byte, which has one at most.
+// The request in a text of at most one, read byte by byte.
 fn request_in(rt: &impl Abort, reader: &mut RequestReader, text: &[u8]) -> Option<Request> {
     let mut found = None;
     for byte in text {
@@ -85,7 +85,7 @@ fn reads_lines(rt: HostRuntime) -> Result<(), Fail> {
     Ok(())
 }
 
-// The request of `SEND`, so many blanks and `83 7C`, which are nine characters more.
+// The request of `SEND`, `blanks` blanks and `83 7C`, which are nine further characters.
 fn request_behind(rt: &impl Abort, reader: &mut RequestReader, blanks: u32) -> Option<Request> {
     assert_eq!(rt; request_in(rt, reader, b"SEND"), None);
     for _ in 0..blanks {
@@ -110,7 +110,7 @@ fn refuses_long_lines(rt: HostRuntime) -> Result<(), Fail> {
             "{blanks}"
         );
     }
-    // A long line that is none to send.
+    // A long line that does not begin with `SEND`.
     for _ in 0..500 {
         assert_eq!(rt; reader.push(b'S'), None);
     }

@@ -1,4 +1,4 @@
-//! The ring's wrap, the turns of two locomotives and of two switch requests, and a queue that is full.
+//! The ring's wrap, the turns of two locomotives and of two switch requests, and a full queue.
 ghost use Rattle.std.specs.Prelude.{◌≡◌, length};
 
 use refresh_ring::{
@@ -78,7 +78,7 @@ fn a_new_schedule_has_nothing_waiting(rt: HostRuntime) -> Result<(), NoMemory> {
     Ok(())
 }
 
-// Each running turn sends this, and leaves so many switch requests.
+// Each running turn sends this, and leaves this number of switch requests.
 fn check_turns<R: Ring>(rt: &impl Abort, schedule: &mut Schedule<R>, turns: &[(Pick, u8)]) {
     let view = two_addresses();
     for &(pick, waiting) in turns {
@@ -126,7 +126,7 @@ fn two_locomotives_take_turns<R: Ring>(rt: &impl Abort, mut schedule: Schedule<R
     check_turns(rt, &mut schedule, &turns);
 }
 
-// A switch that is to be closed, its output on.
+// A switch to be closed, its output on.
 fn closed(number: u16) -> Pick {
     Pick::Switch {
         number,

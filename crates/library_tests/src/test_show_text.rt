@@ -1,4 +1,4 @@
-//! Scripts, hex text and lines, as their formats have them.
+//! Scripts, hex text and lines, in their formats.
 
 use dcc_packet::{Module, Motion, Packet, Steps};
 use decoder_cv::CvSet;
@@ -48,7 +48,7 @@ fn check_script(rt: &impl Abort, alloc: Global, text: &[u8], wanted: Option<Scri
     assert_eq!(rt; fault, wanted, "in {text:?}");
 }
 
-// Scripts with one line each and this fault in it, with a bar between them.
+// Scripts of one line each with this fault, separated by a bar.
 fn check_lines(rt: &impl Abort, alloc: Global, scripts: &[u8], why: Why) {
     for text in scripts.split(|byte| *byte == b'|') {
         check_script(rt, alloc, text, Some(ScriptFault { why, line: 1 }));

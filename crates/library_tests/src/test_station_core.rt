@@ -1,4 +1,4 @@
-//! What no clause says: bytes, replies and packets of whole conversations.
+//! Tests of what no clause states: bytes, replies and packets of whole conversations.
 
 mod conversations;
 mod drives;
@@ -15,10 +15,10 @@ use station_core::{Call, Power, Station, StationFault, Step};
 use std::process::Abort;
 use std::test::Fail;
 
-// What a throttle sends, and what it is answered; nothing where the list is empty.
+// The messages of a throttle, and the station's replies; none if the list is empty.
 type Conversation = &'static [(&'static [u8], &'static [u8])];
 
-// Address 3 is taken, the track gets power, and a null move puts slot 1 in use.
+// Address 3 is loaded, the track gets power, and a null move puts slot 1 in use.
 const IN_USE: Conversation = &[
     (
         &[0xBF, 0x00, 0x03, 0x43],
@@ -35,7 +35,7 @@ const IN_USE: Conversation = &[
     ),
 ];
 
-// Address 3 is taken while the track has power.
+// Address 3 is loaded while the track has power.
 const TAKEN_WITH_POWER: &[u8] = &[
     0xE7, 0x0E, 0x01, 0x23, 0x03, 0x00, 0x00, 0x07, 0x00, 0x00, 0x00, 0x00, 0x00, 0x30,
 ];
@@ -59,7 +59,7 @@ const SWITCHES_REFUSED: Conversation = &[
     (&[0xBD, 0x00, 0x30, 0x72], &[0xB4, 0x3D, 0x00, 0x76]),
 ];
 
-// Sends the bytes on line 0, and says whether they are answered by the reply, at the last byte.
+// Sends the bytes on line 0, and returns whether exactly the last byte is answered, by this reply.
 fn is_answered(rt: &impl Abort, station: &mut Station, bytes: &[u8], reply: &[u8]) -> bool {
     let mut last = None;
     for byte in bytes {

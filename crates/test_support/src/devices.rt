@@ -1,10 +1,10 @@
-//! Readers and writers that fail, or that go on without end.
+//! Readers and writers that fail, or that never end.
 
 use std::alloc::Global;
 use std::io;
 use std::io::{ErrorKind, Read, Write};
 
-/// A device whose every call fails, and of what kind its failures are.
+/// A device whose every call fails, and the kind of its failures.
 #[derive(Drop)]
 pub struct Broken {
     /// The kind of each failure.
@@ -12,7 +12,7 @@ pub struct Broken {
 }
 
 impl Broken {
-    /// A device whose failures are of no particular kind.
+    /// Creates a device whose failures are of no particular kind.
     pub fn new() -> Self {
         Broken {
             kind: ErrorKind::Other,
@@ -36,7 +36,7 @@ impl Write for Broken {
     }
 }
 
-/// A device that takes bytes and never lets them go out.
+/// A device that accepts bytes and cannot be flushed.
 #[derive(Drop)]
 pub struct Stuck;
 
@@ -50,7 +50,8 @@ impl Write for Stuck {
     }
 }
 
-/// A text in reads of so many bytes at most, of which every second is interrupted, the first one too.
+/// A text in reads of at most `most` bytes, of which every second is interrupted, beginning with
+/// the first.
 #[derive(Drop)]
 pub struct Uneven<'a> {
     text: &'a [u8],
@@ -60,7 +61,7 @@ pub struct Uneven<'a> {
 }
 
 impl<'a> Uneven<'a> {
-    /// A reader of the text, whose reads fail so behind it, or end there.
+    /// Creates a reader of the text. Reads after its end fail with `end`, or find the end.
     pub fn new(text: &'a [u8], most: usize, end: Option<ErrorKind>) -> Self {
         Uneven {
             text,
@@ -87,10 +88,10 @@ impl Read for Uneven<'_> {
     }
 }
 
-/// A writer that takes some bytes at a time, and fails after so many writes.
+/// A writer that accepts some bytes at a time, and fails after a number of writes.
 #[derive(Drop)]
 pub struct Rough {
-    /// What was written.
+    /// The bytes written.
     pub written: Vec<u8>,
     /// The most bytes of a write.
     most: usize,
@@ -98,14 +99,16 @@ pub struct Rough {
     interrupts: u32,
     /// How many more of these calls are interrupted.
     left: u32,
-    /// How many more writes take bytes.
+    /// How many more writes accept bytes.
     writes: u32,
-    /// What a write or a flush behind them is: a failure of this kind, or else a write of no byte.
+    /// The result of a write or a flush after them: a failure of this kind, or else a write of no
+    /// byte.
     end: Option<ErrorKind>,
 }
 
 impl Rough {
-    /// A writer that takes at most so many bytes in each of so many writes, each after so many calls that are interrupted.
+    /// Creates a writer that accepts at most `most` bytes in each of `writes` writes, each after
+    /// `interrupts` interrupted calls.
     pub fn new(
         alloc: Global,
         most: usize,
@@ -163,7 +166,7 @@ impl Write for Rough {
 /// Spaces without end.
 #[derive(Drop)]
 pub struct Spaces {
-    /// How many were read.
+    /// How many spaces were read.
     pub read: u64,
 }
 

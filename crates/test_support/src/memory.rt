@@ -1,23 +1,26 @@
-//! A process that has little memory left. This needs the allocator of the C library, which `rt test` has and `rt try` has
-//! not.
+//! A process with little memory left. It needs the allocator of the C library, which is used by
+//! `rt test` and not by `rt try`.
 
 use std::alloc::{AllocError, Global};
 
-/// The blocks of a reserve, and the bytes of each: few enough for the allocator to have them beside one another.
+/// The blocks of a reserve, and the bytes of each: few enough for the allocator to place them side
+/// by side.
 const RESERVE_BLOCKS: usize = 256;
 
 const BLOCK: usize = 65_536;
 
-/// A block this long goes back to the allocator whole, which keeps shorter ones for calls that ask for just their length.
+/// The length from which a block is returned to the allocator's common memory; shorter blocks are
+/// kept for calls of just their length.
 const LONG: usize = 2048;
 
-/// What is taken of the memory, until it is dropped.
+/// The memory that is taken, until it is dropped.
 #[derive(Drop)]
 pub struct Taken {
     blocks: Vec<Vec<u8>>,
 }
 
-/// Takes all memory that the process can still have: blocks of half the size wherever one is refused.
+/// Takes all memory that the process can still have: blocks of half the size wherever one is
+/// refused.
 fn take_all(alloc: Global, blocks: &mut Vec<Vec<u8>>) {
     let mut size = 1usize << 46;
     for _ in 0..1_000_000u32 {
@@ -35,11 +38,11 @@ fn take_all(alloc: Global, blocks: &mut Vec<Vec<u8>>) {
     }
 }
 
-/// Takes all memory but for so many bytes.
+/// Takes all memory except `room` bytes.
 ///
 /// # Errors
 ///
-/// Fewer were left.
+/// Fewer bytes were left.
 pub fn take_all_but(alloc: Global, room: usize) -> Result<Taken, AllocError> {
     let mut blocks = Vec::with_capacity(alloc, 60_000)?;
     let left: Vec<u8> = Vec::with_capacity(alloc, room)?;
@@ -48,8 +51,8 @@ pub fn take_all_but(alloc: Global, room: usize) -> Result<Taken, AllocError> {
     Ok(Taken { blocks })
 }
 
-/// A process whose memory is taken but for a reserve, and of that all but so many bytes, again and again: to take the
-/// reserve alone is a thousand times faster than to take all.
+/// A process whose memory is taken except a reserve, and of that repeatedly all except a number of
+/// bytes: to take only the reserve is a thousand times faster than to take all memory.
 #[derive(Drop)]
 pub struct Scarcity {
     alloc: Global,
@@ -58,7 +61,7 @@ pub struct Scarcity {
 }
 
 impl Scarcity {
-    /// Takes all but the reserve.
+    /// Takes all memory except the reserve.
     ///
     /// # Errors
     ///
@@ -79,11 +82,11 @@ impl Scarcity {
         })
     }
 
-    /// Takes the reserve but for so many bytes.
+    /// Takes the reserve except `room` bytes.
     ///
     /// # Errors
     ///
-    /// Fewer were left.
+    /// Fewer bytes were left.
     pub fn leave(&mut self, room: usize) -> Result<(), AllocError> {
         self.filled.clear();
         let left: Vec<u8> = Vec::with_capacity(self.alloc, room.saturating_add(LONG))?;
@@ -93,7 +96,7 @@ impl Scarcity {
         Ok(())
     }
 
-    /// Gives the reserve back.
+    /// Returns the reserve to the allocator.
     pub fn relax(&mut self) {
         self.filled.clear();
     }

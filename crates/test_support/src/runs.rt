@@ -1,15 +1,15 @@
-//! Programs on their three streams, and what a run comes to.
+//! Programs on their three streams, and the results of runs.
 ghost use Rattle.std.specs.Prelude.{◌≡◌, false};
 
 use crate::devices::Broken;
 use crate::memory::Scarcity;
-use input_text::{Input, Noting, Output, TrackedWriter};
+use input_text::{Input, Output, TrackedReader, TrackedWriter};
 use std::alloc::{AllocError, Global};
 use std::io::{Read, Write};
 use std::mem;
 
-/// How many bytes more are left from run to run: what the allocator of the C library rounds to, so that no growth is
-/// stepped over.
+/// How many bytes more are left from run to run: the granularity of the C library's allocator, so
+/// that no allocation is skipped.
 const STEP: usize = 16;
 
 /// The most runs with too little memory.
@@ -18,27 +18,30 @@ const MOST_REFUSED: u32 = 40_000;
 /// The three streams of a run: standard input, standard output and standard error.
 pub struct Streams<'a, I, O, E>(pub &'a mut I, pub &'a mut O, pub &'a mut E);
 
-/// A program that has no words.
+/// A program without arguments.
 pub trait Program {
-    /// Runs it on these streams, and answers the exit status.
+    /// The name with which its fault lines begin.
+    fn name(&self) -> &'static str;
+
+    /// Runs it on these streams, and returns the exit status.
     fn execute<I: Input, O: Output, E: Write>(&self, alloc: Global, on: Streams<'_, I, O, E>) -> u8
         requires reads { I.failed on.0.now ≡ false }
         requires writes { O.failed on.1.now ≡ false };
 }
 
-/// What a run answers, writes and tells.
+/// The status and the output of a run.
 #[derive(Drop)]
 pub struct Ran {
     /// The exit status.
     pub status: u8,
-    /// What was written to standard output.
+    /// The bytes written to standard output.
     pub output: Vec<u8>,
-    /// What was written to standard error.
+    /// The bytes written to standard error.
     pub faults: Vec<u8>,
 }
 
 impl Ran {
-    /// Whether the run came to this.
+    /// Whether the run had this result.
     pub fn is(&self, status: u8, output: &[u8], faults: &[u8]) -> bool {
         self.status == status
             && self.output.as_slice() == output
@@ -46,7 +49,7 @@ impl Ran {
     }
 }
 
-/// Runs a program on what this reader gives.
+/// Runs a program on this reader.
 pub fn run_from<P: Program, R: Read>(program: &P, alloc: Global, reader: &mut R) -> Ran {
     let mut output = Vec::new(alloc);
     let (status, faults) = run_to(program, alloc, reader, &mut output);
@@ -63,7 +66,8 @@ pub fn run<P: Program>(program: &P, alloc: Global, text: &[u8]) -> Ran {
     run_from(program, alloc, &mut reader)
 }
 
-/// Runs a program on what this reader gives, and to this output. Gives the status, and what is told.
+/// Runs a program on this reader and with this output. Returns the status and the text on standard
+/// error.
 pub fn run_to<P: Program, R: Read, O: Write>(
     program: &P,
     alloc: Global,
@@ -71,33 +75,34 @@ pub fn run_to<P: Program, R: Read, O: Write>(
     output: &mut O,
 ) -> (u8, Vec<u8>) {
     let mut faults = Vec::new(alloc);
-    let mut input = Noting::new(reader);
+    let mut input = TrackedReader::new(reader);
     let mut output = TrackedWriter::new(output);
     let status = program.execute(alloc, Streams(&mut input, &mut output, &mut faults));
     (status, faults)
 }
 
-/// The status of a run on what this reader gives where nobody can be told a fault.
-pub fn run_untold<P: Program, R: Read>(program: &P, alloc: Global, reader: &mut R) -> u8 {
+/// Returns the status of a run on this reader whose standard error cannot be written.
+pub fn run_unreported<P: Program, R: Read>(program: &P, alloc: Global, reader: &mut R) -> u8 {
     let mut output = TrackedWriter::new(Vec::new(alloc));
-    let mut input = Noting::new(reader);
+    let mut input = TrackedReader::new(reader);
     program.execute(alloc, Streams(&mut input, &mut output, &mut Broken::new()))
 }
 
-/// Runs a program on this text with ever more memory, from none, until the run is not one that tells this, writes nothing
-/// and ends with status 6. Gives how many runs were so, and what the first other one came to, or else the last. There is
-/// room for what is written from the start.
+/// Runs a program on this text with more and more memory, from none, until a run does not report
+/// that memory ran out: with this fault line, no output and status 6. Returns the number of runs
+/// that did, and the result of the first other run, or else of the last. The memory of the results
+/// is taken at the start.
 ///
 /// # Errors
 ///
-/// The memory that the process began with was too little.
+/// The process had too little memory at the start.
 pub fn run_as_room_grows<P: Program>(
     program: &P,
     alloc: Global,
     text: &[u8],
     no_memory: &[u8],
 ) -> Result<(u32, Ran), AllocError> {
-    // The stack grows to all that a run needs of it, while there is room for that.
+    // The stack grows to all that a run needs of it, while memory is available.
     let mut ran = run(program, alloc, text);
     ran.output = Vec::with_capacity(alloc, 16_384)?;
     ran.faults = Vec::with_capacity(alloc, 64)?;
@@ -105,7 +110,7 @@ pub fn run_as_room_grows<P: Program>(
     for refused in 0..MOST_REFUSED {
         ran.output.clear();
         ran.faults.clear();
-        let mut input = Noting::new(text);
+        let mut input = TrackedReader::new(text);
         scarcity.leave(refused as usize * STEP)?;
         let mut output = TrackedWriter::new(mem::replace(&mut ran.output, Vec::new(alloc)));
         let streams = Streams(&mut input, &mut output, &mut ran.faults);

@@ -1,10 +1,9 @@
-//! What every program that draws does on streams that fail and with little memory.
+//! Trials of a program that draws: streams that fail, and little memory.
 
-use crate::drawn::Drawn;
-use test_support::{
-    Broken, Ran, Rough, Spaces, Uneven, run, run_as_room_grows, run_from, run_to, run_untold,
+use crate::{
+    Broken, Program, Ran, Rough, Spaces, Uneven, run, run_as_room_grows, run_from, run_to,
+    run_unreported,
 };
-use trace::Drawing;
 use std::alloc::{AllocError, Global};
 use std::io::ErrorKind;
 
@@ -19,44 +18,44 @@ track 5 FF 00 FF
 track 6 FF 00 FF
 ";
 
-/// What a program of this name tells of a fault.
+/// The line that a program of this name reports for a fault.
 fn fault_line(alloc: Global, name: &str, fault: &str) -> Result<String, AllocError> {
     format!(in alloc; "{name}: {fault}\n")
 }
 
-/// Whether an input that cannot be read is told.
-fn is_told_unread<D: Drawing>(drawing: &Drawn<D>, alloc: Global, unread: &[u8]) -> bool {
+/// Whether an input that cannot be read is reported.
+fn reports_unreadable_input<P: Program>(program: &P, alloc: Global, unread: &[u8]) -> bool {
     let mut stops = Uneven::new(ONE_PACKET, 20, Some(ErrorKind::Other));
-    run_from(drawing, alloc, &mut stops).is(2, b"", unread)
-        && run_from(drawing, alloc, &mut Broken::new()).is(2, b"", unread)
+    run_from(program, alloc, &mut stops).is(2, b"", unread)
+        && run_from(program, alloc, &mut Broken::new()).is(2, b"", unread)
 }
 
-/// Whether reads that are interrupted are tried again.
-fn stands_interrupts<D: Drawing>(drawing: &Drawn<D>, alloc: Global, end: &[u8]) -> bool {
-    let ran = run_from(drawing, alloc, &mut Uneven::new(ONE_PACKET, 5, None));
+/// Whether interrupted reads are tried again.
+fn retries_interrupted_reads<P: Program>(program: &P, alloc: Global, end: &[u8]) -> bool {
+    let ran = run_from(program, alloc, &mut Uneven::new(ONE_PACKET, 5, None));
     ran.status == 0 && ran.output.as_slice().ends_with(end)
 }
 
 /// Whether a long input is read one byte past the limit.
-fn is_read_to_the_limit<D: Drawing>(drawing: &Drawn<D>, alloc: Global, too_long: &[u8]) -> bool {
+fn reads_to_the_limit<P: Program>(program: &P, alloc: Global, too_long: &[u8]) -> bool {
     let mut spaces = Spaces { read: 0 };
-    let ran = run_from(drawing, alloc, &mut spaces);
+    let ran = run_from(program, alloc, &mut spaces);
     ran.is(5, b"", too_long) && spaces.read == 16_777_217
 }
 
-/// Whether an output that cannot be written is told.
-fn is_told_unwritten<D: Drawing>(drawing: &Drawn<D>, alloc: Global, unwritten: &[u8]) -> bool {
+/// Whether an output that cannot be written is reported.
+fn reports_unwritable_output<P: Program>(program: &P, alloc: Global, unwritten: &[u8]) -> bool {
     let mut text = ONE_PACKET;
-    let (status, faults) = run_to(drawing, alloc, &mut text, &mut Broken::new());
+    let (status, faults) = run_to(program, alloc, &mut text, &mut Broken::new());
     status == 4 && faults.as_slice() == unwritten
 }
 
-/// Whether an output that fails behind its first 100 bytes is told, be it by a failure or by a write of no byte.
-fn is_told_half_written<D: Drawing>(drawing: &Drawn<D>, alloc: Global, unwritten: &[u8]) -> bool {
+/// Whether an output that fails after its first 100 bytes is reported, whether a write fails or writes no byte.
+fn reports_output_that_ends<P: Program>(program: &P, alloc: Global, unwritten: &[u8]) -> bool {
     for end in [Some(ErrorKind::Other), None] {
         let mut text = ONE_PACKET;
         let mut output = Rough::new(alloc, 100, 1, 1, end);
-        let (status, faults) = run_to(drawing, alloc, &mut text, &mut output);
+        let (status, faults) = run_to(program, alloc, &mut text, &mut output);
         if status != 4 || faults.as_slice() != unwritten || output.written.len() != 100 {
             return false;
         }
@@ -64,13 +63,12 @@ fn is_told_half_written<D: Drawing>(drawing: &Drawn<D>, alloc: Global, unwritten
     true
 }
 
-/// Whether writes are tried again of which every second is interrupted, or two of three, and written whole of which each
-/// takes few bytes.
-fn stands_rough_output<D: Drawing>(drawing: &Drawn<D>, alloc: Global, end: &[u8]) -> bool {
+/// Whether interrupted writes (every second, or two of three) are tried again, and short writes continued.
+fn retries_interrupted_writes<P: Program>(program: &P, alloc: Global, end: &[u8]) -> bool {
     for interrupts in 1..3u32 {
         let mut text = ONE_PACKET;
         let mut output = Rough::new(alloc, 100, interrupts, 1000, None);
-        let (status, _) = run_to(drawing, alloc, &mut text, &mut output);
+        let (status, _) = run_to(program, alloc, &mut text, &mut output);
         if status != 0 || !output.written.as_slice().ends_with(end) {
             return false;
         }
@@ -78,60 +76,60 @@ fn stands_rough_output<D: Drawing>(drawing: &Drawn<D>, alloc: Global, end: &[u8]
     true
 }
 
-/// Whether a fault that cannot be told ends the program as one that can.
-fn stands_untold<D: Drawing>(drawing: &Drawn<D>, alloc: Global) -> bool {
+/// Whether a fault that cannot be reported has the status of one that is.
+fn ends_though_unreported<P: Program>(program: &P, alloc: Global) -> bool {
     let mut text = b"track\n".as_slice();
-    run_untold(drawing, alloc, &mut text) == 5
+    run_unreported(program, alloc, &mut text) == 5
 }
 
-/// Which device a program does not stand as it should, of standard streams that fail and an input without end: none, if all
-/// is well. What is drawn of one packet ends so.
+/// Names the first trial of standard streams that the program fails, or returns `None`. `end`: how its drawing of one packet
+/// ends.
 ///
 /// # Errors
 ///
-/// There was no memory for the test.
-pub fn first_not_stood<D: Drawing>(
-    drawing: &Drawn<D>,
+/// Out of memory for the test itself.
+pub fn first_failure<P: Program>(
+    program: &P,
     alloc: Global,
     end: &[u8],
 ) -> Result<Option<&'static str>, AllocError> {
-    let unread = fault_line(alloc, drawing.name, "cannot read -")?;
-    if !is_told_unread(drawing, alloc, unread.as_bytes()) {
+    let unread = fault_line(alloc, program.name(), "cannot read -")?;
+    if !reports_unreadable_input(program, alloc, unread.as_bytes()) {
         return Ok(Some("standard input cannot be read"));
     }
-    if !stands_interrupts(drawing, alloc, end) {
+    if !retries_interrupted_reads(program, alloc, end) {
         return Ok(Some("standard input is interrupted"));
     }
-    let too_long = fault_line(alloc, drawing.name, "too long")?;
-    if !is_read_to_the_limit(drawing, alloc, too_long.as_bytes()) {
+    let too_long = fault_line(alloc, program.name(), "too long")?;
+    if !reads_to_the_limit(program, alloc, too_long.as_bytes()) {
         return Ok(Some("standard input is without end"));
     }
-    let unwritten = fault_line(alloc, drawing.name, "output")?;
-    if !is_told_unwritten(drawing, alloc, unwritten.as_bytes()) {
+    let unwritten = fault_line(alloc, program.name(), "output")?;
+    if !reports_unwritable_output(program, alloc, unwritten.as_bytes()) {
         return Ok(Some("standard output cannot be written"));
     }
-    if !is_told_half_written(drawing, alloc, unwritten.as_bytes()) {
+    if !reports_output_that_ends(program, alloc, unwritten.as_bytes()) {
         return Ok(Some("standard output fails at a later write"));
     }
-    if !stands_rough_output(drawing, alloc, end) {
+    if !retries_interrupted_writes(program, alloc, end) {
         return Ok(Some("standard output is interrupted"));
     }
-    if !stands_untold(drawing, alloc) {
+    if !ends_though_unreported(program, alloc) {
         return Ok(Some("standard error cannot be written"));
     }
     Ok(None)
 }
 
-/// Runs on packets and what stands behind them, with so few bytes of memory left, from none until one succeeds: how many
-/// told want of memory, and whether the first other one drew all, to this end.
+/// Runs a program on six packets and `more`, with ever more memory, from none until a run succeeds. Returns how many runs
+/// reported `no memory`, and whether the first other one drew all, up to `end`.
 ///
 /// This takes the memory of the process, and so needs the allocator of the C library: `rt test`, and not `rt try`.
 ///
 /// # Errors
 ///
-/// There was no memory for the test.
-pub fn run_with_little_memory<D: Drawing>(
-    drawing: &Drawn<D>,
+/// Out of memory for the test itself.
+pub fn run_with_little_memory<P: Program>(
+    program: &P,
     alloc: Global,
     more: &[u8],
     end: &[u8],
@@ -139,8 +137,8 @@ pub fn run_with_little_memory<D: Drawing>(
     let mut text = Vec::new(alloc);
     text.extend_from_slice(IDLES)?;
     text.extend_from_slice(more)?;
-    let no_memory = fault_line(alloc, drawing.name, "no memory")?;
-    let (refused, ran) = run_as_room_grows(drawing, alloc, text.as_slice(), no_memory.as_bytes())?;
+    let no_memory = fault_line(alloc, program.name(), "no memory")?;
+    let (refused, ran) = run_as_room_grows(program, alloc, text.as_slice(), no_memory.as_bytes())?;
     let drew_all = ran.status == 0 && ran.faults.is_empty() && ran.output.as_slice().ends_with(end);
     Ok((refused, drew_all))
 }

@@ -1,11 +1,11 @@
-//! Words that a system gives, and texts that tell several things.
+//! The arguments of a system, and texts with several parts.
 
 use std::env::{Env, FillError};
 
-/// The words that a system gives, the program's name first.
+/// The arguments of a system, the program's name first.
 #[derive(Drop)]
 pub struct Given<'a> {
-    /// Each as its bytes, which may be no text.
+    /// Each as its bytes, which may not be UTF-8.
     pub words: &'a [&'a [u8]],
 }
 

@@ -4,8 +4,8 @@ use std::io;
 use std::io::{Error, ErrorKind, Read, Write};
 use std::test::Fail;
 
-/// A stream that gives bytes set beforehand, `step` at once, and then nothing, or its end; and that takes so many bytes,
-/// and then none, or fails.
+/// A stream with given bytes, `step` at once, and then nothing, or its end. It accepts a limited
+/// number of bytes, and then none, or fails.
 #[derive(Drop)]
 pub(crate) struct Memory {
     pub(crate) input: Vec<u8>,

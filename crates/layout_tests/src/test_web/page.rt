@@ -1,13 +1,13 @@
-//! Pages that joined, by frames from RFC 6455, section 5.7, and others written by hand. A masking key of four zeros leaves
-//! the text as it is.
+//! Connected pages, by frames from RFC 6455, section 5.7, and others written by hand. A masking key
+//! of four zeros leaves the text as it is.
 use super::memory::Memory;
-use web::Page;
 use std::io;
 use std::io::{ErrorKind, Read, Write};
 use std::process::Abort;
 use std::test::Fail;
+use web::Page;
 
-/// All that a page is read as until nothing is there, and whether it has gone then.
+/// All bytes read from a page until none are available, and whether it has closed then.
 fn read_all(rt: &HostRuntime, page: &mut Page<Memory>) -> Result<(Vec<u8>, bool), Fail> {
     let mut text = Vec::new(rt.alloc());
     let mut room = [0; 7];
@@ -23,7 +23,8 @@ fn read_all(rt: &HostRuntime, page: &mut Page<Memory>) -> Result<(Vec<u8>, bool)
     Ok((text, false))
 }
 
-/// What a page sends, what it is read as, whether it has gone then, and what was sent to it.
+/// The bytes that a page sends, the bytes read from it, whether it has closed then, and the bytes
+/// sent to it.
 const SENT: [(&[u8], &[u8], bool, &[u8]); 16] = [
     (b"", b"", false, b""),
     // "Hello", masked.
@@ -56,14 +57,14 @@ const SENT: [(&[u8], &[u8], bool, &[u8]); 16] = [
         false,
         b"\x8a\x05Hello",
     ),
-    // A pong that nobody asked for.
+    // An unrequested pong.
     (b"\x8a\x80\0\0\0\0", b"", false, b""),
     // An empty message, and one of two lines.
     (b"\x81\x80\0\0\0\0", b"\n", false, b""),
     (b"\x81\x85\0\0\0\0ab\r\nc", b"ab\r\nc\n", false, b""),
     // A close with the code 1000, and its reply.
     (b"\x88\x82\0\0\0\0\x03\xe8", b"", true, b"\x88\x02\x03\xe8"),
-    // Behind a close nothing is read.
+    // After a close nothing is read.
     (
         b"\x88\x82\0\0\0\0\x03\xe8\x81\x81\0\0\0\0a",
         b"",
@@ -72,7 +73,7 @@ const SENT: [(&[u8], &[u8], bool, &[u8]); 16] = [
     ),
     // A binary message is closed with the code 1003.
     (b"\x82\x81\0\0\0\0a", b"", true, b"\x88\x02\x03\xeb"),
-    // No UTF-8; a reserved bit; an opcode that is none; a message of 513 bytes, told by its head.
+    // Not UTF-8; a reserved bit; an unknown opcode; a message of 513 bytes, by its header.
     (b"\x81\x81\0\0\0\0\xff", b"", true, b""),
     (b"\xc1\x81\0\0\0\0a", b"", true, b""),
     (b"\x83\x81\0\0\0\0a", b"", true, b""),
@@ -81,17 +82,17 @@ const SENT: [(&[u8], &[u8], bool, &[u8]); 16] = [
 
 #[test]
 fn pages_are_read(rt: HostRuntime) -> Result<(), Fail> {
-    for (frames, wanted, gone, sent) in SENT {
+    for (frames, wanted, closed, sent) in SENT {
         for step in [1, 2, 5, usize::MAX] {
             let mut stream = Memory::new(rt.alloc(), frames)?;
             stream.step = step;
             let mut page = Page::new(rt.alloc(), stream, &[])?;
-            let (text, has_gone) = read_all(&rt, &mut page)?;
+            let (text, is_closed) = read_all(&rt, &mut page)?;
             assert!(rt; text.as_slice() == wanted);
-            assert_eq!(rt; has_gone, gone);
+            assert_eq!(rt; is_closed, closed);
             assert!(rt; page.stream().output.as_slice() == sent);
-            // What has gone stays so.
-            assert_eq!(rt; read_all(&rt, &mut page)?.1, gone);
+            // A closed page stays closed.
+            assert_eq!(rt; read_all(&rt, &mut page)?.1, closed);
         }
     }
     Ok(())
@@ -99,14 +100,14 @@ fn pages_are_read(rt: HostRuntime) -> Result<(), Fail> {
 
 #[test]
 fn frames_behind_the_head_are_not_lost(rt: HostRuntime) -> Result<(), Fail> {
-    for (frames, wanted, gone, sent) in SENT {
+    for (frames, wanted, closed, sent) in SENT {
         for cut in 0..=frames.len() {
-            let (behind, later) = frames.split_at(cut);
-            let stream = Memory::new(rt.alloc(), later)?;
+            let (behind, deadline_after) = frames.split_at(cut);
+            let stream = Memory::new(rt.alloc(), deadline_after)?;
             let mut page = Page::new(rt.alloc(), stream, behind)?;
-            let (text, has_gone) = read_all(&rt, &mut page)?;
+            let (text, is_closed) = read_all(&rt, &mut page)?;
             assert!(rt; text.as_slice() == wanted);
-            assert_eq!(rt; has_gone, gone);
+            assert_eq!(rt; is_closed, closed);
             assert!(rt; page.stream().output.as_slice() == sent);
         }
     }
@@ -119,8 +120,8 @@ fn a_page_goes_without_a_word(rt: HostRuntime) -> Result<(), Fail> {
         let mut stream = Memory::new(rt.alloc(), frames)?;
         stream.has_ended = true;
         let mut page = Page::new(rt.alloc(), stream, &[])?;
-        let (text, has_gone) = read_all(&rt, &mut page)?;
-        assert!(rt; text.is_empty() && has_gone);
+        let (text, is_closed) = read_all(&rt, &mut page)?;
+        assert!(rt; text.is_empty() && is_closed);
     }
     Ok(())
 }
@@ -134,12 +135,12 @@ fn the_longest_message_has_512_bytes(rt: HostRuntime) -> Result<(), Fail> {
     }
     let stream = Memory::new(rt.alloc(), frames.as_slice())?;
     let mut page = Page::new(rt.alloc(), stream, &[])?;
-    let (text, has_gone) = read_all(&rt, &mut page)?;
-    assert!(rt; text.len() == 513 && text.ends_with(b"x\n") && !has_gone);
+    let (text, is_closed) = read_all(&rt, &mut page)?;
+    assert!(rt; text.len() == 513 && text.ends_with(b"x\n") && !is_closed);
     Ok(())
 }
 
-/// What is written to a page, in two pieces at every cut, and what is sent to it.
+/// The bytes written to a page, in two pieces divided at every point, and the bytes sent to it.
 const WRITTEN: [(&[u8], &[u8]); 7] = [
     (b"", b""),
     (b"Hello\r\n", b"\x81\x05\x48\x65\x6c\x6c\x6f"),
@@ -172,19 +173,19 @@ fn lines_become_messages(rt: HostRuntime) -> Result<(), Fail> {
 fn a_page_is_told_between_lines(rt: HostRuntime) -> Result<(), Fail> {
     let stream = Memory::new(rt.alloc(), &[])?;
     let mut page = Page::new(rt.alloc(), stream, &[])?;
-    page.tell("NODE 1")?;
+    page.send("NODE 1")?;
     page.write_all(b"SENT")?;
-    assert!(rt; is_late(page.tell("NODE 2")));
+    assert!(rt; would_block(page.send("NODE 2")));
     page.write_all(b" OK\r\n")?;
-    page.tell("NODE 3")?;
+    page.send("NODE 3")?;
     assert!(rt;
         page.stream().output.as_slice() == b"\x81\x06NODE 1\x81\x07SENT OK\x81\x06NODE 3".as_slice()
     );
     Ok(())
 }
 
-fn is_late(told: io::Result<()>) -> bool {
-    match told {
+fn would_block(fault_text: io::Result<()>) -> bool {
+    match fault_text {
         Ok(()) => false,
         Err(error) => error.kind() == ErrorKind::WouldBlock,
     }
@@ -201,7 +202,7 @@ fn a_stream_that_stops_goes_on(rt: HostRuntime) -> Result<(), Fail> {
     page.flush()?;
     assert!(rt; page.stream().output.as_slice() == b"\x81\x05\x48\x65\x6c".as_slice());
     page.stream_mut().room = usize::MAX;
-    // A read sends what waits too.
+    // A read sends queued bytes too.
     assert!(rt; !read_all(&rt, &mut page)?.1);
     assert!(rt; page.stream().output.as_slice() == b"\x81\x05\x48\x65\x6c\x6c\x6f".as_slice());
     Ok(())
@@ -216,7 +217,7 @@ fn a_stream_that_fails_is_told(rt: HostRuntime) -> Result<(), Fail> {
     page.stream_mut().fails = true;
     assert!(rt; page.write(b"more\r\n").is_err());
     assert!(rt; page.flush().is_err());
-    assert!(rt; page.tell("NODE 1").is_err());
+    assert!(rt; page.send("NODE 1").is_err());
     Ok(())
 }
 
@@ -227,11 +228,11 @@ fn a_page_that_does_not_read_fills(rt: HostRuntime) -> Result<(), Fail> {
     let mut page = Page::new(rt.alloc(), stream, &[])?;
     let line = b"RECEIVE 83 7C\r\n".as_slice();
     let mut rest = line;
-    let mut taken = 0usize;
+    let mut head_length = 0usize;
     for _ in 0..10_000 {
         match page.write(rest) {
             Ok(count) => {
-                taken = taken.saturating_add(count);
+                head_length = head_length.saturating_add(count);
                 rest = rest.get(count..).unwrap_or(&[]);
                 if rest.is_empty() {
                     rest = line;
@@ -243,14 +244,16 @@ fn a_page_that_does_not_read_fills(rt: HostRuntime) -> Result<(), Fail> {
             }
         }
     }
-    // A line of 13 bytes waits as a frame of 15.
-    assert!(rt; taken > 60_000 && taken < 66_000);
-    assert!(rt; is_late(page.tell("NODE 1")));
-    // What waits is sent whole, and the line goes on where it stopped.
+    // A line of 13 bytes is queued as a frame of 15.
+    assert!(rt; head_length > 60_000 && head_length < 66_000);
+    assert!(rt; would_block(page.send("NODE 1")));
+    // Queued bytes are sent whole, and the line continues where it stopped.
     page.stream_mut().room = usize::MAX;
     assert!(rt; rest == b"\n".as_slice() && page.write(rest)? == 1);
     let sent = &page.stream().output;
-    assert!(rt; sent.len() == taken.saturating_add(1) && sent.ends_with(b"\x81\x0dRECEIVE 83 7C"));
+    assert!(rt;
+        sent.len() == head_length.saturating_add(1) && sent.ends_with(b"\x81\x0dRECEIVE 83 7C")
+    );
     Ok(())
 }
 
@@ -269,9 +272,9 @@ fn a_flood_of_pings_is_bounded(rt: HostRuntime) -> Result<(), Fail> {
     assert!(rt; page.read(&mut room).is_err());
     // One read of the stream.
     assert!(rt; page.stream().at <= before.saturating_add(4_096));
-    // Where no pong is taken, the pings wait.
-    let (text, has_gone) = read_all(&rt, &mut page)?;
-    assert!(rt; text.is_empty() && !has_gone);
+    // If no pong is accepted, the pings stay unread.
+    let (text, is_closed) = read_all(&rt, &mut page)?;
+    assert!(rt; text.is_empty() && !is_closed);
     assert!(rt; page.stream().at < 150_000);
     page.stream_mut().room = usize::MAX;
     let (text, _) = read_all(&rt, &mut page)?;

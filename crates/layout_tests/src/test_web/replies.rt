@@ -1,40 +1,40 @@
-//! The replies, byte for byte.
-use web::{Answer, Head, Refusal, answer, push_joining, push_page_head, push_refusal};
+//! The responses, byte for byte.
 use std::process::Abort;
 use std::test::Fail;
+use web::{Head, HttpError, Response, push_error, push_page_head, push_upgrade, response};
 
-const REFUSALS: [(Refusal, &[u8]); 6] = [
+const REFUSALS: [(HttpError, &[u8]); 6] = [
     (
-        Refusal::BadRequest,
+        HttpError::BadRequest,
         b"HTTP/1.1 400 Bad Request\r\nContent-Type: text/plain; charset=utf-8\r\nContent-Length: 41\r\nConnection: close\r\n\r\nThis is no request that can be answered.\n",
     ),
     (
-        Refusal::Forbidden,
+        HttpError::Forbidden,
         b"HTTP/1.1 403 Forbidden\r\nContent-Type: text/plain; charset=utf-8\r\nContent-Length: 45\r\nConnection: close\r\n\r\nOnly a page of this server may join the bus.\n",
     ),
     (
-        Refusal::NotFound,
+        HttpError::NotFound,
         b"HTTP/1.1 404 Not Found\r\nContent-Type: text/plain; charset=utf-8\r\nContent-Length: 31\r\nConnection: close\r\n\r\nThere is nothing at this path.\n",
     ),
     (
-        Refusal::MethodNotAllowed,
+        HttpError::MethodNotAllowed,
         b"HTTP/1.1 405 Method Not Allowed\r\nContent-Type: text/plain; charset=utf-8\r\nContent-Length: 22\r\nConnection: close\r\nAllow: GET\r\n\r\nOnly GET is answered.\n",
     ),
     (
-        Refusal::TimedOut,
+        HttpError::TimedOut,
         b"HTTP/1.1 408 Request Timeout\r\nContent-Type: text/plain; charset=utf-8\r\nContent-Length: 45\r\nConnection: close\r\n\r\nThe request did not come to its end in time.\n",
     ),
     (
-        Refusal::TooLong,
+        HttpError::TooLong,
         b"HTTP/1.1 431 Request Header Fields Too Large\r\nContent-Type: text/plain; charset=utf-8\r\nContent-Length: 37\r\nConnection: close\r\n\r\nThe head of the request is too long.\n",
     ),
 ];
 
 #[test]
 fn refusals_have_their_text(rt: HostRuntime) {
-    for (refusal, text) in REFUSALS {
+    for (error, text) in REFUSALS {
         let mut head = Head::new();
-        push_refusal(&mut head, refusal);
+        push_error(&mut head, error);
         assert!(rt; head.as_slice() == text);
     }
 }
@@ -55,8 +55,8 @@ fn a_handshake_has_the_standard_key(rt: HostRuntime) -> Result<(), Fail> {
     let text =
         b"GET /bus HTTP/1.1\r\nHost: 127.0.0.1\r\nUpgrade: websocket\r\nConnection: Upgrade\r\nSec-WebSocket-Key: dGhlIHNhbXBsZSBub25jZQ==\r\nOrigin: http://127.0.0.1\r\nSec-WebSocket-Version: 13\r\n\r\n";
     let mut head = Head::new();
-    match answer(text) {
-        Answer::Joins(joined) => push_joining(&mut head, &joined),
+    match response(text) {
+        Response::Upgrade(upgrade) => push_upgrade(&mut head, &upgrade),
         _ => assert!(rt; false),
     }
     assert!(rt;

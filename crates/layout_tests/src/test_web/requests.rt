@@ -1,19 +1,19 @@
-//! Requests written by hand, by the standards' grammar, and what each is answered.
-use web::{Answer, LONGEST, answer};
+//! Requests written by hand, by the standards' grammar, and the response to each.
 use std::process::Abort;
 use std::test::Fail;
+use web::{MAX_HEAD, Response, response};
 
-/// A status, or 0 for a request that is waited for.
+/// A status, or 0 for an incomplete request.
 fn status(text: &[u8]) -> u16 {
-    match answer(text) {
-        Answer::Later => 0,
-        Answer::Page => 200,
-        Answer::Joins(_) => 101,
-        Answer::Refused(refusal) => refusal.status(),
+    match response(text) {
+        Response::Incomplete => 0,
+        Response::Page => 200,
+        Response::Upgrade(_) => 101,
+        Response::Error(error) => error.status(),
     }
 }
 
-/// Whole requests, or lines that can begin none.
+/// Whole requests, or lines that cannot begin one.
 const REQUESTS: [(&[u8], u16); 36] = [
     (b"GET / HTTP/1.1\r\nHost: localhost:8080\r\n\r\n", 200),
     (b"GET / HTTP/1.0\r\n\r\n", 200),
@@ -26,16 +26,17 @@ const REQUESTS: [(&[u8], u16); 36] = [
     (b"GET /../x HTTP/1.1\r\n\r\n", 404),
     (b"GET /index.html HTTP/1.1\r\n\r\n", 404),
     (b"GET /pages/throttle.html HTTP/1.1\r\n\r\n", 404),
-    // The form of a request to a proxy (RFC 9112, section 3.2.2), and that for all of a server (3.2.4).
+    // The form of a request to a proxy (RFC 9112, section 3.2.2), and that for all of a server
+    // (3.2.4).
     (b"GET http://localhost/ HTTP/1.1\r\n\r\n", 404),
     (b"OPTIONS * HTTP/1.1\r\n\r\n", 404),
     (b"POST /x HTTP/1.1\r\n\r\n", 404),
     (b"POST / HTTP/1.1\r\n\r\n", 405),
     (b"HEAD / HTTP/1.1\r\n\r\n", 405),
-    // A method is compared with the case of its letters (RFC 9110, section 9.1).
+    // Method names are case-sensitive (RFC 9110, section 9.1).
     (b"get / HTTP/1.1\r\n\r\n", 405),
     (b"POST /bus HTTP/1.1\r\n\r\n", 405),
-    // No version, as before HTTP/1.0; a later one; one that is none.
+    // No version, as before HTTP/1.0; a later one; an invalid one.
     (b"GET /\r\n\r\n", 400),
     (b"GET / HTTP/2.0\r\n\r\n", 400),
     (b"GET / http/1.1\r\n\r\n", 400),
@@ -46,10 +47,10 @@ const REQUESTS: [(&[u8], u16); 36] = [
     (b"GET / HTTP/1.1\r\nHost : localhost\r\n\r\n", 400),
     (b"GET / HTTP/1.1\r\nHost: localhost\r\n more\r\n\r\n", 400),
     (b"GET / HTTP/1.1\r\nHost: local\0host\r\n\r\n", 400),
-    // A target that is no UTF-8, told where its line ends.
+    // A target that is not UTF-8, rejected where its line ends.
     (b"GET /\xff HTTP/1.1\r\n\r\n", 400),
     (b"GET / HTTP/1.1\r\nCookie: a=\xff\xe9\r\n\r\n", 200),
-    // The bus, by no origin and by no handshake.
+    // The upgrade, without an origin and without a handshake.
     (b"GET /bus HTTP/1.1\r\nHost: localhost:8080\r\n\r\n", 403),
     (
         b"GET /bus HTTP/1.1\r\nHost: localhost:8080\r\nOrigin: http://localhost:8080\r\n\r\n",
@@ -90,13 +91,14 @@ fn requests_have_their_statuses(rt: HostRuntime) {
     }
 }
 
-/// Whether a text is answered the same in every cut: it is waited for, and from some byte on it has its answer.
+/// Whether a text has the same response however it is divided: incomplete, and from some byte on
+/// its response.
 fn has_one_answer(text: &[u8]) -> bool {
-    let whole = answer(text);
+    let whole = response(text);
     let mut is_told = false;
     for end in 0..=text.len() {
-        let found = answer(&text[..end]);
-        if found == Answer::Later && !is_told {
+        let found = response(&text[..end]);
+        if found == Response::Incomplete && !is_told {
             continue;
         }
         is_told = true;
@@ -114,11 +116,12 @@ fn every_cut_is_answered_alike(rt: HostRuntime) {
     }
 }
 
-/// The fields behind `Host` and `Origin` of a good handshake, with the standard's key (RFC 6455, section 1.3).
+/// The fields after `Host` and `Origin` of a valid handshake, with the standard's key (RFC 6455,
+/// section 1.3).
 const HANDSHAKE: &[u8] =
     b"Upgrade: websocket\r\nConnection: Upgrade\r\nSec-WebSocket-Key: dGhlIHNhbXBsZSBub25jZQ==\r\nSec-WebSocket-Version: 13\r\n\r\n";
 
-/// Fields of a good handshake, and its status.
+/// Fields of a valid handshake, and its status.
 const ORIGINS: [(&[u8], u16); 25] = [
     (b"Host: localhost\r\nOrigin: http://localhost\r\n", 101),
     (
@@ -161,7 +164,7 @@ const ORIGINS: [(&[u8], u16); 25] = [
         b"Host: 127.0.0.1:8080\r\nOrigin: http://127.0.0.1.evil.com\r\n",
         403,
     ),
-    // A name that its owner has led here.
+    // A name that its owner has made resolve to this computer.
     (
         b"Host: evil.com:8080\r\nOrigin: http://evil.com:8080\r\n",
         403,
@@ -209,14 +212,14 @@ fn a_handshake_tells_how_long_its_head_is(rt: HostRuntime) -> Result<(), Fail> {
     text.extend_from_slice(HANDSHAKE)?;
     let length = text.len();
     text.extend_from_slice(b"\x81\x80\0\0\0\0")?;
-    match answer(text.as_slice()) {
-        Answer::Joins(joined) => assert_eq!(rt; joined.taken, length),
+    match response(text.as_slice()) {
+        Response::Upgrade(upgrade) => assert_eq!(rt; upgrade.head_length, length),
         _ => assert!(rt; false),
     }
     Ok(())
 }
 
-/// A request of one line and so many fields of three bytes, and its end.
+/// A request of one line and a number of fields of three bytes, and its end.
 fn with_fields(rt: &HostRuntime, count: usize) -> Result<Vec<u8>, Fail> {
     let mut text = Vec::new(rt.alloc());
     text.extend_from_slice(b"GET / HTTP/1.1\n")?;
@@ -231,7 +234,7 @@ fn with_fields(rt: &HostRuntime, count: usize) -> Result<Vec<u8>, Fail> {
 fn a_head_has_so_many_fields(rt: HostRuntime) -> Result<(), Fail> {
     assert_eq!(rt; status(with_fields(&rt, 64)?.as_slice()), 200);
     assert_eq!(rt; status(with_fields(&rt, 65)?.as_slice()), 431);
-    // As many as there is room for in a head; one byte longer, it is not whole in time.
+    // As many as fit into a head; one byte longer, it stays incomplete up to the limit.
     let most = with_fields(&rt, 2_725)?;
     assert_eq!(rt; most.len(), 8_191);
     assert_eq!(rt; status(most.as_slice()), 431);
@@ -246,16 +249,16 @@ fn a_head_has_so_many_bytes(rt: HostRuntime) -> Result<(), Fail> {
     for _ in 0..8_172 {
         text.push(b'a')?;
     }
-    assert_eq!(rt; text.len(), LONGEST - 1);
+    assert_eq!(rt; text.len(), MAX_HEAD - 1);
     assert_eq!(rt; status(text.as_slice()), 0);
     text.push(b'a')?;
     assert_eq!(rt; status(text.as_slice()), 431);
     text.extend_from_slice(b"\r\n\r\n")?;
     assert_eq!(rt; status(text.as_slice()), 431);
-    // A head that ends in the last byte there is.
-    text.truncate(LONGEST - 4);
+    // A head that ends with the last byte allowed.
+    text.truncate(MAX_HEAD - 4);
     text.extend_from_slice(b"\r\n\r\n")?;
-    assert_eq!(rt; text.len(), LONGEST);
+    assert_eq!(rt; text.len(), MAX_HEAD);
     assert_eq!(rt; status(text.as_slice()), 200);
     text.push(b'x')?;
     assert_eq!(rt; status(text.as_slice()), 200);

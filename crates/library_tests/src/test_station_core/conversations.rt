@@ -1,4 +1,4 @@
-//! What a throttle says, and what it is answered.
+//! The messages of a throttle, and the station's replies.
 
 use super::hostile::cuts;
 use super::{Conversation, IN_USE, is_answered};
@@ -266,8 +266,8 @@ pub(super) fn holds(
     }
 }
 
-// Each conversation behind another on a station of its own, whole, which leaves no mark, and cut anywhere. A proof that sees
-// a table goes through its rows, so the table comes as a parameter.
+// Each conversation after another on one new station, whole, which leaves no mark, and divided
+// anywhere. A proof that sees a table goes through its rows, so the table is a parameter.
 fn answers(
     rt: &impl Abort,
     alloc: Global,

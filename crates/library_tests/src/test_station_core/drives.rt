@@ -1,4 +1,4 @@
-//! What a throttle says, and the packets of the turns.
+//! The messages of a throttle, and the packets of the turns.
 
 use super::hostile::cuts_drives;
 use super::{put_in_use, say};
@@ -7,13 +7,13 @@ use std::alloc::Global;
 use std::process::Abort;
 use std::test::Fail;
 
-/// What a throttle says, and the packets of the turns after it; nothing where a list is empty.
+/// The messages of a throttle, and the packets of the turns after them; none if a list is empty.
 pub(super) type Part = (&'static [u8], &'static [&'static [u8]]);
 
-/// Its name, whether slot 1 is in use before, and what then comes.
+/// Its name, whether slot 1 is in use before, and its steps.
 pub(super) type Drive = (&'static str, bool, &'static [Part]);
 
-// Each drive on a station of its own.
+// Each drive on a new station.
 fn sends_each(rt: &impl Abort, alloc: Global, drives: &[Drive]) -> Result<(), Fail> {
     for (name, in_use, parts) in drives {
         let mut station = Station::new(alloc, 1)?;
@@ -42,7 +42,7 @@ fn turns_send(rt: &impl Abort, station: &mut Station, name: &str, packets: &[&[u
     }
 }
 
-// Each drive, whole and cut anywhere.
+// Each drive, whole and divided anywhere.
 fn drive(rt: &impl Abort, alloc: Global, drives: &[Drive]) -> Result<(), Fail> {
     sends_each(rt, alloc, drives)?;
     cuts_drives(rt, alloc, drives)
@@ -266,7 +266,8 @@ fn a_slot_write_is_sent(rt: HostRuntime) -> Result<(), Fail> {
     drive(&rt, rt.alloc(), WRITES)
 }
 
-/// The speed of slot 1, newly in use at address 3, and its function groups one and two, each twice. Group three is next.
+/// The speed of slot 1, newly in use at address 3, and its function groups one and two, each twice.
+/// Group three is next.
 const TO_GROUP_TWO: &[&[u8]] = &[
     &[0x03, 0x3F, 0x80, 0xBC],
     &[0xFF, 0x00, 0xFF],

@@ -1,4 +1,4 @@
-//! One function on at a time, from what a throttle sends to what the decoder then does.
+//! One function on at a time, from the message of a throttle to the effect on the decoder.
 
 use super::{put_in_use, say};
 use dcc_packet::read;
@@ -10,8 +10,8 @@ use std::alloc::Global;
 use std::process::Abort;
 use std::test::Fail;
 
-/// What a throttle sends for slot 1, at address 3, and the decoder's line after a refresh cycle. F0 to F12, then the
-/// direction.
+/// The messages of a throttle for slot 1, at address 3, and the decoder's line after a refresh
+/// cycle. F0 to F12, then the direction.
 const ONE_BY_ONE: &[(&[u8], &str)] = &[
     (
         &[0xA1, 0x01, 0x10, 0x4F],

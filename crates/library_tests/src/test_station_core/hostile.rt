@@ -16,8 +16,8 @@ const POWER_ON: [u8; 2] = [0x83, 0x7C];
 fn are_answered(rt: &impl Abort, station: &mut Station, bytes: &[u8]) -> bool {
     let mut answered = false;
     for byte in bytes {
-        assert!(rt; station.lines() > 0);
-        if station.byte(0, *byte).is_some() {
+        assert!(rt; line < station.lines());
+        if station.byte(line, *byte).is_some() {
             answered = true;
         }
     }
@@ -34,7 +34,7 @@ fn longest(end: [u8; 2]) -> [u8; 128] {
     bytes
 }
 
-/// The message that the last of these bytes ends, where no byte before it ends one.
+/// The message that the last of these bytes completes, if no byte before completes one.
 fn message_at_end(bytes: &[u8]) -> Option<Msg> {
     let mut framer = Framer::new();
     let mut last = None;
@@ -47,7 +47,7 @@ fn message_at_end(bytes: &[u8]) -> Option<Msg> {
     last
 }
 
-/// Whether a new station answers none of these bytes, and its power is then this.
+/// Whether a new station answers none of these bytes, and its power is this afterwards.
 fn leaves_power(rt: &impl Abort, alloc: Global, bytes: &[u8], power: Power) -> Result<bool, Fail> {
     let mut station = Station::new(alloc, 1)?;
     Ok(!are_answered(rt, &mut station, bytes) && station.power() == power)
@@ -88,7 +88,7 @@ fn is_ignored(rt: &impl Abort, alloc: Global, opcode: u8, count: u8) -> Result<b
     Ok(ignored && comes_on(rt, &mut station))
 }
 
-/// Each opcode whose message tells its length, with each count, and then only 00.
+/// Each opcode whose message holds its length, with each count, and then only 00.
 #[test]
 fn every_count_of_every_opcode(rt: HostRuntime) -> Result<(), Fail> {
     for opcode in 0xE0..=0xFFu8 {
@@ -102,7 +102,7 @@ fn every_count_of_every_opcode(rt: HostRuntime) -> Result<(), Fail> {
     Ok(())
 }
 
-/// The bytes that a throttle sends in a conversation, behind some.
+/// The bytes that a throttle sends in a conversation, after the given ones.
 fn sent_in(bytes: &mut Vec<u8>, conversation: Conversation) -> Result<(), Fail> {
     for (sent, _) in conversation {
         bytes.extend_from_slice(sent)?;
@@ -117,7 +117,7 @@ fn comes_on_after(rt: &impl Abort, alloc: Global, bytes: &[u8]) -> Result<bool, 
     Ok(comes_on(rt, &mut station))
 }
 
-/// After each front of the bytes power comes on.
+/// After each prefix of the bytes power comes on.
 fn comes_on_after_each_front(
     rt: &impl Abort,
     alloc: Global,
@@ -133,7 +133,7 @@ fn comes_on_after_each_front(
     Ok(())
 }
 
-/// A conversation behind another, cut anywhere.
+/// A conversation after another, divided anywhere.
 pub(super) fn cuts(
     rt: &impl Abort,
     alloc: Global,
@@ -155,7 +155,7 @@ fn said_in(bytes: &mut Vec<u8>, parts: &[Part]) -> Result<(), Fail> {
     Ok(())
 }
 
-/// Each drive cut anywhere.
+/// Each drive divided anywhere.
 pub(super) fn cuts_drives(rt: &impl Abort, alloc: Global, drives: &[Drive]) -> Result<(), Fail> {
     for (name, in_use, parts) in drives {
         let mut bytes = Vec::new(alloc);

@@ -1,4 +1,5 @@
-//! Which packets of OPC_IMM_PACKET are taken, by the bytes of their address and by how many bytes count.
+//! The packets of OPC_IMM_PACKET that are accepted, by the bytes of their address and by how many
+//! bytes count.
 
 use super::{is_answered, say};
 use ln_frame::Msg;
@@ -7,7 +8,8 @@ use std::alloc::Global;
 use std::process::Abort;
 use std::test::Fail;
 
-/// An address that is taken, how many bytes of a packet count, the packet without its check, and whether it is taken.
+/// An address that is in a slot, how many bytes of a packet count, the packet without its check,
+/// and whether it is accepted.
 const ADDRESSES: [(u16, u8, [u8; 3], bool); 14] = [
     (127, 2, [0x7F, 0xA1, 0x00], true),
     (127, 3, [0xC0, 0x7F, 0xA1], false),
@@ -40,7 +42,8 @@ fn sealed(rt: &impl Abort, body: &[u8]) -> Msg {
     Msg::sealed(body)
 }
 
-/// OPC_IMM_PACKET with these bytes of a packet, of which so many count. The highest bit of each is in the fifth byte.
+/// OPC_IMM_PACKET with these bytes of a packet, of which the first `count` count. The highest bit
+/// of each is in the fifth byte.
 fn immediate(rt: &impl Abort, count: u8, [first, second, third]: [u8; 3]) -> Msg {
     let body = [
         0xED,

@@ -1,4 +1,4 @@
-//! Which packets of a slot wait to be sent after a message, and behind how many sends.
+//! The packets of a slot that wait to be sent after a message, and the sends ahead of them.
 
 ghost use Rattle.slot_table.specs.Entry.{IsSlot};
 
@@ -16,8 +16,8 @@ const EACH: Ahead = [Some(0), Some(1), Some(2), Some(3)];
 
 const NONE: Ahead = [None; 4];
 
-/// A name, what comes before, the message, and the slot whose packets wait then, all four. Slot 1 is idle at first, with
-/// address 3.
+/// A name, the messages before, the message, and the slot whose packets wait then, all four. Slot 1
+/// is idle at first, with address 3.
 const WHOLE: &[(&str, &[u8], &[u8], u8)] = &[
     ("a slot put into use", &[], &[0xB5, 0x01, 0x33, 0x78], 1),
     ("a slot made common", &[], &[0xB5, 0x01, 0x13, 0x58], 1),
@@ -71,7 +71,7 @@ const WHOLE: &[(&str, &[u8], &[u8], u8)] = &[
     ),
 ];
 
-/// A name, a message to slot 1, in use with address 3, and what waits then.
+/// A name, a message to slot 1, in use with address 3, and the packets that wait then.
 const PARTS: &[(&str, &[u8], Ahead)] = &[
     (
         "OPC_LOCO_SPD",
@@ -118,11 +118,16 @@ fn ahead(station: &Station, slot: u8) -> Ahead
     ]
 }
 
-/// Power is on, address 3 stands in slot 1, and then this was said and sent.
+/// Power on, and address 3 into slot 1.
+const LOADED: &[u8] = &[0x83, 0x7C, 0xBF, 0x00, 0x03, 0x43];
+
+/// A null move of slot 1.
+const USED: &[u8] = &[0xBA, 0x01, 0x01, 0x45];
+
+/// Power is on, address 3 is in slot 1, and then these messages and turns followed.
 fn prepared(rt: &impl Abort, alloc: Global, before: &[u8]) -> Result<Station, Fail> {
     let mut station = Station::new(alloc, 1)?;
-    say(rt, &mut station, &[0x83, 0x7C]);
-    say(rt, &mut station, &[0xBF, 0x00, 0x03, 0x43]);
+    say(rt, &mut station, LOADED);
     say(rt, &mut station, before);
     for _ in 0..16 {
         let _ = station.turn();
@@ -143,7 +148,7 @@ fn all_wait(rt: &impl Abort, alloc: Global, rows: &[(&str, &[u8], &[u8], u8)]) -
 
 fn these_wait(rt: &impl Abort, alloc: Global, rows: &[(&str, &[u8], Ahead)]) -> Result<(), Fail> {
     for (name, said, waiting) in rows {
-        let mut station = prepared(rt, alloc, &[0xBA, 0x01, 0x01, 0x45])?;
+        let mut station = prepared(rt, alloc, USED)?;
         say(rt, &mut station, said);
         assert!(rt; ahead(&station, 1) == *waiting, "{name}");
     }
