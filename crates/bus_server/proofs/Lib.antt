@@ -6,5 +6,6 @@ pub mod Missed
 pub mod Missing
 pub mod Placing
 pub mod Rounding
+pub mod Stopping
 pub mod Times
 pub mod WholeRuns

@@ -9,4 +9,5 @@ pub mod Progress
 pub mod Queues
 pub mod Rounds
 pub mod Runs
+pub mod Stops
 pub mod TransportEvents

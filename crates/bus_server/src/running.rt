@@ -1,5 +1,5 @@
 //! A whole run of a server.
-ghost use Rattle.std.specs.Prelude.{◌≡◌, ◌<◌, ◌∷◌, [], ◌++◌, List, OnOk, min, ℕ};
+ghost use Rattle.std.specs.Prelude.{◌≡◌, ◌<◌, ◌∷◌, [], ◌++◌, IfErr, List, None, OnErr, OnOk, min, ℕ};
 ghost use Rattle.std.specs.List.{flat_map};
 ghost use Rattle.bus.specs.Log.{Extends};
 ghost use Rattle.bus_server.specs.Progress.{ObservesLayout, state_of};
@@ -28,11 +28,13 @@ pub enum Stop<T, C, O> {
 }
 
 impl Server {
+    ghost use Rattle.bus_server.specs.Stops.{IsStoppedRun, RunsPart, StopsByClock, StopsLogged};
+
     /// Serves until `most` clients have disconnected since the server was new, or for 2 ^ 64 - 1 rounds.
     ///
     /// # Errors
     ///
-    /// The fault of the device that has failed. The run ends at once.
+    /// The fault of the device that has failed. The run ends at once: all that was logged before is applied.
     pub fn run<W: Transport, C: TimeSource, P: Observer, A: AfterRound<W, P>>(
         &mut self,
         transport: &mut W,
@@ -46,6 +48,12 @@ impl Server {
         ensures run { OnOk result
             (IsRun most (run_snapshot (W.log transport.old) (C.readings clock.old)
             (P.observed observer.old) self.old.hub)
+            (run_snapshot (W.log transport.new) (C.readings clock.new) (P.observed observer.new)
+            self.new.hub)) }
+        ensures stopped { IfErr result
+            (λ stop. IsStoppedRun most stop
+            (run_snapshot (W.log transport.old) (C.readings clock.old) (P.observed observer.old)
+            self.old.hub)
             (run_snapshot (W.log transport.new) (C.readings clock.new) (P.observed observer.new)
             self.new.hub)) }
     {
@@ -77,6 +85,13 @@ impl Server {
         ensures round { OnOk result
             ((round : Round)
             × RunsLogged most (round ∷ [])
+            (run_snapshot (W.log transport.old) (C.readings clock.old) (P.observed observer.old)
+            self.old.hub)
+            (run_snapshot (W.log transport.new) (C.readings clock.new) (P.observed observer.new)
+            self.new.hub)) }
+        ensures stopped { IfErr result
+            (λ stop. (last : Round) × (rest : List TransportEvent)
+            × StopsLogged most stop last rest
             (run_snapshot (W.log transport.old) (C.readings clock.old) (P.observed observer.old)
             self.old.hub)
             (run_snapshot (W.log transport.new) (C.readings clock.new) (P.observed observer.new)
@@ -124,6 +139,13 @@ impl Server {
             (flat_map skipped readings ++ observations_of elapsing)
             × RunsByClock self.old.hub.turns readings elapsing (state_of self.old.hub)
             (state_of self.new.hub)) }
+        ensures in_time { OnErr result (self.old.hub.turns ≡ None) }
+        ensures stopped { IfErr result
+            (λ stop. (readings : List ℕ) × (elapsing : List LoggedEvent)
+            × Extends (C.readings clock.old) (C.readings clock.new) readings
+            × Extends (P.observed observer.old) (P.observed observer.new)
+            (flat_map skipped readings ++ observations_of elapsing)
+            × StopsByClock stop readings elapsing (state_of self.old.hub) (state_of self.new.hub)) }
     {
         if self.hub.turns.is_some() {
             return Ok(());
@@ -147,6 +169,12 @@ impl Server {
             × Extends (P.observed observer.old) (P.observed observer.new)
             (skipped micros ++ observations_of elapsing)
             × RunsFor (min micros 1000000) elapsing (state_of self.old.hub)
+            (state_of self.new.hub)) }
+        ensures stops { OnErr result
+            ((elapsing : List LoggedEvent)
+            × Extends (P.observed observer.old) (P.observed observer.new)
+            (skipped micros ++ observations_of elapsing)
+            × RunsPart (min micros 1000000) elapsing (state_of self.old.hub)
             (state_of self.new.hub)) }
     {
         observe_skipped(micros, observer)?;

@@ -1,5 +1,5 @@
 //! A server and its rounds.
-ghost use Rattle.std.specs.Prelude.{◌≡◌, ◌<◌, ◌≤◌, IfOk, IsTrue, List, OnOk, false, is_some, map, true};
+ghost use Rattle.std.specs.Prelude.{◌≡◌, ◌<◌, ◌≤◌, IfOk, IsTrue, List, OnErr, OnOk, ◌++◌, false, is_some, map, true};
 ghost use Rattle.decoder_node.specs.declared.node.NodeSpec.{NodeSpec};
 ghost use Rattle.layout_core.specs.Nodes.{spec_of};
 ghost use Rattle.bus.specs.Log.{Extends};
@@ -10,6 +10,7 @@ ghost use Rattle.bus_server.specs.TransportEvents.{TransportEvent, Received};
 ghost use Rattle.bus_server.specs.Applied.{Handled, AreTurns, RunsEventWithTurns, RunsFor, RunsEvents, AppliesAll, events_of, is_accepted, initial_state, has_overflowed, transport_events, observations_in, turns_after};
 ghost use Rattle.bus_server.specs.Progress.{ProgressesBy, Progresses, ProgressesWithoutInput, Snapshot, AcceptsAt, IsObserved, ObservesLayout, snapshot, state_of};
 ghost use Rattle.bus_server.specs.Rounds.{AllWrittenTo, IsRead, IsRound, IsWrittenTo, AcceptsPending, refusals};
+ghost use Rattle.bus_server.specs.Stops.{BeginsEvent, BeginsTurns, RunsPart, Stops, StopsIn};
 
 use crate::hub::Hub;
 use crate::losses::Losses;
@@ -110,6 +111,9 @@ impl Server {
             (ProgressesBy IsRound
             (snapshot (W.log transport.old) (P.observed observer.old) self.old.hub)
             (snapshot (W.log transport.new) (P.observed observer.new) self.new.hub)) }
+        ensures stops { OnErr result
+            (Stops (snapshot (W.log transport.old) (P.observed observer.old) self.old.hub)
+            (snapshot (W.log transport.new) (P.observed observer.new) self.new.hub)) }
     {
         for client in 0..8u8 {
             self.receive(client, transport, observer)?;
@@ -130,6 +134,9 @@ impl Server {
         ensures served { OnOk result
             (ProgressesWithoutInput (λ more _. AcceptsPending more)
             (snapshot (W.log transport.old) (P.observed observer.old) self.old.hub)
+            (snapshot (W.log transport.new) (P.observed observer.new) self.new.hub)) }
+        ensures stops { OnErr result
+            (Stops (snapshot (W.log transport.old) (P.observed observer.old) self.old.hub)
             (snapshot (W.log transport.new) (P.observed observer.new) self.new.hub)) }
     {
         for client in 0..8u8 {
@@ -156,6 +163,9 @@ impl Server {
             (λ is_taken.
             AcceptsAt client is_taken
             (snapshot (W.log transport.old) (P.observed observer.old) self.old.hub)
+            (snapshot (W.log transport.new) (P.observed observer.new) self.new.hub)) }
+        ensures stops { OnErr result
+            (Stops (snapshot (W.log transport.old) (P.observed observer.old) self.old.hub)
             (snapshot (W.log transport.new) (P.observed observer.new) self.new.hub)) }
     {
         self.hub.bus.invariant_holds();
@@ -184,6 +194,9 @@ impl Server {
             (ProgressesWithoutInput (λ _ all. has_overflowed all client ≡ false)
             (snapshot (W.log transport.old) (P.observed observer.old) self.old.hub)
             (snapshot (W.log transport.new) (P.observed observer.new) self.new.hub)) }
+        ensures stops { OnErr result
+            (Stops (snapshot (W.log transport.old) (P.observed observer.old) self.old.hub)
+            (snapshot (W.log transport.new) (P.observed observer.new) self.new.hub)) }
     {
         if !self.hub.has_overflowed(client) {
             return Ok(());
@@ -206,6 +219,9 @@ impl Server {
         ensures served { OnOk result
             (Progresses (λ more _. IsRead client more)
             (snapshot (W.log transport.old) (P.observed observer.old) self.old.hub)
+            (snapshot (W.log transport.new) (P.observed observer.new) self.new.hub)) }
+        ensures stops { OnErr result
+            (Stops (snapshot (W.log transport.old) (P.observed observer.old) self.old.hub)
             (snapshot (W.log transport.new) (P.observed observer.new) self.new.hub)) }
     {
         let mut buf = [0; MAX_READ];
@@ -231,6 +247,11 @@ impl Server {
             × (transport_events handled ≡ map (λ byte. Received client byte) bytes.now)
             × Extends (P.observed observer.old) (P.observed observer.new) (observations_in handled)
             × AppliesAll handled (state_of self.old.hub) (state_of self.new.hub)) }
+        ensures stops { OnErr result
+            ((handled : List Handled) × (rest : List TransportEvent)
+            × (transport_events handled ++ rest ≡ map (λ byte. Received client byte) bytes.now)
+            × Extends (P.observed observer.old) (P.observed observer.new) (observations_in handled)
+            × StopsIn handled rest (state_of self.old.hub) (state_of self.new.hub)) }
     {
         for byte in bytes {
             self.hub.has_backlog = true;
@@ -257,6 +278,9 @@ impl Server {
             (ProgressesWithoutInput (AllWrittenTo 8)
             (snapshot (W.log transport.old) (P.observed observer.old) self.old.hub)
             (snapshot (W.log transport.new) (P.observed observer.new) self.new.hub)) }
+        ensures stops { OnErr result
+            (Stops (snapshot (W.log transport.old) (P.observed observer.old) self.old.hub)
+            (snapshot (W.log transport.new) (P.observed observer.new) self.new.hub)) }
     {
         for client in 0..8u8 {
             self.write(client, transport, observer)?;
@@ -278,6 +302,9 @@ impl Server {
         ensures served { OnOk result
             (ProgressesWithoutInput (IsWrittenTo client)
             (snapshot (W.log transport.old) (P.observed observer.old) self.old.hub)
+            (snapshot (W.log transport.new) (P.observed observer.new) self.new.hub)) }
+        ensures stops { OnErr result
+            (Stops (snapshot (W.log transport.old) (P.observed observer.old) self.old.hub)
             (snapshot (W.log transport.new) (P.observed observer.new) self.new.hub)) }
     {
         for _piece in 0..MAX_WRITES {
@@ -302,6 +329,10 @@ impl Server {
             (IsObserved (λ applied.
             RunsFor micros applied (state_of self.old.hub) (state_of self.new.hub))
             (P.observed observer.old) (P.observed observer.new)) }
+        ensures stops { OnErr result
+            (IsObserved (λ applied.
+            RunsPart micros applied (state_of self.old.hub) (state_of self.new.hub))
+            (P.observed observer.old) (P.observed observer.new)) }
     {
         let mut rest = micros;
         while rest > 0 {
@@ -324,6 +355,10 @@ impl Server {
             (IsObserved (λ applied.
             RunsEventWithTurns event applied (state_of self.old.hub) (state_of self.new.hub))
             (P.observed observer.old) (P.observed observer.new)) }
+        ensures stops { OnErr result
+            (IsObserved (λ applied.
+            BeginsEvent event applied (state_of self.old.hub) (state_of self.new.hub))
+            (P.observed observer.old) (P.observed observer.new)) }
     {
         let outcome = self.hub.step(event);
         observer.observe(&outcome, self.hub.bus.world())?;
@@ -338,6 +373,10 @@ impl Server {
         ensures happened { OnOk result
             (IsObserved (λ applied. AreTurns turns (events_of applied)
             × RunsEvents applied (state_of self.old.hub) (state_of self.new.hub))
+            (P.observed observer.old) (P.observed observer.new)) }
+        ensures stops { OnErr result
+            (IsObserved (λ applied.
+            BeginsTurns turns applied (state_of self.old.hub) (state_of self.new.hub))
             (P.observed observer.old) (P.observed observer.new)) }
     {
         for _turn in 0..turns {

@@ -5,6 +5,7 @@ use Rattle.bus_server.specs.TransportEvents.{Accepted}
 use Rattle.bus_server.proofs.Going.{calm_nowhere, goes_one}
 use Rattle.bus_server.specs.Applied.{with_backlog}
 use Rattle.bus_server.proofs.Keeping.{keeps_backlog, more_backlog, joined_keeps, joined_places, only_joins}
+use Rattle.bus_server.proofs.Stopping.{stops_first, whatever_fails}
 use Rattle.bus_server.proofs.server.Server.accept_at.Goals as goal
 
 pub returns-then-is_connected-clause-seats : goal.returns-then-is_connected-clause-seats
@@ -25,3 +26,9 @@ returns-clause-seats g c =
     goes_one (λ more all. PreservesRound more old all × HasMoreClients client old all) (Accepted client) does.0
     (snapshot (g.W.Transport.log c.args.transport.now) (g.P.Observer.observed c.args.observer.now) c.args.self.now.hub) (snapshot (g.W.Transport.log c.accept.new.self) (g.P.Observer.observed c.apply.new.observer) c.apply.new.self.hub) c.if-not-accept.ensures does.1 does.2
     (keeps_backlog (Accepted client ∷ []) old new (joined_keeps client joined.0 (with_backlog old) new place c.args.self.now.hub.within_capacity joined.1), more_backlog client old new (joined_places client joined.0 (with_backlog old) new line joined.1))
+
+pub returns-in_err-apply-clause-stops : goal.returns-in_err-apply-clause-stops
+returns-in_err-apply-clause-stops g c =
+    let begun = c.in_err-apply.ensures.stops in
+    whatever_fails c.from_residual.result
+    (stops_first (Accepted c.args.client) begun.0 (snapshot (g.W.Transport.log c.args.transport.now) (g.P.Observer.observed c.args.observer.now) c.args.self.now.hub) (snapshot (g.W.Transport.log c.accept.new.self) (g.P.Observer.observed c.apply.new.observer) c.apply.new.self.hub) c.if-not-accept.ensures begun.1 begun.2 refl)

@@ -4,6 +4,7 @@ use Rattle.bus_server.specs.Rounds.{HasMoreClients, AcceptsPending}
 use Rattle.bus_server.specs.Applied.{is_connected}
 use Rattle.bus_server.proofs.Going.{calm_nowhere, calm_then, grows_none}
 use Rattle.bus_server.proofs.Rounding.{AreTaken, lets_in_behind, more_taken, nobody_waits, turns_others_away}
+use Rattle.bus_server.proofs.Stopping.{stops_behind, whatever_fails}
 use Rattle.bus_server.proofs.server.Server.accept_pending.Goals as goal
 
 pub loop-client-init : goal.loop-client-init
@@ -42,3 +43,10 @@ returns-clause-served g c =
     (λ these those kept before last. lets_in_behind these those last)
     first.invariant.served
     (turns_others_away c.reject_pending-refused.result before after taken c.reject_pending-refused.ensures (grows_none (g.P.Observer.observed first.observer)) c.note_refused.ensures.state)
+
+pub returns-in_err-accept_at-clause-stops : goal.returns-in_err-accept_at-clause-stops
+returns-in_err-accept_at-clause-stops g c =
+    let first = c.loop-client in
+    let so_far = first.invariant.served in
+    whatever_fails c.from_residual.result
+    (stops_behind so_far.0 (snapshot (g.W.Transport.log c.args.transport.now) (g.P.Observer.observed c.args.observer.now) c.args.self.now.hub) (snapshot (g.W.Transport.log first.transport) (g.P.Observer.observed first.observer) first.self.hub) (snapshot (g.W.Transport.log c.accept_at.new.transport) (g.P.Observer.observed c.accept_at.new.observer) c.accept_at.new.self.hub) so_far.1 so_far.2 so_far.3 c.in_err-accept_at.ensures.stops)

@@ -1,5 +1,5 @@
-use Rattle.std.proofs.Common.{refl, ◌≡◌, ◌∷◌, [], false, sym, ◌∙◌}
-use Rattle.std.proofs.lemmas.Result.{on_ok_weaker}
+use Rattle.std.proofs.Common.{refl, ◌≡◌, ◌∷◌, [], false, sym, ◌∙◌, inl, inr}
+use Rattle.std.proofs.lemmas.Result.{on_ok_weaker, on_err_weaker}
 use Rattle.bus_server.specs.Progress.{snapshot, state_of}
 use Rattle.bus_server.specs.Rounds.{PreservesRound}
 use Rattle.bus_server.specs.Applied.{has_overflowed, observations_of}
@@ -7,6 +7,7 @@ use Rattle.bus.specs.Observations.{Overflowed}
 use Rattle.bus_server.specs.TransportEvents.{ServerClosed}
 use Rattle.bus_server.proofs.Going.{calm_nowhere, goes_one, grows_more}
 use Rattle.bus_server.proofs.Keeping.{left_is_not_late, left_keeps, only_leaves}
+use Rattle.bus_server.proofs.Stopping.{stops_first, whatever_fails}
 use Rattle.bus_server.proofs.server.Server.disconnect.Goals as goal
 
 pub returns-then-not-has_overflowed-clause-served : goal.returns-then-not-has_overflowed-clause-served
@@ -24,3 +25,18 @@ returns-clause-served g c =
     (sym c.has_overflowed.ensures ∙ c.if-not-has_overflowed.false, does.2)
     (left_keeps client remaining.0 (ServerClosed client ∷ []) old new refl remaining.1, left_is_not_late client remaining.0 old new remaining.1))
     c.apply.ensures.happened
+
+pub returns-in_err-overflowed-clause-stops : goal.returns-in_err-overflowed-clause-stops
+returns-in_err-overflowed-clause-stops g c =
+    whatever_fails c.from_residual.result
+    (stops_first (ServerClosed c.args.client) [] (snapshot (g.W.Transport.log c.args.transport.now) (g.P.Observer.observed c.args.observer.now) c.args.self.now.hub) (snapshot (g.W.Transport.log c.close.new.self) (g.P.Observer.observed c.overflowed.new.self) c.args.self.now.hub) c.close.ensures c.overflowed.ensures.observed
+    (sym c.has_overflowed.ensures ∙ c.if-not-has_overflowed.false, inl (refl, refl)) refl)
+
+pub returns-clause-stops : goal.returns-clause-stops
+returns-clause-stops g c =
+    let client = c.args.client in
+    on_err_weaker c.apply.result
+    (λ begun. stops_first (ServerClosed client) begun.0 (snapshot (g.W.Transport.log c.args.transport.now) (g.P.Observer.observed c.args.observer.now) c.args.self.now.hub) (snapshot (g.W.Transport.log c.close.new.self) (g.P.Observer.observed c.apply.new.observer) c.apply.new.self.hub) c.close.ensures
+    (grows_more (g.P.Observer.observed c.args.observer.now) (g.P.Observer.observed c.overflowed.new.self) (g.P.Observer.observed c.apply.new.observer) (Overflowed client ∷ []) (observations_of begun.0) c.overflowed.ensures.observed begun.1)
+    (sym c.has_overflowed.ensures ∙ c.if-not-has_overflowed.false, inr begun.2) refl)
+    c.apply.ensures.stops

@@ -1,12 +1,13 @@
 use Rattle.std.proofs.Common.{◌≡◌, ◌<◌, ◌≤◌, [], ℕ, List, arith, length, map, take, refl, subst, sym}
 use Rattle.std.proofs.lemmas.List.{length-map, length-take}
-use Rattle.std.proofs.lemmas.Result.{on_ok_weaker}
+use Rattle.std.proofs.lemmas.Result.{on_ok_weaker, on_err_weaker}
 use Rattle.bus.specs.Log.{Extends}
 use Rattle.bus_server.specs.Progress.{snapshot}
 use Rattle.bus_server.specs.Rounds.{IsRead}
 use Rattle.bus_server.specs.TransportEvents.{PeerClosed, TransportEvent, ReadBlocked, Received}
 use Rattle.bus_server.proofs.Going.{goes_one, grows_none}
 use Rattle.bus_server.proofs.Keeping.{all_read, read_now}
+use Rattle.bus_server.proofs.Stopping.{stops_first}
 use Rattle.bus_server.proofs.server.Server.receive.Goals as goal
 
 pub returns-in-Closed-clause-served : goal.returns-in-Closed-clause-served
@@ -36,3 +37,21 @@ returns-in-Bytes-clause-served g c =
       subst (λ (more : List TransportEvent). IsRead client more) (sym all.1) (more_than_none, few, all_read client bytes),
     ))
     c.receive_all.ensures.served
+
+pub returns-in-Closed-clause-stops : goal.returns-in-Closed-clause-stops
+returns-in-Closed-clause-stops g c =
+    on_err_weaker c.apply.result
+    (λ begun. stops_first (PeerClosed c.args.client) begun.0 (snapshot (g.W.Transport.log c.args.transport.now) (g.P.Observer.observed c.args.observer.now) c.args.self.now.hub) (snapshot (g.W.Transport.log c.read.new.self) (g.P.Observer.observed c.apply.new.observer) c.apply.new.self.hub) c.in-Closed.ensures.log begun.1 begun.2 refl)
+    c.apply.ensures.stops
+
+pub returns-in-Bytes-clause-stops : goal.returns-in-Bytes-clause-stops
+returns-in-Bytes-clause-stops g c =
+    on_err_weaker c.receive_all.result
+    (λ all. (
+      all.0,
+      all.1,
+      subst (λ (more : List TransportEvent). Extends (g.W.Transport.log c.args.transport.now) (g.W.Transport.log c.read.new.self) more) (sym all.2) c.in-Bytes.ensures.log,
+      all.3,
+      all.4,
+    ))
+    c.receive_all.ensures.stops

@@ -1,9 +1,10 @@
-use Rattle.std.proofs.Common.{◌≡◌, ◌++◌, [], ℕ, List, arith, refl, subst}
-use Rattle.std.proofs.lemmas.Result.{on_ok_weaker}
-use Rattle.bus_server.specs.Progress.{state_of}
+use Rattle.std.proofs.Common.{◌≡◌, ◌++◌, [], ℕ, arith, refl, subst}
+use Rattle.std.proofs.lemmas.Result.{on_ok_weaker, on_err_weaker}
+use Rattle.bus_server.specs.Progress.{state_of, snapshot}
 use Rattle.bus_server.specs.Rounds.{ServesClients}
 use Rattle.bus_server.proofs.Going.{acts_more, grows_none, wire_more}
-use Rattle.bus_server.proofs.Rounding.{next_turn}
+use Rattle.bus_server.proofs.Rounding.{next_turn, turns_serve}
+use Rattle.bus_server.proofs.Stopping.{stops_behind, whatever_fails}
 use Rattle.bus_server.proofs.server.Server.round.Goals as goal
 
 pub loop-client-init : goal.loop-client-init
@@ -57,3 +58,33 @@ returns-clause-served g c =
       ),
     ))
     c.accept_pending.ensures.served
+
+pub returns-in_err-receive-clause-stops : goal.returns-in_err-receive-clause-stops
+returns-in_err-receive-clause-stops g c =
+    let first = c.loop-client in
+    let so_far = first.invariant.served in
+    let applies = turns_serve first.client so_far.0 (state_of c.args.self.now.hub) (state_of first.self.hub) so_far.3 in
+    whatever_fails c.from_residual.result
+    (stops_behind so_far.0 (snapshot (g.W.Transport.log c.args.transport.now) (g.P.Observer.observed c.args.observer.now) c.args.self.now.hub) (snapshot (g.W.Transport.log first.transport) (g.P.Observer.observed first.observer) first.self.hub) (snapshot (g.W.Transport.log c.receive.new.transport) (g.P.Observer.observed c.receive.new.observer) c.receive.new.self.hub) so_far.1 so_far.2 applies c.in_err-receive.ensures.stops)
+
+pub returns-in_err-write_all-clause-stops : goal.returns-in_err-write_all-clause-stops
+returns-in_err-write_all-clause-stops g c =
+    let first = c.loop-client in
+    let so_far = first.invariant.served in
+    let heard = c.in_ok-receive.ensures.served in
+    let applies = turns_serve first.client so_far.0 (state_of c.args.self.now.hub) (state_of first.self.hub) so_far.3 in
+    let before = (snapshot (g.W.Transport.log first.transport) (g.P.Observer.observed first.observer) first.self.hub) in
+    let mid = (snapshot (g.W.Transport.log c.receive.new.transport) (g.P.Observer.observed c.receive.new.observer) c.receive.new.self.hub) in
+    let after = (snapshot (g.W.Transport.log c.write_all.new.transport) (g.P.Observer.observed c.write_all.new.observer) c.write_all.new.self.hub) in
+    whatever_fails c.from_residual-in_err-write_all.result
+    (stops_behind so_far.0 (snapshot (g.W.Transport.log c.args.transport.now) (g.P.Observer.observed c.args.observer.now) c.args.self.now.hub) before after so_far.1 so_far.2 applies
+    (stops_behind heard.0 before mid after heard.1 heard.2 heard.3 c.in_err-write_all.ensures.stops))
+
+pub returns-clause-stops : goal.returns-clause-stops
+returns-clause-stops g c =
+    let first = c.loop-client in
+    let so_far = first.invariant.served in
+    let applies = turns_serve first.client so_far.0 (state_of c.args.self.now.hub) (state_of first.self.hub) so_far.3 in
+    on_err_weaker c.accept_pending.result
+    (λ stops. stops_behind so_far.0 (snapshot (g.W.Transport.log c.args.transport.now) (g.P.Observer.observed c.args.observer.now) c.args.self.now.hub) (snapshot (g.W.Transport.log first.transport) (g.P.Observer.observed first.observer) first.self.hub) (snapshot (g.W.Transport.log c.accept_pending.new.transport) (g.P.Observer.observed c.accept_pending.new.observer) c.accept_pending.new.self.hub) so_far.1 so_far.2 applies stops)
+    c.accept_pending.ensures.stops

@@ -2,6 +2,8 @@ use Rattle.std.proofs.Common.{◌≡◌, ◌-◌, ◌^◌, [], ◌∷◌, ◌++�
 use Rattle.bus_server.specs.Runs.{run_snapshot}
 use Rattle.bus_server.proofs.Courses.{Laws}
 use Rattle.bus_server.proofs.WholeRuns.{run_ends, runs_none, runs_then}
+use Rattle.bus_server.proofs.Stopping.{passed_on, run_stops}
+use Rattle.bus_server.specs.Stops.{IsStoppedRun}
 use Rattle.bus_server.proofs.server.Server.run.Goals as goal
 
 pub loop-round-init : goal.loop-round-init
@@ -32,3 +34,15 @@ returns-clause-run g c =
     let so_far = c.loop-round.invariant.rounds in
     let all : length so_far.0 ≡ 2 ^ 64 - 1 = omega (arith, so_far.1, c.loop-round.auto._round-end, c.loop-round-test.false) in
     run_ends laws c.headline.ensures.in_time c.args.most so_far.0 (run_snapshot (g.W.Transport.log c.args.transport.now) (g.C.TimeSource.readings c.args.clock.now) (g.P.Observer.observed c.args.observer.now) c.args.self.now.hub) (run_snapshot (g.W.Transport.log c.loop-round.transport) (g.C.TimeSource.readings c.loop-round.clock) (g.P.Observer.observed c.loop-round.observer) c.loop-round.self.hub) c.invariant_holds.ensures.kept c.invariant_holds.ensures.desk so_far.2 (inr all)
+
+pub returns-in_err-run_round-clause-stopped : goal.returns-in_err-run_round-clause-stopped
+returns-in_err-run_round-clause-stopped g c =
+    let laws : Laws = record { kept = c.events_are_the_layout.ensures.kept; more = c.events_are_the_layout.ensures.more; none = c.events_add_up.ensures.none } in
+    let so_far = c.loop-round.invariant.rounds in
+    let stop = c.in_err-run_round.field-0.0 in
+    let one = c.in_err-run_round.ensures.stopped in
+    let start = (run_snapshot (g.W.Transport.log c.args.transport.now) (g.C.TimeSource.readings c.args.clock.now) (g.P.Observer.observed c.args.observer.now) c.args.self.now.hub) in
+    let mid = (run_snapshot (g.W.Transport.log c.loop-round.transport) (g.C.TimeSource.readings c.loop-round.clock) (g.P.Observer.observed c.loop-round.observer) c.loop-round.self.hub) in
+    let end = (run_snapshot (g.W.Transport.log c.run_round.new.transport) (g.C.TimeSource.readings c.run_round.new.clock) (g.P.Observer.observed c.run_round.new.observer) c.run_round.new.self.hub) in
+    passed_on (λ stop. IsStoppedRun c.args.most stop start end) c.from_residual.result stop c.from_residual.ensures.1
+    (run_stops laws c.headline.ensures.in_time c.args.most stop so_far.0 one.0 one.1 start mid end c.invariant_holds.ensures.kept c.invariant_holds.ensures.desk so_far.2 one.2)

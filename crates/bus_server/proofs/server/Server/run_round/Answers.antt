@@ -4,8 +4,11 @@ use Rattle.bus.specs.Log.{Extends}
 use Rattle.bus_server.specs.Progress.{state_of}
 use Rattle.bus_server.specs.Runs.{Round, skipped, run_snapshot}
 use Rattle.bus_server.specs.Applied.{longest_wait, transport_events, observations_in, observations_of}
-use Rattle.bus_server.specs.TransportEvents.{Polled}
-use Rattle.bus_server.proofs.Going.{grows_more}
+use Rattle.bus_server.specs.TransportEvents.{Polled, TransportEvent}
+use Rattle.bus_server.proofs.Going.{grows_more, grows_none}
+use Rattle.bus_server.proofs.Stopping.{has_logged, passed_on, stops_by_clock}
+use Rattle.bus.specs.Observations.{Observation}
+use Rattle.bus_server.specs.Stops.{StopsLogged}
 use Rattle.bus_server.proofs.server.Server.run_round.Goals as goal
 
 pub returns-in-Ok-clause-round : goal.returns-in-Ok-clause-round
@@ -27,5 +30,94 @@ returns-in-Ok-clause-round g c =
         grows_more (observed c.args.observer.now) (observed c.elapse.new.observer) (observed c.after_round.new.observer) (observations_in served.0 ++ later) []
             (grows_more (observed c.args.observer.now) (observed c.round.new.observer) (observed c.elapse.new.observer) (observations_in served.0) later served.2 elapsed.3) c.after_round.ensures.observed,
         (c.requires.fewer, state_of c.elapse.new.self.hub, (refl, state_of c.round.new.self.hub, served.3, elapsed.4), refl),
+      ),
+    )
+
+pub returns-in-Err-clause-stopped : goal.returns-in-Err-clause-stopped
+returns-in-Err-clause-stopped g c =
+    let longest = longest_wait (state_of c.args.self.now.hub) in
+    let last : Round = record { longest = longest; handled = []; readings = []; elapsing = [] } in
+    let polled = subst (λ (wait : Option ℕ). Extends (g.W.Transport.log c.args.transport.now) (g.W.Transport.log c.wait.new.self) (Polled wait ∷ [])) c.longest_wait.ensures c.in-Err.ensures in (
+      last,
+      [],
+      (
+        has_logged last [] (run_snapshot (g.W.Transport.log c.args.transport.now) (g.C.TimeSource.readings c.args.clock.now) (g.P.Observer.observed c.args.observer.now) c.args.self.now.hub) (run_snapshot (g.W.Transport.log c.wait.new.self) (g.C.TimeSource.readings c.args.clock.now) (g.P.Observer.observed c.args.observer.now) c.args.self.now.hub) polled (grows_none (g.C.TimeSource.readings c.args.clock.now)) (grows_none (g.P.Observer.observed c.args.observer.now)),
+        c.requires.fewer,
+        (refl, refl, refl),
+      ),
+    )
+
+pub returns-in-Err-round-clause-stopped : goal.returns-in-Err-round-clause-stopped
+returns-in-Err-round-clause-stopped g c =
+    let log = g.W.Transport.log in
+    let observed = g.P.Observer.observed in
+    let readings = g.C.TimeSource.readings in
+    let longest = longest_wait (state_of c.args.self.now.hub) in
+    let polled = subst (λ (wait : Option ℕ). Extends (log c.args.transport.now) (log c.wait.new.self) (Polled wait ∷ [])) c.longest_wait.ensures c.in_default.ensures in
+    let stops = c.in-Err-round.ensures.stops in
+    let last : Round = record { longest = longest; handled = stops.0; readings = []; elapsing = [] } in (
+      last,
+      stops.1,
+      (
+        has_logged last stops.1 (run_snapshot (g.W.Transport.log c.args.transport.now) (g.C.TimeSource.readings c.args.clock.now) (g.P.Observer.observed c.args.observer.now) c.args.self.now.hub) (run_snapshot (g.W.Transport.log c.round.new.transport) (g.C.TimeSource.readings c.args.clock.now) (g.P.Observer.observed c.round.new.observer) c.round.new.self.hub)
+            (grows_more (log c.args.transport.now) (log c.wait.new.self) (log c.round.new.transport) (Polled longest ∷ []) (transport_events stops.0 ++ stops.1) polled stops.2)
+            (grows_none (readings c.args.clock.now))
+            (subst (λ (more : List Observation). Extends (observed c.args.observer.now) (observed c.round.new.observer) more) (sym (append-nil (observations_in stops.0))) stops.3),
+        c.requires.fewer,
+        (refl, inl (refl, refl, stops.4)),
+      ),
+    )
+
+pub returns-in_err-elapse-clause-stopped : goal.returns-in_err-elapse-clause-stopped
+returns-in_err-elapse-clause-stopped g c =
+    let log = g.W.Transport.log in
+    let observed = g.P.Observer.observed in
+    let readings = g.C.TimeSource.readings in
+    let longest = longest_wait (state_of c.args.self.now.hub) in
+    let polled = subst (λ (wait : Option ℕ). Extends (log c.args.transport.now) (log c.wait.new.self) (Polled wait ∷ [])) c.longest_wait.ensures c.in_default.ensures in
+    let served = c.in_default-round.ensures.served in
+    let stop = c.in_err-elapse.field-0.0 in
+    let stops = c.in_err-elapse.ensures.stopped in
+    let later = flat_map skipped stops.0 ++ observations_of stops.1 in
+    let last : Round = record { longest = longest; handled = served.0; readings = stops.0; elapsing = stops.1 } in
+    let start = (run_snapshot (g.W.Transport.log c.args.transport.now) (g.C.TimeSource.readings c.args.clock.now) (g.P.Observer.observed c.args.observer.now) c.args.self.now.hub) in
+    let end = (run_snapshot (g.W.Transport.log c.round.new.transport) (g.C.TimeSource.readings c.elapse.new.clock) (g.P.Observer.observed c.elapse.new.observer) c.elapse.new.self.hub) in
+    passed_on (λ stop. (last : Round) × (rest : List TransportEvent) × StopsLogged c.args.most stop last rest start end) c.from_residual.result stop c.from_residual.ensures.1 (
+      last,
+      [],
+      (
+        has_logged last [] start end
+            (grows_more (log c.args.transport.now) (log c.wait.new.self) (log c.round.new.transport) (Polled longest ∷ []) (transport_events served.0 ++ []) polled
+            (subst (λ (more : List TransportEvent). Extends (log c.wait.new.self) (log c.round.new.transport) more) (sym (append-nil (transport_events served.0))) served.1))
+            stops.2
+            (grows_more (observed c.args.observer.now) (observed c.round.new.observer) (observed c.elapse.new.observer) (observations_in served.0) later served.2 stops.3),
+        c.requires.fewer,
+        stops_by_clock stop last (state_of c.args.self.now.hub) (state_of c.round.new.self.hub) (state_of c.elapse.new.self.hub) refl served.3 c.in_err-elapse.ensures.in_time stops.4,
+      ),
+    )
+
+pub returns-in-Err-after_round-clause-stopped : goal.returns-in-Err-after_round-clause-stopped
+returns-in-Err-after_round-clause-stopped g c =
+    let log = g.W.Transport.log in
+    let observed = g.P.Observer.observed in
+    let readings = g.C.TimeSource.readings in
+    let longest = longest_wait (state_of c.args.self.now.hub) in
+    let polled = subst (λ (wait : Option ℕ). Extends (log c.args.transport.now) (log c.wait.new.self) (Polled wait ∷ [])) c.longest_wait.ensures c.in_default.ensures in
+    let served = c.in_default-round.ensures.served in
+    let elapsed = c.in_ok-elapse.ensures.elapses in
+    let later = flat_map skipped elapsed.0 ++ observations_of elapsed.1 in
+    let last : Round = record { longest = longest; handled = served.0; readings = elapsed.0; elapsing = elapsed.1 } in (
+      last,
+      [],
+      (
+        has_logged last [] (run_snapshot (g.W.Transport.log c.args.transport.now) (g.C.TimeSource.readings c.args.clock.now) (g.P.Observer.observed c.args.observer.now) c.args.self.now.hub) (run_snapshot (g.W.Transport.log c.after_round.new.transport) (g.C.TimeSource.readings c.elapse.new.clock) (g.P.Observer.observed c.after_round.new.observer) c.elapse.new.self.hub)
+            (grows_more (log c.args.transport.now) (log c.wait.new.self) (log c.after_round.new.transport) (Polled longest ∷ []) (transport_events served.0 ++ []) polled
+            (grows_more (log c.wait.new.self) (log c.round.new.transport) (log c.after_round.new.transport) (transport_events served.0) [] served.1 c.after_round.ensures.log))
+            elapsed.2
+            (subst (λ (more : List Observation). Extends (observed c.args.observer.now) (observed c.after_round.new.observer) more) (append-nil (observations_in served.0 ++ later))
+            (grows_more (observed c.args.observer.now) (observed c.elapse.new.observer) (observed c.after_round.new.observer) (observations_in served.0 ++ later) []
+            (grows_more (observed c.args.observer.now) (observed c.round.new.observer) (observed c.elapse.new.observer) (observations_in served.0) later served.2 elapsed.3) c.after_round.ensures.observed)),
+        c.requires.fewer,
+        (refl, inr (inr (refl, state_of c.round.new.self.hub, served.3, elapsed.4))),
       ),
     )

@@ -4,6 +4,7 @@ use Rattle.bus.specs.Observations.{Observed, Observation}
 use Rattle.bus_server.specs.Progress.{state_of}
 use Rattle.bus_server.specs.Applied.{LoggedEvent}
 use Rattle.bus_server.proofs.Going.{grows_none, happened_then, seen_world, shown_more, turns_more}
+use Rattle.bus_server.proofs.Stopping.{whatever_fails}
 use Rattle.bus_server.proofs.server.Server.run_turns.Goals as goal
 
 pub loop-turn-init : goal.loop-turn-init
@@ -23,3 +24,20 @@ loop-turn-preserved g c =
         (turns_more c.loop-turn._turn missed observed so_far.0 so_far.2.0, happened_then (Turn missed) observed so_far.0 (state_of c.args.self.now.hub) (state_of c.loop-turn.self.hub) (state_of c.turn-outcome.new.self) so_far.2.1 c.turn-outcome.ensures.happens.1),
       );
     }
+
+pub returns-in_err-observe-clause-stops : goal.returns-in_err-observe-clause-stops
+returns-in_err-observe-clause-stops g c =
+    let so_far = c.loop-turn.invariant.happened in
+    let missed = c.turn-outcome.ensures.happens.0 in
+    let observed : Observation = Observed c.turn-outcome.result c.turn-outcome.new.self.bus.world.nodes in
+    let one : LoggedEvent = record { event = Turn missed; observed = observed } in
+    whatever_fails c.from_residual.result (
+      so_far.0 ++ one ∷ [],
+      shown_more (g.P.Observer.observed c.args.observer.now) (g.P.Observer.observed c.loop-turn.observer) (g.P.Observer.observed c.observe.new.self) so_far.0 (one ∷ []) so_far.1 (seen_world (g.P.Observer.observed c.loop-turn.observer) (g.P.Observer.observed c.observe.new.self) c.turn-outcome.result c.world.result.now c.turn-outcome.new.self.bus.world c.world.ensures c.observe.ensures.observed),
+      (
+        c.loop-turn._turn + 1,
+        omega (arith, c.loop-turn-test.true),
+        turns_more c.loop-turn._turn missed observed so_far.0 so_far.2.0,
+        happened_then (Turn missed) observed so_far.0 (state_of c.args.self.now.hub) (state_of c.loop-turn.self.hub) (state_of c.turn-outcome.new.self) so_far.2.1 c.turn-outcome.ensures.happens.1,
+      ),
+    )

@@ -2,7 +2,7 @@ use Rattle.std.proofs.Common.{[], ◌+◌, ◌∙◌, ap, refl, inr, map, subst,
 use Rattle.layout_core.specs.Nodes.{spec_of}
 use Rattle.bus.specs.declared.bus.Bus.{Bus}
 use Rattle.bus.specs.declared.event.Event.TheVariants.{Disconnects}
-use Rattle.std.proofs.lemmas.Result.{on_ok_weaker}
+use Rattle.std.proofs.lemmas.Result.{on_ok_weaker, on_err_weaker}
 use Rattle.bus_server.specs.Progress.{snapshot, state_of}
 use Rattle.bus_server.specs.Rounds.{IsWrittenTo}
 use Rattle.bus_server.specs.Applied.{RunsEventWithTurns, ServerState}
@@ -53,3 +53,16 @@ returns-clause-served g c =
     calm_weaker (HasPut c.args.client first._piece) (IsWrittenTo c.args.client) (snapshot (g.W.Transport.log c.args.transport.now) (g.P.Observer.observed c.args.observer.now) c.args.self.now.hub) (snapshot (g.W.Transport.log first.transport) (g.P.Observer.observed first.observer) first.self.hub)
     (λ more count. inr (inr (omega (arith, count, c.loop-piece-test.false))))
     first.invariant.served
+
+pub returns-in-Closed-clause-stops : goal.returns-in-Closed-clause-stops
+returns-in-Closed-clause-stops g c =
+    let first = c.loop-piece in
+    let client = c.args.client in
+    let wrote = c.in-Closed.ensures.wrote in
+    let so_far = first.invariant.served in
+    let before = snapshot (g.W.Transport.log first.transport) (g.P.Observer.observed first.observer) first.self.hub in
+    let after = snapshot (g.W.Transport.log c.write.new.transport) (g.P.Observer.observed c.apply.new.observer) c.apply.new.self.hub in
+    on_err_weaker c.apply.result
+    (λ begun. stops_behind so_far.0 (snapshot (g.W.Transport.log c.args.transport.now) (g.P.Observer.observed c.args.observer.now) c.args.self.now.hub) before after so_far.1 so_far.2 so_far.3
+    (stops_first (PeerClosed client) begun.0 before after wrote.0 begun.1 (subst (λ (old : ServerState). BeginsEvent (Disconnects client) begun.0 old (state_of c.apply.new.self.hub)) wrote.1 begun.2) refl))
+    c.apply.ensures.stops

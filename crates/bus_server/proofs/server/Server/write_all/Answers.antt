@@ -4,6 +4,7 @@ use Rattle.bus_server.specs.Rounds.{AllWrittenTo, IsWrittenTo}
 use Rattle.bus_server.specs.Applied.{has_overflowed}
 use Rattle.bus_server.proofs.Going.{calm_nowhere, calm_then}
 use Rattle.bus_server.proofs.Rounding.{AllAndOne, one_on_time, one_written}
+use Rattle.bus_server.proofs.Stopping.{stops_behind, whatever_fails}
 use Rattle.bus_server.proofs.server.Server.write_all.Goals as goal
 
 pub loop-client-init : goal.loop-client-init
@@ -25,3 +26,21 @@ loop-client-preserved g c =
           first.invariant.served c.in_ok-write.ensures.served)
           c.in_ok-disconnect.ensures.served;
     }
+
+pub returns-in_err-write-clause-stops : goal.returns-in_err-write-clause-stops
+returns-in_err-write-clause-stops g c =
+    let first = c.loop-client in
+    let so_far = first.invariant.served in
+    whatever_fails c.from_residual.result
+    (stops_behind so_far.0 (snapshot (g.W.Transport.log c.args.transport.now) (g.P.Observer.observed c.args.observer.now) c.args.self.now.hub) (snapshot (g.W.Transport.log first.transport) (g.P.Observer.observed first.observer) first.self.hub) (snapshot (g.W.Transport.log c.write.new.transport) (g.P.Observer.observed c.write.new.observer) c.write.new.self.hub) so_far.1 so_far.2 so_far.3 c.in_err-write.ensures.stops)
+
+pub returns-in_err-disconnect-clause-stops : goal.returns-in_err-disconnect-clause-stops
+returns-in_err-disconnect-clause-stops g c =
+    let first = c.loop-client in
+    let so_far = first.invariant.served in
+    let wrote = c.in_ok-write.ensures.served in
+    let mid = (snapshot (g.W.Transport.log c.write.new.transport) (g.P.Observer.observed c.write.new.observer) c.write.new.self.hub) in
+    let after = (snapshot (g.W.Transport.log c.disconnect.new.transport) (g.P.Observer.observed c.disconnect.new.observer) c.disconnect.new.self.hub) in
+    whatever_fails c.from_residual-in_err-disconnect.result
+    (stops_behind so_far.0 (snapshot (g.W.Transport.log c.args.transport.now) (g.P.Observer.observed c.args.observer.now) c.args.self.now.hub) (snapshot (g.W.Transport.log first.transport) (g.P.Observer.observed first.observer) first.self.hub) after so_far.1 so_far.2 so_far.3
+    (stops_behind wrote.0 (snapshot (g.W.Transport.log first.transport) (g.P.Observer.observed first.observer) first.self.hub) mid after wrote.1 wrote.2 wrote.3 c.in_err-disconnect.ensures.stops))
