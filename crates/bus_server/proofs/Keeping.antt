@@ -1,10 +1,9 @@
--- What a round has done already stays done where nobody is heard.
-use Rattle.std.proofs.Common.{◌≡◌, ◌≢◌, ℕ, zero, suc, ◌+◌, ◌<◌, ◌≤◌, ◌⊎◌, inl, inr, Bool, true, false, List, [], ◌∷◌, ◌++◌, length, Option, Some, None, refl, ap, ap₂, sym, subst, ◌∙◌, arith, append_assoc, append-nil, ne_eqb, eq-eqb, if◌then◌else◌, nat_le}
+-- What a round has done stays done while no client is read.
+use Rattle.std.proofs.Common.{◌≡◌, ◌≢◌, ℕ, zero, suc, ◌+◌, ◌<◌, ◌⊎◌, inl, inr, Bool, true, false, List, [], ◌∷◌, ◌++◌, length, Option, Some, None, refl, ap, ap₂, sym, subst, ◌∙◌, arith, append_assoc, append-nil, ne_eqb, eq-eqb, if◌then◌else◌, nat_le}
 use Rattle.std.specs.Prelude.{◌==◌, ◌&&◌, ◌||◌, slice_set, is_some, map, not, replicate}
-use Rattle.std.specs.List.{filter, list_all, list_any, slice_index_or}
+use Rattle.std.specs.List.{list_all, list_any, slice_index_or}
 use Rattle.std.proofs.lemmas.Bool.{and_parts, and_from, cases_eq}
-use Rattle.std.proofs.lemmas.List.{get_or-set_same, get_or-set_other, length-append}
-use Rattle.std.proofs.lemmas.List.Elements.{filter-append}
+use Rattle.std.proofs.lemmas.List.{get_or-set_same, get_or-set_other}
 use Rattle.std.proofs.lemmas.List.Folds.{list_any-append}
 use Rattle.bus.specs.declared.event.Event.{Event}
 use Rattle.bus.specs.declared.event.Event.TheVariants.{Connects, Disconnects}
@@ -14,7 +13,7 @@ use Rattle.bus.specs.Observations.{Observation}
 use Rattle.bus.specs.Bus.{BusState}
 use Rattle.loconet_tcp.specs.Texts.{text_for}
 use Rattle.loconet_tcp.specs.ClientLines.{version_text}
-use Rattle.bus_server.specs.Rounds.{HasMoreClients, IsWrittenTo, PreservesRound, HasEmptyQueue, IsUnread, backlog_after, is_read, is_reading, is_write, is_write_blocked}
+use Rattle.bus_server.specs.Rounds.{HasMoreClients, IsWrittenTo, PreservesRound, HasEmptyQueue, IsUnread, WritesInARow, backlog_after, is_read, is_reading, is_write_blocked}
 use Rattle.bus_server.specs.Applied.{Handled, AreTurns, RunsEventWithTurns, Applies, LoggedEvent, RunsEvent, RunsEvents, IsWithTurns, AppliesAll, ServerState, events_of, is_connected, has_overflowed, transport_events, observations_in, turns_after, with_backlog}
 use Rattle.bus_server.specs.Queues.{is_within_capacity, enqueued, queued}
 use Rattle.bus_server.specs.ClientQueues.{SendQueues, enqueued_all, enqueued_from}
@@ -36,21 +35,26 @@ any_before p before more h = list_any-append p before more ∙ or_left (list_any
 pub any_behind : (p : TransportEvent → Bool) (before more : List TransportEvent) → list_any p more ≡ true → list_any p (before ++ more) ≡ true
 any_behind p before more h = list_any-append p before more ∙ or_right (list_any p before) (list_any p more) h
 
-pub count-append : (p : TransportEvent → Bool) (before more : List TransportEvent) → length (filter p (before ++ more)) ≡ length (filter p before) + length (filter p more)
-count-append p before more = ap length (filter-append p before more) ∙ length-append (filter p before) (filter p more)
+pub row_behind : (client count : ℕ) (before more : List TransportEvent) → WritesInARow client count more → WritesInARow client count (before ++ more)
+row_behind client count before more h =
+    (before ++ h.0, h.1, h.2, ap (λ (all : List TransportEvent). before ++ all) h.3 ∙ sym (append_assoc before h.0 (h.1 ++ h.2)), h.4, h.5)
+
+pub row_before : (client count : ℕ) (more after : List TransportEvent) → WritesInARow client count more → WritesInARow client count (more ++ after)
+row_before client count more after h = (
+  h.0,
+  h.1,
+  h.2 ++ after,
+  ap (λ (all : List TransportEvent). all ++ after) h.3 ∙ append_assoc h.0 (h.1 ++ h.2) after ∙ ap (λ (all : List TransportEvent). h.0 ++ all) (append_assoc h.1 h.2 after),
+  h.4,
+  h.5,
+)
 
 pub written_behind : (client : ℕ) (before more : List TransportEvent) (all : ServerState) → IsWrittenTo client more all → IsWrittenTo client (before ++ more) all
 written_behind client before more all done = elim done [
   | inl nothing ↦ inl nothing
   | inr (inl later) ↦ inr (inl (any_behind (is_write_blocked client) before more later))
-  | inr (inr four) ↦ inr (inr (omega (arith, four, count-append (is_write client) before more)))
+  | inr (inr four) ↦ inr (inr (row_behind client 4 before more four))
 ]
-
--- One more piece was written.
-pub put_more : (client : ℕ) (bytes : List ℕ) (more : List TransportEvent) (n : ℕ) → n ≤ length (filter (is_write client) more) → n + 1 ≤ length (filter (is_write client) (more ++ Written client bytes ∷ []))
-put_more client bytes more n h =
-    let one : length (filter (is_write client) (Written client bytes ∷ [])) ≡ 1 = ap (λ (b : Bool). length (if b then Written client bytes ∷ [] else [])) (eq-eqb client client refl) in
-    omega (arith, h, one, count-append (is_write client) more (Written client bytes ∷ []))
 
 -- What keeps what was done.
 
@@ -80,7 +84,7 @@ keeps_where more old new unread nothing on_time = record {
       | inr still ↦ inl still
     ]
     | inr (inl later) ↦ inr (inl (any_before (is_write_blocked client) before more later))
-    | inr (inr four) ↦ inr (inr (omega (arith, four, count-append (is_write client) before more)))
+    | inr (inr four) ↦ inr (inr (row_before client 4 before more four))
   ];
   on_time = on_time;
 }
@@ -209,7 +213,7 @@ joined_other queues client other within_capacity differs =
     ∙ ap₂ enqueued text (get_or-set_other queues client other (Some []) None differs)
     ∙ nothing_told send_queue (room_at queues other within_capacity)
 
-joined_one : (queues : SendQueues) (client : ℕ) → client < length queues
+pub joined_one : (queues : SendQueues) (client : ℕ) → client < length queues
     → slice_index_or (enqueued_all (Connected client) (slice_set queues client (Some []))) client None ≡ Some version_text
 joined_one queues client within =
     let text : text_for client (Connected client) ≡ version_text = ap (λ (b : Bool). if b then version_text else []) (eq-eqb client client refl) in

@@ -2,6 +2,7 @@ pub mod Accounts
 pub mod Courses
 pub mod Going
 pub mod Keeping
+pub mod KeepingUp
 pub mod Missed
 pub mod Missing
 pub mod Placing

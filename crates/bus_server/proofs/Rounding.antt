@@ -1,19 +1,20 @@
 -- A round, client by client.
 use Rattle.std.proofs.Common.{◌≡◌, ℕ, zero, suc, ◌+◌, ◌<◌, ◌≤◌, inl, inr, Bool, true, false, if◌then◌else◌, List, [], ◌∷◌, ◌++◌, length, refl, ap, ap₂, sym, subst, ◌∙◌, arith, append_assoc, append-nil, eqb-true, replicate}
 use Rattle.std.specs.Prelude.{◌==◌}
-use Rattle.std.specs.List.{filter, list_any}
-use Rattle.std.proofs.lemmas.Bool.{cases_eq}
-use Rattle.std.proofs.lemmas.List.Folds.{list_any-append}
+use Rattle.std.specs.List.{list_all, list_any}
+use Rattle.std.proofs.lemmas.Bool.{and_from, cases_eq}
+use Rattle.std.proofs.lemmas.List.{length-append}
+use Rattle.std.proofs.lemmas.List.Folds.{list_all-append, list_any-append}
 use Rattle.bus.specs.declared.event.Event.TheVariants.{Disconnects}
 use Rattle.bus.specs.Observations.{Observation}
 use Rattle.bus.specs.Log.{Extends}
 use Rattle.bus_server.specs.Progress.{ProgressesWithoutInput, Snapshot, WritesFront}
-use Rattle.bus_server.specs.Rounds.{AllWrittenTo, HasMoreClients, ServesClients, IsRead, IsRound, IsUnread, IsWrittenTo, is_reading, PreservesRound, AcceptsPending, backlog_after, refusals, is_write}
+use Rattle.bus_server.specs.Rounds.{AllWrittenTo, HasMoreClients, ServesClients, IsRead, IsRound, IsUnread, IsWrittenTo, is_reading, PreservesRound, AcceptsPending, WritesInARow, backlog_after, refusals, is_write}
 use Rattle.bus_server.specs.Applied.{Handled, RunsEventWithTurns, Applies, LoggedEvent, AppliesAll, ServerState, is_connected, has_overflowed, transport_events, observations_in, observations_of}
 use Rattle.bus_server.specs.declared.transport.IoOutcome.TheVariants.{WouldBlock}
 use Rattle.bus_server.specs.TransportEvents.{WriteBlocked, PeerClosed, NonePending, TransportEvent, Written, Refused}
 use Rattle.bus_server.proofs.Going.{Claim, calm_then, goes_one, log-append, same_on_wire, serves_more, observed-append}
-use Rattle.bus_server.proofs.Keeping.{count-append, heard_now, left_keeps, left_waits, only_leaves, put_keeps, put_more, keeps_refused, none_of_both, one_refused, turned_away_all, turned_passed, turned_shown, written_behind}
+use Rattle.bus_server.proofs.Keeping.{heard_now, left_keeps, left_waits, only_leaves, put_keeps, keeps_refused, read_now, none_of_both, one_refused, turned_away_all, turned_passed, turned_shown, written_behind}
 
 -- The client that is written to.
 
@@ -36,16 +37,19 @@ one_on_time client first second mid new kept done overflowed other within = elim
 
 -- the last pieces, this many, were written to a client
 abbrev pub HasPut : (client count : ℕ) → List TransportEvent → ServerState → Type 0
-HasPut client count more all = count ≤ length (filter (is_write client) more)
+HasPut client count more all = (before row : List TransportEvent) × (more ≡ before ++ row) × (count ≤ length row) × (list_all (is_write client) row ≡ true)
 
--- What one write comes to.
+-- one piece was written to a client, and nothing else happened
+abbrev pub IsPiece : (client : ℕ) → List TransportEvent → ServerState → Type 0
+IsPiece client more all = (bytes : List ℕ) × (more ≡ Written client bytes ∷ [])
+
+-- The result of one write.
 
 pub wrote_one : (client : ℕ) (bytes : List ℕ) (old new : Snapshot) → Extends old.log new.log (Written client bytes ∷ []) → Extends old.observed new.observed [] → Applies (Written client bytes) [] old.state new.state
-    → ProgressesWithoutInput (HasPut client 1) old new
+    → ProgressesWithoutInput (IsPiece client) old new
 wrote_one client bytes old new grows observed does =
-    let none : 0 ≤ length (filter (is_write client) []) = omega arith in
-    goes_one (λ more all. PreservesRound more old.state all × HasPut client 1 more all) (Written client bytes) [] old new grows observed does
-    (put_keeps client bytes (Written client bytes ∷ []) old.state new.state refl does, put_more client bytes [] 0 none)
+    goes_one (λ more all. PreservesRound more old.state all × IsPiece client more all) (Written client bytes) [] old new grows observed does
+    (put_keeps client bytes (Written client bytes ∷ []) old.state new.state refl does, (bytes, refl))
 
 pub wrote_later : (client : ℕ) (old new : Snapshot) → WritesFront client WouldBlock old.log new.log old.state new.state → Extends old.observed new.observed [] → ProgressesWithoutInput (IsWrittenTo client) old new
 wrote_later client old new wrote observed = elim wrote.0 [
@@ -62,8 +66,20 @@ wrote_to_none client applied old new grows observed does =
     goes_one (λ more all. PreservesRound more old.state all × IsWrittenTo client more all) (PeerClosed client) applied old new grows observed does
     (left_keeps client remaining.0 (PeerClosed client ∷ []) old.state new.state refl remaining.1, inl (left_waits client remaining.0 old.state new.state remaining.1))
 
-pub more_pieces : (client n : ℕ) (first second : List TransportEvent) → n ≤ length (filter (is_write client) first) → 1 ≤ length (filter (is_write client) second) → n + 1 ≤ length (filter (is_write client) (first ++ second))
-more_pieces client n first second h k = omega (arith, h, k, count-append (is_write client) first second)
+pub more_pieces : (client n : ℕ) (first second : List TransportEvent) (mid new : ServerState) → HasPut client n first mid → IsPiece client second new → HasPut client (n + 1) (first ++ second) new
+more_pieces client n first second mid new h k =
+    let one = Written client k.0 ∷ [] in
+    let is_one : list_all (is_write client) one ≡ true = read_now client in (
+      h.0,
+      h.1 ++ one,
+      ap₂ (λ (a b : List TransportEvent). a ++ b) h.2 k.1 ∙ append_assoc h.0 h.1 one,
+      omega (arith, h.3, length-append h.1 one),
+      list_all-append (is_write client) h.1 one ∙ and_from (list_all (is_write client) h.1) (list_all (is_write client) one) h.4 is_one,
+    )
+
+-- four pieces in a row were written
+pub in_a_row : (client n : ℕ) (more : List TransportEvent) (new : ServerState) → 4 ≤ n → HasPut client n more new → WritesInARow client 4 more
+in_a_row client n more new four h = (h.0, h.1, [], h.2 ∙ ap (λ (all : List TransportEvent). h.0 ++ all) (sym (append-nil h.1)), omega (arith, four, h.3), h.4)
 
 pub calm_weaker : (P Q : Claim) (old new : Snapshot) → ((more : List TransportEvent) → P more new.state → Q more new.state) → ProgressesWithoutInput P old new → ProgressesWithoutInput Q old new
 calm_weaker P Q old new weaker goes = (goes.0, goes.1, goes.2, goes.3, (goes.4.0, weaker (transport_events goes.0) goes.4.1))
@@ -81,7 +97,7 @@ next_turn client first heard written old before mid new had serves is_read write
     subst (λ (n : ℕ). ServesClients n (first ++ (heard ++ written)) old new) {x = suc client} {y = client + 1} (omega arith)
     (first, heard ++ written, before, refl, had, (heard, written, mid, refl, serves, is_read, writes, unread, all))
 
-turns_serve : (count : ℕ) (handled : List Handled) (old new : ServerState) → ServesClients count handled old new → AppliesAll handled old new
+pub turns_serve : (count : ℕ) (handled : List Handled) (old new : ServerState) → ServesClients count handled old new → AppliesAll handled old new
 turns_serve zero handled old new h = subst (λ (all : List Handled). AppliesAll all old new) (sym h.0) h.1
 turns_serve (suc n) handled old new h =
     let turn = h.5 in

@@ -4,6 +4,7 @@ pub mod Counts
 pub mod Drawn
 pub mod Draws
 pub mod Fronts
+pub mod KeepUp
 pub mod PageEvents
 pub mod Progress
 pub mod Queues

@@ -1,6 +1,6 @@
 -- A round of a server: all clients are read and written to, and pending clients are accepted.
-use Rattle.std.specs.Prelude.{ℕ, zero, suc, ◌≡◌, ◌⊎◌, ◌<◌, ◌≤◌, ◌==◌, Bool, true, false, if◌then◌else◌, List, [], ◌∷◌, ◌++◌, length, replicate, Option, None}
-use Rattle.std.specs.List.{filter, list_all, list_any, slice_index_or}
+use Rattle.std.specs.Prelude.{ℕ, zero, suc, ◌≡◌, ◌⊎◌, ◌<◌, ◌≤◌, ◌==◌, Bool, true, false, if◌then◌else◌, List, [], ◌∷◌, ◌++◌, length, replicate, None}
+use Rattle.std.specs.List.{list_all, list_any, slice_index_or}
 use Rattle.bus_server.specs.Applied.{Handled, AppliesAll, ServerState, is_connected, has_overflowed, transport_events, with_backlog}
 use Rattle.bus_server.specs.Queues.{queued}
 use Rattle.bus_server.specs.TransportEvents.{Accepted, WriteBlocked, PeerClosed, NonePending, TransportEvent, Written, ReadBlocked, Received, Refused}
@@ -23,14 +23,18 @@ is_write_blocked i (Accepted client) = client == i
 is_write_blocked i (WriteBlocked client) = client == i
 is_write_blocked i other = false
 
+-- at least this many pieces, one right after another, are written to a client
+abbrev pub WritesInARow : (client count : ℕ) → List TransportEvent → Type 0
+WritesInARow client count log = (before row after : List TransportEvent) × (log ≡ before ++ (row ++ after)) × (count ≤ length row) × (list_all (is_write client) row ≡ true)
+
 -- a client's queue is empty or closed
 abbrev pub HasEmptyQueue : (client : ℕ) → ServerState → Type 0
 HasEmptyQueue client state = queued (slice_index_or state.queues client None) ≡ []
 
--- A client is written to: its queue is empty, or it took no more, or four pieces were written to it. One that has only just been
--- accepted is written to in the next round.
+-- A client is written to: its queue is empty, or it took no more, or four pieces in a row were written to it. One that has only
+-- just been accepted is written to in the next round.
 abbrev pub IsWrittenTo : (client : ℕ) → List TransportEvent → ServerState → Type 0
-IsWrittenTo client more state = HasEmptyQueue client state ⊎ (list_any (is_write_blocked client) more ≡ true) ⊎ (4 ≤ length (filter (is_write client) more))
+IsWrittenTo client more state = HasEmptyQueue client state ⊎ (list_any (is_write_blocked client) more ≡ true) ⊎ WritesInARow client 4 more
 
 -- Pending clients are accepted or refused, until none is pending or eight were refused.
 abbrev pub AcceptsPending : List TransportEvent → Type 0
@@ -40,9 +44,9 @@ AcceptsPending more = (before : List TransportEvent) × ((more ≡ before ++ Non
 abbrev pub AllWrittenTo : (below : ℕ) → List TransportEvent → ServerState → Type 0
 AllWrittenTo below more state = (client : ℕ) → client < below → IsWrittenTo client more state × (has_overflowed state client ≡ false)
 
--- a client is read, 512 bytes at most, and nothing else happens
+-- a client is read, 400 bytes at most, and nothing else happens
 abbrev pub IsRead : (client : ℕ) → List TransportEvent → Type 0
-IsRead client more = (0 < length more) × (length more ≤ 512) × (list_all (is_read client) more ≡ true)
+IsRead client more = (0 < length more) × (length more ≤ 400) × (list_all (is_read client) more ≡ true)
 
 -- a read of any client
 abbrev pub is_reading : TransportEvent → Bool

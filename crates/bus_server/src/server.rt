@@ -21,8 +21,8 @@ use std::alloc::{AllocError, Global};
 
 /// The most bytes that are read from a client before all clients are written to.
 ///
-/// Their text fits into an empty queue: a line of 11 bytes, as `SEND BB ..`, brings at most 75.
-const MAX_READ: usize = 512;
+/// Their text fits into an empty queue: a request has at least 5 bytes, and its text at most 789.
+const MAX_READ: usize = 400;
 
 /// The most writes to a client before the next client is served. A queue lies in two pieces at most.
 const MAX_WRITES: u8 = 4;

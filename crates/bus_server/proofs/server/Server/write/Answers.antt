@@ -7,11 +7,14 @@ use Rattle.bus_server.specs.Progress.{snapshot, state_of}
 use Rattle.bus_server.specs.Rounds.{IsWrittenTo}
 use Rattle.bus_server.specs.Applied.{RunsEventWithTurns, ServerState}
 use Rattle.bus_server.proofs.Going.{calm_nowhere, calm_then, grows_none}
-use Rattle.bus_server.proofs.Rounding.{HasPut, calm_weaker, more_pieces, put_then, wrote_later, wrote_one, wrote_to_none}
+use Rattle.bus_server.proofs.Rounding.{HasPut, IsPiece, calm_weaker, in_a_row, more_pieces, put_then, wrote_later, wrote_one, wrote_to_none}
+use Rattle.bus_server.proofs.Stopping.{stops_behind, stops_first}
+use Rattle.bus_server.specs.TransportEvents.{PeerClosed}
+use Rattle.bus_server.specs.Stops.{BeginsEvent}
 use Rattle.bus_server.proofs.server.Server.write.Goals as goal
 
 pub loop-piece-init : goal.loop-piece-init
-loop-piece-init g c = record { observes = c.requires.observes; served = calm_nowhere (HasPut c.args.client 0) (snapshot (g.W.Transport.log c.args.transport.now) (g.P.Observer.observed c.args.observer.now) c.args.self.now.hub) (omega arith) }
+loop-piece-init g c = record { observes = c.requires.observes; served = calm_nowhere (HasPut c.args.client 0) (snapshot (g.W.Transport.log c.args.transport.now) (g.P.Observer.observed c.args.observer.now) c.args.self.now.hub) ([], [], refl, omega arith, refl) }
 
 pub loop-piece-preserved : goal.loop-piece-preserved
 loop-piece-preserved g c =
@@ -23,8 +26,8 @@ loop-piece-preserved g c =
     record {
       observes = ap (λ (bus : Bus). map spec_of bus.world.nodes) c.in-Bytes.ensures.bus ∙ first.invariant.observes;
       served =
-          calm_then (HasPut client first._piece) (HasPut client 1) (HasPut client (first._piece + 1)) (snapshot (g.W.Transport.log c.args.transport.now) (g.P.Observer.observed c.args.observer.now) c.args.self.now.hub) before after
-          (λ these those kept before one. more_pieces client first._piece these those before one)
+          calm_then (HasPut client first._piece) (IsPiece client) (HasPut client (first._piece + 1)) (snapshot (g.W.Transport.log c.args.transport.now) (g.P.Observer.observed c.args.observer.now) c.args.self.now.hub) before after
+          (λ these those kept put one. more_pieces client first._piece these those before.state after.state put one)
           first.invariant.served (wrote_one client wrote.0 before after wrote.1 (grows_none (g.P.Observer.observed first.observer)) wrote.2);
     }
 
@@ -51,7 +54,7 @@ pub returns-clause-served : goal.returns-clause-served
 returns-clause-served g c =
     let first = c.loop-piece in
     calm_weaker (HasPut c.args.client first._piece) (IsWrittenTo c.args.client) (snapshot (g.W.Transport.log c.args.transport.now) (g.P.Observer.observed c.args.observer.now) c.args.self.now.hub) (snapshot (g.W.Transport.log first.transport) (g.P.Observer.observed first.observer) first.self.hub)
-    (λ more count. inr (inr (omega (arith, count, c.loop-piece-test.false))))
+    (λ more put. inr (inr (in_a_row c.args.client first._piece more (state_of first.self.hub) (omega (arith, c.loop-piece-test.false)) put)))
     first.invariant.served
 
 pub returns-in-Closed-clause-stops : goal.returns-in-Closed-clause-stops

@@ -1,0 +1,31 @@
+-- A client that keeps up is not disconnected by the server.
+use Rattle.std.specs.Prelude.{ℕ, ◌≡◌, ◌<◌, ◌==◌, Bool, false, List, length}
+use Rattle.std.specs.List.{list_any}
+use Rattle.bus_server.specs.Applied.{ServerState, has_overflowed}
+use Rattle.bus_server.specs.Rounds.{HasEmptyQueue, WritesInARow}
+use Rattle.bus_server.specs.Runs.{Round, RunsRounds, transport_log}
+use Rattle.bus_server.specs.TransportEvents.{ServerClosed, TransportEvent, WriteBlocked}
+
+-- a write to a client would block
+abbrev pub is_blocked : (client : ℕ) → TransportEvent → Bool
+is_blocked i (WriteBlocked client) = client == i
+is_blocked i other = false
+
+-- the server closes the connection of a client
+abbrev pub is_closed : (client : ℕ) → TransportEvent → Bool
+is_closed i (ServerClosed client) = client == i
+is_closed i other = false
+
+-- a client keeps up: no write to it would block, and no four pieces in a row are written to it
+abbrev pub KeepsUp : (client : ℕ) → List TransportEvent → Type 0
+KeepsUp client log = (list_any (is_blocked client) log ≡ false) × (WritesInARow client 4 log → ⊥)
+
+-- nothing is queued for a client, and its queue has not overflowed
+abbrev pub IsUpToDate : (client : ℕ) → ServerState → Type 0
+IsUpToDate client state = HasEmptyQueue client state × (has_overflowed state client ≡ false)
+
+-- In a run that begins when nothing is queued for a client, the server does not close its connection if it keeps up, whatever
+-- the other clients do.
+abbrev pub StaysConnected : Type 0
+StaysConnected = (client most : ℕ) (rounds : List Round) (old new : ServerState) → client < 8 → length old.queues ≡ 8 → IsUpToDate client old → RunsRounds most rounds old new
+    → KeepsUp client (transport_log rounds) → list_any (is_closed client) (transport_log rounds) ≡ false
