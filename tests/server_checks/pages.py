@@ -205,6 +205,23 @@ def pages_leave():
         same("printed", server.printed()[2:], 5 * ["client 1 joins", "client 1 leaves"])
 
 
+def silent_pages():
+    """a page that is silent for 20 seconds is pinged, and after 40 it has left unless it has answered"""
+    with serve("--turns", "1", page=True) as server:
+        start = time.monotonic()
+        with Page(server, seconds=50).accepted() as silent, Page(server, seconds=50).accepted() as other:
+            for page in (silent, other):
+                same("the ping", page.frame(), (Page.PING, True, b""))
+            holds("it is pinged after 20 seconds", 19 < time.monotonic() - start < 25)
+            other.stream.sendall(client_frame(Page.PONG, b""))
+            same("the end", silent.bytes.read(), b"")
+            holds("it has left after 40 seconds", 39 < time.monotonic() - start < 45)
+            other.stream.sendall(client_frame(Page.TEXT, b"SEND 83 7C"))
+            same("the other", other.line(), "RECEIVE 83 7C")
+            expected = ["client 1 joins", "client 2 joins", "client 1 leaves", "msg 83 7C power on"]
+            same("printed", printed_after(server, expected[-1])[1:], expected)
+
+
 def many_decoders():
     """a page receives all 64 decoders when it connects and when all change, and so does the next at its index"""
     with roster_of(DECODERS) as file, serve("--roster", file, "--turns", "20", page=True) as server:

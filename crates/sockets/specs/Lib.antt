@@ -1,2 +1,3 @@
 pub mod Connections
+pub mod Silences
 pub mod WaitTimes

@@ -1,7 +1,10 @@
-//! Who has a place on the bus, and the stream.
-ghost use Rattle.std.specs.Prelude.{◌≡◌, false, true};
+//! A connected client and its stream.
+ghost use Rattle.std.specs.Prelude.{◌≡◌, ◌-◌, Ok, false, true};
+ghost use Rattle.sockets.specs.Silences.{action_after, left_after};
+ghost use Rattle.sockets.specs.declared.silence.Action.TheVariants.{End};
 ghost use Rattle.std.specs.Io.{ReadsAtMost, WritesAtMost};
 
+use crate::silence::{Action, Silence};
 use mio::net::TcpStream;
 use std::io;
 use std::io::{ErrorKind, Read, Write};
@@ -20,13 +23,19 @@ pub(crate) enum Client {
 }
 
 impl Client {
-    /// Reads what the client sent, as `Read` does. Where it may have sent more than was looked at, `has_backlog` is set.
-    pub(crate) fn read(&mut self, room: &mut [u8], has_backlog: &mut bool) -> io::Result<usize>
+    /// Reads from the client, as `Read` does. `now` is in microseconds since the start. Sets
+    /// `has_backlog` if the client may have sent more than was read.
+    pub(crate) fn read(
+        &mut self,
+        room: &mut [u8],
+        now: u64,
+        has_backlog: &mut bool,
+    ) -> io::Result<usize>
         ensures { ReadsAtMost result room.new }
     {
         match self {
             Client::Program(stream) => stream.read(room),
-            Client::Page(page_client) => page_client.read(room, has_backlog),
+            Client::Page(page_client) => page_client.read(room, now, has_backlog),
         }
     }
 
@@ -49,21 +58,54 @@ pub(crate) struct PageClient {
     is_just_opened: bool,
     /// Text of the bus was sent. The first is the version, before which no message is sent.
     has_version: bool,
+    /// How long it has been silent.
+    silence: Silence,
+    /// It has answered no ping, and its next read is its end.
+    is_lost: bool,
 }
 
 impl PageClient {
-    /// A page that was told nothing yet.
-    pub(crate) fn new(page: Page<TcpStream>) -> PageClient
-        ensures { result.is_just_opened ≡ true }
+    /// Creates the client of a page that was sent nothing yet. `now` is in microseconds since the
+    /// start.
+    pub(crate) fn new(page: Page<TcpStream>, now: u64) -> PageClient
+        ensures opened { result.is_just_opened ≡ true }
+        ensures here { result.is_lost ≡ false }
     {
         PageClient {
             page,
             is_just_opened: true,
             has_version: false,
+            silence: Silence::new(now),
+            is_lost: false,
         }
     }
 
-    /// Whether it is new at its place, so that whoever keeps what the page there was told begins anew: from then on it is not.
+    /// Pings the page if it has been silent for 20 seconds. After 40 it is lost: it has vanished
+    /// without closing its connection.
+    pub(crate) fn check(&mut self, now: u64)
+        ensures { action_after (now - self.old.silence.heard) self.old.silence.is_pinged ≡ End
+            → self.new.is_lost ≡ true }
+    {
+        match self.silence.action(now) {
+            Action::Nothing => {}
+            // A page that has disconnected is removed at its next read.
+            Action::Ping => {
+                let _ = self.page.ping();
+            }
+            Action::End => self.is_lost = true,
+        }
+    }
+
+    /// Returns the microseconds until the page is to be checked.
+    pub(crate) fn time_left(&self, now: u64) -> u64
+        ensures { result
+            ≡ left_after (now - self.now.silence.heard) self.now.silence.is_pinged }
+    {
+        self.silence.time_left(now)
+    }
+
+    /// Returns whether the page is new, so that a caller that records the sent states clears them,
+    /// and marks it as no longer new.
     pub(crate) fn take_just_opened(&mut self) -> bool
         ensures first { result ≡ self.old.is_just_opened }
         ensures once { self.new.is_just_opened ≡ false }
@@ -86,12 +128,21 @@ impl PageClient {
         self.page.send(message).is_ok()
     }
 
-    /// Reads what the page sent, as `Read` does. Where it may have sent more, and none of it was text, `has_backlog` is set.
-    fn read(&mut self, room: &mut [u8], has_backlog: &mut bool) -> io::Result<usize>
-        ensures { ReadsAtMost result room.new }
+    /// Reads from the page, as `Read` does. Sets `has_backlog` if it may have sent more and none of
+    /// it was text.
+    fn read(&mut self, room: &mut [u8], now: u64, has_backlog: &mut bool) -> io::Result<usize>
+        ensures reads { ReadsAtMost result room.new }
+        ensures lost { self.old.is_lost ≡ true → result ≡ Ok 0 }
     {
+        if self.is_lost {
+            return Ok(0);
+        }
         for _try in 0..MOST_TRIES {
-            match self.page.read_lines(room) {
+            let received = self.page.read_lines(room);
+            if !is_silent(&received) {
+                self.silence = Silence::new(now);
+            }
+            match received {
                 Err(error) if error.kind() == ErrorKind::Interrupted => {}
                 received => return received,
             }
@@ -106,5 +157,13 @@ impl PageClient {
     {
         self.has_version = true;
         self.page.write_lines(bytes)
+    }
+}
+
+/// Whether nothing was received: the read would block.
+fn is_silent(received: &io::Result<usize>) -> bool {
+    match received {
+        Err(error) => error.kind() == ErrorKind::WouldBlock,
+        Ok(_) => false,
     }
 }

@@ -18,6 +18,7 @@
 mod client;
 mod http_connection;
 mod http_server;
+mod silence;
 mod sockets;
 mod stopwatch;
 mod ticking;

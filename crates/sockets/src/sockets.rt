@@ -32,6 +32,8 @@ pub struct Sockets {
     http: Option<HttpServer>,
     /// A page has sent bytes, and may have sent more.
     has_backlog: bool,
+    /// The last reading of the clock, in microseconds since the start.
+    now: u64,
 }
 
 impl Sockets {
@@ -50,6 +52,7 @@ impl Sockets {
             clients: [None, None, None, None, None, None, None, None],
             http: None,
             has_backlog: false,
+            now: 0,
         })
     }
 
@@ -95,7 +98,8 @@ impl Sockets {
         Ok((self.listener.local_addr()?, page))
     }
 
-    /// Waits for readiness, at most so many microseconds, and serves the HTTP connections. `None` is without end.
+    /// Waits for readiness, at most `longest` microseconds, or without end for `None`, serves the
+    /// HTTP connections, and pings the pages that are silent.
     ///
     /// # Errors
     ///
@@ -107,7 +111,9 @@ impl Sockets {
         longest: Option<u64>,
     ) -> io::Result<()> {
         self.wait(longest, watch.now(clock)?)?;
-        self.serve_http(watch.now(clock)?);
+        let now = watch.now(clock)?;
+        self.serve_http(now);
+        self.check_pages(now);
         Ok(())
     }
 
@@ -128,12 +134,33 @@ impl Sockets {
     fn time_left(&self, now: u64) -> Option<u64> {
         match &self.http {
             Some(_) if self.has_backlog => Some(0),
-            Some(http) => http.time_left(now),
+            Some(http) => sooner(http.time_left(now), self.pages_time_left(now)),
             None => None,
         }
     }
 
-    /// Goes on with those who ask for a page. `now`: microseconds since the start.
+    /// Returns the microseconds until a page is to be checked.
+    fn pages_time_left(&self, now: u64) -> Option<u64> {
+        let mut left = None;
+        for client in &self.clients {
+            if let Some(Client::Page(page_client)) = client {
+                left = sooner(left, Some(page_client.time_left(now)));
+            }
+        }
+        left
+    }
+
+    /// Checks that each page is still there. `now` is in microseconds since the start.
+    pub fn check_pages(&mut self, now: u64) {
+        self.now = now;
+        for place in 0..MAX_CLIENTS {
+            if let Some(page_client) = self.page_client(place) {
+                page_client.check(now);
+            }
+        }
+    }
+
+    /// Serves the HTTP connections. `now` is in microseconds since the start.
     pub fn serve_http(&mut self, now: u64) {
         self.has_backlog = false;
         if let Some(http) = &mut self.http {
@@ -216,7 +243,7 @@ impl Transport for Sockets {
     fn accept(&mut self, client: u8) -> bool {
         let place = usize::from(client);
         let client = match self.upgraded() {
-            Some(page) => Some(Client::Page(PageClient::new(page))),
+            Some(page) => Some(Client::Page(PageClient::new(page, self.now))),
             None => self.accept_program(place).map(Client::Program),
         };
         let is_there = client.is_some();
@@ -237,7 +264,7 @@ impl Transport for Sockets {
         let Some(stream) = &mut self.clients[usize::from(client)] else {
             return IoOutcome::WouldBlock;
         };
-        match stream.read(room, &mut self.has_backlog) {
+        match stream.read(room, self.now, &mut self.has_backlog) {
             Ok(count) if count > 0 => IoOutcome::Bytes(count),
             Err(error) if is_retryable(&error) => IoOutcome::WouldBlock,
             _ => self.disconnect(client),

@@ -1,6 +1,6 @@
 -- Runs of frames without text.
-use Rattle.std.proofs.Common.{◌≡◌, ℕ, List, [], ◌∷◌, ◌++◌, Option, None, Some, Result, Ok, Err, refl, ap, sym, subst}
-use Rattle.websocket.specs.Content.{Content, text, binary, ping, pong, close}
+use Rattle.std.proofs.Common.{◌≡◌, ℕ, List, [], ◌∷◌, ◌++◌, Option, Ok, Err, sym, subst}
+use Rattle.websocket.specs.Content.{Content}
 use Rattle.websocket.specs.Connection.{Connection}
 use Rattle.tungstenite.specs.Failure.{IsIo}
 use Rattle.tungstenite.specs.Socket.{EndsWith, Quiet, Reads, Run, Runs, Socket, content_of}
@@ -31,7 +31,7 @@ hears-failure remaining old new error (frames, got, c, i, sent, runs, gave) is =
     let at = gave.2 is in
     (frames, got, runs-there old.conn (old.input ++ got) frames c new.conn i new.input at.0 at.1 runs, quiet-controls frames gave.0, λ none. gave.4 is none)
 
--- a ping, a pong or a close came
-pub hears-control : {S : Type 0} (remaining : S → Option (List ℕ)) (old new : Socket S) (message : Message) → Reads remaining old new (Ok message) → IsControl (content_of message) → HearsNoText remaining old new
+-- a ping, a pong or a close was received
+pub hears-control : {S : Type 0} (remaining : S → Option (List ℕ)) (old new : Socket S) (message : Message) → Reads remaining old new (Ok message) → IsControl (content_of message) → ReceivesNoText remaining old new
 hears-control remaining old new message (frames, got, c, i, sent, runs, gave) is =
     (frames, got, runs-there old.conn (old.input ++ got) frames c new.conn i new.input gave.1 gave.2 runs, ends-controls frames (content_of message) gave.0 is, gave.4)

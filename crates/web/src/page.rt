@@ -7,7 +7,7 @@ ghost use Rattle.tungstenite.specs.Socket.{Flushed, Reads, content_of};
 ghost use Rattle.websocket.specs.Content.{text};
 ghost use Rattle.web.specs.Receiving.{Receives, ReceivesNoText, ReceivesEnd, IsControl, IsForbidden};
 ghost use Rattle.web.specs.Messages.{held_along, messages_along, without_return};
-ghost use Rattle.web.specs.Telling.{IsTold, Says, Tells};
+ghost use Rattle.web.specs.Sending.{IsPinged, IsSent, Queues, QueuesAll, QueuesPing};
 
 use crate::lines::{LONGEST_LINE, ReceivedLine, UnfinishedLine};
 use crate::read_once::ReadOnce;
@@ -112,39 +112,23 @@ impl<S: Read + Write + Drop> Page<S> {
         Ok(())
     }
 
-    /// Reads what the page sent: the text of its messages, a line feed behind each. It never waits, and reads the stream
-    /// once at most.
-    ///
-    /// Returns `Ok(0)` if the page has closed or has violated the protocol; every later call does too.
+    /// Sends the page an empty ping, which every browser answers (RFC 6455, section 5.5.2).
     ///
     /// # Errors
     ///
-    /// No text message is lost by an error. `WouldBlock` if no text is available; `Interrupted` if none is available yet
-    /// and the stream may hold more: call again without waiting. After any other error of the stream the page has gone.
-    pub fn hear_lines(&mut self, room: &mut [u8]) -> io::Result<usize>
-        ensures bound { IfOk result (λ n. n ≤ length room.new) }
-        ensures len { length room.new ≡ length room.old }
-        // What is left of a message goes on,
-        ensures goes_on { IfOk result (λ n. 0 < n → 0 < length self.old.heard
-            → self.old.heard ≡ take n room.new ++ self.new.heard) }
-        // and where nothing is left, the next message begins.
-        ensures begins { IfOk result (λ n. 0 < n → self.old.heard ≡ [] → (line : List ℕ)
-            × Hears (λ gate. S.remaining gate.stream) line self.old.socket self.new.socket
-            × (line ++ 10 ∷ [] ≡ take n room.new ++ self.new.heard)) }
-        // An error takes no text: what was held of lines stays, and the frames that were read held none.
-        ensures kept { IfErr result (λ _. (self.new.heard ≡ self.old.heard) × (self.new.has_gone ≡ self.old.has_gone)) }
-        ensures no_text { IfErr result (λ _. HearsNoText (λ gate. S.remaining gate.stream) self.old.socket self.new.socket) }
+    /// `WouldBlock` if the send queue is full: no ping is sent then. Any other error if the page has
+    /// disconnected or memory is out.
+    pub fn ping(&mut self) -> io::Result<()>
+        ensures sent { OnOk result
+            (IsPinged (λ s. S.contents s.stream) self.old.socket self.new.socket) }
+        ensures received { self.new.received ≡ self.old.received }
         ensures unfinished { self.new.unfinished ≡ self.old.unfinished }
         ensures is_closed { self.new.is_closed ≡ self.old.is_closed }
     {
-        if self.has_gone {
-            return Ok(0);
-        }
-        if self.heard.is_empty() && !self.hear()? {
-            self.has_gone = true;
-            return Ok(0);
-        }
-        Ok(self.heard.give(room))
+        self.flush_queued()?;
+        queue_ping(&mut self.socket)?;
+        self.flush_queued()?;
+        Ok(())
     }
 
     /// Reads the messages that the page sent: the text of each, followed by a line feed. It never
@@ -431,8 +415,17 @@ fn queue_message<S: Read + Write + Drop>(
     as_written(socket.write(message))
 }
 
-/// What a write of the WebSocket came to, as that of a stream. Where only the stream takes nothing now, what was written
-/// waits. `WouldBlock` where it was not taken, since too much waits.
+/// Queues an empty ping. Fails with `WouldBlock` if the send queue is full; the ping is not taken
+/// then.
+fn queue_ping<S: Read + Write + Drop>(socket: &mut WebSocket<ReadOnce<S>, NoMask>) -> io::Result<()>
+    ensures sent { OnOk result (QueuesPing (λ s. S.contents s.stream) socket.old socket.new) }
+{
+    as_written(socket.write(Message::Ping(Bytes::new())))
+}
+
+/// Converts the result of a WebSocket write to that of a stream. If only the stream would block,
+/// the message is queued and the write has succeeded. `WouldBlock` if the send queue is full and
+/// the message was not taken.
 fn as_written(written: Result<(), Error>) -> io::Result<()>
     ensures taken { OnOk result (IfErr written IsIo) }
     ensures is_queued { OnOk result
