@@ -91,13 +91,15 @@ def closed_output():
 
 
 def quiet():
-    """--quiet prints nothing but the addresses"""
-    with serve(*LAYOUT, "--quiet", "--track", "--clients", "1", page=True) as server:
-        wanted = [f"listening 127.0.0.1:{server.port}", f"page http://127.0.0.1:{server.page_port}/"]
-        with Client(server) as client:
-            client.take(3)
-            client.send(0xA0, 1, 0x40)
-            time.sleep(0.5)
-        same("status", server.process.wait(20), 0)
-        same("printed", server.printed(), wanted)
+    """--quiet prints nothing but the addresses, and clients and pages are served as ever"""
+    for words in (["--turns", "20"], ["--turns", "20", "--track"], ["--track"]):
+        with serve(*LAYOUT, "--quiet", *words, "--clients", "2", page=True) as server:
+            wanted = [f"listening 127.0.0.1:{server.port}", f"page http://127.0.0.1:{server.page_port}/"]
+            with Client(server) as client, Page(server).accepted() as page:
+                client.take(3)
+                client.send(0xA0, 1, 0x40)
+                page.lines_until(f"NODE {SHUNTER.format('step 63 of 128')}")
+            same("status", server.process.wait(20), 0)
+            same("standard error", server.faults.read_text(), "")
+            same("printed", server.printed(), wanted)
     holds("--help has it", "--quiet" in run("--help")[2])

@@ -5,3 +5,4 @@ pub mod LogQueues
 pub mod LogStates
 pub mod Printers
 pub mod SentStates
+pub mod Verbosities

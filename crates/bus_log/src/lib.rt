@@ -17,6 +17,7 @@ mod log_output;
 mod log_queue;
 mod printer;
 mod sent_states;
+mod verbosity;
 
 pub use line_queue::LOG_CAPACITY;
 pub use listening::print_listening;
@@ -24,3 +25,4 @@ pub use log_output::{LogOutput, write_queued};
 pub use log_queue::LogQueue;
 pub use printer::{NodeMessage, Printer, decoders};
 pub use sent_states::{PageStates, SentStates};
+pub use verbosity::Verbosity;

@@ -35,7 +35,7 @@ impl Printer<'_, LogQueue> {
     pub fn write_queued<T: LogOutput>(&mut self, output: &mut T) -> Result<(), WriteError>
         ensures kept { printer_state self.new ≡ printer_state self.old }
         ensures roster { self.new.roster ≡ self.old.roster }
-        ensures track { self.new.track ≡ self.old.track }
+        ensures verbosity { self.new.verbosity ≡ self.old.verbosity }
     {
         write_queued(&mut self.output, output)
     }

@@ -1,5 +1,6 @@
 //! Printing the outcomes of a bus.
-ghost use Rattle.std.specs.Prelude.{◌≡◌, ◌<◌, ◌/◌, ◌++◌, None, IfOk, OnOk, List, [], ◌∷◌, length, map, codes};
+ghost use Rattle.std.specs.Prelude.{◌≡◌, ◌<◌, ◌/◌, ◌++◌, None, IfOk, OnOk, List, [], ◌∷◌, is_ok, length, map, codes, true};
+ghost use Rattle.std.specs.Bool.{OnTrue};
 ghost use Rattle.std.specs.Fmt.{decimal};
 ghost use Rattle.std.specs.Io.KnownBytes.{Appends};
 ghost use Rattle.std.specs.Option.{option_to_list};
@@ -12,8 +13,9 @@ ghost use Rattle.layout_core.specs.DecoderStates.{decoder_line, decoder_state_of
 ghost use Rattle.roster.specs.Entry.{Entry, spec_of as entry_spec};
 ghost use Rattle.show_text.specs.Messages.{message_text};
 ghost use Rattle.bus_log.specs.Decoders.{entries_of, specs_of};
-ghost use Rattle.bus_log.specs.Lines.{changed_lines, client_line, node_message, overflow_line, saturating_successor, packet_lines, skipped_line};
+ghost use Rattle.bus_log.specs.Lines.{changed_lines, client_line, lines_unless, node_message, overflow_line, saturating_successor, packet_lines, skipped_line};
 
+use crate::verbosity::Verbosity;
 use arrayvec::{ArrayString, ArrayVec};
 use bus::{Observer, Outcome};
 use console::{WriteError, print_to};
@@ -36,8 +38,7 @@ type DecoderStates = ArrayVec<DecoderState, MAX_NODES>;
 pub struct Printer<'a, O> {
     pub(crate) output: O,
     pub(crate) roster: Option<&'a Roster>,
-    /// Whether packets are printed, all but idle ones.
-    pub(crate) track: bool,
+    pub(crate) verbosity: Verbosity,
     /// The state of each decoder when it was last printed, or at the start.
     pub(crate) decoder_states: DecoderStates,
     /// The turns since the start.
@@ -48,26 +49,30 @@ pub struct Printer<'a, O> {
 }
 
 impl<'a, O: Write> Printer<'a, O> {
-    ghost use Rattle.bus_log.specs.Printers.{printer_state, decoder_states_of, text_of};
+    ghost use Rattle.bus_log.specs.Printers.{outcome_lines, printer_state, decoder_states_of};
     ghost use Rattle.bus_log.specs.Lines.{initial_printer_state, line_at, printer_state_after};
     ghost use Rattle.loconet_tcp.specs.declared.outcome.Outcome.TheVariants.{TurnBegan};
 
-    /// Creates a printer for a layout with the decoders of this roster, or none; `track`: packets
-    /// too.
+    /// Creates a printer for a layout with the decoders of this roster, or none.
     ///
     /// The present states of the decoders are not printed.
-    pub fn new(output: O, roster: Option<&'a Roster>, track: bool, world: &World) -> Printer<'a, O>
+    pub fn new(
+        output: O,
+        roster: Option<&'a Roster>,
+        verbosity: Verbosity,
+        world: &World,
+    ) -> Printer<'a, O>
         requires { map spec_of world.now.nodes ≡ specs_of (entries_of roster) }
         ensures output { result.output ≡ output }
         ensures roster { result.roster ≡ roster.entry }
-        ensures track { result.track ≡ track }
+        ensures verbosity { result.verbosity ≡ verbosity }
         ensures printer_state { printer_state result
             ≡ initial_printer_state (decoder_states_of world.now.nodes) }
     {
         Printer {
             output,
             roster,
-            track,
+            verbosity,
             decoder_states: decoder_states(world),
             turns: 0,
             disconnected: 0,
@@ -129,35 +134,79 @@ impl<'a, O: Write> Printer<'a, O> {
     pub fn flush(&mut self) -> Result<(), WriteError>
         ensures kept { printer_state self.new ≡ printer_state self.old }
         ensures roster { self.new.roster ≡ self.old.roster }
-        ensures track { self.new.track ≡ self.old.track }
+        ensures verbosity { self.new.verbosity ≡ self.old.verbosity }
     {
         self.output.flush().map_err(|_| WriteError)
     }
 
-    /// Prints a turn, and records it.
+    /// Prints an outcome.
+    fn print(&mut self, outcome: &Outcome, world: &World) -> Result<(), WriteError>
+        requires { map spec_of world.now.nodes ≡ specs_of (entries_of self.old.roster) }
+        ensures printed { OnOk result
+            (Appends (O.contents self.old.output) (O.contents self.new.output)
+            (lines_text (outcome_lines self.old outcome.now world.now.nodes))) }
+        ensures printer_state { printer_state self.new ≡ printer_state self.old }
+        ensures roster { self.new.roster ≡ self.old.roster }
+        ensures verbosity { self.new.verbosity ≡ self.old.verbosity }
+    {
+        match outcome {
+            Outcome::Nothing | Outcome::Rejected { .. } => Ok(()),
+            Outcome::Connected { client } => print_client(&mut self.output, *client, " joins"),
+            Outcome::Disconnected { client } => print_client(&mut self.output, *client, " leaves"),
+            Outcome::Sent { message, reply, .. } => print_messages(&mut self.output, message, reply),
+            Outcome::TurnBegan { packet } => self.print_turn(packet, world),
+        }
+    }
+
+    /// Prints a turn.
     fn print_turn(&mut self, packet: &Option<Packet>, world: &World) -> Result<(), WriteError>
         requires { map spec_of world.now.nodes ≡ specs_of (entries_of self.old.roster) }
         ensures printed { OnOk result
             (Appends (O.contents self.old.output) (O.contents self.new.output)
-            (text_of self.old (TurnBegan packet.now) world.now.nodes)) }
-        ensures printer_state { OnOk result
-            (printer_state self.new
-            ≡ printer_state_after (printer_state self.old) (TurnBegan packet.now)
-            (decoder_states_of world.now.nodes)) }
+            (lines_text (outcome_lines self.old (TurnBegan packet.now) world.now.nodes))) }
+        ensures printer_state { printer_state self.new ≡ printer_state self.old }
         ensures roster { self.new.roster ≡ self.old.roster }
-        ensures track { self.new.track ≡ self.old.track }
+        ensures verbosity { self.new.verbosity ≡ self.old.verbosity }
     {
-        self.turns = self.turns.saturating_add(1);
-        print_packet(&mut self.output, self.track, self.turns, packet)?;
-        if let Some(roster) = self.roster {
-            print_changed(&mut self.output, roster, self.decoder_states.as_slice(), world)?;
+        let turn = self.turns.saturating_add(1);
+        let are_printed = self.verbosity.prints_packets();
+        print_packet(&mut self.output, are_printed, turn, packet)?;
+        match self.roster {
+            Some(roster) => {
+                print_changed(
+                    &mut self.output,
+                    roster,
+                    self.decoder_states.as_slice(),
+                    world,
+                )
+            }
+            None => Ok(()),
         }
-        self.decoder_states = decoder_states(world);
-        Ok(())
+    }
+
+    /// Counts a disconnected client or a turn, and keeps the states of the decoders after a turn.
+    fn update(&mut self, outcome: &Outcome, world: &World)
+        requires { map spec_of world.now.nodes ≡ specs_of (entries_of self.old.roster) }
+        ensures output { self.new.output ≡ self.old.output }
+        ensures printer_state { printer_state self.new
+            ≡ printer_state_after (printer_state self.old) outcome.now
+            (decoder_states_of world.now.nodes) }
+        ensures roster { self.new.roster ≡ self.old.roster }
+        ensures verbosity { self.new.verbosity ≡ self.old.verbosity }
+    {
+        match outcome {
+            Outcome::Disconnected { .. } => self.disconnected = self.disconnected.saturating_add(1),
+            Outcome::TurnBegan { .. } => {
+                self.turns = self.turns.saturating_add(1);
+                self.decoder_states = decoder_states(world);
+            }
+            _ => {}
+        }
     }
 }
 
 impl<O: Write> Observer for Printer<'_, O> {
+    ghost use Rattle.bus_log.specs.Verbosities.{is_quiet};
     ghost use Rattle.bus_log.specs.Printers.{printer_state, decoder_states_of, text_of};
     ghost use Rattle.bus_log.specs.Lines.{printer_state_after};
 
@@ -167,62 +216,67 @@ impl<O: Write> Observer for Printer<'_, O> {
 
     ghost observed = { λ _. None };
 
-    /// Prints an outcome, and records it.
+    /// Prints an outcome, unless the log is quiet, and records it.
     fn observe(&mut self, outcome: &Outcome, world: &World) -> Result<(), WriteError>
         requires { map spec_of world.now.nodes ≡ specs_of (entries_of self.old.roster) }
         ensures printed { OnOk result
             (Appends (O.contents self.old.output) (O.contents self.new.output)
             (text_of self.old outcome.now world.now.nodes)) }
-        ensures printer_state { OnOk result
-            (printer_state self.new
+        ensures quiet { OnTrue (is_quiet self.old.verbosity)
+            ((is_ok result ≡ true) × (self.new.output ≡ self.old.output)) }
+        ensures printer_state { printer_state self.new
             ≡ printer_state_after (printer_state self.old) outcome.now
-            (decoder_states_of world.now.nodes)) }
+            (decoder_states_of world.now.nodes) }
         ensures decoder_specs { specs_of (entries_of self.new.roster)
             ≡ specs_of (entries_of self.old.roster) }
         ensures roster { self.new.roster ≡ self.old.roster }
-        ensures track { self.new.track ≡ self.old.track }
+        ensures verbosity { self.new.verbosity ≡ self.old.verbosity }
     {
-        match outcome {
-            Outcome::Nothing | Outcome::Rejected { .. } => Ok(()),
-            Outcome::Connected { client } => print_client(&mut self.output, *client, " joins"),
-            Outcome::Disconnected { client } => {
-                self.disconnected = self.disconnected.saturating_add(1);
-                print_client(&mut self.output, *client, " leaves")
-            }
-            Outcome::Sent { message, reply, .. } => print_messages(
-                &mut self.output,
-                message,
-                reply,
-            ),
-            Outcome::TurnBegan { packet } => self.print_turn(packet, world),
-        }
+        let printed = if self.verbosity.is_quiet() {
+            Ok(())
+        } else {
+            self.print(outcome, world)
+        };
+        self.update(outcome, world);
+        printed
     }
 
-    /// Prints that the queue of a client has overflowed.
+    /// Prints that the queue of a client has overflowed, unless the log is quiet.
     fn overflowed(&mut self, client: u8) -> Result<(), WriteError>
         ensures printed { OnOk result
             (Appends (O.contents self.old.output) (O.contents self.new.output)
-            (lines_text (overflow_line client ∷ []))) }
+            (lines_text (lines_unless (is_quiet self.old.verbosity) (overflow_line client ∷ [])))) }
+        ensures quiet { OnTrue (is_quiet self.old.verbosity)
+            ((is_ok result ≡ true) × (self.new.output ≡ self.old.output)) }
         ensures printer_state { printer_state self.new ≡ printer_state self.old }
         ensures decoder_specs { specs_of (entries_of self.new.roster)
             ≡ specs_of (entries_of self.old.roster) }
         ensures roster { self.new.roster ≡ self.old.roster }
-        ensures track { self.new.track ≡ self.old.track }
+        ensures verbosity { self.new.verbosity ≡ self.old.verbosity }
     {
+        if self.verbosity.is_quiet() {
+            return Ok(());
+        }
         print_client(&mut self.output, client, " is too slow")
     }
 
-    /// Prints that the machine was asleep.
+    /// Prints that the machine was asleep, unless the log is quiet.
     fn skipped(&mut self, micros: u64) -> Result<(), WriteError>
         ensures printed { OnOk result
             (Appends (O.contents self.old.output) (O.contents self.new.output)
-            (lines_text (skipped_line (micros / 1000) ∷ []))) }
+            (lines_text (lines_unless (is_quiet self.old.verbosity)
+            (skipped_line (micros / 1000) ∷ [])))) }
+        ensures quiet { OnTrue (is_quiet self.old.verbosity)
+            ((is_ok result ≡ true) × (self.new.output ≡ self.old.output)) }
         ensures printer_state { printer_state self.new ≡ printer_state self.old }
         ensures decoder_specs { specs_of (entries_of self.new.roster)
             ≡ specs_of (entries_of self.old.roster) }
         ensures roster { self.new.roster ≡ self.old.roster }
-        ensures track { self.new.track ≡ self.old.track }
+        ensures verbosity { self.new.verbosity ≡ self.old.verbosity }
     {
+        if self.verbosity.is_quiet() {
+            return Ok(());
+        }
         print_count(&mut self.output, "slept ", micros / 1000, " ms, left out")
     }
 }

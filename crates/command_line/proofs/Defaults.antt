@@ -12,7 +12,7 @@ use Rattle.clap.specs.Words.{Row, Text, first_of, matches_of, one_of}
 use Rattle.command_line.specs.declared.words.ServerOrder.{ServerOrder}
 use Rattle.command_line.specs.CommandLine.{roster_rule}
 use Rattle.command_line.specs.Order.{IsNumber, Writes, number_of}
-use Rattle.command_line.specs.ServerLine.{IsAddress, IsDefaultOrder, IsFlag, IsNumberIfGiven, IsServerOrder, address_rule, port_rule, turns_rule, clients_rule, track_rule, page_rule, page_file_rule, lose_rule, seed_rule, bare_server_app, listening_app, paced_app, shown_app, server_app}
+use Rattle.command_line.specs.ServerLine.{IsAddress, IsDefaultOrder, IsFlag, IsNumberIfGiven, IsServerOrder, address_rule, port_rule, turns_rule, clients_rule, track_rule, quiet_rule, page_rule, page_file_rule, lose_rule, seed_rule, bare_server_app, listening_app, paced_app, printed_app, shown_app, server_app}
 
 -- clap's matches of no arguments
 record HasDefaults (rows : List Row) : Type 0 where
@@ -22,14 +22,15 @@ record HasDefaults (rows : List Row) : Type 0 where
   pub turns : one_of (codes "turns") rows ≡ None
   pub clients : one_of (codes "clients") rows ≡ None
   pub track : one_of (codes "track") rows ≡ Some (codes "false")
+  pub quiet : one_of (codes "quiet") rows ≡ Some (codes "false")
   pub page : one_of (codes "page") rows ≡ None
   pub page_file : first_of (codes "page-file") rows ≡ None
   pub lose : one_of (codes "lose") rows ≡ Some (codes "0")
   pub seed : one_of (codes "seed") rows ≡ Some (codes "0")
 
 no_words : HasDefaults (matches_of server_app [])
-unfolding roster_rule address_rule port_rule turns_rule clients_rule track_rule page_rule page_file_rule lose_rule seed_rule bare_server_app listening_app paced_app shown_app server_app
-no_words = record { address = refl; port = refl; roster = refl; turns = refl; clients = refl; track = refl; page = refl; page_file = refl; lose = refl; seed = refl }
+unfolding roster_rule address_rule port_rule turns_rule clients_rule track_rule quiet_rule page_rule page_file_rule lose_rule seed_rule bare_server_app listening_app paced_app printed_app shown_app server_app
+no_words = record { address = refl; port = refl; roster = refl; turns = refl; clients = refl; track = refl; quiet = refl; page = refl; page_file = refl; lose = refl; seed = refl }
 
 number_is : (read : Option Text) (text : Text) (least most n : ℕ) → IsNumber read least most n → read ≡ Some text → n ≡ number_of text
 number_is read text least most n is same =
@@ -71,6 +72,7 @@ defaults rows order has is = record {
   in_real_time = number_is_none _ 0 255 order.turns is.each_turns has.turns;
   for_ever = number_is_none _ 0 4294967295 order.clients is.most_clients has.clients;
   shows_no_track = flag_is _ order.track is.shows_track has.track;
+  prints_log = flag_is _ order.quiet is.keeps_quiet has.quiet;
   without_page = number_is_none _ 1 65535 order.page is.at_page has.page;
   without_page_file = is.with_page ∙ has.page_file;
   loses_none = number_is _ (codes "0") 0 99 order.lose is.share_lost has.lose;

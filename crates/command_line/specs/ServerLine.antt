@@ -24,9 +24,15 @@ turns_rule = number (codes "turns") 0 255
 unfoldable pub clients_rule : Rule
 clients_rule = number (codes "clients") 0 4294967295
 
--- `--track`, a flag without a value
+-- `--id`, a flag without a value
+abbrev pub flag : Text → Rule
+flag id = record (new_rule id) { long = Some id; action = Some SetTrue }
+
 unfoldable pub track_rule : Rule
-track_rule = record (new_rule (codes "track")) { long = Some (codes "track"); action = Some SetTrue }
+track_rule = flag (codes "track")
+
+unfoldable pub quiet_rule : Rule
+quiet_rule = flag (codes "quiet")
 
 unfoldable pub lose_rule : Rule
 lose_rule = or_else (number (codes "lose") 0 99) (codes "0")
@@ -51,8 +57,11 @@ listening_app = with_rule (with_rule (with_rule bare_server_app address_rule) po
 unfoldable pub paced_app : App
 paced_app = with_rule (with_rule listening_app turns_rule) clients_rule
 
+unfoldable pub printed_app : App
+printed_app = with_rule (with_rule paced_app track_rule) quiet_rule
+
 unfoldable pub shown_app : App
-shown_app = with_rule (with_rule (with_rule paced_app track_rule) page_rule) page_file_rule
+shown_app = with_rule (with_rule printed_app page_rule) page_file_rule
 
 unfoldable pub server_app : App
 server_app = with_rule (with_rule shown_app lose_rule) seed_rule
@@ -81,6 +90,7 @@ pub record IsServerOrder (rows : List Row) (order : ServerOrder) : Type 0 where
   pub each_turns : IsNumberIfGiven (one_of (codes "turns") rows) 0 255 order.turns
   pub most_clients : IsNumberIfGiven (one_of (codes "clients") rows) 0 4294967295 order.clients
   pub shows_track : IsFlag (one_of (codes "track") rows) order.track
+  pub keeps_quiet : IsFlag (one_of (codes "quiet") rows) order.quiet
   pub at_page : IsNumberIfGiven (one_of (codes "page") rows) 1 65535 order.page
   pub with_page : order.page_file ≡ first_of (codes "page-file") rows
   pub share_lost : IsNumber (one_of (codes "lose") rows) 0 99 order.lose
@@ -97,6 +107,7 @@ pub record IsDefaultOrder (order : ServerOrder) : Type 0 where
   pub in_real_time : order.turns ≡ None
   pub for_ever : order.clients ≡ None
   pub shows_no_track : order.track ≡ false
+  pub prints_log : order.quiet ≡ false
   pub without_page : order.page ≡ None
   pub without_page_file : order.page_file ≡ None
   pub loses_none : order.lose ≡ 0

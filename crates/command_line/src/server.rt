@@ -84,9 +84,10 @@ fn matched(alloc: Global, found: &ArgMatches<'_>) -> Result<ServerOrder, OrderFa
     let Some(address) = address(found, "address") else {
         return Err(no_address(alloc));
     };
-    let (Some(port), Some(track), Some(lose), Some(seed)) = (
+    let (Some(port), Some(track), Some(quiet), Some(lose), Some(seed)) = (
         number(found, "port", 1, 65_535),
         flag(found, "track"),
+        flag(found, "quiet"),
         number(found, "lose", 0, 99),
         number(found, "seed", 0, u32::MAX),
     ) else {
@@ -99,6 +100,7 @@ fn matched(alloc: Global, found: &ArgMatches<'_>) -> Result<ServerOrder, OrderFa
         turns: number_if_given(alloc, found, "turns", 0, 255)?.map(|turns| turns as u8),
         clients: number_if_given(alloc, found, "clients", 0, u32::MAX)?,
         track,
+        quiet,
         page: number_if_given(alloc, found, "page", 1, 65_535)?.map(|port| port as u16),
         page_file: file_name(alloc, found, "page-file")?,
         lose: lose as u8,

@@ -2,7 +2,7 @@
 ghost use Rattle.std.specs.Prelude.{◌≡◌, false};
 ghost use Rattle.clap.specs.Words.{rule_of};
 ghost use Rattle.command_line.specs.CommandLine.{HasApp, HasNoGlobals};
-ghost use Rattle.command_line.specs.ServerLine.{address_rule, port_rule, turns_rule, clients_rule, track_rule, page_rule, page_file_rule, lose_rule, seed_rule, bare_server_app, listening_app, paced_app, shown_app, server_app};
+ghost use Rattle.command_line.specs.ServerLine.{flag, address_rule, port_rule, turns_rule, clients_rule, track_rule, quiet_rule, page_rule, page_file_rule, lose_rule, seed_rule, bare_server_app, listening_app, paced_app, printed_app, shown_app, server_app};
 
 use crate::command::{Draft, number, option, roster, with_arg};
 use clap::{Arg, ArgAction, Command};
@@ -52,7 +52,15 @@ fn clients<'a>(alloc: Global) -> Arg<'a>
     )
 }
 
-/// `--track`.
+/// The flag `--ID`.
+fn flag<'a>(alloc: Global, id: &'a str) -> Arg<'a>
+    ensures rule { rule_of result ≡ flag id.entry.now }
+    ensures local { result.global ≡ false }
+{
+    Arg::new(alloc, id).long(id).action(ArgAction::SetTrue)
+}
+
+/// The flag `--track`.
 #[tactic(auto, unfolding(crate::specs::ServerLine::track_rule))]
 fn track<'a>(alloc: Global) -> Arg<'a>
     ensures rule { rule_of result ≡ track_rule }
@@ -61,7 +69,16 @@ fn track<'a>(alloc: Global) -> Arg<'a>
     flag(alloc, "track").help("Prints the packets on the track")
 }
 
-/// `--page PORT`.
+/// The flag `--quiet`.
+#[tactic(auto, unfolding(crate::specs::ServerLine::quiet_rule))]
+fn quiet<'a>(alloc: Global) -> Arg<'a>
+    ensures rule { rule_of result ≡ quiet_rule }
+    ensures local { result.global ≡ false }
+{
+    flag(alloc, "quiet").help("Prints nothing but the addresses, with --track too")
+}
+
+/// The option `--page PORT`.
 #[tactic(auto, unfolding(crate::specs::ServerLine::page_rule))]
 fn page<'a>(alloc: Global) -> Arg<'a>
     ensures rule { rule_of result ≡ page_rule }
@@ -136,13 +153,20 @@ fn paced<'a>(alloc: Global) -> Draft<'a>
     with_arg(with_arg(listening(alloc), turns(alloc)), clients(alloc))
 }
 
-/// The same, with what is shown.
+/// Adds the flags for the log.
+fn printed<'a>(alloc: Global) -> Draft<'a>
+    ensures app { HasApp result printed_app }
+    ensures local { HasNoGlobals result }
+{
+    with_arg(with_arg(paced(alloc), track(alloc)), quiet(alloc))
+}
+
+/// Adds the options for the page.
 fn shown<'a>(alloc: Global) -> Draft<'a>
     ensures app { HasApp result shown_app }
     ensures local { HasNoGlobals result }
 {
-    let printed = with_arg(paced(alloc), track(alloc));
-    with_arg(with_arg(printed, page(alloc)), page_file(alloc))
+    with_arg(with_arg(printed(alloc), page(alloc)), page_file(alloc))
 }
 
 /// The whole command line.

@@ -90,6 +90,8 @@ pub struct ServerOrder {
     pub clients: Option<u32>,
     /// Whether the packets on the track are printed.
     pub track: bool,
+    /// Whether nothing but the addresses is printed, not even packets.
+    pub quiet: bool,
     /// The port of the page, 1 to 65535. Without it no page is served.
     pub page: Option<u16>,
     /// The file of the page. Without it, the page of the repository is served.

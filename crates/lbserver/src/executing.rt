@@ -1,6 +1,7 @@
 //! Running the program on its arguments, its port and its clock.
 ghost use Rattle.std.specs.Prelude.{◌≡◌, ◌≤◌, OnOk, map};
 ghost use Rattle.bus_log.specs.Decoders.{entries_of, specs_of};
+ghost use Rattle.bus_log.specs.Verbosities.{verbosity_of};
 ghost use Rattle.bus_server.specs.Progress.{ObservesLayout, state_of};
 ghost use Rattle.command_line.specs.declared.words.ServerOrder.{ServerOrder as OrderValue};
 ghost use Rattle.console.specs.Files.{IsRosterOf};
@@ -8,7 +9,7 @@ ghost use Rattle.lbserver.specs.Execution.{IsNewServer, ServesOrder, ServesWords
 
 use crate::clients::Clients;
 use crate::standard_output::StandardOutput;
-use bus_log::{LogQueue, Printer, decoders, print_listening, write_queued};
+use bus_log::{LogQueue, Printer, Verbosity, decoders, print_listening, write_queued};
 use bus_server::{Losses, Server, Stop};
 use command_line::{FileName, ServerOrder, server_order};
 use console::{RunFault, read_roster, read_whole};
@@ -167,7 +168,8 @@ fn with_log<O: Write>(
     let mut log = LogQueue::new(rt.alloc())?;
     report_addresses(&clients.sockets, &mut log)?;
     write_queued(&mut log, output)?;
-    let mut printer = Printer::new(log, roster, order.track, server.world());
+    let verbosity = Verbosity::of(order.track, order.quiet);
+    let mut printer = Printer::new(log, roster, verbosity, server.world());
     let served = serve(rt, order, server, clients, &mut printer, output);
     // A reader that accepts nothing for this long is not waited for.
     output.longest = Duration::from_millis(LAST_WAIT_MILLIS);
@@ -220,7 +222,7 @@ fn serve<O: Write>(
 ) -> Result<(), RunFault>
     requires observes { ObservesLayout (specs_of (entries_of printer.old.roster)) server.old.hub }
     requires new { IsNewServer order.now (entries_of printer.old.roster) (state_of server.old.hub) }
-    requires track { printer.old.track ≡ order.now.track }
+    requires verbosity { printer.old.verbosity ≡ verbosity_of order.now.track order.now.quiet }
     ensures serves { OnOk result (ServesOrder order.now (entries_of printer.old.roster)) }
 {
     let Ok(watch) = Stopwatch::new(rt) else {

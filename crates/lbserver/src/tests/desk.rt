@@ -2,7 +2,7 @@
 ghost use Rattle.bus_log.specs.Decoders.{entries_of, specs_of};
 ghost use Rattle.bus_server.specs.Progress.{ObservesLayout};
 
-use bus_log::{PageStates, Printer, decoders};
+use bus_log::{PageStates, Printer, Verbosity, decoders};
 use bus_server::{Losses, Server};
 use mio::Poll;
 use roster::Roster;
@@ -115,7 +115,12 @@ impl<'a> Desk<'a> {
     ) -> Result<Desk<'a>, Fail> {
         let server = Server::new(rt.alloc(), decoders(roster), Some(turns), Losses::new(0, 0))?;
         let sockets = bound(rt)?;
-        let printer = Printer::new(Vec::new(rt.alloc()), roster, true, server.world());
+        let printer = Printer::new(
+            Vec::new(rt.alloc()),
+            roster,
+            Verbosity::Packets,
+            server.world(),
+        );
         Ok(Desk {
             server,
             sockets,

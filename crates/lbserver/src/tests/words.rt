@@ -15,6 +15,7 @@ struct Held {
     turns: Option<u8>,
     clients: Option<u32>,
     track: bool,
+    quiet: bool,
     page: Option<u16>,
     lose: u8,
     seed: u32,
@@ -27,6 +28,7 @@ const DEFAULTS: Held = Held {
     turns: None,
     clients: None,
     track: false,
+    quiet: false,
     page: None,
     lose: 0,
     seed: 0,
@@ -64,6 +66,14 @@ const ORDERS: [(&'static [&'static str], Option<&'static str>, Held); 7] = [
         },
     ),
     (
+        &["--quiet"],
+        None,
+        Held {
+            quiet: true,
+            ..DEFAULTS
+        },
+    ),
+    (
         &[
             "--address=0.0.0.0",
             "--port=65535",
@@ -90,6 +100,7 @@ fn values_of(order: &ServerOrder) -> Held {
         turns: order.turns,
         clients: order.clients,
         track: order.track,
+        quiet: order.quiet,
         page: order.page,
         lose: order.lose,
         seed: order.seed,
@@ -126,6 +137,7 @@ fn words_that_are_no_order(rt: HostRuntime) {
         &["--clients", "4294967296"],
         &["--track", "on"],
         &["--page", "0"],
+        &["--quiet", "on"],
         &["--page", "65536"],
         &["--page-file"],
         &["--lose", "100"],
@@ -151,6 +163,7 @@ const TOLD: [(&'static [&'static str], &'static [&'static str]); 5] = [
             "--port <P>",
             "--clients <C>",
             "--track",
+            "--quiet",
             "--page <PORT>",
             "--page-file <FILE>",
             "--lose <N>",
