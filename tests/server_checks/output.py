@@ -90,6 +90,19 @@ def closed_output():
             same("standard error", server.faults.read_text(), "lbserver: output\n")
 
 
+def slot_reads():
+    """a read of a slot and the slot data that answers it are not printed, a refused read is"""
+    with serve("--turns", "0") as server, Client(server) as client:
+        for slot in range(1, 120):
+            same(f"slot {slot}", client.request(0xBB, slot, 0), *receive(slot_data(slot)))
+        same("slot 0", client.request(0xBB, 0, 0), "RECEIVE B4 3B 00 70")
+        same("slot 123", client.request(0xBB, 123, 0), "RECEIVE B4 3B 00 70")
+        client.send(0x80)
+        refused = "msg B4 3B 00 70 ack opc 59 code 0"
+        reads = ["msg BB 00 00 44 read slot 0", refused, "msg BB 7B 00 3F read slot 123", refused]
+        same("printed", printed_after(server, LAST), ["client 1 joins", *reads, LAST])
+
+
 def quiet():
     """--quiet prints nothing but the addresses, and clients and pages are served as ever"""
     for words in (["--turns", "20"], ["--turns", "20", "--track"], ["--track"]):

@@ -4,8 +4,11 @@ use Rattle.std.specs.Fmt.{decimal}
 use Rattle.std.specs.Str.{bytes_eq}
 use Rattle.dcc_packet.specs.Sent.{idle_bytes}
 use Rattle.layout_core.specs.declared.node.Node.{Node}
-use Rattle.layout_core.specs.declared.standing.DecoderState.{DecoderState}
-use Rattle.layout_core.specs.DecoderStates.{decoder_line, same_standing, decoder_state_of}
+use Rattle.layout_core.specs.declared.decoder_state.DecoderState.{DecoderState}
+use Rattle.layout_core.specs.DecoderStates.{decoder_line, same_decoder_state, decoder_state_of}
+use Rattle.ln_ops.specs.Message.{op_of}
+use Rattle.ln_ops.specs.declared.op.Op.{Op}
+use Rattle.ln_ops.specs.declared.op.Op.TheVariants.{SlotRead, SlotData}
 use Rattle.roster.specs.Entry.{Entry}
 use Rattle.show_text.specs.Lines.{track_text}
 use Rattle.show_text.specs.Messages.{message_text}
@@ -59,17 +62,31 @@ changed_lines (entry ∷ entries) (last ∷ before) [] = []
 changed_lines (entry ∷ entries) (last ∷ before) (now ∷ decoder_states) =
     (if same_decoder_state last now then [] else decoder_line entry.name entry.spec now ∷ []) ++ changed_lines entries before decoder_states
 
--- The lines of what is told: who joins and leaves, each message and then its reply, the packet of a turn, and the decoders
--- that it changed.
+-- a read of a slot (OPC_RQ_SL_DATA) that is answered by its data (OPC_SL_RD_DATA)
+abbrev pub is_read : Op → Op → Bool
+is_read (SlotRead slot) (SlotData fields) = true
+is_read op reply = false
+
+abbrev pub is_slot_read : (message : List ℕ) → (reply : Option (List ℕ)) → Bool
+is_slot_read message None = false
+is_slot_read message (Some reply) = is_read (op_of message) (op_of reply)
+
+-- The lines of an outcome: clients that connect and disconnect, each message and then its reply
+-- (none for a read of a slot), the packet of a turn, and the decoders that it changed.
 abbrev pub lines_of : (track : Bool) → List Entry → PrinterState → Outcome → (decoder_states : List DecoderState) → List (List ℕ)
 lines_of track entries before Nothing decoder_states = []
 lines_of track entries before (Connected client) decoder_states = client_line client (codes " joins") ∷ []
 lines_of track entries before (Disconnected client) decoder_states = client_line client (codes " leaves") ∷ []
 lines_of track entries before (Rejected client reason) decoder_states = []
-lines_of track entries before (Sent client message reply) decoder_states = map message_text (messages_in (Sent client message reply))
+lines_of track entries before (Sent client message reply) decoder_states =
+    if is_slot_read message reply then [] else map message_text (messages_in (Sent client message reply))
 lines_of track entries before (TurnBegan packet) decoder_states = packet_lines track (saturating_successor before.turns) packet ++ changed_lines entries before.decoder_states decoder_states
 
--- the client is closed, since too much waits for it
+-- none of these lines, if the log is quiet
+abbrev pub lines_unless : (quiet : Bool) → List (List ℕ) → List (List ℕ)
+lines_unless quiet lines = if quiet then [] else lines
+
+-- the client is disconnected, because its queue has overflowed
 abbrev pub overflow_line : (client : ℕ) → List ℕ
 overflow_line client = client_line client (codes " is too slow")
 

@@ -1,5 +1,5 @@
 //! Printing the outcomes of a bus.
-ghost use Rattle.std.specs.Prelude.{◌≡◌, ◌<◌, ◌/◌, ◌++◌, None, IfOk, OnOk, List, [], ◌∷◌, is_ok, length, map, codes, true};
+ghost use Rattle.std.specs.Prelude.{◌≡◌, ◌<◌, ◌/◌, ◌++◌, None, IfOk, OnOk, List, [], ◌∷◌, if◌then◌else◌, is_ok, length, map, codes, true};
 ghost use Rattle.std.specs.Bool.{OnTrue};
 ghost use Rattle.std.specs.Fmt.{decimal};
 ghost use Rattle.std.specs.Io.KnownBytes.{Appends};
@@ -13,7 +13,7 @@ ghost use Rattle.layout_core.specs.DecoderStates.{decoder_line, decoder_state_of
 ghost use Rattle.roster.specs.Entry.{Entry, spec_of as entry_spec};
 ghost use Rattle.show_text.specs.Messages.{message_text};
 ghost use Rattle.bus_log.specs.Decoders.{entries_of, specs_of};
-ghost use Rattle.bus_log.specs.Lines.{changed_lines, client_line, lines_unless, node_message, overflow_line, saturating_successor, packet_lines, skipped_line};
+ghost use Rattle.bus_log.specs.Lines.{changed_lines, client_line, is_slot_read, lines_unless, node_message, overflow_line, saturating_successor, packet_lines, skipped_line};
 
 use crate::verbosity::Verbosity;
 use arrayvec::{ArrayString, ArrayVec};
@@ -23,6 +23,7 @@ use dcc_packet::{Packet, idle};
 use decoder_node::{MAX_NODES, NodeList, NodeSpec};
 use layout_core::{DecoderState, World};
 use ln_frame::Msg;
+use ln_ops::{Op, read};
 use roster::Roster;
 use show_text::{Line, message_line, track_line};
 use std::io::Write;
@@ -153,7 +154,7 @@ impl<'a, O: Write> Printer<'a, O> {
             Outcome::Nothing | Outcome::Rejected { .. } => Ok(()),
             Outcome::Connected { client } => print_client(&mut self.output, *client, " joins"),
             Outcome::Disconnected { client } => print_client(&mut self.output, *client, " leaves"),
-            Outcome::Sent { message, reply, .. } => print_messages(&mut self.output, message, reply),
+            Outcome::Sent { message, reply, .. } => print_sent(&mut self.output, message, reply),
             Outcome::TurnBegan { packet } => self.print_turn(packet, world),
         }
     }
@@ -323,6 +324,36 @@ fn print_count<O: Write>(
         (lines_text ((before.now ++ decimal number ++ behind.now) ∷ []))) }
 {
     writeln!(output, "{before}{number}{behind}").map_err(|_| WriteError)
+}
+
+/// Prints a message, and then the reply to it, unless a slot is read.
+fn print_sent<O: Write>(
+    output: &mut O,
+    message: &Msg,
+    reply: &Option<Msg>,
+) -> Result<(), WriteError>
+    ensures { OnOk result
+        (Appends (O.contents output.old) (O.contents output.new)
+        (lines_text (if is_slot_read message.now reply.now then [] else map message_text
+        (message.now ∷ option_to_list reply.now)))) }
+{
+    if is_slot_read(message, reply) {
+        return Ok(());
+    }
+    print_messages(output, message, reply)
+}
+
+/// Returns whether a slot is read, and the reply is its data.
+fn is_slot_read(message: &Msg, reply: &Option<Msg>) -> bool
+    ensures { result ≡ is_slot_read message.now reply.now }
+{
+    match reply {
+        Some(reply) => matches!(
+            (read(message), read(reply)),
+            (Op::SlotRead { .. }, Op::SlotData(_))
+        ),
+        None => false,
+    }
 }
 
 /// Prints a message, and then the reply to it.

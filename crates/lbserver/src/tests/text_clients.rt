@@ -83,13 +83,44 @@ const TURNS: &'static [Step] = &[
     ),
 ];
 
-/// What happens, and the turns behind each message.
-const SCENES: [(&'static [Step], u8); 5] = [
+/// A read of a slot and the slot data that answers it are not printed. A refused read is, with its refusal.
+const SLOT_READS: &'static [Step] = &[
+    Connects(0),
+    Writes(
+        0,
+        b"SEND BF 00 03 43\nSEND BB 01 00 45\nSEND BB 05 00 41\nSEND BB 00 00 44\n",
+    ),
+    Reads(
+        0,
+        &[
+            VERSION,
+            TAKE_3,
+            OK,
+            SLOT_1,
+            "RECEIVE BB 01 00 45\r\n",
+            OK,
+            SLOT_1,
+            "RECEIVE BB 05 00 41\r\n",
+            OK,
+            "RECEIVE E7 0E 05 00 00 00 00 06 00 00 00 00 00 15\r\n",
+            "RECEIVE BB 00 00 44\r\n",
+            OK,
+            "RECEIVE B4 3B 00 70\r\n",
+        ],
+    ),
+    Printed(
+        "client 1 joins\nmsg BF 00 03 43 address 3\nmsg E7 0E 01 23 03 00 00 06 00 00 00 00 00 31 slot-data slot 1 stat 35 address 3 spd 0 dirf 0 trk 6 ss2 0 snd 0 ids 0 0\nmsg BB 00 00 44 read slot 0\nmsg B4 3B 00 70 ack opc 59 code 0\n",
+    ),
+];
+
+/// The scenes, and the turns after each message.
+const SCENES: [(&'static [Step], u8); 6] = [
     (INTERLEAVED, 0),
     (GOES_IN_MID_LINE, 0),
     (NINTH, 0),
     (RESET, 0),
     (TURNS, 3),
+    (SLOT_READS, 0),
 ];
 
 #[test]
