@@ -67,13 +67,13 @@ address_is read address is same =
 defaults : (rows : List Row) (order : ServerOrder) → HasDefaults rows → IsServerOrder rows order → IsDefaultOrder order
 defaults rows order has is = record {
   at_address = address_is _ order.address is.at_address has.address;
-  at_port = number_is _ (codes "1234") 1 65535 order.port is.at_port has.port;
+  at_port = number_is _ (codes "1234") 0 65535 order.port is.at_port has.port;
   without_roster = is.with_roster ∙ has.roster;
   in_real_time = number_is_none _ 0 255 order.turns is.each_turns has.turns;
   for_ever = number_is_none _ 0 4294967295 order.clients is.most_clients has.clients;
   shows_no_track = flag_is _ order.track is.shows_track has.track;
   prints_log = flag_is _ order.quiet is.keeps_quiet has.quiet;
-  without_page = number_is_none _ 1 65535 order.page is.at_page has.page;
+  without_page = number_is_none _ 0 65535 order.page is.at_page has.page;
   without_page_file = is.with_page ∙ has.page_file;
   loses_none = number_is _ (codes "0") 0 99 order.lose is.share_lost has.lose;
   with_seed = number_is _ (codes "0") 0 4294967295 order.seed is.with_seed has.seed;

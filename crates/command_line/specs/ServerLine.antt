@@ -16,7 +16,7 @@ unfoldable pub address_rule : Rule
 address_rule = or_else (option (codes "address")) (codes "127.0.0.1")
 
 unfoldable pub port_rule : Rule
-port_rule = or_else (number (codes "port") 1 65535) (codes "1234")
+port_rule = or_else (number (codes "port") 0 65535) (codes "1234")
 
 unfoldable pub turns_rule : Rule
 turns_rule = number (codes "turns") 0 255
@@ -41,7 +41,7 @@ unfoldable pub seed_rule : Rule
 seed_rule = or_else (number (codes "seed") 0 4294967295) (codes "0")
 
 unfoldable pub page_rule : Rule
-page_rule = number (codes "page") 1 65535
+page_rule = number (codes "page") 0 65535
 
 unfoldable pub page_file_rule : Rule
 page_file_rule = option (codes "page-file")
@@ -85,13 +85,13 @@ IsFlag text flag = text ≡ Some (if flag then codes "true" else codes "false")
 
 pub record IsServerOrder (rows : List Row) (order : ServerOrder) : Type 0 where
   pub at_address : IsAddress (one_of (codes "address") rows) order.address
-  pub at_port : IsNumber (one_of (codes "port") rows) 1 65535 order.port
+  pub at_port : IsNumber (one_of (codes "port") rows) 0 65535 order.port
   pub with_roster : order.roster ≡ first_of (codes "roster") rows
   pub each_turns : IsNumberIfGiven (one_of (codes "turns") rows) 0 255 order.turns
   pub most_clients : IsNumberIfGiven (one_of (codes "clients") rows) 0 4294967295 order.clients
   pub shows_track : IsFlag (one_of (codes "track") rows) order.track
   pub keeps_quiet : IsFlag (one_of (codes "quiet") rows) order.quiet
-  pub at_page : IsNumberIfGiven (one_of (codes "page") rows) 1 65535 order.page
+  pub at_page : IsNumberIfGiven (one_of (codes "page") rows) 0 65535 order.page
   pub with_page : order.page_file ≡ first_of (codes "page-file") rows
   pub share_lost : IsNumber (one_of (codes "lose") rows) 0 99 order.lose
   pub with_seed : IsNumber (one_of (codes "seed") rows) 0 4294967295 order.seed

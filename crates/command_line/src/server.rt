@@ -85,7 +85,7 @@ fn matched(alloc: Global, found: &ArgMatches<'_>) -> Result<ServerOrder, OrderFa
         return Err(no_address(alloc));
     };
     let (Some(port), Some(track), Some(quiet), Some(lose), Some(seed)) = (
-        number(found, "port", 1, 65_535),
+        number(found, "port", 0, 65_535),
         flag(found, "track"),
         flag(found, "quiet"),
         number(found, "lose", 0, 99),
@@ -101,7 +101,7 @@ fn matched(alloc: Global, found: &ArgMatches<'_>) -> Result<ServerOrder, OrderFa
         clients: number_if_given(alloc, found, "clients", 0, u32::MAX)?,
         track,
         quiet,
-        page: number_if_given(alloc, found, "page", 1, 65_535)?.map(|port| port as u16),
+        page: number_if_given(alloc, found, "page", 0, 65_535)?.map(|port| port as u16),
         page_file: file_name(alloc, found, "page-file")?,
         lose: lose as u8,
         seed,

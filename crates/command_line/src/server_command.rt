@@ -25,9 +25,9 @@ fn port<'a>(alloc: Global) -> Arg<'a>
     ensures rule { rule_of result ≡ port_rule }
     ensures local { result.global ≡ false }
 {
-    number(alloc, "port", "P", 1, 65_535)
+    number(alloc, "port", "P", 0, 65_535)
         .default_value("1234")
-        .help("The TCP port, 1 to 65535")
+        .help("The TCP port, 0 to 65535; with 0 a free one, which the line `listening` names")
 }
 
 /// The option `--turns T`.
@@ -84,8 +84,8 @@ fn page<'a>(alloc: Global) -> Arg<'a>
     ensures rule { rule_of result ≡ page_rule }
     ensures local { result.global ≡ false }
 {
-    number(alloc, "page", "PORT", 1, 65_535).help(
-        "The TCP port of a page for browsers, to drive and to watch, 1 to 65535; without it there is none",
+    number(alloc, "page", "PORT", 0, 65_535).help(
+        "The TCP port of a page for browsers, to drive and to watch, 0 to 65535, 0 for a free one; without it there is none",
     )
 }
 

@@ -79,7 +79,7 @@ pub enum Order {
 pub struct ServerOrder {
     /// The address to listen on. Every client that can reach it can drive trains.
     pub address: Ipv4Addr,
-    /// The port, 1 to 65535.
+    /// The port, 0 to 65535; 0 is a free one that the system chooses.
     pub port: u16,
     /// The file that describes the decoders of the layout. Without it there are none.
     pub roster: Option<FileName>,
@@ -92,7 +92,7 @@ pub struct ServerOrder {
     pub track: bool,
     /// Whether nothing but the addresses is printed, not even packets.
     pub quiet: bool,
-    /// The port of the page, 1 to 65535. Without it no page is served.
+    /// The port of the page, 0 to 65535, 0 for a free one. Without it no page is served.
     pub page: Option<u16>,
     /// The file of the page. Without it, the page of the repository is served.
     pub page_file: Option<FileName>,

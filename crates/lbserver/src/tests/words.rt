@@ -55,6 +55,15 @@ const ORDERS: [(&'static [&'static str], Option<&'static str>, Held); 7] = [
         },
     ),
     (
+        &["--port", "0", "--page", "0", "--page-file", "a b.html"],
+        None,
+        Held {
+            port: 0,
+            page: Some(0),
+            ..DEFAULTS
+        },
+    ),
+    (
         &["--seed=7", "--track", "--clients=1", "--lose=99"],
         None,
         Held {
@@ -130,13 +139,11 @@ fn words_that_are_no_order(rt: HostRuntime) {
         &["--address", "127.0.0.256"],
         &["--address", "::1"],
         &["--address", ""],
-        &["--port", "0"],
         &["--port", "65536"],
         &["--turns", "256"],
         &["--clients", "-1"],
         &["--clients", "4294967296"],
         &["--track", "on"],
-        &["--page", "0"],
         &["--quiet", "on"],
         &["--page", "65536"],
         &["--page-file"],
@@ -171,7 +178,10 @@ const TOLD: [(&'static [&'static str], &'static [&'static str]); 5] = [
             "lbserver --roster layout.toml",
         ],
     ),
-    (&["--port", "0"], &["'0'", "--port <P>", "1..=65535"]),
+    (
+        &["--port", "65536"],
+        &["'65536'", "--port <P>", "0..=65535"],
+    ),
     (
         &["--address", "localhost"],
         &["the address is no IPv4 address", "Usage: lbserver"],

@@ -19,5 +19,5 @@ returns-in_err-number_if_given-2-clause-fault c =
 pub returns-in_err-number_if_given-3-clause-fault : goal.returns-in_err-number_if_given-3-clause-fault
 returns-in_err-number_if_given-3-clause-fault c =
     let rows = rows_of (found_of c.args.found.now) in
-    none_of_part (IsNumberIfGiven (one_of (codes "page") rows) 1 65535) (IsServerOrder rows) c.from_residual-in_err-number_if_given-3.result c.in_err-number_if_given-3.field-0.0
+    none_of_part (IsNumberIfGiven (one_of (codes "page") rows) 0 65535) (IsServerOrder rows) c.from_residual-in_err-number_if_given-3.result c.in_err-number_if_given-3.field-0.0
     c.from_residual-in_err-number_if_given-3.ensures.1 (λ order is. (order.page, is.at_page)) c.in_err-number_if_given-3.ensures.fault
