@@ -90,9 +90,9 @@ def statuses():
             ([*page, long.name], 2, f"lbserver: {long.name} is too long\n"),
             (["--port", port, "--roster", "nowhere.toml"], 2, "lbserver: cannot read nowhere.toml\n"),
             (["--port", port, "--roster", "README.md"], 3, "lbserver: roster fault 1 at node 0\n"),
-            (["--port", str(server.port)], 4, "lbserver: network\n"),
-            (["--port", port, "--page", str(server.port)], 4, "lbserver: network\n"),
-            (["--port", port, "--address", "192.0.2.1"], 4, "lbserver: network\n"),
+            (["--port", str(server.port)], 4, f"lbserver: cannot listen on 127.0.0.1:{server.port}: the port is in use\n"),
+            (["--port", port, "--page", str(server.port)], 4, f"lbserver: cannot listen on 127.0.0.1:{server.port}: the port is in use\n"),
+            (["--port", port, "--address", "192.0.2.1"], 4, f"lbserver: cannot listen on 192.0.2.1:{port}: the machine has no such address\n"),
         ):
             same(f"{words}", run(*words), (status, "", faults))
 

@@ -8,6 +8,7 @@ ghost use Rattle.console.specs.Files.{IsRosterOf};
 ghost use Rattle.lbserver.specs.Execution.{IsNewServer, ServesOrder, ServesWords, clients_of, entries_in};
 
 use crate::clients::Clients;
+use crate::fault::ServerFault;
 use crate::standard_output::StandardOutput;
 use bus_log::{LogQueue, Printer, Verbosity, decoders, print_listening, write_queued};
 use bus_server::{Losses, Server, Stop};
@@ -20,10 +21,7 @@ use std::io::Write;
 use std::net::SocketAddr;
 use std::time::Duration;
 
-/// What the program is called where it tells a fault.
-pub(crate) const NAME: &'static str = "lbserver";
-
-/// The page that is served where none is named.
+/// The page that is served by default.
 const PAGE_FILE: &'static str = "pages/throttle.html";
 
 /// The longest page, in bytes.
@@ -48,15 +46,15 @@ pub(crate) fn execute<O: Write, E: Write>(
 {
     match run(rt, words, output) {
         Ok(()) => 0,
-        Err(fault) => report_as(NAME, &fault, faults),
+        Err(fault) => fault.report(faults),
     }
 }
 
 /// Carries out the order of the arguments.
 ///
-/// It goes on from function to function, each of which makes one thing and lends it, since one that may return early with
-/// something to let go is dear to prove.
-fn run<O: Write>(rt: &HostRuntime, words: &[&str], output: &mut O) -> Result<(), RunFault>
+/// Each of the following functions creates one thing and passes a borrow of it to the next, because
+/// a function that returns early with a value to drop is hard to prove.
+fn run<O: Write>(rt: &HostRuntime, words: &[&str], output: &mut O) -> Result<(), ServerFault>
     ensures serves { OnOk result (ServesWords (map (λ word. word.now) words.entry.now)) }
 {
     let mut order = server_order(rt.alloc(), words)?;
@@ -68,8 +66,10 @@ fn with_roster<O: Write>(
     rt: &HostRuntime,
     order: &mut ServerOrder,
     output: &mut O,
-) -> Result<(), RunFault>
-    ensures serves { OnOk result ((roster : _) × IsRosterOf order.old.roster roster × ServesOrder order.old (entries_in roster)) }
+) -> Result<(), ServerFault>
+    ensures serves { OnOk result
+        ((roster : _) × IsRosterOf order.old.roster roster
+        × ServesOrder order.old (entries_in roster)) }
 {
     let roster = read_roster(rt, order.roster.take())?;
     with_server(rt, order, roster.as_ref(), output)
@@ -81,7 +81,7 @@ fn with_server<O: Write>(
     order: &mut ServerOrder,
     roster: Option<&Roster>,
     output: &mut O,
-) -> Result<(), RunFault>
+) -> Result<(), ServerFault>
     ensures serves { OnOk result (ServesOrder order.old (entries_of roster.entry)) }
 {
     let losses = Losses::new(order.lose, u64::from(order.seed));
@@ -96,14 +96,15 @@ fn with_sockets<O: Write>(
     roster: Option<&Roster>,
     server: &mut Server,
     output: &mut O,
-) -> Result<(), RunFault>
+) -> Result<(), ServerFault>
     requires observes { ObservesLayout (specs_of (entries_of roster)) server.old.hub }
     requires new { IsNewServer order.old (entries_of roster) (state_of server.old.hub) }
     ensures serves { OnOk result (ServesOrder order.old (entries_of roster.entry)) }
 {
     let address = SocketAddr::from((order.address, order.port));
-    let Ok(mut clients) = Clients::bind(rt, address) else {
-        return Err(RunFault::Network);
+    let mut clients = match Clients::bind(rt, address) {
+        Ok(clients) => clients,
+        Err(error) => return Err(ServerFault::of_bind(address, &error)),
     };
     let served = with_page(rt, order, roster, server, &mut clients, output);
     clients.close_all();
@@ -118,7 +119,7 @@ fn with_page<O: Write>(
     server: &mut Server,
     clients: &mut Clients<'_, HostRuntime>,
     output: &mut O,
-) -> Result<(), RunFault>
+) -> Result<(), ServerFault>
     requires observes { ObservesLayout (specs_of (entries_of roster)) server.old.hub }
     requires new { IsNewServer order.old (entries_of roster) (state_of server.old.hub) }
     ensures serves { OnOk result (ServesOrder order.old (entries_of roster.entry)) }
@@ -138,16 +139,16 @@ fn with_printer<O: Write>(
     server: &mut Server,
     clients: &mut Clients<'_, HostRuntime>,
     output: &mut O,
-) -> Result<(), RunFault>
+) -> Result<(), ServerFault>
     requires observes { ObservesLayout (specs_of (entries_of roster)) server.old.hub }
     requires new { IsNewServer order.now (entries_of roster) (state_of server.old.hub) }
     ensures serves { OnOk result (ServesOrder order.now (entries_of roster.entry)) }
 {
     let Ok(poll) = Poll::new(rt) else {
-        return Err(RunFault::Network);
+        return Err(ServerFault::Run(RunFault::Network));
     };
     let Ok(mut output) = StandardOutput::new(rt.alloc(), poll, output) else {
-        return Err(RunFault::NoMemory);
+        return Err(ServerFault::Run(RunFault::NoMemory));
     };
     with_log(rt, order, roster, server, clients, &mut output)
 }
@@ -160,7 +161,7 @@ fn with_log<O: Write>(
     server: &mut Server,
     clients: &mut Clients<'_, HostRuntime>,
     output: &mut StandardOutput<'_, O>,
-) -> Result<(), RunFault>
+) -> Result<(), ServerFault>
     requires observes { ObservesLayout (specs_of (entries_of roster)) server.old.hub }
     requires new { IsNewServer order.now (entries_of roster) (state_of server.old.hub) }
     ensures serves { OnOk result (ServesOrder order.now (entries_of roster.entry)) }
@@ -184,17 +185,16 @@ fn bind_page(
     clients: &mut Clients<'_, HostRuntime>,
     address: SocketAddr,
     file: Option<FileName>,
-) -> Result<(), RunFault> {
+) -> Result<(), ServerFault> {
     let page = read_page(rt, file)?;
     match clients.bind_page(address, page.as_slice()) {
         Ok(()) => Ok(()),
-        Err(error) if error.kind() == ErrorKind::OutOfMemory => Err(RunFault::NoMemory),
-        Err(_) => Err(RunFault::Network),
+        Err(error) => Err(ServerFault::of_bind(address, &error)),
     }
 }
 
-/// The page of this file, or of the one in the repository.
-fn read_page(rt: &HostRuntime, file: Option<FileName>) -> Result<Vec<u8>, RunFault> {
+/// Returns the page of this file, or that of the repository.
+fn read_page(rt: &HostRuntime, file: Option<FileName>) -> Result<Vec<u8>, ServerFault> {
     let file = match file {
         Some(file) => file,
         None => FileName::new(rt.alloc(), PAGE_FILE)?,
@@ -202,10 +202,10 @@ fn read_page(rt: &HostRuntime, file: Option<FileName>) -> Result<Vec<u8>, RunFau
     Ok(read_whole(rt, file, LONGEST_PAGE)?)
 }
 
-/// Tells the addresses and the ports that are bound, at once.
-fn report_addresses<O: Write>(sockets: &Sockets, output: &mut O) -> Result<(), RunFault> {
+/// Reports the bound addresses and ports at once.
+fn report_addresses<O: Write>(sockets: &Sockets, output: &mut O) -> Result<(), ServerFault> {
     let Ok((bus, page)) = sockets.addresses() else {
-        return Err(RunFault::Network);
+        return Err(ServerFault::Run(RunFault::Network));
     };
     Ok(print_listening(output, bus, page)?)
 }
@@ -219,21 +219,21 @@ fn serve<O: Write>(
     clients: &mut Clients<'_, HostRuntime>,
     printer: &mut Printer<'_, LogQueue>,
     output: &mut StandardOutput<'_, O>,
-) -> Result<(), RunFault>
+) -> Result<(), ServerFault>
     requires observes { ObservesLayout (specs_of (entries_of printer.old.roster)) server.old.hub }
     requires new { IsNewServer order.now (entries_of printer.old.roster) (state_of server.old.hub) }
     requires verbosity { printer.old.verbosity ≡ verbosity_of order.now.track order.now.quiet }
     ensures serves { OnOk result (ServesOrder order.now (entries_of printer.old.roster)) }
 {
     let Ok(watch) = Stopwatch::new(rt) else {
-        return Err(RunFault::Network);
+        return Err(ServerFault::Run(RunFault::Network));
     };
     let mut clock = Ticking { clock: rt, watch };
     let most = most_clients(order.clients);
     match server.run(clients, &mut clock, printer, output, most) {
         Ok(()) => Ok(()),
-        Err(Stop::Transport(_)) | Err(Stop::Clock(_)) => Err(RunFault::Network),
-        Err(Stop::Observer(fault)) => Err(RunFault::from(fault)),
+        Err(Stop::Transport(_)) | Err(Stop::Clock(_)) => Err(ServerFault::Run(RunFault::Network)),
+        Err(Stop::Observer(fault)) => Err(ServerFault::from(fault)),
     }
 }
 

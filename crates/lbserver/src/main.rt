@@ -3,11 +3,13 @@
 
 mod clients;
 mod executing;
+mod fault;
 mod standard_output;
 
 use command_line::not_utf8_server_text;
 use console::{RunFault, read_words, report_as, texts};
-use executing::{NAME, execute};
+use executing::execute;
+use fault::NAME;
 use std::io;
 use std::process::ExitCode;
 

@@ -1,0 +1,92 @@
+//! The faults of a run that ends with a status other than 0, and their text.
+ghost use Rattle.std.specs.Prelude.{◌≡◌, ◌<◌, ◌≤◌};
+ghost use Rattle.console.specs.declared.fault.RunFault.TheVariants.{NoMemory, Output};
+ghost use Rattle.console.specs.Fault.{of_order};
+ghost use Rattle.lbserver.specs.declared.fault.ServerFault.TheVariants.{Run};
+
+use command_line::OrderFault;
+use console::{RunFault, WriteError, report_as};
+use std::alloc::AllocError;
+use std::io;
+use std::io::{ErrorKind, Write};
+use std::net::SocketAddr;
+
+/// The name of the program in its fault lines.
+pub(crate) const NAME: &'static str = "lbserver";
+
+/// Why a run ends with a status other than 0.
+#[derive(Debug, Drop)]
+pub(crate) enum ServerFault {
+    /// Status 4: nothing can listen on this address and port.
+    Listen { address: SocketAddr, why: ErrorKind },
+    /// A fault that other programs have too.
+    Run(RunFault),
+}
+
+impl ServerFault {
+    /// Returns the fault of an address and port that could not be bound for this error.
+    pub(crate) fn of_bind(address: SocketAddr, error: &io::Error) -> ServerFault {
+        match error.kind() {
+            ErrorKind::OutOfMemory => ServerFault::Run(RunFault::NoMemory),
+            why => ServerFault::Listen { address, why },
+        }
+    }
+
+    /// Writes the fault as one line, or the text of `clap` for the command line, and returns its
+    /// status, 1 to 6. A failure of this report cannot be reported.
+    pub(crate) fn report<E: Write>(&self, faults: &mut E) -> u8
+        ensures some { 0 < result }
+        ensures most { result ≤ 6 }
+    {
+        match self {
+            ServerFault::Run(fault) => report_as(NAME, fault, faults),
+            ServerFault::Listen { address, why } => {
+                let reason = reason_of(*why);
+                let _ = writeln!(faults, "{NAME}: cannot listen on {address}: {reason}");
+                4
+            }
+        }
+    }
+}
+
+/// Returns why an address and port cannot be bound, in words.
+fn reason_of(why: ErrorKind) -> &'static str {
+    match why {
+        ErrorKind::AddrInUse => "the port is in use",
+        ErrorKind::AddrNotAvailable => "the machine has no such address",
+        ErrorKind::PermissionDenied => "permission denied",
+        _ => "network error",
+    }
+}
+
+impl From<RunFault> for ServerFault {
+    ghost from_gives = { λ run fault. fault ≡ Run run };
+
+    fn from(fault: RunFault) -> ServerFault {
+        ServerFault::Run(fault)
+    }
+}
+
+impl From<OrderFault> for ServerFault {
+    ghost from_gives = { λ order fault. fault ≡ Run (of_order order) };
+
+    fn from(fault: OrderFault) -> ServerFault {
+        ServerFault::Run(RunFault::from(fault))
+    }
+}
+
+impl From<AllocError> for ServerFault {
+    ghost from_gives = { λ _ fault. fault ≡ Run NoMemory };
+
+    fn from(_error: AllocError) -> ServerFault {
+        ServerFault::Run(RunFault::NoMemory)
+    }
+}
+
+impl From<WriteError> for ServerFault {
+    ghost from_gives = { λ _ fault. fault ≡ Run Output };
+
+    fn from(_error: WriteError) -> ServerFault {
+        ServerFault::Run(RunFault::Output)
+    }
+}
