@@ -7,6 +7,7 @@ use Rattle.ascii_words.specs.Words.{is_blank, words_of}
 use Rattle.loconet_tcp.specs.Requests.{bytes_of, leading_bytes}
 use Rattle.describe.specs.Messages.{message_words}
 use Rattle.describe.specs.Packets.{packet_words}
+use Rattle.explain.specs.FaultLines.{fault_in, names_program}
 
 -- the explanation of bytes; none if there are no bytes, or if a word is not a pair of digits
 abbrev pub said_by : (List ℕ → List ℕ) → Option (List ℕ) → List ℕ
@@ -33,15 +34,17 @@ rest_after text = after_first is_blank text
 abbrev pub begins_with : List ℕ → List ℕ → Bool
 begins_with word line = bytes_eq (before_first is_blank line) word
 
--- What a line says, by its first word. Behind `reply` stands the line that is answered, and behind `track` the turn. A line
--- that begins with none of these words is a message, or says nothing.
+-- The explanation of a line, by its first word. After `reply` is the line of the station, after
+-- `track` the turn, and after the name of a program a fault. A line that begins with none of these
+-- words is a message, or has no explanation.
 abbrev pub words_about : List ℕ → List ℕ
 words_about line =
     if begins_with (codes "reply") line then message_in (rest_after (rest_after line)) else
     (if begins_with (codes "track") line then turn_in (rest_after (rest_after line)) else
     (if begins_with (codes "msg") line then monitored_in (rest_after line) else
     (if begins_with (codes "RECEIVE") line then message_in (rest_after line) else
-    (if begins_with (codes "SEND") line then message_in (rest_after line) else message_in line))))
+    (if begins_with (codes "SEND") line then message_in (rest_after line) else
+    (if names_program (before_first is_blank line) then fault_in (rest_after line) else message_in line)))))
 
 -- two spaces before words
 abbrev pub set_off : List ℕ → List ℕ

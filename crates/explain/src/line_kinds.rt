@@ -5,6 +5,7 @@ ghost use Rattle.describe.specs.Messages.{message_words};
 ghost use Rattle.loconet_tcp.specs.Requests.{leading_bytes};
 ghost use Rattle.explain.specs.LineKinds.{message_in, monitored_in, said_by, turn_in, words_about};
 
+use crate::fault_lines::{fault_in, names_program};
 use ascii_words::cut_piece;
 use describe::{Words, describe_message, describe_packet};
 use loconet_tcp::{Bytes, bytes_of, leading_bytes};
@@ -65,8 +66,8 @@ fn describe_monitored(text: &[u8], words: &mut Words)
     describe_some(&leading_bytes(text), words);
 }
 
-/// What a line of at most 400 characters says, by its first word; nothing, if it is about neither a message nor a packet.
-/// It is told in place of what the words were.
+/// Explains a line of at most 400 characters, by its first word. The explanation is empty if the
+/// line is about neither a message, a packet nor a fault. It replaces the contents of `words`.
 pub(crate) fn describe_line(line: &[u8], words: &mut Words)
     requires { length line.now ≤ 400 }
     ensures { words.new.items ≡ words_about line.now }
@@ -83,6 +84,9 @@ pub(crate) fn describe_line(line: &[u8], words: &mut Words)
     }
     if first == b"RECEIVE".as_slice() || first == b"SEND".as_slice() {
         return describe_message_in(rest_after, words);
+    }
+    if names_program(first) {
+        return write_text(fault_in(rest_after).as_bytes(), words);
     }
     describe_message_in(line, words);
 }

@@ -5,6 +5,7 @@
 mod end;
 mod explainer;
 mod fault;
+mod fault_lines;
 mod laws;
 mod line_kinds;
 mod lines;
