@@ -53,7 +53,7 @@ low_speed_words address forward low = address_words address ++ codes ": " ++ bot
 -- a switch, its direction, and whether its output is switched on or off
 unfoldable pub switch_words : ℕ → Bool → Bool → List ℕ
 switch_words number closed on =
-    codes "switch " ++ decimal number ++ (if closed then codes " closed" else codes " thrown") ++ (if on then codes ", on" else codes ", off")
+    codes "turnout " ++ decimal number ++ (if closed then codes " closed" else codes " thrown") ++ (if on then codes ", on" else codes ", off")
 
 -- an instruction that a decoder of this project obeys
 abbrev pub instr_words : Instr → List ℕ

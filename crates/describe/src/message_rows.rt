@@ -35,7 +35,7 @@ pub(crate) const MESSAGES: [Row; 53] = [
     (
         &[(Byte(0), 0xB1), (Bit(2, 6), 1)],
         &[
-            (Text, &["switch "]),
+            (Text, &["turnout "]),
             (Number(Switch), &[]),
             (Choice(Bit(2, 5)), &[": aux input ", ": switch input "]),
             (Choice(Bit(2, 4)), &["low", "high"]),
@@ -44,7 +44,7 @@ pub(crate) const MESSAGES: [Row; 53] = [
     (
         &[(Byte(0), 0xB1)],
         &[
-            (Text, &["switch "]),
+            (Text, &["turnout "]),
             (Number(Switch), &[]),
             (
                 Choice(Bit(2, 5)),
@@ -80,20 +80,20 @@ pub(crate) const MESSAGES: [Row; 53] = [
     ),
     (
         &[(Byte(0), 0xB4), (Byte(1), 0x30), (Byte(2), 0)],
-        &[(Text, &["switch refused"])],
+        &[(Text, &["turnout refused"])],
     ),
     (
         &[(Byte(0), 0xB4), (Byte(1), 0x3D), (Byte(2), 0)],
-        &[(Text, &["switch refused"])],
+        &[(Text, &["turnout refused"])],
     ),
     (
         &[(Byte(0), 0xB4), (Byte(1), 0x3D), (Byte(2), 0x7F)],
-        &[(Text, &["switch accepted"])],
+        &[(Text, &["turnout accepted"])],
     ),
     (
         &[(Byte(0), 0xB4), (Byte(1), 0x3C)],
         &[
-            (Text, &["state of the switch: "]),
+            (Text, &["state of the turnout: "]),
             (Choice(Bit(2, 5)), &["thrown", "closed"]),
         ],
     ),
@@ -214,7 +214,7 @@ pub(crate) const MESSAGES: [Row; 53] = [
     (
         &[(Byte(0), 0xBC)],
         &[
-            (Text, &["ask for the state of switch "]),
+            (Text, &["ask for the state of turnout "]),
             (Number(Switch), &[]),
         ],
     ),

@@ -107,14 +107,14 @@ fn push_group(words: &mut Words, address: Address, label: &str, first: u16, bits
     push_functions(words, label, first, bits);
 }
 
-/// `switch N thrown, on`.
+/// `turnout N thrown, on`.
 #[tactic(auto, unfolding(crate::specs::Packets::switch_words))]
 pub(crate) fn push_switch(words: &mut Words, number: u16, closed: bool, on: bool)
     requires { array_vec_len words.old + 40 ≤ 400 }
     ensures text { words.new.items ≡ words.old.items ++ switch_words number closed on }
     ensures len { array_vec_len words.new ≤ array_vec_len words.old + 40 }
 {
-    push_field(words, "switch ", number);
+    push_field(words, "turnout ", number);
     push_text(words, if closed { " closed" } else { " thrown" });
     push_text(words, if on { ", on" } else { ", off" });
 }
