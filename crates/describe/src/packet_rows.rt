@@ -26,7 +26,7 @@ pub(crate) const INSTRUCTIONS: [Row; 42] = [
     (&[(Length, 2), (Top(0, 1), 7)], &[(Text, &["acknowledge"])]),
     // 2.3.1, consist control: 0001CCCC 0AAAAAAA
     (
-        &[(Length, 3), (Top(0, 1), 9), (LowSeven(1), 0)],
+        &[(Length, 3), (Top(0, 1), 9), (Byte(1), 0)],
         &[(Text, &["leave the consist"])],
     ),
     (
@@ -298,9 +298,9 @@ pub(crate) const ACCESSORIES: [Row; 14] = [
     (
         &[
             (Length, 4),
-            (Top(1, 7), 0),
-            (LowThree(1), 7),
-            (Decoder, 511),
+            (Byte(0), 0xBF),
+            (Byte(1), 0x07),
+            (Top(2, 5), 0),
         ],
         &[(Text, &["all signals: aspect "]), (Number(Byte(2)), &[])],
     ),
@@ -311,6 +311,7 @@ pub(crate) const ACCESSORIES: [Row; 14] = [
             (Bit(1, 3), 0),
             (Bit(1, 0), 1),
             (Decoder, 0),
+            (Top(2, 5), 0),
         ],
         &[
             (Text, &["signal decoder 0: aspect "]),
@@ -318,7 +319,13 @@ pub(crate) const ACCESSORIES: [Row; 14] = [
         ],
     ),
     (
-        &[(Length, 4), (Bit(1, 7), 0), (Bit(1, 3), 0), (Bit(1, 0), 1)],
+        &[
+            (Length, 4),
+            (Bit(1, 7), 0),
+            (Bit(1, 3), 0),
+            (Bit(1, 0), 1),
+            (Top(2, 5), 0),
+        ],
         &[
             (Text, &["signal "]),
             (Number(Output), &[]),
