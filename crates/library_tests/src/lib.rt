@@ -15,6 +15,10 @@ mod test_decoder_node;
 #[cfg(test)]
 mod test_decoder_rx;
 #[cfg(test)]
+mod test_describe;
+#[cfg(test)]
+mod test_describe_forms;
+#[cfg(test)]
 mod test_half_bits;
 #[cfg(test)]
 mod test_ln_frame;
