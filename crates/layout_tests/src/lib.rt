@@ -6,6 +6,8 @@
 #[cfg(test)]
 mod test_layout_core;
 #[cfg(test)]
+mod test_layout_core_ends;
+#[cfg(test)]
 mod test_layout_core_serving;
 #[cfg(test)]
 mod test_losses;

@@ -453,8 +453,9 @@ fn a_wrong_check_drives_nothing(rt: HostRuntime) -> Result<(), Fail> {
     Ok(())
 }
 
-/// What a round of traffic says of a slot: it starts, drives, turns round, is common, is freed, and is taken.
-fn traffic(round: u8, slot: u8) -> [u8; 3] {
+/// The messages to a slot in a round of traffic: it starts, runs, reverses, becomes common, is
+/// freed, and is loaded.
+pub(super) fn traffic(round: u8, slot: u8) -> [u8; 3] {
     match round % 6 {
         0 => [0xBA, slot, slot],
         1 => [0xA0, slot, slot],
@@ -475,7 +476,7 @@ fn round_of_traffic(world: &mut World, round: u8) {
 }
 
 /// Power on, and slot 119 in use and driven.
-const DRIVE_119: &[u8] = &[0x83, 0x7C, 0xBA, 0x77, 0x77, 0x45, 0xA0, 0x77, 0x40, 0x68];
+pub(super) const DRIVE_119: &[u8] = &[0x83, 0x7C, 0xBA, 0x77, 0x77, 0x45, 0xA0, 0x77, 0x40, 0x68];
 
 #[test]
 fn traffic_on_every_other_slot_stops_no_refresh(rt: HostRuntime) -> Result<(), Fail> {

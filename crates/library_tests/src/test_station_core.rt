@@ -9,9 +9,11 @@ mod waiting;
 
 use conversations::holds;
 use dcc_packet::idle;
+use hostile::{comes_on_by, cuts, cuts_after};
 use ln_ops::to_msg;
 use refresh_ring::Kind;
 use station_core::{Call, Power, Station, StationFault, Step};
+use std::alloc::Global;
 use std::process::Abort;
 use std::test::Fail;
 
@@ -126,6 +128,34 @@ fn lines_share_nothing(rt: HostRuntime) -> Result<(), Fail> {
     Ok(())
 }
 
+/// Whether power comes on by this line after the bytes of two lines.
+fn comes_on_after(
+    rt: &impl Abort,
+    alloc: Global,
+    sent: &[(u8, u8)],
+    line: u8,
+) -> Result<bool, Fail> {
+    let mut station = Station::new(alloc, 2)?;
+    for (line, byte) in sent {
+        assert!(rt; *line < station.lines());
+        station.byte(*line, *byte);
+    }
+    Ok(comes_on_by(rt, &mut station, line))
+}
+
+#[test]
+fn messages_on_two_lines_end_anywhere(rt: HostRuntime) -> Result<(), Fail> {
+    for count in 0..=INTERLEAVED.len() {
+        for line in 0..2 {
+            assert!(rt;
+                comes_on_after(&rt, rt.alloc(), &INTERLEAVED[..count], line)?,
+                "{count} {line}"
+            );
+        }
+    }
+    Ok(())
+}
+
 #[test]
 fn addresses_fill_the_slots_in_order(rt: HostRuntime) -> Result<(), Fail> {
     let mut station = Station::new(rt.alloc(), 1)?;
@@ -138,6 +168,33 @@ fn addresses_fill_the_slots_in_order(rt: HostRuntime) -> Result<(), Fail> {
 }
 
 #[test]
+fn taken_addresses_end_anywhere(rt: HostRuntime) -> Result<(), Fail> {
+    let mut taken = Vec::new(rt.alloc());
+    for address in 1..=119u8 {
+        taken.extend_from_slice(&[0xBF, 0x00, address, 0x40 ^ address])?;
+    }
+    cuts_after(&rt, rt.alloc(), "119", taken.as_slice(), WHEN_FULL)
+}
+
+/// F9 of address 3, by OPC_IMM_PACKET.
+const F9_ON: Conversation = &[(
+    &[
+        0xED, 0x0B, 0x7F, 0x23, 0x22, 0x03, 0x21, 0x00, 0x00, 0x00, 0x45,
+    ],
+    &[0xB4, 0x7D, 0x7F, 0x49],
+)];
+
+/// Speed and function groups one and two of a locomotive newly in use are sent before group three.
+#[test]
+fn counts_what_is_sent_before_f9(rt: HostRuntime) -> Result<(), Fail> {
+    let mut station = Station::new(rt.alloc(), 1)?;
+    put_in_use(&rt, &mut station);
+    holds(&rt, &mut station, "F9", F9_ON);
+    assert!(rt; station.sends_ahead(1, Kind::GroupThree) == Some(3));
+    Ok(())
+}
+
+#[test]
 fn counts_what_waits(rt: HostRuntime) -> Result<(), Fail> {
     let mut station = Station::new(rt.alloc(), 1)?;
     assert!(rt; station.sends_ahead(1, Kind::Speed).is_none());
@@ -145,13 +202,7 @@ fn counts_what_waits(rt: HostRuntime) -> Result<(), Fail> {
     say(&rt, &mut station, &[0xA0, 0x01, 0x40, 0x1E]);
     assert!(rt; station.sends_ahead(1, Kind::Speed) == Some(0));
     assert!(rt; station.sends_ahead(1, Kind::GroupTwo) == Some(2));
-    say(
-        &rt,
-        &mut station,
-        &[
-            0xED, 0x0B, 0x7F, 0x23, 0x22, 0x03, 0x21, 0x00, 0x00, 0x00, 0x45,
-        ],
-    );
+    holds(&rt, &mut station, "F9", F9_ON);
     assert!(rt; station.sends_ahead(1, Kind::GroupThree) == Some(3));
     Ok(())
 }
@@ -169,7 +220,17 @@ fn takes_thirty_two_switch_requests(rt: HostRuntime) -> Result<(), Fail> {
     Ok(())
 }
 
-// The list may be cut anywhere.
+#[test]
+fn switch_requests_end_anywhere(rt: HostRuntime) -> Result<(), Fail> {
+    let mut requests = Vec::new(rt.alloc());
+    for _ in 0..32 {
+        requests.extend_from_slice(&[0xB0, 0x00, 0x30, 0x7F])?;
+    }
+    cuts_after(&rt, rt.alloc(), "32", requests.as_slice(), SWITCHES_REFUSED)?;
+    cuts(&rt, rt.alloc(), "the first", &[], FIRST_SWITCH)
+}
+
+// The list may be divided anywhere.
 #[test]
 fn runs_lists_of_calls(rt: HostRuntime) -> Result<(), Fail> {
     let mut station = Station::new(rt.alloc(), 1)?;

@@ -1,5 +1,6 @@
 //! One function on at a time, from the message of a throttle to the effect on the decoder.
 
+use super::hostile::cuts_in_use;
 use super::{put_in_use, say};
 use dcc_packet::read;
 use decoder_cv::CvSet;
@@ -104,6 +105,7 @@ fn each_shows(rt: &impl Abort, alloc: Global, rows: &[(&[u8], &str)]) -> Result<
         let spec = NodeSpec::Loco(settings()?);
         let line = node_line("a", &spec, Some(loco.running()), None);
         assert_eq!(rt; line.as_str(), *text);
+        cuts_in_use(rt, alloc, text, said)?;
     }
     Ok(())
 }

@@ -12,8 +12,8 @@ use std::test::Fail;
 /// OPC_GPON.
 const POWER_ON: [u8; 2] = [0x83, 0x7C];
 
-/// Whether one of the bytes is answered, on line 0.
-fn are_answered(rt: &impl Abort, station: &mut Station, bytes: &[u8]) -> bool {
+/// Whether one of the bytes is answered, on this line.
+fn are_answered_on(rt: &impl Abort, station: &mut Station, line: u8, bytes: &[u8]) -> bool {
     let mut answered = false;
     for byte in bytes {
         assert!(rt; line < station.lines());
@@ -24,8 +24,13 @@ fn are_answered(rt: &impl Abort, station: &mut Station, bytes: &[u8]) -> bool {
     answered
 }
 
-/// The longest message that a count can tell, 127 bytes, all 00 but for opcode and count, with these two bytes in place of
-/// its check and behind it.
+/// Whether one of the bytes is answered, on line 0.
+fn are_answered(rt: &impl Abort, station: &mut Station, bytes: &[u8]) -> bool {
+    are_answered_on(rt, station, 0, bytes)
+}
+
+/// The longest message that a count can give, 127 bytes, all 00 except opcode and count, with these
+/// two bytes as its check and after it.
 fn longest(end: [u8; 2]) -> [u8; 128] {
     let mut bytes = [0; 128];
     bytes[0] = 0xFF;
@@ -73,9 +78,14 @@ fn the_longest_message_without_its_end(rt: HostRuntime) -> Result<(), Fail> {
     Ok(())
 }
 
-/// Whether power then comes on, and that is not answered.
+/// Whether power then comes on by this line, without a reply.
+pub(super) fn comes_on_by(rt: &impl Abort, station: &mut Station, line: u8) -> bool {
+    !are_answered_on(rt, station, line, &POWER_ON) && station.power() == Power::Running
+}
+
+/// Whether power then comes on, without a reply.
 fn comes_on(rt: &impl Abort, station: &mut Station) -> bool {
-    !are_answered(rt, station, &POWER_ON) && station.power() == Power::Running
+    comes_on_by(rt, station, 0)
 }
 
 /// Whether this opcode, this count and then only 00 change nothing.
@@ -147,7 +157,48 @@ pub(super) fn cuts(
     comes_on_after_each_front(rt, alloc, name, bytes.as_slice())
 }
 
-/// The bytes that a throttle sends in a drive, behind some.
+/// A conversation after these bytes, divided anywhere.
+pub(super) fn cuts_after(
+    rt: &impl Abort,
+    alloc: Global,
+    name: &str,
+    before: &[u8],
+    conversation: Conversation,
+) -> Result<(), Fail> {
+    let mut bytes = Vec::new(alloc);
+    bytes.extend_from_slice(before)?;
+    sent_in(&mut bytes, conversation)?;
+    comes_on_after_each_front(rt, alloc, name, bytes.as_slice())
+}
+
+/// Bytes of several messages, one after another, divided anywhere.
+pub(super) fn cuts_messages(
+    rt: &impl Abort,
+    alloc: Global,
+    name: &str,
+    messages: &[&[u8]],
+) -> Result<(), Fail> {
+    let mut bytes = Vec::new(alloc);
+    for message in messages {
+        bytes.extend_from_slice(message)?;
+    }
+    comes_on_after_each_front(rt, alloc, name, bytes.as_slice())
+}
+
+/// A message to slot 1 in use, divided anywhere.
+pub(super) fn cuts_in_use(
+    rt: &impl Abort,
+    alloc: Global,
+    name: &str,
+    message: &[u8],
+) -> Result<(), Fail> {
+    let mut bytes = Vec::new(alloc);
+    sent_in(&mut bytes, IN_USE)?;
+    bytes.extend_from_slice(message)?;
+    comes_on_after_each_front(rt, alloc, name, bytes.as_slice())
+}
+
+/// The bytes that a throttle sends in a drive, after the given ones.
 fn said_in(bytes: &mut Vec<u8>, parts: &[Part]) -> Result<(), Fail> {
     for (said, _) in parts {
         bytes.extend_from_slice(said)?;

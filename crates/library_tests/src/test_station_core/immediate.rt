@@ -1,6 +1,7 @@
 //! The packets of OPC_IMM_PACKET that are accepted, by the bytes of their address and by how many
 //! bytes count.
 
+use super::hostile::cuts_messages;
 use super::{is_answered, say};
 use ln_frame::Msg;
 use station_core::Station;
@@ -60,8 +61,8 @@ fn immediate(rt: &impl Abort, count: u8, [first, second, third]: [u8; 3]) -> Msg
     sealed(rt, &body)
 }
 
-/// A new station where the address has a slot takes the packet, or refuses it. What is taken sets F9, and what is refused
-/// none.
+/// A new station whose slot has the address accepts the packet, or refuses it. An accepted packet
+/// sets F9, and a refused one nothing.
 fn answers(
     rt: &impl Abort,
     alloc: Global,
@@ -83,7 +84,7 @@ fn answers(
         station.row(1).more == u8::from(taken),
         "{address}: {said:?}"
     );
-    Ok(())
+    cuts_messages(rt, alloc, "OPC_IMM_PACKET", &[asked.bytes(), said])
 }
 
 #[test]
