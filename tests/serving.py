@@ -1,43 +1,25 @@
-"""A running `lbserver`, its clients and its pages, for the scripts of this folder, `bench/bus` and `pages/test`."""
+"""A running `lbserver`, its clients and its pages, for the scripts of this folder, `bench/bus` and `pages/test`.
+
+The server and the client are those of the Python package (`bindings/python`), with what only these scripts need.
+"""
 import base64
 import hashlib
 import os
 import pathlib
-import socket
 import struct
 import subprocess
-import tempfile
-import time
+import sys
 
 TOP = pathlib.Path(__file__).resolve().parent.parent
+sys.path.insert(0, str(TOP / "bindings/python"))
+from station import lbserver  # noqa: E402
+from station.lbserver import connect, find_program, free_port  # noqa: E402, F401
+from station.messages import message_bytes, message_hex  # noqa: E402, F401
 
 
 def program(words):
-    """The program to try: the one that is named, or else that of this repository, built where it has to be."""
-    if words:
-        return str(pathlib.Path(words[0]).resolve())
-    subprocess.run([TOP / "build", "lbserver"], check=True, stdin=subprocess.DEVNULL)
-    return str(TOP / "crates/lbserver/out/lbserver")
-
-
-def free_port():
-    """A port that nothing listens on."""
-    with socket.socket() as probe:
-        probe.bind(("127.0.0.1", 0))
-        return probe.getsockname()[1]
-
-
-def message_bytes(*body):
-    """The bytes of a message, its check byte behind them."""
-    check = 0xFF
-    for byte in body:
-        check ^= byte
-    return bytes([*body, check])
-
-
-def message_hex(*body):
-    """The same in hexadecimal, as lines have it."""
-    return message_bytes(*body).hex(" ").upper()
+    """The program to try: the one named, or that of this repository, built first if its sources have changed."""
+    return find_program(words[0] if words else None)
 
 
 def message(*body):
@@ -45,43 +27,20 @@ def message(*body):
     return f"SEND {message_hex(*body)}\r\n".encode("ascii")
 
 
-class Server:
-    """A server on a port of its own, until the end of a `with`. What it prints goes to a file, or to `output`."""
+class Server(lbserver.Server):
+    """A server in the repository's folder. What it prints goes to a file, or to `output`."""
 
     def __init__(self, path, *words, page=False, output=None):
-        self.port = free_port()
-        self.page_port = free_port() if page else None
-        pages = ["--page", str(self.page_port)] if page else []
-        self.words = [path, "--port", str(self.port), *pages, *words]
+        super().__init__(*words, program=path, page=page, cwd=TOP)
         self.output = output
 
-    def __enter__(self):
-        self.folder = tempfile.TemporaryDirectory()
-        self.file = pathlib.Path(self.folder.name, "printed")
-        self.faults = pathlib.Path(self.folder.name, "faults")
-        self.read, self.lines = 0, []
-        with open(self.file, "wb") as printed, open(self.faults, "wb") as faults:
-            output = printed if self.output is None else self.output
-            self.process = subprocess.Popen(
-                self.words, cwd=TOP, stdin=subprocess.DEVNULL, stdout=output, stderr=faults
-            )
-        if not self.listens():
-            faults = self.faults.read_text(errors="replace")
-            self.__exit__()
-            raise ConnectionError(f"the server does not listen: {faults}")
-        return self
+    def _output(self, log):
+        return log if self.output is None else self.output
 
-    def __exit__(self, *_):
-        self.process.kill()
-        self.process.wait()
-        if self.process.stdout is not None:
-            self.process.stdout.close()
-        self.folder.cleanup()
-
-    def listens(self):
-        """Waits until it says that it listens, or can be reached where that cannot be seen."""
+    def _listens(self):
+        """Waits until it says that it listens, or can be reached if that cannot be seen."""
         if self.output is None:
-            return self.until(lambda: self.printed()[:1] and self.printed()[0].startswith("listening "))
+            return super()._listens()
         if self.output == subprocess.PIPE:
             return self.process.stdout.readline().startswith(b"listening ")
         return self.until(self.is_reached)
@@ -94,41 +53,13 @@ class Server:
         except OSError:
             return False
 
-    def until(self, is_so, seconds=20):
-        """Waits until something is so, or the server has ended. Returns whether it is so."""
-        end = time.monotonic() + seconds
-        while not is_so():
-            if self.process.poll() is not None or time.monotonic() > end:
-                return is_so()
-            time.sleep(0.01)
-        return True
-
-    def printed(self):
-        """All whole lines that it printed so far."""
-        with open(self.file, "rb") as file:
-            file.seek(self.read)
-            lines, end, _ = file.read().rpartition(b"\n")
-        self.read += len(lines + end)
-        self.lines += lines.decode(errors="replace").splitlines()
-        return self.lines
-
     def until_printed(self, line, seconds=20):
         """Waits until it has printed this line."""
         return self.until(lambda: line in self.printed(), seconds)
 
     def connect(self, seconds=20, room=None, host="127.0.0.1", port=None):
         """A connection from which nothing was read yet, with so many bytes of room for what comes."""
-        stream = socket.socket()
-        if room is not None:
-            stream.setsockopt(socket.SOL_SOCKET, socket.SO_RCVBUF, room)
-        stream.settimeout(seconds)
-        stream.setsockopt(socket.IPPROTO_TCP, socket.TCP_NODELAY, 1)
-        try:
-            stream.connect((host, port or self.port))
-        except OSError:
-            stream.close()
-            raise
-        return stream
+        return connect(host, port or self.port, seconds, room)
 
     def processor_seconds(self):
         """How long processors have worked for it."""
@@ -143,29 +74,11 @@ class Server:
         return next(int(line.split()[1]) for line in text.splitlines() if line.startswith(name + ":"))
 
 
-class Client:
+class Client(lbserver.Client):
     """A client that was accepted."""
 
     def __init__(self, server, seconds=20, room=None):
-        self.stream = server.connect(seconds, room)
-        self.lines = self.stream.makefile("rb")
-        if not self.line().startswith("VERSION "):
-            self.__exit__()
-            raise ConnectionError("rejected")
-
-    def __enter__(self):
-        return self
-
-    def __exit__(self, *_):
-        self.lines.close()
-        self.stream.close()
-
-    def line(self):
-        """The next line, without its end."""
-        line = self.lines.readline()
-        if not line:
-            raise ConnectionError("closed")
-        return line.decode("ascii").rstrip("\r\n")
+        super().__init__("127.0.0.1", server.port, seconds, room)
 
     def lines_until(self, last):
         """All lines up to one that is `last`, with it."""
@@ -184,12 +97,8 @@ class Client:
         return self.line()
 
     def send(self, *body):
-        """Sends a message, and waits until it is sent."""
-        self.stream.sendall(message(*body))
-        while not (line := self.line()).startswith("SENT "):
-            pass
-        if line != "SENT OK":
-            raise ValueError(line)
+        """Sends a message, and waits until it is sent. Its reply is still to be read."""
+        self.transmit(*body)
 
     def take(self, address):
         """Turns the power on, and takes a locomotive into use. Returns its slot."""

@@ -27,7 +27,7 @@ from server_checks.common import (
     stopped,
 )
 from server_checks.losses import DECODERS
-from serving import TOP, Client, Page, client_frame, read_head, upgrade_request
+from serving import TOP, Client, Page, client_frame, free_port, read_head, upgrade_request
 
 
 def response_to(server, request):
@@ -44,7 +44,10 @@ def get(target, *fields):
 
 def page_files():
     """--page serves pages/throttle.html, and with --page-file that file, to the byte, also to one that reads slowly"""
-    with serve("--turns", "1", page=True) as server:
+    # A server of the Python package names the file, so this one has the option itself.
+    port = free_port()
+    with serve("--turns", "1", "--page", str(port)) as server:
+        server.page_port = port
         check_page(server, (TOP / "pages/throttle.html").read_bytes())
     with tempfile.NamedTemporaryFile() as file:
         for data in (b"<!DOCTYPE html><title>Mine</title>\n", b"", bytes(range(256)) * 4096):
