@@ -3,6 +3,8 @@
 
 Start the station first:  ./lbserver --roster examples/layout.toml
 then:                     examples/lbserver.py 127.0.0.1 1234
+
+The status is 0, or 1 if the station cannot be reached or refuses, or 2 if the arguments are not a host and a port.
 """
 import socket
 import sys
@@ -15,7 +17,7 @@ class Client:
         self.stream = socket.create_connection((host, port), timeout=5)
         # A line is sent at once, and does not wait for the next.
         self.stream.setsockopt(socket.IPPROTO_TCP, socket.TCP_NODELAY, 1)
-        self.lines = self.stream.makefile("r", encoding="ascii", newline="\n")
+        self.lines = self.stream.makefile("r", encoding="ascii", errors="replace", newline="\n")
 
     def hear(self):
         """The next line, as its words."""
@@ -40,9 +42,15 @@ class Client:
     def ask(self, *body):
         """Sends a message, and answers the bytes of the slot data (E7) or of the acknowledge (B4) that come back."""
         self.send(*body)
-        while (line := self.hear())[:1] != ["RECEIVE"] or line[1] not in ("E7", "B4"):
+        while (line := self.hear())[:1] != ["RECEIVE"] or line[1:2] not in (["E7"], ["B4"]):
             pass
-        return bytes.fromhex("".join(line[1:]))
+        try:
+            reply = bytes.fromhex("".join(line[1:]))
+        except ValueError:
+            reply = b""
+        if len(reply) < 4:
+            raise ValueError("a reply that is no message")
+        return reply
 
 
 def drive(client, address):
@@ -54,11 +62,27 @@ def drive(client, address):
     client.send(0x83)  # OPC_GPON: power on
     client.ask(0xBA, slot, slot)  # OPC_MOVE_SLOTS, a null move: the slot is in use now
     client.send(0xA1, slot, 0x10)  # OPC_LOCO_DIRF: forward, F0 on
-    client.send(0xA0, slot, 0x40)  # OPC_LOCO_SPD: step 63 of 128
-    # The slot stays in use, so the station goes on telling the locomotive what was asked.
+    client.send(0xA0, slot, 0x40)  # OPC_LOCO_SPD: step 63 of 126
+    # The slot stays in use, so the station goes on driving the locomotive as asked.
+
+
+def main(words):
+    """Runs the example on the words of the command line. Returns the status."""
+    host, port = words if len(words) == 2 else ("", "")
+    if not (host and port.isascii() and port.isdigit() and 1 <= int(port) <= 65535):
+        print("usage: examples/lbserver.py HOST PORT, with a port from 1 to 65535", file=sys.stderr)
+        return 2
+    try:
+        client = Client(host, int(port))
+        if (line := client.hear())[:1] != ["VERSION"]:
+            raise ConnectionError(" ".join(line))
+        drive(client, 3)
+    except (OSError, ValueError) as error:
+        reason = getattr(error, "strerror", None) or error
+        print(f"lbserver.py: {host} port {port}: {reason}", file=sys.stderr)
+        return 1
+    return 0
 
 
 if __name__ == "__main__":
-    station = Client(sys.argv[1], int(sys.argv[2]))
-    station.hear()  # VERSION
-    drive(station, 3)
+    sys.exit(main(sys.argv[1:]))
