@@ -146,6 +146,12 @@ def connections_end():
                 browser.sendall(b"GET / HTTP/1.0\r\n\r\n")
                 browser.makefile("rb").read()
         holds("descriptors are left", server.until(lambda: len(list(folder.iterdir())) == before))
+        # The second leaves while the first index is free.
+        with Client(server) as first, Client(server):
+            first.stream.shutdown(socket.SHUT_RDWR)
+            holds("the first has left", server.until(lambda: server.printed()[-1] == "client 1 leaves"))
+        holds("it has left", server.until(lambda: server.printed()[-1] == "client 2 leaves"))
+        holds("descriptors are left", server.until(lambda: len(list(folder.iterdir())) == before))
 
 
 def last_messages_are_answered():
@@ -159,10 +165,12 @@ def last_messages_are_answered():
 
 
 def small_pieces_go_at_once():
-    """what a client receives is not held back until it has acknowledged what came before"""
+    """what a client or a page receives is not held back until it has acknowledged what came before"""
 
-    def measure():
-        with serve("--turns", "0") as server, Client(server) as sender, Client(server) as listener:
+    def measure(kind):
+        with serve("--turns", "0", page=True) as server, Client(server) as sender, kind(server) as listener:
+            if kind is Page:
+                listener.accepted()
             times = []
             for _ in range(40):
                 sender.send(0x83)
@@ -175,6 +183,7 @@ def small_pieces_go_at_once():
                     listener.line()
                 times.append(time.monotonic() - start)
             # An acknowledgement is held back for 40 ms.
-            within("seconds, the median", 0, statistics.median(times[10:]), 0.03)
+            within(f"seconds of a {kind.__name__}, the median", 0, statistics.median(times[10:]), 0.03)
 
-    is_tried_again(measure)
+    for kind in (Client, Page):
+        is_tried_again(lambda: measure(kind))

@@ -1,4 +1,4 @@
-"""A standard output that nobody reads, and one that is to be quiet."""
+"""A standard output that nobody reads, slot reads, and an output that is to be quiet."""
 
 import contextlib
 import re
@@ -6,9 +6,22 @@ import subprocess
 import threading
 import time
 
-from server_checks.common import LAYOUT, holds, printed_after, run, same, serve
+from server_checks.common import (
+    LAYOUT,
+    SHUNTER,
+    holds,
+    is_tried_again,
+    printed_after,
+    receive,
+    run,
+    same,
+    send,
+    serve,
+    slot_data,
+    turns_of,
+)
 from server_checks.queues import read_beside
-from serving import Client, message
+from serving import Client, Page, message, message_hex
 
 
 # A message without meaning to the station, which is sent behind all others.
@@ -78,6 +91,44 @@ def check_log(lines, order):
     same("lines", at, len(order))
     # A pipe holds 65,536 bytes, and the messages are some 400,000.
     holds("lines are left out", left_out > 0)
+
+
+def long_output():
+    """more than a megabyte of lines on standard output is printed, in order"""
+    with serve("--turns", "255", "--track") as server, Client(server) as client:
+        client.send(0x83)
+        for _ in range(220):
+            client.send(0x85)
+        last = 221 * 255
+        is_there = server.until(lambda: server.printed()[-1].startswith(f"track {last} "))
+        holds(f"it ends at {server.printed()[-1]!r}", is_there)
+        # Behind the second message each turn has a broadcast stop.
+        same("turns", turns_of(server.printed()), list(range(256, last + 1)))
+        holds("more than a megabyte", server.log.stat().st_size > 1 << 20)
+
+
+# Messages whose lines have some 70,000 bytes: more than a pipe holds, and less than a pipe and the queue of the log do.
+MESSAGES = 1750
+
+
+def last_lines():
+    """what is unread at its end is written for a second more, and a reader that comes later is not waited for"""
+
+    def read_after(seconds):
+        with serve("--turns", "0", "--clients", "1", output=subprocess.PIPE) as server:
+            with Client(server) as client:
+                texts = [message_hex(0xA0, 1 + i // 128, i % 128) for i in range(MESSAGES)]
+                client.write(send(*texts))
+                same("what it receives", [client.line() for _ in range(2 * MESSAGES)][-1], "SENT OK")
+            time.sleep(seconds)
+            printed = server.process.stdout.read().decode("ascii").splitlines()
+            same("status", server.process.wait(20), 0)
+            wanted = [f"msg {text} speed slot {1 + i // 128} spd {i % 128}" for i, text in enumerate(texts)]
+            return printed, ["client 1 joins", *wanted, "client 1 leaves"]
+
+    is_tried_again(lambda: same("printed", *read_after(0.3)))
+    printed, wanted = read_after(3)
+    holds("it does not wait for three seconds", len(printed) < len(wanted))
 
 
 def closed_output():

@@ -3,6 +3,7 @@
 import pathlib
 import socket
 import threading
+import time
 
 from server_checks.common import (
     LAYOUT,
@@ -75,17 +76,21 @@ def send_batch(client, count):
 def never_reads():
     """a client that never reads is closed and said to be too slow, and others receive every line"""
     with serve("--turns", "0", page=True) as server:
-        with server.connect() as non_reader:
-            printed_after(server, "client 1 joins")
+        with Client(server) as first, server.connect() as non_reader:
+            printed_after(server, "client 2 joins")
             with Client(server) as sender, Client(server) as other:
+                # The server closes a client behind a free index.
+                first.close()
+                printed_after(server, "client 1 leaves")
                 batches = 0
                 reader, lines = read_beside(other, 1 << 30)
                 while not any("too slow" in line for line in server.printed()[-500:]):
                     holds("is closed after so much", batches < 1000)
                     send_batch(sender, 200)
                     batches += 1
-                found = [line for line in printed_after(server, "client 1 leaves")[1:] if not line.startswith("msg ")]
-                wanted = [f"client {i} joins" for i in (1, 2, 3)] + ["client 1 is too slow", "client 1 leaves"]
+                found = [line for line in printed_after(server, "client 2 leaves")[1:] if not line.startswith("msg ")]
+                wanted = [f"client {i} joins" for i in (1, 2, 3, 4)]
+                wanted += ["client 1 leaves", "client 2 is too slow", "client 2 leaves"]
                 same("printed", found, wanted)
                 text = receive("BB 01 00 45", slot_data(1))
                 holds("the other has every line", server.until(lambda: len(lines) >= 400 * batches))
@@ -94,8 +99,8 @@ def never_reads():
                 reader.join(20)
                 # What was kept for it may still be read; then its connection has ended.
                 is_closed(non_reader)
-                with Client(server):
-                    is_again = server.until(lambda: server.printed().count("client 1 joins") == 2)
+                with Client(server), Client(server):
+                    is_again = server.until(lambda: server.printed().count("client 2 joins") == 2)
                     holds("the number is given again", is_again)
 
 
@@ -121,7 +126,7 @@ def queued(stream, port):
 
 def fill(sender, stream, port, batches):
     """Sends messages until the system takes no more for a client that does not read, and then so many more batches of
-    14 kB. Returns how many messages that was."""
+    14 kB. Returns how many messages that was, once the server waits: only what the client reads wakes it then."""
     sent, same_for, last = 0, 0, -1
     while same_for < batches:
         send_batch(sender, 200)
@@ -129,6 +134,7 @@ def fill(sender, stream, port, batches):
         now = queued(stream, port)[0]
         same_for = same_for + 1 if now == last else 0
         last = now
+    time.sleep(0.5)
     return sent
 
 
@@ -139,7 +145,8 @@ def reads_late():
         sent = fill(sender, late.stream, server.port, 2)
         same("what it receives", [late.line() for _ in range(2 * sent)], sent * text)
     with serve(*LAYOUT, "--turns", "20", page=True) as server, Client(server) as sender:
-        with Page(server, room=4096) as late:
+        # Less than the 20 seconds after which the server wakes to ping a page.
+        with Page(server, seconds=10, room=4096) as late:
             late.lines_until("NODE node yard module 1 outputs 00000000")
             # What a page's WebSocket keeps, and then what waits behind that.
             sent = fill(sender, late.stream, server.page_port, 2)
