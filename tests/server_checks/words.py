@@ -28,7 +28,7 @@ def help_text():
     status, wrote, faults = run("--help")
     same("status and standard output", (status, wrote), (1, ""))
     parts = dict(re.findall(r"^ +--([a-z-]+) ?(.*)$", faults, re.M))
-    rows = re.findall(r"^\| `--([a-z-]+)[^|]*\| (.*) \| (.*) \|$", (TOP / "docs/CLIENTS.md").read_text(), re.M)
+    rows = re.findall(r"^`--([a-z-]+)[^|]*\| (.*) \| (.*)$", (TOP / "docs/CLIENTS.md").read_text(), re.M)
     same("options of the document", {name for name, _, _ in rows} >= set(UNITS), True)
     for name, meaning, without in rows:
         if name not in UNITS:
