@@ -5,7 +5,7 @@ use Rattle.clap.specs.Values.{kind_of}
 use Rattle.clap.specs.Words.{Text, fault_of}
 use Rattle.clap.specs.declared.error.Error.{Error}
 use Rattle.clap.specs.declared.error.kind.ErrorKind.{ErrorKind}
-use Rattle.clap.specs.declared.error.kind.ErrorKind.TheVariants.{OutOfMemory}
+use Rattle.clap.specs.declared.error.kind.ErrorKind.TheVariants.{OutOfMemory, ValueValidation}
 use Rattle.command_line.specs.declared.orders.OrderFault.{OrderFault}
 use Rattle.command_line.specs.declared.orders.OrderFault.TheVariants.{Usage, NoMemory}
 use Rattle.command_line.specs.CommandLine.{station_app}
@@ -21,9 +21,9 @@ abbrev pub IsOfKind : ErrorKind → OrderFault → Type 0
 IsOfKind kind (Usage error) = kind_of error ≡ kind
 IsOfKind kind NoMemory = Unit {0}
 
--- nothing if out of memory; otherwise a required value is missing
+-- nothing if out of memory; otherwise a required value is missing, and the error says so
 abbrev pub IsUnmatched : {A : Type 0} → (A → Type 0) → OrderFault → Type 0
-IsUnmatched Is (Usage error) = HasNone Is
+IsUnmatched Is (Usage error) = HasNone Is × (kind_of error ≡ ValueValidation)
 IsUnmatched Is NoMemory = Unit {0}
 
 -- the errors for which clap rejects the arguments; an empty list is not passed to it
@@ -31,10 +31,15 @@ abbrev pub refusals : List Text → Kinds
 refusals [] = []
 refusals (word ∷ words) = fault_of station_app (word ∷ words)
 
+-- nothing if out of memory; otherwise clap rejects the arguments for one of these errors
+abbrev pub IsRejectedBy : Kinds → OrderFault → Type 0
+IsRejectedBy kinds (Usage error) = IsAmong (kind_of error) kinds
+IsRejectedBy kinds NoMemory = Unit {0}
+
 -- nothing if out of memory; otherwise clap rejects the arguments for one of these errors, or no
 -- order corresponds to its matches
 abbrev pub IsFaultOf : {A : Type 0} → Kinds → (A → Type 0) → OrderFault → Type 0
-IsFaultOf kinds Is (Usage error) = IsAmong (kind_of error) kinds ⊎ HasNone Is
+IsFaultOf kinds Is (Usage error) = IsAmong (kind_of error) kinds ⊎ (HasNone Is × (kind_of error ≡ ValueValidation))
 IsFaultOf kinds Is NoMemory = Unit {0}
 
 abbrev pub IsOrderFault : List Text → OrderFault → Type 0

@@ -1,4 +1,7 @@
+pub mod Arguments
 pub mod CommandLine
 pub mod Fault
+pub mod FilterLine
 pub mod Order
+pub mod Requests
 pub mod ServerLine

@@ -49,7 +49,7 @@ page_file_rule = option (codes "page-file")
 -- The program, whose arguments do not include its name.
 
 unfoldable pub bare_server_app : App
-bare_server_app = record (new_app (codes "lbserver")) { top = record (new_app (codes "lbserver")).top { no_binary_name = true } }
+bare_server_app = record (new_app (codes "lbserver")) { top = record (new_app (codes "lbserver")).top { no_binary_name = true; has_version = true } }
 
 unfoldable pub listening_app : App
 listening_app = with_rule (with_rule (with_rule bare_server_app address_rule) port_rule) roster_rule

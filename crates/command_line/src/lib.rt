@@ -1,7 +1,9 @@
-//! Parsing the command lines of `station` and `lbserver` with `clap`.
+//! Reading the arguments of the programs, and parsing them with `clap`.
 //!
 //! [`order`] parses the arguments of `station` into an [`Order`], [`server_order`] those of
-//! `lbserver` into a [`ServerOrder`]. The text of an [`OrderFault`] is shown to the user.
+//! `lbserver` into a [`ServerOrder`], and [`filter_order`] those of a program that reads one file
+//! into a [`FilterOrder`]. The text of an [`OrderFault`] is shown to the user: on standard output
+//! if it is a requested text, otherwise on standard error. [`read_words`] returns the arguments.
 //!
 //! ```ignore
 //! match order(alloc, &arguments) {
@@ -12,12 +14,20 @@
 //! ```
 #![tactic(auto)]
 
+mod arguments;
 mod command;
+mod filter;
+mod filter_command;
 mod orders;
+mod requests;
 mod server;
 mod server_command;
+mod version;
 mod words;
 
+pub use arguments::{read_words, texts};
+pub use filter::{FilterOrder, FilterText, filter_order, not_utf8_filter_text};
 pub use orders::{OrderFault, no_text, order};
 pub use server::{not_utf8_server_text, server_order};
+pub use version::VERSION;
 pub use words::{FileName, Order, ServerOrder};

@@ -85,7 +85,9 @@ pub(crate) fn file_name(
 }
 
 // The fault of a value out of range. Clap has checked each value, so this is never called.
-fn out_of_range(alloc: Global) -> OrderFault {
+fn out_of_range(alloc: Global) -> OrderFault
+    ensures { IsOfKind ErrorKind.ValueValidation result }
+{
     usage(
         station_command(alloc),
         ErrorKind::ValueValidation,

@@ -3,6 +3,7 @@ ghost use Rattle.std.specs.Prelude.{◌≡◌, [], IfErr, IfOk, MatchOption, map
 ghost use Rattle.clap.specs.Words.{fault_of, found_of, one_of, rows_of};
 ghost use Rattle.command_line.specs.Fault.{IsOfKind, IsServerFault, IsUnmatched};
 ghost use Rattle.command_line.specs.Order.{HasNone};
+ghost use Rattle.command_line.specs.Requests.{IsRequestedBy};
 ghost use Rattle.command_line.specs.ServerLine.{IsAddress, IsDefaultOrder, IsFlag, IsNumberIfGiven, IsServerOrder, IsServerOrderOf, server_app};
 
 use crate::orders::{OrderFault, file_name, matches_of, not_utf8, number, text, usage};
@@ -53,7 +54,9 @@ fn number_if_given(
 }
 
 // The fault of a value out of range. Clap has checked each value, so this is never called.
-fn out_of_range(alloc: Global) -> OrderFault {
+fn out_of_range(alloc: Global) -> OrderFault
+    ensures { IsOfKind ErrorKind.ValueValidation result }
+{
     usage(
         server_command(alloc),
         ErrorKind::ValueValidation,
@@ -62,7 +65,9 @@ fn out_of_range(alloc: Global) -> OrderFault {
 }
 
 // Clap accepts any text as an address.
-fn no_address(alloc: Global) -> OrderFault {
+fn no_address(alloc: Global) -> OrderFault
+    ensures { IsOfKind ErrorKind.ValueValidation result }
+{
     usage(
         server_command(alloc),
         ErrorKind::ValueValidation,
@@ -126,6 +131,9 @@ pub fn server_order<'a>(alloc: Global, words: &'a [&'a str]) -> Result<ServerOrd
     // `Usage` is returned only if clap rejects the arguments, and then with a kind for which it
     // does, or if no order corresponds to its matches.
     ensures fault { IfErr result (IsServerFault (map (λ word. word.now) words.entry.now)) }
+    // It is help or the version only if clap answers the arguments with it.
+    ensures requested { IfErr result
+        (IsRequestedBy (fault_of server_app (map (λ word. word.now) words.entry.now))) }
 {
     let matches = matches_of(server_command(alloc), words)?;
     matched(alloc, &matches)

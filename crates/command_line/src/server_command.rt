@@ -5,6 +5,7 @@ ghost use Rattle.command_line.specs.CommandLine.{HasApp, HasNoGlobals};
 ghost use Rattle.command_line.specs.ServerLine.{flag, address_rule, port_rule, turns_rule, clients_rule, track_rule, quiet_rule, page_rule, page_file_rule, lose_rule, seed_rule, bare_server_app, listening_app, paced_app, printed_app, shown_app, server_app};
 
 use crate::command::{Draft, number, option, roster, with_arg};
+use crate::version::VERSION;
 use clap::{Arg, ArgAction, Command};
 use std::alloc::Global;
 
@@ -132,6 +133,7 @@ fn program<'a>(alloc: Global) -> Draft<'a>
     Command::new(alloc, "lbserver")
         .about("A LocoNet command station for clients of LocoNet over TCP, up to eight at once")
         .after_help("Example: lbserver --roster layout.toml --port 1234 --track")
+        .version(VERSION)
         .no_binary_name(true)
         .bin_name("lbserver")
 }

@@ -3,4 +3,3 @@ pub mod Fault
 pub mod Files
 pub mod Monitored
 pub mod Printed
-pub mod Words

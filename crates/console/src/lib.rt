@@ -1,9 +1,9 @@
-//! Arguments, files and streams of a run: bounded reading, printing of lines, and reporting of
+//! Files and streams of a run: bounded reading, printing of lines, and reporting of
 //! faults; and `station monitor`, which needs no layout.
 //!
 //! A [`RunFault`] is why a run fails, with its text and exit status; [`report`] reports it.
-//! [`Buffered`] is a buffer for an output, and [`print`] prints a line. [`read_words`] returns the
-//! program's arguments and [`read_roster`] the roster of a file.
+//! [`Buffered`] is a buffer for an output, and [`print`] prints a line. [`read_roster`] returns the
+//! roster of a file.
 //!
 //! ```ignore
 //! match run(arguments) {
@@ -21,7 +21,6 @@ mod monitoring;
 mod output;
 mod reporting;
 mod roster_file;
-mod words;
 
 pub use buffered::Buffered;
 pub use fault::RunFault;
@@ -31,4 +30,3 @@ pub use monitoring::{monitor, monitor_from};
 pub use output::{WriteError, print, print_ended, print_to};
 pub use reporting::{report, report_as};
 pub use roster_file::{read_roster, roster_from};
-pub use words::{read_words, texts};

@@ -7,5 +7,5 @@ pub returns-in-None-clause-fault : goal.returns-in-None-clause-fault
 returns-in-None-clause-fault c =
     let rows = rows_of (found_of c.args.found.now) in
     let none : c.number.result ≡ None = search rules in
-    none_given (one_of c.args.id.now rows) c.args.least c.args.most c.out_of_range.result
+    none_given (one_of c.args.id.now rows) c.args.least c.args.most c.out_of_range.result c.out_of_range.ensures
     (text_is_one c.args.id.now rows c.text.result (search rules) c.text.ensures) (c.number.ensures.none none)

@@ -4,7 +4,7 @@ use Rattle.std.proofs.lemmas.Result.{IfOk-weaker}
 use Rattle.clap.specs.Words.{Row, fault_of, found_of, rows_of}
 use Rattle.command_line.specs.ServerLine.{IsServerOrder, IsServerOrderOf, server_app}
 use Rattle.command_line.proofs.Defaults.{of_no_words}
-use Rattle.command_line.proofs.Faults.{of_matches, of_refusal}
+use Rattle.command_line.proofs.Faults.{of_fault, of_matches, of_refusal}
 use Rattle.command_line.proofs.Simple.{is_simple_server_command}
 use Rattle.command_line.proofs.server.server_order.Goals as goal
 
@@ -37,3 +37,13 @@ returns-clause-fault c =
     let are = (c.in_ok-matches.ensures.rows server_app c.server_command.ensures is_simple_server_command).0 in
     of_matches (fault_of server_app words) (IsServerOrderOf words) (IsServerOrder rows) c.matched.result
     (λ order is. subst (λ (held : List Row). IsServerOrder held order) (sym are) is) c.matched.ensures.fault
+
+pub returns-in_err-matches-clause-requested : goal.returns-in_err-matches-clause-requested
+returns-in_err-matches-clause-requested c =
+    let words = map (λ word. word.now) c.args.words.now in
+    of_fault (fault_of server_app words) (IsServerOrderOf words) c.from_residual.result (returns-in_err-matches-clause-fault c)
+
+pub returns-clause-requested : goal.returns-clause-requested
+returns-clause-requested c =
+    let words = map (λ word. word.now) c.args.words.now in
+    of_fault (fault_of server_app words) (IsServerOrderOf words) c.matched.result (returns-clause-fault c)

@@ -1,9 +1,8 @@
-//! The arguments of a program.
+//! The arguments of a program, as texts.
 ghost use Rattle.std.specs.Prelude.{◌≡◌, IfErr, IfOk, map, string_bytes};
-ghost use Rattle.console.specs.Words.{IsWordFault};
+ghost use Rattle.command_line.specs.Arguments.{IsArgumentFault};
 
-use crate::fault::RunFault;
-use command_line::OrderFault;
+use crate::orders::OrderFault;
 use std::alloc::{AllocError, Global};
 use std::env::Env;
 use std::io::ErrorKind;
@@ -19,9 +18,9 @@ pub fn read_words<E: Env, F: FnOnce(Global) -> OrderFault>(
     alloc: Global,
     from: &E,
     no_text: F,
-) -> Result<Vec<String>, RunFault>
+) -> Result<Vec<String>, OrderFault>
     requires { F.pre no_text alloc }
-    ensures fault { IfErr result (IsWordFault (F.post no_text alloc)) }
+    ensures fault { IfErr result (IsArgumentFault (F.post no_text alloc)) }
 {
     let all = match env::args(&(from, alloc)) {
         Ok(all) => all,
@@ -30,7 +29,7 @@ pub fn read_words<E: Env, F: FnOnce(Global) -> OrderFault>(
     let mut words = Vec::new(alloc);
     for word in all.skip(1) {
         if words.push(word).is_err() {
-            return Err(RunFault::NoMemory);
+            return Err(OrderFault::NoMemory);
         }
     }
     Ok(words)
@@ -41,19 +40,19 @@ fn no_words<F: FnOnce(Global) -> OrderFault>(
     alloc: Global,
     error: &io::Error,
     no_text: F,
-) -> RunFault
+) -> OrderFault
     requires { F.pre no_text alloc }
-    ensures { IsWordFault (F.post no_text alloc) result }
+    ensures { IsArgumentFault (F.post no_text alloc) result }
 {
     match error.kind() {
-        ErrorKind::OutOfMemory => RunFault::NoMemory,
-        _ => RunFault::from(no_text(alloc)),
+        ErrorKind::OutOfMemory => OrderFault::NoMemory,
+        _ => no_text(alloc),
     }
 }
 
 /// The arguments, borrowed as `&str`.
 pub fn texts<'a>(alloc: Global, words: &'a [String]) -> Result<Vec<&'a str>, AllocError>
-    ensures { IfOk result
+    ensures texts { IfOk result
         (λ texts. map (λ text. text.now) texts.items
         ≡ map (λ word. string_bytes word) words.entry.now) }
 {

@@ -1,0 +1,46 @@
+//! The command line of a filter, as `clap` builders.
+ghost use Rattle.std.specs.Prelude.{◌≡◌, false};
+ghost use Rattle.clap.specs.Words.{rule_of};
+ghost use Rattle.command_line.specs.CommandLine.{HasApp, HasNoGlobals};
+ghost use Rattle.command_line.specs.FilterLine.{bare_filter_app, filter_app, source_rule};
+
+use crate::command::{Draft, with_arg};
+use crate::filter::FilterText;
+use crate::version::VERSION;
+use clap::{Arg, ArgAction, Command};
+use std::alloc::Global;
+
+/// The argument `[FILE]`.
+#[tactic(auto, unfolding(crate::specs::FilterLine::source_rule))]
+fn source<'a>(alloc: Global) -> Arg<'a>
+    ensures rule { rule_of result ≡ source_rule }
+    ensures local { result.global ≡ false }
+{
+    Arg::new(alloc, "file")
+        .value_name("FILE")
+        .action(ArgAction::Set)
+        .help("The file to read; standard input without it")
+}
+
+/// The program, without its argument. Its arguments do not include its name, so the usage is given
+/// the name.
+#[tactic(auto, unfolding(crate::specs::FilterLine::bare_filter_app))]
+fn program<'a>(alloc: Global, text: FilterText<'a>) -> Draft<'a>
+    ensures app { HasApp result (bare_filter_app text.entry.name.now) }
+    ensures local { HasNoGlobals result }
+{
+    Command::new(alloc, text.name)
+        .about(text.about)
+        .after_help(text.example)
+        .version(VERSION)
+        .no_binary_name(true)
+        .bin_name(text.name)
+}
+
+/// The whole command line of a filter.
+#[tactic(auto, unfolding(crate::specs::FilterLine::filter_app))]
+pub(crate) fn filter_command<'a>(alloc: Global, text: FilterText<'a>) -> Draft<'a>
+    ensures { HasApp result (filter_app text.entry.name.now) }
+{
+    with_arg(program(alloc, text), source(alloc))
+}
