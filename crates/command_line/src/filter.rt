@@ -17,10 +17,10 @@ use std::alloc::Global;
 pub struct FilterText<'a> {
     /// The name of the program.
     pub name: &'a str,
-    /// What it reads and what it writes.
+    /// What it does, in one line.
     pub about: &'a str,
-    /// An example, after the arguments.
-    pub example: &'a str,
+    /// What it reads, and an example; they follow the arguments.
+    pub details: &'a str,
 }
 
 /// An order to a filter.

@@ -31,7 +31,7 @@ fn program<'a>(alloc: Global, text: FilterText<'a>) -> Draft<'a>
 {
     Command::new(alloc, text.name)
         .about(text.about)
-        .after_help(text.example)
+        .after_help(text.details)
         .version(VERSION)
         .no_binary_name(true)
         .bin_name(text.name)

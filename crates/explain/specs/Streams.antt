@@ -1,6 +1,6 @@
 -- The effect of a run on its streams.
 use Rattle.std.specs.Prelude.{ℕ, Bool, ◌≡◌, List, ◌++◌, Option}
-use Rattle.std.specs.Io.KnownBytes.{Appends, Consumes}
+use Rattle.std.specs.Io.KnownBytes.{Appends, Consumes, IsAtEnd}
 use Rattle.explain.specs.Explained.{explained}
 use Rattle.explain.specs.Unfinished.{to_write}
 
@@ -8,6 +8,10 @@ use Rattle.explain.specs.Unfinished.{to_write}
 abbrev pub Explains : (old_input new_input old_output new_output : Option (List ℕ)) → Type 0
 Explains old_input new_input old_output new_output =
     (text : List ℕ) × Consumes old_input new_input text × Appends old_output new_output (explained text)
+
+-- The whole input was read, and the explained text was written.
+abbrev pub ExplainsWhole : (old_input new_input old_output new_output : Option (List ℕ)) → Type 0
+ExplainsWhole old_input new_input old_output new_output = Explains old_input new_input old_output new_output × IsAtEnd new_input
 
 -- Some text was read, and a prefix of the explained text was written.
 abbrev pub ExplainsFront : (old_input new_input old_output new_output : Option (List ℕ)) → Type 0

@@ -10,8 +10,8 @@ use thiserror::Error;
 /// Why a run ends with a status other than 0. Its text follows `explain: ` on standard error.
 #[derive(Clone, Copy, Debug, Error)]
 pub enum ExplainFault {
-    /// Status 2: standard input could not be read.
-    #[error("cannot read -")]
+    /// Status 2: the input could not be read.
+    #[error("cannot read the input")]
     Unreadable = 2,
     /// Status 4: standard output could not be written.
     #[error("output")]

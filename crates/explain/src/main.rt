@@ -3,6 +3,7 @@
 #![tactic(auto)]
 
 mod end;
+mod explain;
 mod explainer;
 mod fault;
 mod fault_lines;
@@ -11,11 +12,11 @@ mod line_kinds;
 mod lines;
 mod streams;
 
+pub use explain::Explain;
 pub use explainer::Explainer;
 pub use fault::ExplainFault;
-use input_text::{TrackedReader, TrackedWriter};
+use filter::run_filter;
 pub use laws::messages_are_explained;
-use std::io;
 use std::process::ExitCode;
 pub use streams::execute;
 
@@ -23,10 +24,5 @@ pub use streams::execute;
 mod tests;
 
 fn main(rt: HostRuntime) -> ExitCode {
-    ExitCode::from(execute(
-        rt.alloc(),
-        &mut TrackedReader::new(rt.reader()),
-        &mut TrackedWriter::new(io::writer(&rt)),
-        &mut rt.stderr(),
-    ))
+    run_filter(&Explain, &rt)
 }

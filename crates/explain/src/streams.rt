@@ -18,9 +18,15 @@ const CHUNK: usize = 4096;
 
 /// Explains the lines of `input`, to its end, and returns the exit status: 0, 2, 4 or 6.
 ///
-/// Each line is written to `output` as soon as its end is read. If the status is not 0, one line
+/// `source` is the name of the input in fault lines. Each line is written to `output` as soon as its end is read. If the status is not 0, one line
 /// `explain: ..` is written to `faults`.
-pub fn execute<I, O, E>(alloc: Global, input: &mut I, output: &mut O, faults: &mut E) -> u8
+pub fn execute<I, O, E>(
+    alloc: Global,
+    source: &str,
+    input: &mut I,
+    output: &mut O,
+    faults: &mut E,
+) -> u8
 where
     I: Input,
     O: Output,
@@ -46,16 +52,19 @@ where
 {
     match explain_input(alloc, input, output) {
         Ok(End::Whole) => 0,
-        Ok(End::Unreadable) => report(ExplainFault::Unreadable, faults),
-        Err(fault) => report(fault, faults),
+        Ok(End::Unreadable) => report(ExplainFault::Unreadable, source, faults),
+        Err(fault) => report(fault, source, faults),
     }
 }
 
 /// Reports a fault and returns its status. A failure of this report cannot be reported.
-fn report<E: Write>(fault: ExplainFault, faults: &mut E) -> u8
+fn report<E: Write>(fault: ExplainFault, source: &str, faults: &mut E) -> u8
     ensures { result ≡ status_of fault }
 {
-    let _ = writeln!(faults, "explain: {fault}");
+    let _ = match fault {
+        ExplainFault::Unreadable => writeln!(faults, "explain: cannot read {source}"),
+        _ => writeln!(faults, "explain: {fault}"),
+    };
     fault.status()
 }
 

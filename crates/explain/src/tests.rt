@@ -4,14 +4,11 @@ mod devices;
 mod lines;
 mod memory;
 
-use crate::execute;
+use crate::{Explain, execute};
 use input_text::{Input, Output};
 use std::alloc::Global;
 use std::io::Write;
 use test_support::{Program, Streams};
-
-/// The program, as the tests run it.
-struct Explain;
 
 impl Program for Explain {
     fn name(&self) -> &'static str {
@@ -24,6 +21,6 @@ impl Program for Explain {
         on: Streams<'_, I, O, E>,
     ) -> u8 {
         let Streams(input, output, faults) = on;
-        execute(alloc, input, output, faults)
+        execute(alloc, "-", input, output, faults)
     }
 }

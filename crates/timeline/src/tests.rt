@@ -22,6 +22,6 @@ impl Program for Timeline {
         on: Streams<'_, I, O, E>,
     ) -> u8 {
         let Streams(input, output, faults) = on;
-        execute(&Timeline, alloc, input, output, faults)
+        execute(&Timeline, alloc, "-", input, output, faults)
     }
 }

@@ -7,6 +7,7 @@ use crate::drawing::{bottom_of, turns_in, write_picture};
 use crate::event::Event;
 use crate::reading::event_in;
 use crate::rows::rows_of;
+use command_line::FilterText;
 use input_text::{Output, put_all};
 use std::alloc::Global;
 use trace::{BadLine, DrawFault, Drawing};
@@ -23,8 +24,12 @@ impl Drawing for Timeline {
 
     ghost is_whole = { true };
 
-    fn name(&self) -> &'static str {
-        "timeline"
+    fn text(&self) -> FilterText<'static> {
+        FilterText {
+            name: "timeline",
+            about: "Draws what station prints as a picture (SVG), turn by turn",
+            details: "It reads the packets and the states of decoders that station prints: lines that begin with track and node. It skips the other lines.\n\nExample: station replay --roster layout.toml < session.script | timeline > session.svg",
+        }
     }
 
     fn line(&self) -> &'static str {

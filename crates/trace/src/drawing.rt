@@ -5,6 +5,7 @@ ghost use Rattle.trace.specs.Fault.{is_unwritten};
 ghost use Rattle.trace.specs.declared.fault.DrawFault.TheVariants.{NoMemory, Output};
 
 use crate::fault::DrawFault;
+use command_line::FilterText;
 use input_text::Output;
 use std::alloc::Global;
 
@@ -26,8 +27,8 @@ pub trait Drawing {
     /// Whether nothing is written if out of memory.
     ghost is_whole: { Bool };
 
-    /// The name of the program, with which its fault lines begin.
-    fn name(&self) -> &'static str;
+    /// The texts of the program's command line. Its fault lines begin with the name.
+    fn text(&self) -> FilterText<'static>;
 
     /// The kind of line that must not have a fault, as fault lines name it.
     fn line(&self) -> &'static str;

@@ -11,8 +11,8 @@ use thiserror::Error;
 /// error.
 #[derive(Clone, Copy, Debug, Error)]
 pub enum DrawFault {
-    /// Status 2: standard input could not be read.
-    #[error("cannot read -")]
+    /// Status 2: the input could not be read.
+    #[error("cannot read the input")]
     Unreadable,
     /// Status 4: standard output could not be written.
     #[error("output")]

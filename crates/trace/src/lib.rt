@@ -6,7 +6,7 @@
 //!
 //! ```text
 //! if let Ok(Some(packet)) = packet_in(b"track 1 FF 00 FF") { .. }
-//! execute(&TrackSignal, alloc, &mut input, &mut output, &mut faults)
+//! execute(&TrackSignal, alloc, "-", &mut input, &mut output, &mut faults)
 //! ```
 #![tactic(auto)]
 

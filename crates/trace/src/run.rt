@@ -1,5 +1,5 @@
 //! Running a drawing program on its streams.
-ghost use Rattle.std.specs.Prelude.{◌≡◌, ◌≢◌, ◌==◌, false, true, IfErr, OnOk};
+ghost use Rattle.std.specs.Prelude.{◌≡◌, ◌≢◌, ◌==◌, ◌≤◌, false, true, IfErr, OnOk};
 ghost use Rattle.trace.specs.Drawn.{DrawsInput, EndsAs, FailsInput, RefusesInput};
 ghost use Rattle.trace.specs.Fault.{read_failed, is_unwritten, status_of};
 
@@ -13,11 +13,12 @@ use std::io::Write;
 
 /// Draws the lines of `input`, read to its end, and returns the exit status, 0 to 6.
 ///
-/// The drawing is written to `output`. If the status is not 0, one line that begins with the
+/// `source` is the name of the input in fault lines. The drawing is written to `output`. If the status is not 0, one line that begins with the
 /// program's name is written to `faults`.
 pub fn execute<D, I, O, E>(
     drawing: &D,
     alloc: Global,
+    source: &str,
     input: &mut I,
     output: &mut O,
     faults: &mut E,
@@ -29,6 +30,7 @@ where
     E: Write,
     requires reads { I.failed input.old ≡ false }
     requires writes { O.failed output.old ≡ false }
+    ensures most { result ≤ 6 }
     ensures status { EndsAs D.parses (I.left input.old) result }
     ensures drawn { result ≡ 0
         → DrawsInput D.parses D.drawn (I.left input.old) (I.left input.new) (O.held output.old)
@@ -41,19 +43,22 @@ where
     // not whole.
     ensures kept { result ≢ 0 → result ≢ 4 → (result ≡ 6 → D.is_whole ≡ true)
         → output.new ≡ output.old }
+    ensures quiet { result ≡ 0 → faults.new ≡ faults.old }
 {
     match draw_input(drawing, alloc, input, output) {
         Ok(()) => 0,
-        Err(fault) => report(drawing, fault, faults),
+        Err(fault) => report(drawing, fault, source, faults),
     }
 }
 
 /// Reports a fault and returns its status. A failure of this report cannot be reported.
-fn report<D: Drawing, E: Write>(drawing: &D, fault: DrawFault, faults: &mut E) -> u8
-    ensures { result ≡ status_of fault }
+fn report<D: Drawing, E: Write>(drawing: &D, fault: DrawFault, source: &str, faults: &mut E) -> u8
+    ensures status { result ≡ status_of fault }
+    ensures most { result ≤ 6 }
 {
-    let name = drawing.name();
+    let name = drawing.text().name;
     let _ = match fault {
+        DrawFault::Unreadable => writeln!(faults, "{name}: cannot read {source}"),
         DrawFault::BadLine(number) => {
             let line = drawing.line();
             writeln!(faults, "{name}: line {number}: bad {line}")

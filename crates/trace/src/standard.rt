@@ -1,18 +1,41 @@
-//! Running a drawing program on the standard streams.
+//! A drawing program as a filter.
+ghost use Rattle.trace.specs.Drawn.{DrawsInput};
 
 use crate::drawing::Drawing;
 use crate::run::execute;
-use input_text::{TrackedReader, TrackedWriter};
-use std::io;
+use command_line::FilterText;
+use filter::{Filter, run_filter};
+use input_text::{Input, Output};
+use std::alloc::Global;
+use std::io::Write;
 use std::process::ExitCode;
 
-/// Draws the lines of standard input to standard output, and returns the exit code.
+/// Draws the lines of an input.
+struct DrawingFilter<'a, D> {
+    drawing: &'a D,
+}
+
+impl<D: Drawing> Filter for DrawingFilter<'_, D> {
+    ghost filters = { DrawsInput D.parses D.drawn };
+
+    fn text(&self) -> FilterText<'static> {
+        self.drawing.text()
+    }
+
+    fn execute<I: Input, O: Output, E: Write>(
+        &self,
+        alloc: Global,
+        source: &str,
+        input: &mut I,
+        output: &mut O,
+        faults: &mut E,
+    ) -> u8 {
+        execute(self.drawing, alloc, source, input, output, faults)
+    }
+}
+
+/// Runs a drawing program on the arguments of the process and the standard streams, and returns
+/// the exit code.
 pub fn draw_standard<D: Drawing>(drawing: &D, rt: &HostRuntime) -> ExitCode {
-    ExitCode::from(execute(
-        drawing,
-        rt.alloc(),
-        &mut TrackedReader::new(rt.reader()),
-        &mut TrackedWriter::new(io::writer(rt)),
-        &mut rt.stderr(),
-    ))
+    run_filter(&DrawingFilter { drawing }, rt)
 }

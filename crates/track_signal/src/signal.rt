@@ -4,6 +4,7 @@ ghost use Rattle.trace.specs.Traffic.{Parses};
 ghost use Rattle.track_signal.specs.Dump.{dump_of};
 
 use crate::drawing::draw_packets;
+use command_line::FilterText;
 use dcc_packet::Packet;
 use input_text::Output;
 use std::alloc::Global;
@@ -21,8 +22,12 @@ impl Drawing for TrackSignal {
 
     ghost is_whole = { false };
 
-    fn name(&self) -> &'static str {
-        "track_signal"
+    fn text(&self) -> FilterText<'static> {
+        FilterText {
+            name: "track_signal",
+            about: "Writes the signal on the rails as a value change dump (VCD) for wave viewers",
+            details: "It reads the packets that station prints: lines that begin with track. It skips the other lines.\n\nExample: station replay --roster layout.toml < session.script | track_signal > session.vcd",
+        }
     }
 
     fn line(&self) -> &'static str {

@@ -22,6 +22,6 @@ impl Program for TrackSignal {
         on: Streams<'_, I, O, E>,
     ) -> u8 {
         let Streams(input, output, faults) = on;
-        execute(&TrackSignal, alloc, input, output, faults)
+        execute(&TrackSignal, alloc, "-", input, output, faults)
     }
 }

@@ -1,6 +1,6 @@
 //! Standard streams that fail, and when output is written.
 
-use super::Explain;
+use crate::Explain;
 use std::alloc::Global;
 use std::io;
 use std::io::{ErrorKind, Write};

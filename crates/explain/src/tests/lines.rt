@@ -2,7 +2,7 @@
 //! S-9.2 and S-9.2.1. Each text is read at once, in two pieces divided at every point, and byte by
 //! byte.
 
-use super::Explain;
+use crate::Explain;
 use std::alloc::Global;
 use std::io::Read;
 use std::test::Fail;

@@ -4,7 +4,7 @@
 //! This test takes the memory of the process, and so needs the allocator of the C library:
 //! `rt test`, and not `rt try`.
 
-use super::Explain;
+use crate::Explain;
 use std::test::Fail;
 use test_support::run_as_room_grows;
 

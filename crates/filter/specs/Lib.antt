@@ -1,0 +1,3 @@
+pub mod Fault
+pub mod Runs
+pub mod Terminal

@@ -1,0 +1,45 @@
+//! Running a filter on the arguments of the process and the standard streams.
+
+use crate::filter::Filter;
+use crate::report::StartFault;
+use crate::running::execute_words;
+use crate::terminal::is_terminal;
+use command_line::{FilterText, OrderFault, not_utf8_filter_text, read_words, texts};
+use input_text::{TrackedReader, TrackedWriter};
+use std::io;
+use std::io::Write;
+use std::process::ExitCode;
+
+/// Runs a filter on the arguments of the process and the standard streams, and returns the exit
+/// code.
+///
+/// If it waits for what is typed on a terminal, it says so on standard error.
+pub fn run_filter<F: Filter>(filter: &F, rt: &HostRuntime) -> ExitCode {
+    let text = filter.text();
+    ExitCode::from(match run_words(filter, text, rt) {
+        Ok(status) => status,
+        Err(fault) => StartFault::from(fault).report(text.name, &mut rt.stderr()),
+    })
+}
+
+/// Runs a filter, and returns the exit status. Fails if the arguments cannot be read.
+fn run_words<F: Filter>(
+    filter: &F,
+    text: FilterText<'_>,
+    rt: &HostRuntime,
+) -> Result<u8, OrderFault> {
+    let words = read_words(rt.alloc(), rt, |alloc| not_utf8_filter_text(alloc, text))?;
+    let texts = texts(rt.alloc(), words.as_slice())?;
+    if texts.is_empty() && is_terminal(rt) {
+        let _ = writeln!(rt.stderr(), "{}: reading standard input", text.name);
+    }
+    Ok(execute_words(
+        filter,
+        text,
+        rt,
+        texts.as_slice(),
+        &mut TrackedReader::new(rt.reader()),
+        &mut TrackedWriter::new(io::writer(rt)),
+        &mut rt.stderr(),
+    ))
+}
