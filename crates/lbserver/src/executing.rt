@@ -5,8 +5,9 @@ ghost use Rattle.bus_log.specs.Verbosities.{verbosity_of};
 ghost use Rattle.bus_server.specs.Progress.{ObservesLayout, state_of};
 ghost use Rattle.command_line.specs.declared.words.ServerOrder.{ServerOrder as OrderValue};
 ghost use Rattle.console.specs.Files.{IsRosterOf};
-ghost use Rattle.lbserver.specs.Execution.{IsNewServer, ServesOrder, ServesWords, clients_of, entries_in};
+ghost use Rattle.lbserver.specs.Execution.{IsNewServer, RunsWords, ServesOrder, clients_of, entries_in};
 
+use crate::answering::answer;
 use crate::clients::Clients;
 use crate::fault::ServerFault;
 use crate::standard_output::StandardOutput;
@@ -41,8 +42,11 @@ pub(crate) fn execute<O: Write, E: Write>(
     faults: &mut E,
 ) -> u8
     ensures most { result ≤ 6 }
-    // Status 0 is returned only after a whole run of the order.
-    ensures serves { result ≡ 0 → ServesWords (map (λ word. word.now) words.entry.now) }
+    // Status 0 is returned only after a whole run of the order, or where the arguments ask for help
+    // or the version, which is written to `output`.
+    ensures serves { result ≡ 0 → RunsWords (map (λ word. word.now) words.entry.now)
+        (O.contents output.old) (O.contents output.new) }
+    ensures quiet { result ≡ 0 → faults.new ≡ faults.old }
 {
     match run(rt, words, output) {
         Ok(()) => 0,
@@ -50,15 +54,18 @@ pub(crate) fn execute<O: Write, E: Write>(
     }
 }
 
-/// Carries out the order of the arguments.
+/// Carries out the order of the arguments, or writes the text that they ask for.
 ///
 /// Each of the following functions creates one thing and passes a borrow of it to the next, because
 /// a function that returns early with a value to drop is hard to prove.
 fn run<O: Write>(rt: &HostRuntime, words: &[&str], output: &mut O) -> Result<(), ServerFault>
-    ensures serves { OnOk result (ServesWords (map (λ word. word.now) words.entry.now)) }
+    ensures serves { OnOk result (RunsWords (map (λ word. word.now) words.entry.now)
+        (O.contents output.old) (O.contents output.new)) }
 {
-    let mut order = server_order(rt.alloc(), words)?;
-    with_roster(rt, &mut order, output)
+    match server_order(rt.alloc(), words) {
+        Ok(mut order) => with_roster(rt, &mut order, output),
+        Err(fault) => answer(rt.alloc(), fault, output),
+    }
 }
 
 /// Continues with the roster of the order.

@@ -1,13 +1,14 @@
 //! `lbserver`: a LocoNet command station that serves clients of LocoNet over TCP.
 #![tactic(auto)]
 
+mod answering;
 mod clients;
 mod executing;
 mod fault;
 mod standard_output;
 
-use command_line::not_utf8_server_text;
-use console::{RunFault, read_words, report_as, texts};
+use command_line::{not_utf8_server_text, read_words, texts};
+use console::{RunFault, report_as};
 use executing::execute;
 use fault::NAME;
 use std::io;

@@ -7,9 +7,8 @@ mod layout;
 mod listening;
 mod replay;
 
-use command_line::no_text;
 pub use command_line::{FileName, Order, OrderFault, order};
-use console::{read_words, texts};
+use command_line::{no_text, read_words, texts};
 pub use console::{RunFault, report};
 pub use executing::execute;
 use input_text::{TrackedReader, TrackedWriter};

@@ -11,6 +11,7 @@ use std::io::Write;
 use std::process::ExitCode;
 
 /// Draws the lines of an input.
+#[derive(Drop)]
 struct DrawingFilter<'a, D> {
     drawing: &'a D,
 }

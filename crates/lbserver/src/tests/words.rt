@@ -1,11 +1,11 @@
 //! The arguments of the command line.
 
 use crate::executing::execute;
-use command_line::{OrderFault, ServerOrder, not_utf8_server_text, server_order};
-use console::{read_words, report_as};
+use command_line::{OrderFault, ServerOrder, not_utf8_server_text, read_words, server_order};
+use console::{RunFault, report_as};
 use std::net::Ipv4Addr;
 use std::test::Fail;
-use test_support::{Given, has_all};
+use test_support::{Broken, Given, has_all};
 
 /// The values of an order other than its roster.
 #[derive(Clone, Copy, Debug, PartialEq, Eq)]
@@ -160,24 +160,43 @@ fn words_that_are_no_order(rt: HostRuntime) {
     }
 }
 
+/// Parts of the help.
+const HELP: [&'static str; 11] = [
+    "Usage: lbserver",
+    "anybody who can reach it can drive",
+    "--port <P>",
+    "--clients <C>",
+    "--track",
+    "--quiet",
+    "--page <PORT>",
+    "--page-file <FILE>",
+    "--lose <N>",
+    "--seed <S>",
+    "lbserver --roster layout.toml",
+];
+
+#[test]
+fn help_and_version_are_no_faults(rt: HostRuntime) {
+    for (words, parts) in [
+        (["--help"], HELP.as_slice()),
+        (["--version"], ["lbserver 1."].as_slice()),
+    ] {
+        let mut faults = Vec::new(rt.alloc());
+        let mut output = Vec::new(rt.alloc());
+        assert_eq!(rt; execute(&rt, &words, &mut output, &mut faults), 0);
+        assert!(rt; faults.is_empty() && has_all(output.as_slice(), parts), "of {words:?}");
+    }
+}
+
+#[test]
+fn help_that_cannot_be_written(rt: HostRuntime) {
+    let mut faults = Vec::new(rt.alloc());
+    assert_eq!(rt; execute(&rt, &["--help"], &mut Broken::new(), &mut faults), 4);
+    assert_eq!(rt; faults.as_slice(), b"lbserver: output\n".as_slice());
+}
+
 /// Arguments, and parts of the text on standard error.
-const TOLD: [(&'static [&'static str], &'static [&'static str]); 5] = [
-    (
-        &["--help"],
-        &[
-            "Usage: lbserver",
-            "anybody who can reach it can drive",
-            "--port <P>",
-            "--clients <C>",
-            "--track",
-            "--quiet",
-            "--page <PORT>",
-            "--page-file <FILE>",
-            "--lose <N>",
-            "--seed <S>",
-            "lbserver --roster layout.toml",
-        ],
-    ),
+const TOLD: [(&'static [&'static str], &'static [&'static str]); 4] = [
     (
         &["--port", "65536"],
         &["'65536'", "--port <P>", "0..=65535"],
@@ -223,6 +242,7 @@ fn a_word_that_is_not_utf_8(rt: HostRuntime) -> Result<(), Fail> {
     let fault = read_words(rt.alloc(), &given, |alloc| not_utf8_server_text(alloc))
         .err()
         .ok_or("a fault")?;
+    let fault = RunFault::from(fault);
     let mut faults = Vec::new(rt.alloc());
     assert_eq!(rt; report_as("lbserver", &fault, &mut faults), 1);
     assert!(rt;

@@ -1,9 +1,8 @@
 //! The arguments of the command line.
 
 use super::run;
-use crate::{Order, OrderFault, order, report};
-use command_line::no_text;
-use console::{read_words, texts};
+use crate::{Order, OrderFault, RunFault, order, report};
+use command_line::{no_text, read_words, texts};
 use std::alloc::Global;
 use std::test::Fail;
 use test_support::{Given, has_all};
@@ -26,7 +25,7 @@ fn fault_of(rt: &HostRuntime, words: &[&[u8]]) -> Result<(u8, Vec<u8>), Fail> {
         .err()
         .ok_or("a fault")?;
     let mut faults = Vec::new(rt.alloc());
-    Ok((report(&fault, &mut faults), faults))
+    Ok((report(&RunFault::from(fault), &mut faults), faults))
 }
 
 #[test]
