@@ -1,8 +1,9 @@
-//! The output for lines, devices that fail, and lack of memory.
+//! The output for lines, devices that fail, lack of memory, and arguments.
 
 mod devices;
 mod lines;
 mod memory;
+mod words;
 
 use crate::{Explain, execute};
 use input_text::{Input, Output};

@@ -3,7 +3,7 @@ use Rattle.std.specs.Prelude.{ℕ, ◌≡◌, ◌⊎◌, List, [], Option, Some,
 use Rattle.std.specs.Io.KnownBytes.{Appends}
 use Rattle.clap.specs.Words.{Text, fault_of}
 use Rattle.command_line.specs.FilterLine.{file_in, filter_app}
-use Rattle.command_line.specs.Requests.{AsksForText}
+use Rattle.command_line.specs.Requests.{AsksFilter}
 
 -- the effect of a filter on its input and its output
 abbrev pub Effect : Type 1
@@ -23,7 +23,7 @@ RunsOn filters (Some file) old_input new_input old_output new_output = (new_inpu
 -- Help or the version was written, and nothing was read. Which text clap has is not specified.
 abbrev pub Answers : (name : Text) → (words : List Text) → (old_input new_input old_output new_output : Option (List ℕ)) → Type 0
 Answers name words old_input new_input old_output new_output =
-    AsksForText (fault_of (filter_app name) words) × (new_input ≡ old_input) × ((text : List ℕ) × Appends old_output new_output text)
+    AsksFilter name words × (new_input ≡ old_input) × ((text : List ℕ) × Appends old_output new_output text)
 
 -- A filter with this name ran on what its arguments name, or answered them.
 abbrev pub RunsWords : Effect → (name : Text) → (words : List Text) → (old_input new_input old_output new_output : Option (List ℕ)) → Type 0

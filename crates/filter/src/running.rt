@@ -3,7 +3,7 @@ ghost use Rattle.std.specs.Prelude.{◌≡◌, ◌≢◌, ◌==◌, ◌≤◌, [
 ghost use Rattle.std.specs.Io.KnownBytes.{Appends};
 ghost use Rattle.clap.specs.Words.{Text, fault_of};
 ghost use Rattle.command_line.specs.FilterLine.{file_in, filter_app};
-ghost use Rattle.command_line.specs.Requests.{AsksForText, is_request};
+ghost use Rattle.command_line.specs.Requests.{AsksFilter, is_request};
 ghost use Rattle.filter.specs.Runs.{RunsOn, RunsOnFile, RunsWords};
 ghost use Rattle.input_text.specs.Write.{failed_after};
 
@@ -49,8 +49,7 @@ pub fn execute_words<F: Filter, R: Files + AllocGlobal, I: Input, O: Output, E: 
     ensures rejected { fault_of (filter_app text.entry.name.now) (map (λ word. word.now) words.entry.now) ≢ []
         → input.new ≡ input.old }
     ensures kept { fault_of (filter_app text.entry.name.now) (map (λ word. word.now) words.entry.now) ≢ []
-        → (AsksForText (fault_of (filter_app text.entry.name.now)
-        (map (λ word. word.now) words.entry.now)) → ⊥)
+        → (AsksFilter text.entry.name.now (map (λ word. word.now) words.entry.now) → ⊥)
         → output.new ≡ output.old }
     // The status is 4 exactly if a write or a flush failed.
     ensures unwritten { O.failed output.new ≡ (result == 4) }

@@ -2,10 +2,9 @@
 -- text that they ask for.
 use Rattle.std.specs.Prelude.{ℕ, ◌≡◌, ◌⊎◌, ◌-◌, ◌^◌, List, [], Option, Some, None}
 use Rattle.std.specs.Io.KnownBytes.{Appends}
-use Rattle.clap.specs.Words.{fault_of}
 use Rattle.command_line.specs.declared.words.ServerOrder.{ServerOrder}
-use Rattle.command_line.specs.ServerLine.{IsServerOrderOf, server_app}
-use Rattle.command_line.specs.Requests.{AsksForText}
+use Rattle.command_line.specs.ServerLine.{IsServerOrderOf}
+use Rattle.command_line.specs.Requests.{AsksServer}
 use Rattle.console.specs.Files.{IsRosterOf}
 use Rattle.roster.specs.Entry.{Entry}
 use Rattle.bus_log.specs.Decoders.{specs_of}
@@ -48,7 +47,7 @@ ServesWords words =
 -- Clap answers the arguments with help or the version, and a text was written: which one, clap does
 -- not specify.
 abbrev pub AnswersWords : List (List ℕ) → (old_output new_output : Option (List ℕ)) → Type 0
-AnswersWords words old_output new_output = AsksForText (fault_of server_app words) × ((text : List ℕ) × Appends old_output new_output text)
+AnswersWords words old_output new_output = AsksServer words × ((text : List ℕ) × Appends old_output new_output text)
 
 abbrev pub RunsWords : List (List ℕ) → (old_output new_output : Option (List ℕ)) → Type 0
 RunsWords words old_output new_output = ServesWords words ⊎ AnswersWords words old_output new_output
