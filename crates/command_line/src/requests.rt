@@ -1,5 +1,5 @@
 //! Arguments that ask for help or the version.
-ghost use Rattle.std.specs.Prelude.{◌≡◌, IfOk, is_some};
+ghost use Rattle.std.specs.Prelude.{◌≡◌, IfOk, None, Ok, false, is_some};
 ghost use Rattle.command_line.specs.Requests.{is_request};
 
 use crate::orders::OrderFault;
@@ -11,6 +11,7 @@ impl OrderFault {
     /// output, and is no fault.
     pub fn requested_text(&self, alloc: Global) -> Result<Option<String>, AllocError>
         ensures requested { IfOk result (λ text. is_some text ≡ is_request self.now) }
+        ensures none { is_request self.now ≡ false → result ≡ Ok None }
     {
         let OrderFault::Usage(error) = self else {
             return Ok(None);
