@@ -1,5 +1,5 @@
 -- A run that a device stops.
-use Rattle.std.proofs.Common.{◌≡◌, ℕ, List, [], ◌∷◌, ◌++◌, Option, Some, None, Result, Ok, Err, refl, ap, sym, subst, ◌∙◌, append_assoc, append-nil, inl, inr}
+use Rattle.std.proofs.Common.{◌≡◌, ℕ, Bool, List, [], ◌∷◌, ◌++◌, Option, Some, None, Result, Ok, Err, refl, ap, sym, subst, ◌∙◌, append_assoc, append-nil, inl, inr}
 use Rattle.std.specs.Prelude.{IfErr, IsErrAnd, OnErr, false, is_some}
 use Rattle.std.specs.List.{flat_map}
 use Rattle.std.proofs.lemmas.List.Concat.{flat_map-append}
@@ -9,12 +9,12 @@ use Rattle.bus.specs.Invariant.{IsInvariant}
 use Rattle.bus.specs.Log.{Extends}
 use Rattle.bus.specs.Observations.{Observation}
 use Rattle.bus_server.specs.declared.running.Stop.{Stop}
-use Rattle.bus_server.specs.declared.running.Stop.TheVariants.{Transport, Clock, Observer}
+use Rattle.bus_server.specs.declared.running.Stop.TheVariants.{Transport, Clock, Observer, AfterRound}
 use Rattle.bus_server.specs.Applied.{AppliesAll, Handled, LoggedEvent, ServerState, events_of, longest_wait, observations_in, observations_of, overflow_notice, transport_events, with_backlog, without_backlog}
 use Rattle.bus_server.specs.Progress.{Snapshot}
 use Rattle.bus_server.specs.Rounds.{IsRound}
 use Rattle.bus_server.specs.Runs.{IsEventRun, Round, RunSnapshot, RunsLogged, logged_in, skipped, transport_log}
-use Rattle.bus_server.specs.Stops.{Begins, BeginsEvent, HasLogged, IsRestOfRead, IsStoppedRun, Stops, StopsAt, StopsByClock, StopsElapsing, StopsIn, StopsLogged}
+use Rattle.bus_server.specs.Stops.{Begins, BeginsEvent, HasLogged, IsRestOfRead, IsStoppedRun, Stops, StopsAt, StopsByClock, StopsElapsing, StopsIn, StopsLogged, after_round_failed, fails}
 use Rattle.bus_server.specs.TransportEvents.{Accepted, NonePending, PeerClosed, Polled, ReadBlocked, Received, Refused, ServerClosed, TransportEvent, WriteBlocked, Written}
 use Rattle.bus_server.proofs.Courses.{Laws, acts_course, course_behind, course_more, course_polled, cut_course, happened_course, nothing_done, rounds_course, time_course}
 use Rattle.bus_server.proofs.Going.{acts_more, grows_more, log-append, serves_more}
@@ -98,31 +98,36 @@ last_course laws last old mid new kept first second =
     subst (λ (all : List LoggedEvent). IsEventRun (events_of all) old new) (sym (append-nil (applied_in last.handled ++ last.elapsing)))
     (cut_course (applied_in last.handled) last.elapsing old new (course_more laws (events_of (applied_in last.handled)) (events_of last.elapsing) old mid new kept first second))
 
-clock_course : {T C O : Type 0} → Laws → (stop : Stop T C O) (readings : List ℕ) (elapsing : List LoggedEvent) (old new : ServerState) → IsInvariant old.bus → StopsByClock stop readings elapsing old new → IsEventRun (events_of elapsing) old new
+clock_course : {T C O A : Type 0} → Laws → (stop : Stop T C O A) (readings : List ℕ) (elapsing : List LoggedEvent) (old new : ServerState) → IsInvariant old.bus → StopsByClock stop readings elapsing old new → IsEventRun (events_of elapsing) old new
 clock_course laws (Transport fault) readings elapsing old new kept h = absurd h
 clock_course laws (Clock fault) readings elapsing old new kept h = nothing_done laws elapsing old new h.1 h.2
+clock_course laws (AfterRound fault) readings elapsing old new kept h = absurd h
 clock_course laws (Observer fault) readings elapsing old new kept h = happened_course laws elapsing old new kept h.2.2.2
 
-elapsing_course : {T C O : Type 0} → Laws → (stop : Stop T C O) (last : Round) (rest : List TransportEvent) (old new : ServerState) → IsInvariant old.bus → StopsElapsing stop last rest old new → IsEventRun (events_of (logged_in (last ∷ []))) old new
+elapsing_course : {T C O A : Type 0} → Laws → (stop : Stop T C O A) (last : Round) (rest : List TransportEvent) (old new : ServerState) → IsInvariant old.bus → StopsElapsing stop last rest old new → IsEventRun (events_of (logged_in (last ∷ []))) old new
 elapsing_course laws stop last rest old new kept h =
     last_course laws last old h.1 new kept (acts_course laws last.handled old h.1 kept (round_serves last.handled old h.1 h.2))
     (λ k. clock_course laws stop last.readings last.elapsing h.1 new k h.4)
 
-stop_course : {T C O : Type 0} → Laws → (stop : Stop T C O) (last : Round) (rest : List TransportEvent) (old new : ServerState) → IsInvariant old.bus → StopsAt stop last rest old new → IsEventRun (events_of (logged_in (last ∷ []))) old new
+stop_course : {T C O A : Type 0} → Laws → (stop : Stop T C O A) (last : Round) (rest : List TransportEvent) (old new : ServerState) → IsInvariant old.bus → StopsAt stop last rest old new → IsEventRun (events_of (logged_in (last ∷ []))) old new
 stop_course laws (Transport fault) last rest old new kept h =
     subst (λ (round : Round). IsEventRun (events_of (logged_in (round ∷ []))) old new) (sym h.0) (nothing_done laws [] old new refl h.2)
-stop_course {T = T} {O = O} laws (Clock fault) last rest old new kept h =
-    course_polled (events_of (logged_in (last ∷ []))) old new (elapsing_course {T = T} {O = O} laws (Clock fault) last rest (without_backlog old) new kept h.1)
-stop_course {T = T} {C = C} laws (Observer fault) last rest old new kept h = course_polled (events_of (logged_in (last ∷ []))) old new (elim h.1 [
+stop_course {T = T} {O = O} {A = A} laws (Clock fault) last rest old new kept h =
+    course_polled (events_of (logged_in (last ∷ []))) old new (elapsing_course {T = T} {O = O} {A = A} laws (Clock fault) last rest (without_backlog old) new kept h.1)
+stop_course {T = T} {C = C} {A = A} laws (Observer fault) last rest old new kept h = course_polled (events_of (logged_in (last ∷ []))) old new (elim h.1 [
   | inl inside ↦ last_course laws last (without_backlog old) new new kept (stops_in_course laws last.handled rest (without_backlog old) new kept inside.2) (λ k. nothing_done laws last.elapsing new new inside.1 refl)
-  | inr later ↦ elim later [
-    | inl elapsing ↦ elapsing_course {T = T} {C = C} laws (Observer fault) last rest (without_backlog old) new kept elapsing
-    | inr after ↦ last_course laws last (without_backlog old) after.1 new kept (acts_course laws last.handled (without_backlog old) after.1 kept (round_serves last.handled (without_backlog old) after.1 after.2)) (λ k. time_course laws after.1.turns last.readings last.elapsing after.1 new k after.3)
-  ]
+  | inr elapsing ↦ elapsing_course {T = T} {C = C} {A = A} laws (Observer fault) last rest (without_backlog old) new kept elapsing
 ])
+stop_course laws (AfterRound fault) last rest old new kept h =
+    let after = h.1 in
+    course_polled (events_of (logged_in (last ∷ [])))
+    old new
+    (last_course laws last (without_backlog old) after.1 new kept
+    (acts_course laws last.handled (without_backlog old) after.1 kept (round_serves last.handled (without_backlog old) after.1 after.2))
+    (λ k. time_course laws after.1.turns last.readings last.elapsing after.1 new k after.3))
 
 -- whole rounds, and then the last
-pub run_stops : {T C O : Type 0} → Laws → Headline → (most : ℕ) (stop : Stop T C O) (rounds : List Round) (last : Round) (rest : List TransportEvent) (old mid new : RunSnapshot) → IsInvariant old.state.bus → HasDesk old.state.bus.station.powered
+pub run_stops : {T C O A : Type 0} → Laws → Headline → (most : ℕ) (stop : Stop T C O A) (rounds : List Round) (last : Round) (rest : List TransportEvent) (old mid new : RunSnapshot) → IsInvariant old.state.bus → HasDesk old.state.bus.station.powered
     → RunsLogged most rounds old mid → StopsLogged most stop last rest mid new → IsStoppedRun most stop old new
 run_stops laws headline most stop rounds last rest old mid new kept desk runs stops =
     let logged = stops.0 in
@@ -160,6 +165,10 @@ pub passed_on : {T E : Type 0} (P : E → Type 0) (r : Result T E) (fault : E) �
 passed_on P (Ok value) fault same p = tt
 passed_on P (Err propagated) fault same p = subst P (sym same) p
 
+pub failed_on : {U T C O A : Type 0} (r : Result U (Stop T C O A)) (stop : Stop T C O A) (before now : Bool) → IsErrAnd r (λ propagated. propagated ≡ stop) → now ≡ fails stop before → now ≡ after_round_failed r before
+failed_on (Ok value) stop before now same h = absurd same
+failed_on (Err propagated) stop before now same h = h ∙ ap (λ (s : Stop _ _ _ _). fails s before) (sym same)
+
 -- The last round.
 
 pub has_logged : (last : Round) (rest : List TransportEvent) (old new : RunSnapshot) → Extends old.log new.log (Polled last.longest ∷ (transport_events last.handled ++ rest)) → Extends old.readings new.readings last.readings
@@ -175,8 +184,9 @@ none_when None h = refl
 none_when (Some a) h = cc
 
 -- behind a whole round, in the time that it took
-pub stops_by_clock : {T C O : Type 0} → (stop : Stop T C O) (last : Round) (old mid new : ServerState) → last.longest ≡ longest_wait old → IsRound last.handled (without_backlog old) mid → mid.turns ≡ None
+pub stops_by_clock : {T C O A : Type 0} → (stop : Stop T C O A) (last : Round) (old mid new : ServerState) → last.longest ≡ longest_wait old → IsRound last.handled (without_backlog old) mid → mid.turns ≡ None
     → StopsByClock stop last.readings last.elapsing mid new → StopsAt stop last [] old new
 stops_by_clock (Transport fault) last old mid new longest round turns h = absurd h
 stops_by_clock (Clock fault) last old mid new longest round turns h = (longest, (refl, mid, round, turns, h))
-stops_by_clock (Observer fault) last old mid new longest round turns h = (longest, inr (inl (refl, mid, round, turns, h)))
+stops_by_clock (Observer fault) last old mid new longest round turns h = (longest, inr (refl, mid, round, turns, h))
+stops_by_clock (AfterRound fault) last old mid new longest round turns h = absurd h

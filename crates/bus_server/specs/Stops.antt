@@ -1,12 +1,12 @@
 -- A run that stopped at a fault: what was applied up to it, and which device failed.
-use Rattle.std.specs.Prelude.{ℕ, ◌≡◌, ◌⊎◌, ◌<◌, ◌≤◌, true, min, map, List, [], ◌∷◌, ◌++◌, None}
+use Rattle.std.specs.Prelude.{ℕ, ◌≡◌, ◌⊎◌, ◌<◌, ◌≤◌, Bool, true, min, map, List, [], ◌∷◌, ◌++◌, None, Result, Ok, Err}
 use Rattle.bus.specs.Log.{Extends}
 use Rattle.bus.specs.Bus.{outcome_of}
 use Rattle.bus.specs.declared.event.Event.{Event}
 use Rattle.bus.specs.declared.event.Event.TheVariants.{Connects, Disconnects, Receives}
 use Rattle.bus.specs.Cycle.{RunsInTime}
 use Rattle.bus_server.specs.declared.running.Stop.{Stop}
-use Rattle.bus_server.specs.declared.running.Stop.TheVariants.{Transport, Clock, Observer}
+use Rattle.bus_server.specs.declared.running.Stop.TheVariants.{Transport, Clock, Observer, AfterRound}
 use Rattle.bus_server.specs.Applied.{AppliesAll, AreTurns, Handled, IsWithTurns, LoggedEvent, RunsEvents, RunsFor, ServerState, events_of, has_overflowed, is_accepted, longest_wait, observations_in, transport_events, turns_after, with_backlog, without_backlog}
 use Rattle.bus_server.specs.Progress.{Snapshot}
 use Rattle.bus_server.specs.Rounds.{IsRound}
@@ -56,13 +56,14 @@ abbrev pub RunsPart : (micros : ℕ) → List LoggedEvent → ServerState → Se
 RunsPart micros elapsing old new = (part : ℕ) × (part ≤ micros) × RunsFor part elapsing old new
 
 -- Time did not elapse to its end: the clock could not be read, or the observer failed in that time.
-abbrev pub StopsByClock : {T C O : Type 0} → Stop T C O → (readings : List ℕ) → List LoggedEvent → ServerState → ServerState → Type 0
+abbrev pub StopsByClock : {T C O A : Type 0} → Stop T C O A → (readings : List ℕ) → List LoggedEvent → ServerState → ServerState → Type 0
 StopsByClock (Transport fault) readings elapsing old new = ⊥
 StopsByClock (Clock fault) readings elapsing old new = (readings ≡ []) × (elapsing ≡ []) × (new ≡ old)
+StopsByClock (AfterRound fault) readings elapsing old new = ⊥
 StopsByClock (Observer fault) readings elapsing old new = (micros : ℕ) × (readings ≡ micros ∷ []) × RunsPart (min micros 1000000) elapsing old new
 
 -- After a whole round, turns follow time, and it did not elapse to its end.
-abbrev pub StopsElapsing : {T C O : Type 0} → Stop T C O → Round → (rest : List TransportEvent) → ServerState → ServerState → Type 0
+abbrev pub StopsElapsing : {T C O A : Type 0} → Stop T C O A → Round → (rest : List TransportEvent) → ServerState → ServerState → Type 0
 StopsElapsing stop last rest old new =
     (rest ≡ []) × (mid : ServerState) × IsRound last.handled old mid × (mid.turns ≡ None) × StopsByClock stop last.readings last.elapsing mid new
 
@@ -70,19 +71,22 @@ StopsElapsing stop last rest old new =
 abbrev pub StopsRound : Round → (rest : List TransportEvent) → ServerState → ServerState → Type 0
 StopsRound last rest old new = (last.readings ≡ []) × (last.elapsing ≡ []) × StopsIn last.handled rest old new
 
--- the observer failed after a round and the time after it
+-- what is done after a round failed, after the round and the time after it
 abbrev pub StopsAfterRound : Round → (rest : List TransportEvent) → ServerState → ServerState → Type 0
 StopsAfterRound last rest old new =
     (rest ≡ []) × (mid : ServerState) × IsRound last.handled old mid × RunsByClock mid.turns last.readings last.elapsing mid new
 
 -- A round that a device stopped. The transport failed in its wait, and nothing followed; the clock at
--- its reading, after the round; the observer in the round, in the time after it, or after that.
-abbrev pub StopsAt : {T C O : Type 0} → Stop T C O → Round → (rest : List TransportEvent) → ServerState → ServerState → Type 0
+-- its reading, after the round; the observer in the round, or in the time after it; or what is done
+-- after that.
+abbrev pub StopsAt : {T C O A : Type 0} → Stop T C O A → Round → (rest : List TransportEvent) → ServerState → ServerState → Type 0
 StopsAt (Transport fault) last rest old new = (last ≡ record { longest = longest_wait old; handled = []; readings = []; elapsing = [] }) × (rest ≡ []) × (new ≡ old)
-StopsAt {T = T} {O = O} (Clock fault) last rest old new = (last.longest ≡ longest_wait old) × StopsElapsing {T = T} {O = O} (Clock fault) last rest (without_backlog old) new
-StopsAt {T = T} {C = C} (Observer fault) last rest old new =
+StopsAt {T = T} {O = O} {A = A} (Clock fault) last rest old new =
+    (last.longest ≡ longest_wait old) × StopsElapsing {T = T} {O = O} {A = A} (Clock fault) last rest (without_backlog old) new
+StopsAt {T = T} {C = C} {A = A} (Observer fault) last rest old new =
     (last.longest ≡ longest_wait old)
-    × (StopsRound last rest (without_backlog old) new ⊎ StopsElapsing {T = T} {C = C} (Observer fault) last rest (without_backlog old) new ⊎ StopsAfterRound last rest (without_backlog old) new)
+    × (StopsRound last rest (without_backlog old) new ⊎ StopsElapsing {T = T} {C = C} {A = A} (Observer fault) last rest (without_backlog old) new)
+StopsAt (AfterRound fault) last rest old new = (last.longest ≡ longest_wait old) × StopsAfterRound last rest (without_backlog old) new
 
 -- the three logs grew by these rounds, and by the rest of a read
 abbrev pub HasLogged : List Round → (rest : List TransportEvent) → (old new : RunSnapshot) → Type 0
@@ -91,15 +95,25 @@ HasLogged rounds rest old new =
     × Extends old.observed new.observed (observation_log rounds)
 
 -- the last round of a run, begun while fewer clients than these had disconnected
-abbrev pub StopsLogged : {T C O : Type 0} → (most : ℕ) → Stop T C O → (last : Round) → (rest : List TransportEvent) → (old new : RunSnapshot) → Type 0
+abbrev pub StopsLogged : {T C O A : Type 0} → (most : ℕ) → Stop T C O A → (last : Round) → (rest : List TransportEvent) → (old new : RunSnapshot) → Type 0
 StopsLogged most stop last rest old new =
     HasLogged (last ∷ []) rest old new × (old.state.disconnected < most) × StopsAt stop last rest old.state new.state
 
 -- A run that a device stopped: whole rounds, and the one that it stopped. The logs grew by these; their events, in order, are
 -- what the bus ran; and the headline in time holds of these events.
-abbrev pub IsStoppedRun : {T C O : Type 0} → (most : ℕ) → Stop T C O → (old new : RunSnapshot) → Type 0
+abbrev pub IsStoppedRun : {T C O A : Type 0} → (most : ℕ) → Stop T C O A → (old new : RunSnapshot) → Type 0
 IsStoppedRun most stop old new =
     (rounds : List Round) × (last : Round) × (rest : List TransportEvent) × HasLogged (rounds ++ last ∷ []) rest old new
     × (mid : ServerState) × RunsRounds most rounds old.state mid × (mid.disconnected < most) × StopsAt stop last rest mid new.state
     × IsEventRun (events_of (logged_in (rounds ++ last ∷ []))) old.state new.state
     × RunsInTime old.state.bus (events_of (logged_in (rounds ++ last ∷ []))) old.state.nodes new.state.nodes
+
+-- whether what is done after each round has failed, once a run has stopped for this
+abbrev pub fails : {T C O A : Type 0} → Stop T C O A → (before : Bool) → Bool
+fails (AfterRound fault) before = true
+fails other before = before
+
+-- after a run: it fails exactly if the run stopped for it
+abbrev pub after_round_failed : {U T C O A : Type 0} → Result U (Stop T C O A) → (before : Bool) → Bool
+after_round_failed (Ok done) before = before
+after_round_failed (Err stop) before = fails stop before

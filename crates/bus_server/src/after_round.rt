@@ -1,5 +1,6 @@
 //! What a program does between two rounds, as sending decoder states to pages.
-ghost use Rattle.std.specs.Prelude.{◌≡◌, [], map};
+ghost use Rattle.std.specs.Prelude.{◌≡◌, [], Bool, map};
+ghost use Rattle.input_text.specs.Write.{failed_after};
 ghost use Rattle.layout_core.specs.Nodes.{spec_of};
 ghost use Rattle.bus.specs.Log.{Extends};
 
@@ -9,15 +10,22 @@ use layout_core::World;
 
 /// What a program does between two rounds.
 pub trait AfterRound<W: Transport, P: Observer> {
+    /// Why it could not continue. The run then stops.
+    type Fault;
+
+    /// Whether it has failed.
+    ghost failed: { Self → Bool };
+
     /// Does it. Nothing is read or written for the bus, and nothing is observed.
     fn after_round(
         &mut self,
         transport: &mut W,
         observer: &mut P,
         world: &World,
-    ) -> Result<(), P::Fault>
+    ) -> Result<(), Self::Fault>
         requires observes { map spec_of world.now.nodes ≡ P.decoder_specs observer.old }
         ensures decoder_specs { P.decoder_specs observer.new ≡ P.decoder_specs observer.old }
         ensures log { Extends (W.log transport.old) (W.log transport.new) [] }
-        ensures observed { Extends (P.observed observer.old) (P.observed observer.new) [] };
+        ensures observed { Extends (P.observed observer.old) (P.observed observer.new) [] }
+        ensures failed { failed self.new ≡ failed_after result (failed self.old) };
 }

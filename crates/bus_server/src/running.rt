@@ -1,5 +1,5 @@
 //! A whole run of a server.
-ghost use Rattle.std.specs.Prelude.{◌≡◌, ◌<◌, ◌∷◌, [], ◌++◌, IfErr, List, None, OnErr, OnOk, min, ℕ};
+ghost use Rattle.std.specs.Prelude.{◌≡◌, ◌<◌, ◌∷◌, [], ◌++◌, Bool, IfErr, List, None, OnErr, OnOk, min, ℕ};
 ghost use Rattle.std.specs.List.{flat_map};
 ghost use Rattle.bus.specs.Log.{Extends};
 ghost use Rattle.bus_server.specs.Progress.{ObservesLayout, state_of};
@@ -18,17 +18,19 @@ const LONGEST_STEP: u64 = 1_000_000;
 
 /// Why a run stopped. Each fault was made by a device, so that device has failed.
 #[derive(Clone, Copy, Debug, PartialEq, Eq, Drop)]
-pub enum Stop<T, C, O> {
+pub enum Stop<T, C, O, A> {
     /// The transport cannot wait.
     Transport(T),
     /// The clock cannot be read.
     Clock(C),
     /// The observer cannot go on.
     Observer(O),
+    /// What is done after each round cannot go on.
+    AfterRound(A),
 }
 
 impl Server {
-    ghost use Rattle.bus_server.specs.Stops.{IsStoppedRun, RunsPart, StopsByClock, StopsLogged};
+    ghost use Rattle.bus_server.specs.Stops.{IsStoppedRun, RunsPart, after_round_failed, fails, StopsByClock, StopsLogged};
 
     /// Serves until `most` clients have disconnected since the server was new, or for 2 ^ 64 - 1 rounds.
     ///
@@ -42,7 +44,7 @@ impl Server {
         observer: &mut P,
         after_round: &mut A,
         most: u64,
-    ) -> Result<(), Stop<W::Fault, C::Fault, P::Fault>>
+    ) -> Result<(), Stop<W::Fault, C::Fault, P::Fault, A::Fault>>
         requires observes { ObservesLayout (P.decoder_specs observer.old) self.old.hub }
         ensures observes { ObservesLayout (P.decoder_specs observer.new) self.new.hub }
         ensures run { OnOk result
@@ -56,6 +58,8 @@ impl Server {
             self.old.hub)
             (run_snapshot (W.log transport.new) (C.readings clock.new) (P.observed observer.new)
             self.new.hub)) }
+        ensures after_round { A.failed after_round.new
+            ≡ after_round_failed result (A.failed after_round.old) }
     {
         bus::laws::events_are_the_layout();
         layout_core::laws::events_add_up();
@@ -78,7 +82,7 @@ impl Server {
         observer: &mut P,
         after_round: &mut A,
         most: u64,
-    ) -> Result<(), Stop<W::Fault, C::Fault, P::Fault>>
+    ) -> Result<(), Stop<W::Fault, C::Fault, P::Fault, A::Fault>>
         requires observes { ObservesLayout (P.decoder_specs observer.old) self.old.hub }
         requires fewer { self.old.hub.disconnected < most }
         ensures observes { ObservesLayout (P.decoder_specs observer.new) self.new.hub }
@@ -96,6 +100,8 @@ impl Server {
             self.old.hub)
             (run_snapshot (W.log transport.new) (C.readings clock.new) (P.observed observer.new)
             self.new.hub)) }
+        ensures after_round { A.failed after_round.new
+            ≡ after_round_failed result (A.failed after_round.old) }
     {
         if let Err(fault) = transport.wait(self.longest_wait()) {
             return Err(Stop::Transport(fault));
@@ -104,10 +110,10 @@ impl Server {
         if let Err(fault) = self.round(transport, observer) {
             return Err(Stop::Observer(fault));
         }
-        self.elapse::<W, C, P>(clock, observer)?;
+        self.elapse::<W, C, P, A>(clock, observer)?;
         match after_round.after_round(transport, observer, self.world()) {
             Ok(()) => Ok(()),
-            Err(fault) => Err(Stop::Observer(fault)),
+            Err(fault) => Err(Stop::AfterRound(fault)),
         }
     }
 
@@ -125,11 +131,11 @@ impl Server {
     }
 
     /// Runs the track for the time since the last round, if turns follow time.
-    fn elapse<W: Transport, C: TimeSource, P: Observer>(
+    fn elapse<W: Transport, C: TimeSource, P: Observer, A: AfterRound<W, P>>(
         &mut self,
         clock: &mut C,
         observer: &mut P,
-    ) -> Result<(), Stop<W::Fault, C::Fault, P::Fault>>
+    ) -> Result<(), Stop<W::Fault, C::Fault, P::Fault, A::Fault>>
         requires observes { ObservesLayout (P.decoder_specs observer.old) self.old.hub }
         ensures observes { ObservesLayout (P.decoder_specs observer.new) self.new.hub }
         ensures elapses { OnOk result
@@ -139,6 +145,8 @@ impl Server {
             (flat_map skipped readings ++ observations_of elapsing)
             × RunsByClock self.old.hub.turns readings elapsing (state_of self.old.hub)
             (state_of self.new.hub)) }
+        ensures not_after_round { IfErr result
+            (λ stop. (before : Bool) → fails stop before ≡ before) }
         ensures in_time { OnErr result (self.old.hub.turns ≡ None) }
         ensures stopped { IfErr result
             (λ stop. (readings : List ℕ) × (elapsing : List LoggedEvent)

@@ -1,5 +1,5 @@
 //! A transport, a clock and an observer in memory, each with its log. Where there is no memory for it, the test ends.
-ghost use Rattle.std.specs.Prelude.{◌≡◌, ◌∷◌, ◌++◌, [], List, Some, map, option_map};
+ghost use Rattle.std.specs.Prelude.{◌≡◌, ◌∷◌, ◌++◌, [], List, Some, false, map, option_map};
 ghost use Rattle.std.specs.List.{flat_map};
 ghost use Rattle.decoder_node.specs.declared.node.NodeSpec.{NodeSpec};
 ghost use Rattle.layout_core.specs.Nodes.{spec_of};
@@ -251,12 +251,16 @@ fn packet_of<R: Place>(rt: &R, packet: &Option<Packet>) -> Option<Vec<u8>>
 pub(crate) struct NoPages;
 
 impl<W: Transport, P: Observer> AfterRound<W, P> for NoPages {
+    type Fault = Infallible;
+
+    ghost failed = { λ _. false };
+
     fn after_round(
         &mut self,
         _transport: &mut W,
         _observer: &mut P,
         _world: &World,
-    ) -> Result<(), P::Fault> {
+    ) -> Result<(), Infallible> {
         Ok(())
     }
 }

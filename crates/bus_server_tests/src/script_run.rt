@@ -20,7 +20,7 @@ pub(crate) struct Setup<'a> {
 /// How a run ended, and the logs of its transport, its clock and its observer.
 #[derive(Drop)]
 pub(crate) struct Run {
-    pub(crate) ended: Result<(), Stop<ScriptEnded, ScriptEnded, Infallible>>,
+    pub(crate) ended: Result<(), Stop<ScriptEnded, ScriptEnded, Infallible, Infallible>>,
     pub(crate) entries: Vec<Entry>,
     pub(crate) readings: Vec<u64>,
     pub(crate) observed: Vec<Seen>,

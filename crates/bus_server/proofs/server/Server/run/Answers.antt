@@ -1,13 +1,13 @@
-use Rattle.std.proofs.Common.{◌≡◌, ◌-◌, ◌^◌, [], ◌∷◌, ◌++◌, arith, inl, inr, length, length-append, refl}
+use Rattle.std.proofs.Common.{Bool, ap, ◌∙◌, ◌≡◌, ◌-◌, ◌^◌, [], ◌∷◌, ◌++◌, arith, inl, inr, length, length-append, refl}
 use Rattle.bus_server.specs.Runs.{run_snapshot}
 use Rattle.bus_server.proofs.Courses.{Laws}
 use Rattle.bus_server.proofs.WholeRuns.{run_ends, runs_none, runs_then}
-use Rattle.bus_server.proofs.Stopping.{passed_on, run_stops}
-use Rattle.bus_server.specs.Stops.{IsStoppedRun}
+use Rattle.bus_server.proofs.Stopping.{failed_on, passed_on, run_stops}
+use Rattle.bus_server.specs.Stops.{IsStoppedRun, fails}
 use Rattle.bus_server.proofs.server.Server.run.Goals as goal
 
 pub loop-round-init : goal.loop-round-init
-loop-round-init g c = record { observes = c.requires.observes; rounds = ([], refl, runs_none c.args.most (run_snapshot (g.W.Transport.log c.args.transport.now) (g.C.TimeSource.readings c.args.clock.now) (g.P.Observer.observed c.args.observer.now) c.args.self.now.hub)) }
+loop-round-init g c = record { observes = c.requires.observes; after_round = refl; rounds = ([], refl, runs_none c.args.most (run_snapshot (g.W.Transport.log c.args.transport.now) (g.C.TimeSource.readings c.args.clock.now) (g.P.Observer.observed c.args.observer.now) c.args.self.now.hub)) }
 
 pub loop-round-preserved : goal.loop-round-preserved
 loop-round-preserved g c =
@@ -15,6 +15,7 @@ loop-round-preserved g c =
     let one = c.in_ok-run_round.ensures.round in
     record {
       observes = c.run_round.ensures.observes;
+      after_round = c.in_ok-run_round.ensures.after_round ∙ c.loop-round.invariant.after_round;
       rounds = (
         so_far.0 ++ one.0 ∷ [],
         omega (arith, length-append so_far.0 (one.0 ∷ []), so_far.1),
@@ -46,3 +47,10 @@ returns-in_err-run_round-clause-stopped g c =
     let end = (run_snapshot (g.W.Transport.log c.run_round.new.transport) (g.C.TimeSource.readings c.run_round.new.clock) (g.P.Observer.observed c.run_round.new.observer) c.run_round.new.self.hub) in
     passed_on (λ stop. IsStoppedRun c.args.most stop start end) c.from_residual.result stop c.from_residual.ensures.1
     (run_stops laws c.headline.ensures.in_time c.args.most stop so_far.0 one.0 one.1 start mid end c.invariant_holds.ensures.kept c.invariant_holds.ensures.desk so_far.2 one.2)
+
+pub returns-in_err-run_round-clause-after_round : goal.returns-in_err-run_round-clause-after_round
+returns-in_err-run_round-clause-after_round g c =
+    let failed = g.A.AfterRound.failed in
+    let stop = c.in_err-run_round.field-0.0 in
+    failed_on c.from_residual.result stop (failed c.args.after_round.now) (failed c.run_round.new.after_round) c.from_residual.ensures.1
+    (c.in_err-run_round.ensures.after_round ∙ ap (λ (before : Bool). fails stop before) c.loop-round.invariant.after_round)

@@ -6,5 +6,6 @@ use Rattle.bus_server.proofs.server.Server.run.Given as goal
 abbrev pub invariant-loop-round : goal.invariant-loop-round
 invariant-loop-round g l = record {
   observes : ObservesLayout (g.P.Observer.decoder_specs l.observer) l.self.hub;
+  after_round : g.A.AfterRound.failed l.after_round ≡ g.A.AfterRound.failed l.fn.after_round;
   rounds : (rounds : List Round) × (length rounds ≡ l._round) × RunsLogged l.most rounds (run_snapshot (g.W.Transport.log l.fn.transport) (g.C.TimeSource.readings l.fn.clock) (g.P.Observer.observed l.fn.observer) l.fn.self.hub) (run_snapshot (g.W.Transport.log l.transport) (g.C.TimeSource.readings l.clock) (g.P.Observer.observed l.observer) l.self.hub);
 }

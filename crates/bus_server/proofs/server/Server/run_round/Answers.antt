@@ -1,4 +1,4 @@
-use Rattle.std.proofs.Common.{ℕ, List, [], ◌∷◌, Option, ◌++◌, append-nil, refl, subst, sym, inl, inr}
+use Rattle.std.proofs.Common.{ℕ, List, [], ◌∷◌, Option, ◌++◌, append-nil, refl, subst, sym, inl}
 use Rattle.std.specs.List.{flat_map}
 use Rattle.bus.specs.Log.{Extends}
 use Rattle.bus_server.specs.Progress.{state_of}
@@ -6,7 +6,7 @@ use Rattle.bus_server.specs.Runs.{Round, skipped, run_snapshot}
 use Rattle.bus_server.specs.Applied.{longest_wait, transport_events, observations_in, observations_of}
 use Rattle.bus_server.specs.TransportEvents.{Polled, TransportEvent}
 use Rattle.bus_server.proofs.Going.{grows_more, grows_none}
-use Rattle.bus_server.proofs.Stopping.{has_logged, passed_on, stops_by_clock}
+use Rattle.bus_server.proofs.Stopping.{failed_on, has_logged, passed_on, stops_by_clock}
 use Rattle.bus.specs.Observations.{Observation}
 use Rattle.bus_server.specs.Stops.{StopsLogged}
 use Rattle.bus_server.proofs.server.Server.run_round.Goals as goal
@@ -118,6 +118,12 @@ returns-in-Err-after_round-clause-stopped g c =
             (grows_more (observed c.args.observer.now) (observed c.elapse.new.observer) (observed c.after_round.new.observer) (observations_in served.0 ++ later) []
             (grows_more (observed c.args.observer.now) (observed c.round.new.observer) (observed c.elapse.new.observer) (observations_in served.0) later served.2 elapsed.3) c.after_round.ensures.observed)),
         c.requires.fewer,
-        (refl, inr (inr (refl, state_of c.round.new.self.hub, served.3, elapsed.4))),
+        (refl, (refl, state_of c.round.new.self.hub, served.3, elapsed.4)),
       ),
     )
+
+pub returns-in_err-elapse-clause-after_round : goal.returns-in_err-elapse-clause-after_round
+returns-in_err-elapse-clause-after_round g c =
+    let stop = c.in_err-elapse.field-0.0 in
+    let before = g.A.AfterRound.failed c.args.after_round.now in
+    failed_on c.from_residual.result stop before before c.from_residual.ensures.1 (sym (c.in_err-elapse.ensures.not_after_round before))
