@@ -2,7 +2,6 @@ pub mod Decoders
 pub mod Lines
 pub mod Listening
 pub mod LogQueues
-pub mod LogStates
 pub mod Printers
 pub mod SentStates
 pub mod Verbosities

@@ -1,5 +1,6 @@
 -- Lines that are queued to be printed, as far as they fit.
-use Rattle.std.specs.Prelude.{ℕ, ◌+◌, ◌==◌, ◌&&◌, Bool, if◌then◌else◌, nat_le, nat_lt, List, [], ◌∷◌, ◌++◌, length}
+use Rattle.std.specs.Prelude.{ℕ, ◌≡◌, ◌<◌, ◌⊎◌, ◌+◌, ◌==◌, ◌&&◌, Bool, if◌then◌else◌, nat_le, nat_lt, List, [], ◌∷◌, ◌++◌, length, Option}
+use Rattle.std.specs.Io.KnownBytes.{Appends}
 use Rattle.bus_log.specs.Lines.{saturating_successor}
 
 -- the bytes of whole lines that are queued, the bytes held of the unfinished line, and the number
@@ -34,6 +35,21 @@ unfoldable pub after_text : LogState → List ℕ → LogState
 after_text log [] = log
 after_text log (byte ∷ text) = after_text (after_byte log byte) text
 
+-- these lines are printed, each with its line feed
+abbrev pub after_lines : LogState → List (List ℕ) → LogState
+after_lines log [] = log
+after_lines log (line ∷ lines) = after_lines (after_text log (line ++ 10 ∷ [])) lines
+
 -- lines that were left out are reported once half of the capacity is free
 abbrev pub is_reported : LogState → Bool
 is_reported log = nat_lt 0 log.left_out && nat_le (length log.queued) 32768
+
+-- Whether lines that were left out were reported, and by which text.
+abbrev pub Reports : (old new : LogState) → (text : List ℕ) → Type 0
+Reports old new text = ((text ≡ []) × (new.left_out ≡ old.left_out)) ⊎ ((0 < old.left_out) × (new.left_out ≡ 0))
+
+-- What was written is what was removed from the front of the queue, in order; behind it at most a
+-- report of lines left out was queued. The unfinished line stays.
+abbrev pub WritesQueued : (old new : LogState) → (before after : Option (List ℕ)) → Type 0
+WritesQueued old new before after =
+    (written text : List ℕ) × Appends before after written × (old.queued ++ text ≡ written ++ new.queued) × Reports old new text × (new.line ≡ old.line)

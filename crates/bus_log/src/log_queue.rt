@@ -1,14 +1,18 @@
 //! The lines of a log, queued until its reader accepts them.
-ghost use Rattle.std.specs.Prelude.{◌≡◌, ◌<◌, ◌≤◌, ◌+◌, ◌++◌, [], IfOk, List, ℕ, OnOk, drop, length, take, true, false};
+ghost use Rattle.std.specs.Prelude.{◌≡◌, ◌<◌, ◌≤◌, ◌++◌, ◌∷◌, [], IfOk, List, ℕ, OnOk, drop, length, take, true, false};
 ghost use Rattle.std.specs.Io.{WritesAtMost};
-ghost use Rattle.arrayvec.specs.ArrayVec.{array_vec_len};
+ghost use Rattle.std.specs.Fmt.{decimal};
+ghost use Rattle.bus_log.specs.LogQueues.{after_byte, after_lines, after_text, ended, is_reported};
 
 use crate::line_queue::{LOG_CAPACITY, LineQueue};
 use arrayvec::{ArrayString, ArrayVec};
+use ascii_words::decimal;
+use show_text::Line;
 use std::alloc::{AllocError, Global};
 use std::fmt::Write as _;
 use std::io;
 use std::io::Write;
+use std::marker::Model;
 
 /// The longest line that is queued, in bytes, including its line feed.
 const LONGEST_LINE: usize = 1_024;
@@ -22,26 +26,31 @@ const REPORTED_BELOW: usize = 32_768;
 ///
 /// Lines are queued whole, in order. A line that does not fit is left out and counted, and so are
 /// those after it, until half of the capacity is free; then `log: 1,234 lines left out` is queued
-/// instead of them. All memory is allocated by `new`.
+/// instead of them. All memory is allocated by `new`. Contracts see it as a `LogState`.
 #[derive(Drop)]
 pub struct LogQueue {
-    pub(crate) queue: LineQueue,
-    pub(crate) line: ArrayVec<u8, 1025>,
-    pub(crate) left_out: u64,
+    queue: LineQueue,
+    line: ArrayVec<u8, 1025>,
+    left_out: u64,
+}
+
+impl Model for LogQueue {
+    ghost use Rattle.bus_log.specs.LogQueues.{LogState};
+
+    ghost Value = { LogState };
+
+    ghost view = { λ log.
+        record { queued = log.queue; line = log.line.items; left_out = log.left_out } };
 }
 
 impl LogQueue {
-    ghost use Rattle.bus_log.specs.LogStates.{log_state};
-    ghost use Rattle.bus_log.specs.LogQueues.{after_byte, ended, is_reported};
-
     /// Creates an empty queue.
     ///
     /// # Errors
     ///
     /// Out of memory.
     pub fn new(alloc: Global) -> Result<LogQueue, AllocError>
-        ensures { IfOk result
-            (λ log. log_state log ≡ record { queued = []; line = []; left_out = 0 }) }
+        ensures { IfOk result (λ log. log ≡ record { queued = []; line = []; left_out = 0 }) }
     {
         Ok(LogQueue {
             queue: LineQueue::new(alloc)?,
@@ -52,18 +61,18 @@ impl LogQueue {
 
     /// Whether bytes are queued.
     pub fn has_queued(&self) -> bool
-        ensures some { result ≡ true → 0 < length (log_state self.now).queued }
-        ensures none { result ≡ false → (log_state self.now).queued ≡ [] }
+        ensures some { result ≡ true → 0 < length self.now.queued }
+        ensures none { result ≡ false → self.now.queued ≡ [] }
     {
         self.queue.len() > 0
     }
 
     /// Returns the first contiguous queued bytes, at most `most`.
     pub fn front(&self, most: usize) -> &[u8]
-        ensures front { result.now ≡ take (length result.now) (log_state self.now).queued }
+        ensures front { result.now ≡ take (length result.now) self.now.queued }
         ensures most { length result.now ≤ most }
-        ensures some { 0 < most → 0 < length (log_state self.now).queued → 0 < length result.now }
-        ensures within { length result.now ≤ length (log_state self.now).queued }
+        ensures some { 0 < most → 0 < length self.now.queued → 0 < length result.now }
+        ensures within { length result.now ≤ length self.now.queued }
     {
         let front = self.queue.front();
         &front[..front.len().min(most)]
@@ -71,9 +80,8 @@ impl LogQueue {
 
     /// Removes `count` bytes, which were written, from the front.
     pub fn consume(&mut self, count: usize)
-        requires { count ≤ length (log_state self.old).queued }
-        ensures { log_state self.new
-            ≡ record (log_state self.old) { queued = drop count (log_state self.old).queued } }
+        requires { count ≤ length self.old.queued }
+        ensures { self.new ≡ record self.old { queued = drop count self.old.queued } }
     {
         self.queue.consume(count);
     }
@@ -81,15 +89,9 @@ impl LogQueue {
     /// Queues a line that reports how many lines were left out, if any were and half of the
     /// capacity is free.
     pub fn report_left_out(&mut self)
-        ensures kept { is_reported (log_state self.old) ≡ false
-            → log_state self.new ≡ log_state self.old }
-        ensures reported { is_reported (log_state self.old) ≡ true → (line : List ℕ)
-            × (log_state self.new
-            ≡ record (log_state self.old) {
-              queued = (log_state self.old).queued
-                  ++ line;
-              left_out = 0;
-            }) }
+        ensures kept { is_reported self.old ≡ false → self.new ≡ self.old }
+        ensures reported { is_reported self.old ≡ true → (line : List ℕ)
+            × (self.new ≡ record self.old { queued = self.old.queued ++ line; left_out = 0 }) }
     {
         if self.left_out > 0 && self.queue.len() <= REPORTED_BELOW {
             self.queue.push(left_out_line(self.left_out).as_bytes());
@@ -97,9 +99,37 @@ impl LogQueue {
         }
     }
 
+    /// Prints a text: lines, of which each is queued when its line feed is printed.
+    pub(crate) fn print(&mut self, text: &[u8])
+        ensures { self.new ≡ after_text self.old text.now }
+    {
+        for byte in text {
+            self.take(*byte);
+        }
+    }
+
+    /// Prints a line and a line feed.
+    pub(crate) fn print_line(&mut self, line: &Line)
+        ensures { self.new ≡ after_lines self.old (line.now.bytes ∷ []) }
+    {
+        self.print(line.as_str().as_bytes());
+        self.print(b"\n");
+    }
+
+    /// Prints a line of a number between two texts.
+    pub(crate) fn print_count(&mut self, before: &str, number: u64, behind: &str)
+        ensures { self.new
+            ≡ after_lines self.old ((before.now ++ decimal number ++ behind.now) ∷ []) }
+    {
+        self.print(before.as_bytes());
+        self.print(decimal(number).as_slice());
+        self.print(behind.as_bytes());
+        self.print(b"\n");
+    }
+
     /// Takes the next byte of the log.
     fn take(&mut self, byte: u8)
-        ensures { log_state self.new ≡ after_byte (log_state self.old) byte }
+        ensures { self.new ≡ after_byte self.old byte }
     {
         if !self.line.is_full() {
             self.line.push(byte);
@@ -111,7 +141,7 @@ impl LogQueue {
 
     /// Ends the current line: queues it, or leaves it out.
     fn end_line(&mut self)
-        ensures { log_state self.new ≡ ended (log_state self.old) }
+        ensures { self.new ≡ ended self.old }
     {
         if self.left_out == 0
             && self.line.len() <= LONGEST_LINE
@@ -126,18 +156,13 @@ impl LogQueue {
 }
 
 impl Write for LogQueue {
-    ghost use Rattle.bus_log.specs.LogStates.{log_state};
-    ghost use Rattle.bus_log.specs.LogQueues.{after_text};
-
     /// Takes all bytes.
     fn write(&mut self, buf: &[u8]) -> io::Result<usize>
         ensures bound { WritesAtMost result buf.now }
-        ensures all { OnOk result (log_state self.new ≡ after_text (log_state self.old) buf.now) }
+        ensures all { OnOk result (self.new ≡ after_text self.old buf.now) }
         ensures count { IfOk result (λ count. count ≡ length buf.now) }
     {
-        for byte in buf {
-            self.take(*byte);
-        }
+        self.print(buf);
         Ok(buf.len())
     }
 

@@ -1,10 +1,6 @@
 //! Printing the outcomes of a bus.
-ghost use Rattle.std.specs.Prelude.{◌≡◌, ◌<◌, ◌/◌, ◌++◌, None, IfOk, OnOk, List, [], ◌∷◌, if◌then◌else◌, is_ok, length, map, codes, true};
-ghost use Rattle.std.specs.Bool.{OnTrue};
-ghost use Rattle.std.specs.Fmt.{decimal};
-ghost use Rattle.std.specs.Io.KnownBytes.{Appends};
+ghost use Rattle.std.specs.Prelude.{◌≡◌, ◌<◌, ◌/◌, None, List, [], ◌∷◌, if◌then◌else◌, length, map};
 ghost use Rattle.std.specs.Option.{option_to_list};
-ghost use Rattle.console.specs.Printed.{ended, lines_text};
 ghost use Rattle.dcc_packet.specs.Sent.{idle_bytes};
 ghost use Rattle.std.specs.List.{slice_index_or};
 ghost use Rattle.layout_core.specs.declared.node.Node.{Node as NodeValue};
@@ -13,12 +9,13 @@ ghost use Rattle.layout_core.specs.DecoderStates.{decoder_line, decoder_state_of
 ghost use Rattle.roster.specs.Entry.{Entry, spec_of as entry_spec};
 ghost use Rattle.show_text.specs.Messages.{message_text};
 ghost use Rattle.bus_log.specs.Decoders.{entries_of, specs_of};
+ghost use Rattle.bus_log.specs.LogQueues.{after_lines};
 ghost use Rattle.bus_log.specs.Lines.{changed_lines, client_line, is_slot_read, lines_unless, node_message, overflow_line, saturating_successor, packet_lines, skipped_line};
 
+use crate::log_queue::LogQueue;
 use crate::verbosity::Verbosity;
 use arrayvec::{ArrayString, ArrayVec};
 use bus::{Observer, Outcome};
-use console::{WriteError, print_to};
 use dcc_packet::{Packet, idle};
 use decoder_node::{MAX_NODES, NodeList, NodeSpec};
 use layout_core::{DecoderState, World};
@@ -26,7 +23,7 @@ use ln_frame::Msg;
 use ln_ops::{Op, read};
 use roster::Roster;
 use show_text::{Line, message_line, track_line};
-use std::io::Write;
+use std::convert::Infallible;
 
 /// A message to a page about a decoder: at most five bytes longer than a line.
 pub type NodeMessage = ArrayString<645>;
@@ -34,10 +31,10 @@ pub type NodeMessage = ArrayString<645>;
 /// The states of the decoders, in the order of their roster.
 type DecoderStates = ArrayVec<DecoderState, MAX_NODES>;
 
-/// Prints the outcomes of a bus to an output, one line each.
+/// Prints the outcomes of a bus to a log, one line each.
 #[derive(Drop)]
-pub struct Printer<'a, O> {
-    pub(crate) output: O,
+pub struct Printer<'a> {
+    pub(crate) log: LogQueue,
     pub(crate) roster: Option<&'a Roster>,
     pub(crate) verbosity: Verbosity,
     /// The state of each decoder when it was last printed, or at the start.
@@ -49,7 +46,7 @@ pub struct Printer<'a, O> {
     ghost as_many: { length decoder_states.items ≡ length (entries_of roster) },
 }
 
-impl<'a, O: Write> Printer<'a, O> {
+impl<'a> Printer<'a> {
     ghost use Rattle.bus_log.specs.Printers.{outcome_lines, printer_state, decoder_states_of};
     ghost use Rattle.bus_log.specs.Lines.{initial_printer_state, line_at, printer_state_after};
     ghost use Rattle.loconet_tcp.specs.declared.outcome.Outcome.TheVariants.{TurnBegan};
@@ -58,20 +55,20 @@ impl<'a, O: Write> Printer<'a, O> {
     ///
     /// The present states of the decoders are not printed.
     pub fn new(
-        output: O,
+        log: LogQueue,
         roster: Option<&'a Roster>,
         verbosity: Verbosity,
         world: &World,
-    ) -> Printer<'a, O>
+    ) -> Printer<'a>
         requires { map spec_of world.now.nodes ≡ specs_of (entries_of roster) }
-        ensures output { result.output ≡ output }
+        ensures log { result.log ≡ log }
         ensures roster { result.roster ≡ roster.entry }
         ensures verbosity { result.verbosity ≡ verbosity }
         ensures printer_state { printer_state result
             ≡ initial_printer_state (decoder_states_of world.now.nodes) }
     {
         Printer {
-            output,
+            log,
             roster,
             verbosity,
             decoder_states: decoder_states(world),
@@ -87,11 +84,11 @@ impl<'a, O: Write> Printer<'a, O> {
         self.disconnected
     }
 
-    /// The output.
-    pub fn output(&self) -> &O
-        ensures { result.now ≡ self.now.output }
+    /// The log.
+    pub fn log(&self) -> &LogQueue
+        ensures { result.now ≡ self.now.log }
     {
-        &self.output
+        &self.log
     }
 
     /// Returns the line of the state of a decoder, by its index in the roster.
@@ -127,68 +124,45 @@ impl<'a, O: Write> Printer<'a, O> {
         message
     }
 
-    /// Flushes the output.
-    ///
-    /// # Errors
-    ///
-    /// `WriteError` if the output fails.
-    pub fn flush(&mut self) -> Result<(), WriteError>
-        ensures kept { printer_state self.new ≡ printer_state self.old }
-        ensures roster { self.new.roster ≡ self.old.roster }
-        ensures verbosity { self.new.verbosity ≡ self.old.verbosity }
-    {
-        self.output.flush().map_err(|_| WriteError)
-    }
-
     /// Prints an outcome.
-    fn print(&mut self, outcome: &Outcome, world: &World) -> Result<(), WriteError>
+    fn print(&mut self, outcome: &Outcome, world: &World)
         requires { map spec_of world.now.nodes ≡ specs_of (entries_of self.old.roster) }
-        ensures printed { OnOk result
-            (Appends (O.contents self.old.output) (O.contents self.new.output)
-            (lines_text (outcome_lines self.old outcome.now world.now.nodes))) }
+        ensures printed { self.new.log
+            ≡ after_lines self.old.log (outcome_lines self.old outcome.now world.now.nodes) }
         ensures printer_state { printer_state self.new ≡ printer_state self.old }
         ensures roster { self.new.roster ≡ self.old.roster }
         ensures verbosity { self.new.verbosity ≡ self.old.verbosity }
     {
         match outcome {
-            Outcome::Nothing | Outcome::Rejected { .. } => Ok(()),
-            Outcome::Connected { client } => print_client(&mut self.output, *client, " joins"),
-            Outcome::Disconnected { client } => print_client(&mut self.output, *client, " leaves"),
-            Outcome::Sent { message, reply, .. } => print_sent(&mut self.output, message, reply),
+            Outcome::Nothing | Outcome::Rejected { .. } => {}
+            Outcome::Connected { client } => print_client(&mut self.log, *client, " joins"),
+            Outcome::Disconnected { client } => print_client(&mut self.log, *client, " leaves"),
+            Outcome::Sent { message, reply, .. } => print_sent(&mut self.log, message, reply),
             Outcome::TurnBegan { packet } => self.print_turn(packet, world),
         }
     }
 
     /// Prints a turn.
-    fn print_turn(&mut self, packet: &Option<Packet>, world: &World) -> Result<(), WriteError>
+    fn print_turn(&mut self, packet: &Option<Packet>, world: &World)
         requires { map spec_of world.now.nodes ≡ specs_of (entries_of self.old.roster) }
-        ensures printed { OnOk result
-            (Appends (O.contents self.old.output) (O.contents self.new.output)
-            (lines_text (outcome_lines self.old (TurnBegan packet.now) world.now.nodes))) }
+        ensures printed { self.new.log
+            ≡ after_lines self.old.log
+            (outcome_lines self.old (TurnBegan packet.now) world.now.nodes) }
         ensures printer_state { printer_state self.new ≡ printer_state self.old }
         ensures roster { self.new.roster ≡ self.old.roster }
         ensures verbosity { self.new.verbosity ≡ self.old.verbosity }
     {
         let turn = self.turns.saturating_add(1);
-        let are_printed = self.verbosity.prints_packets();
-        print_packet(&mut self.output, are_printed, turn, packet)?;
-        match self.roster {
-            Some(roster) => {
-                print_changed(
-                    &mut self.output,
-                    roster,
-                    self.decoder_states.as_slice(),
-                    world,
-                )
-            }
-            None => Ok(()),
+        print_packet(&mut self.log, self.verbosity.prints_packets(), turn, packet);
+        if let Some(roster) = self.roster {
+            print_changed(&mut self.log, roster, self.decoder_states.as_slice(), world);
         }
     }
 
     /// Counts a disconnected client or a turn, and keeps the states of the decoders after a turn.
     fn update(&mut self, outcome: &Outcome, world: &World)
         requires { map spec_of world.now.nodes ≡ specs_of (entries_of self.old.roster) }
-        ensures output { self.new.output ≡ self.old.output }
+        ensures log { self.new.log ≡ self.old.log }
         ensures printer_state { printer_state self.new
             ≡ printer_state_after (printer_state self.old) outcome.now
             (decoder_states_of world.now.nodes) }
@@ -206,25 +180,23 @@ impl<'a, O: Write> Printer<'a, O> {
     }
 }
 
-impl<O: Write> Observer for Printer<'_, O> {
+impl Observer for Printer<'_> {
     ghost use Rattle.bus_log.specs.Verbosities.{is_quiet};
-    ghost use Rattle.bus_log.specs.Printers.{printer_state, decoder_states_of, text_of};
+    ghost use Rattle.bus_log.specs.Printers.{printer_state, decoder_states_of, outcome_lines};
     ghost use Rattle.bus_log.specs.Lines.{printer_state_after};
 
-    type Fault = WriteError;
+    type Fault = Infallible;
 
     ghost decoder_specs = { λ printer. specs_of (entries_of printer.roster) };
 
     ghost observed = { λ _. None };
 
     /// Prints an outcome, unless the log is quiet, and records it.
-    fn observe(&mut self, outcome: &Outcome, world: &World) -> Result<(), WriteError>
+    fn observe(&mut self, outcome: &Outcome, world: &World) -> Result<(), Infallible>
         requires { map spec_of world.now.nodes ≡ specs_of (entries_of self.old.roster) }
-        ensures printed { OnOk result
-            (Appends (O.contents self.old.output) (O.contents self.new.output)
-            (text_of self.old outcome.now world.now.nodes)) }
-        ensures quiet { OnTrue (is_quiet self.old.verbosity)
-            ((is_ok result ≡ true) × (self.new.output ≡ self.old.output)) }
+        ensures printed { self.new.log
+            ≡ after_lines self.old.log (lines_unless (is_quiet self.old.verbosity)
+            (outcome_lines self.old outcome.now world.now.nodes)) }
         ensures printer_state { printer_state self.new
             ≡ printer_state_after (printer_state self.old) outcome.now
             (decoder_states_of world.now.nodes) }
@@ -233,52 +205,46 @@ impl<O: Write> Observer for Printer<'_, O> {
         ensures roster { self.new.roster ≡ self.old.roster }
         ensures verbosity { self.new.verbosity ≡ self.old.verbosity }
     {
-        let printed = if self.verbosity.is_quiet() {
-            Ok(())
-        } else {
-            self.print(outcome, world)
-        };
+        if !self.verbosity.is_quiet() {
+            self.print(outcome, world);
+        }
         self.update(outcome, world);
-        printed
+        Ok(())
     }
 
     /// Prints that the queue of a client has overflowed, unless the log is quiet.
-    fn overflowed(&mut self, client: u8) -> Result<(), WriteError>
-        ensures printed { OnOk result
-            (Appends (O.contents self.old.output) (O.contents self.new.output)
-            (lines_text (lines_unless (is_quiet self.old.verbosity) (overflow_line client ∷ [])))) }
-        ensures quiet { OnTrue (is_quiet self.old.verbosity)
-            ((is_ok result ≡ true) × (self.new.output ≡ self.old.output)) }
+    fn overflowed(&mut self, client: u8) -> Result<(), Infallible>
+        ensures printed { self.new.log
+            ≡ after_lines self.old.log
+            (lines_unless (is_quiet self.old.verbosity) (overflow_line client ∷ [])) }
         ensures printer_state { printer_state self.new ≡ printer_state self.old }
         ensures decoder_specs { specs_of (entries_of self.new.roster)
             ≡ specs_of (entries_of self.old.roster) }
         ensures roster { self.new.roster ≡ self.old.roster }
         ensures verbosity { self.new.verbosity ≡ self.old.verbosity }
     {
-        if self.verbosity.is_quiet() {
-            return Ok(());
+        if !self.verbosity.is_quiet() {
+            print_client(&mut self.log, client, " is too slow");
         }
-        print_client(&mut self.output, client, " is too slow")
+        Ok(())
     }
 
     /// Prints that the machine was asleep, unless the log is quiet.
-    fn skipped(&mut self, micros: u64) -> Result<(), WriteError>
-        ensures printed { OnOk result
-            (Appends (O.contents self.old.output) (O.contents self.new.output)
-            (lines_text (lines_unless (is_quiet self.old.verbosity)
-            (skipped_line (micros / 1000) ∷ [])))) }
-        ensures quiet { OnTrue (is_quiet self.old.verbosity)
-            ((is_ok result ≡ true) × (self.new.output ≡ self.old.output)) }
+    fn skipped(&mut self, micros: u64) -> Result<(), Infallible>
+        ensures printed { self.new.log
+            ≡ after_lines self.old.log
+            (lines_unless (is_quiet self.old.verbosity) (skipped_line (micros / 1000) ∷ [])) }
         ensures printer_state { printer_state self.new ≡ printer_state self.old }
         ensures decoder_specs { specs_of (entries_of self.new.roster)
             ≡ specs_of (entries_of self.old.roster) }
         ensures roster { self.new.roster ≡ self.old.roster }
         ensures verbosity { self.new.verbosity ≡ self.old.verbosity }
     {
-        if self.verbosity.is_quiet() {
-            return Ok(());
+        if !self.verbosity.is_quiet() {
+            self.log
+                .print_count("slept ", micros / 1000, " ms, left out");
         }
-        print_count(&mut self.output, "slept ", micros / 1000, " ms, left out")
+        Ok(())
     }
 }
 
@@ -304,43 +270,25 @@ fn decoder_states(world: &World) -> DecoderStates
 }
 
 /// Prints the action of a client, 0 to 7; the log counts clients from 1.
-fn print_client<O: Write>(output: &mut O, client: u8, does: &str) -> Result<(), WriteError>
-    ensures { OnOk result
-        (Appends (O.contents output.old) (O.contents output.new)
-        (lines_text (client_line client does.now ∷ []))) }
+fn print_client(log: &mut LogQueue, client: u8, does: &str)
+    ensures { log.new ≡ after_lines log.old (client_line client does.now ∷ []) }
 {
-    print_count(output, "client ", u64::from(client) + 1, does)
-}
-
-/// Prints a number between two texts.
-fn print_count<O: Write>(
-    output: &mut O,
-    before: &str,
-    number: u64,
-    behind: &str,
-) -> Result<(), WriteError>
-    ensures { OnOk result
-        (Appends (O.contents output.old) (O.contents output.new)
-        (lines_text ((before.now ++ decimal number ++ behind.now) ∷ []))) }
-{
-    writeln!(output, "{before}{number}{behind}").map_err(|_| WriteError)
+    log.print_count("client ", u64::from(client) + 1, does);
 }
 
 /// Prints a message, and then the reply to it, unless a slot is read.
-fn print_sent<O: Write>(
-    output: &mut O,
-    message: &Msg,
-    reply: &Option<Msg>,
-) -> Result<(), WriteError>
-    ensures { OnOk result
-        (Appends (O.contents output.old) (O.contents output.new)
-        (lines_text (if is_slot_read message.now reply.now then [] else map message_text
-        (message.now ∷ option_to_list reply.now)))) }
+fn print_sent(log: &mut LogQueue, message: &Msg, reply: &Option<Msg>)
+    ensures { log.new
+        ≡ after_lines log.old (if is_slot_read message.now reply.now then [] else map message_text
+        (message.now ∷ option_to_list reply.now)) }
 {
     if is_slot_read(message, reply) {
-        return Ok(());
+        return;
     }
-    print_messages(output, message, reply)
+    log.print_line(&message_line(message));
+    if let Some(reply) = reply {
+        log.print_line(&message_line(reply));
+    }
 }
 
 /// Returns whether a slot is read, and the reply is its data.
@@ -356,70 +304,30 @@ fn is_slot_read(message: &Msg, reply: &Option<Msg>) -> bool
     }
 }
 
-/// Prints a message, and then the reply to it.
-fn print_messages<O: Write>(
-    output: &mut O,
-    message: &Msg,
-    reply: &Option<Msg>,
-) -> Result<(), WriteError>
-    ensures { OnOk result
-        (Appends (O.contents output.old) (O.contents output.new)
-        (lines_text (map message_text (message.now ∷ option_to_list reply.now)))) }
-{
-    print_to(output, &message_line(message))?;
-    print_reply(output, reply)
-}
-
-/// Prints a reply, if there is one.
-fn print_reply<O: Write>(output: &mut O, reply: &Option<Msg>) -> Result<(), WriteError>
-    ensures { OnOk result
-        (Appends (O.contents output.old) (O.contents output.new)
-        (lines_text (map message_text (option_to_list reply.now)))) }
-{
-    match reply {
-        Some(reply) => print_to(output, &message_line(reply)),
-        None => Ok(()),
-    }
-}
-
 /// Prints the packet of a turn, if packets are printed; idle packets are not.
-fn print_packet<O: Write>(
-    output: &mut O,
-    track: bool,
-    turn: u64,
-    packet: &Option<Packet>,
-) -> Result<(), WriteError>
-    ensures { OnOk result
-        (Appends (O.contents output.old) (O.contents output.new)
-        (lines_text (packet_lines track turn packet.now))) }
+fn print_packet(log: &mut LogQueue, track: bool, turn: u64, packet: &Option<Packet>)
+    ensures { log.new ≡ after_lines log.old (packet_lines track turn packet.now) }
 {
     let Some(packet) = packet else {
-        return Ok(());
+        return;
     };
-    if !track || packet.bytes() == idle().bytes() {
-        return Ok(());
+    if track && packet.bytes() != idle().bytes() {
+        log.print_line(&track_line(turn, packet));
     }
-    print_to(output, &track_line(turn, packet))
 }
 
 /// Prints each decoder whose state has changed.
-fn print_changed<O: Write>(
-    output: &mut O,
-    roster: &Roster,
-    before: &[DecoderState],
-    world: &World,
-) -> Result<(), WriteError>
+fn print_changed(log: &mut LogQueue, roster: &Roster, before: &[DecoderState], world: &World)
     requires decoders { map spec_of world.now.nodes ≡ map entry_spec roster.now }
     requires as_many { length before.now ≡ length roster.now }
-    ensures { OnOk result
-        (Appends (O.contents output.old) (O.contents output.new)
-        (lines_text (changed_lines roster.now before.now (map decoder_state_of world.now.nodes)))) }
+    ensures { log.new
+        ≡ after_lines log.old
+        (changed_lines roster.now before.now (map decoder_state_of world.now.nodes)) }
 {
     for (i, spec) in roster.nodes().as_slice().iter().enumerate() {
         let now = world.decoder_state(i);
         if !before[i].is_same(&now) {
-            print_to(output, &now.line(roster.name(i), spec))?;
+            log.print_line(&now.line(roster.name(i), spec));
         }
     }
-    Ok(())
 }

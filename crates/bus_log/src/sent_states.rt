@@ -11,7 +11,6 @@ use crate::printer::Printer;
 use bus_server::{MAX_CLIENTS, PageClients};
 use decoder_node::MAX_NODES;
 use layout_core::{DecoderState, World};
-use std::io::Write;
 
 /// The decoder states that each client's page has received.
 #[derive(Clone, Copy)]
@@ -32,10 +31,10 @@ impl PageStates {
 
     /// Sends each page the decoder states that it has not received, in the roster's order, until it
     /// would block.
-    pub fn send_all<G: PageClients, O: Write>(
+    pub fn send_all<G: PageClients>(
         &mut self,
         page_clients: &mut G,
-        printer: &Printer<'_, O>,
+        printer: &Printer<'_>,
         world: &World,
     )
         requires { map spec_of world.now.nodes ≡ specs_of (entries_of printer.now.roster) }
@@ -74,11 +73,11 @@ impl SentStates {
 
     /// Sends a client the decoder states that it has not received, if it is a page that accepts
     /// messages.
-    fn serve<G: PageClients, O: Write>(
+    fn serve<G: PageClients>(
         &mut self,
         page_clients: &mut G,
         client: usize,
-        printer: &Printer<'_, O>,
+        printer: &Printer<'_>,
         world: &World,
     )
         requires client { client < 8 }
@@ -106,11 +105,11 @@ impl SentStates {
 
     /// Sends a page the present state of each decoder that it has not received, in the roster's
     /// order, until it would block.
-    fn send<G: PageClients, O: Write>(
+    fn send<G: PageClients>(
         &mut self,
         page_clients: &mut G,
         client: usize,
-        printer: &Printer<'_, O>,
+        printer: &Printer<'_>,
         world: &World,
     )
         requires client { client < 8 }

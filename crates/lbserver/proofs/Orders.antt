@@ -5,7 +5,6 @@ use Rattle.std.specs.Option.{option_copied}
 use Rattle.command_line.specs.declared.words.ServerOrder.{ServerOrder}
 use Rattle.roster.specs.Entry.{Entry}
 use Rattle.bus_log.specs.Decoders.{entries_of, specs_of}
-use Rattle.bus_server.specs.declared.losses.Losses.{Losses}
 use Rattle.bus_server.specs.Applied.{initial_state}
 use Rattle.bus_server.specs.Draws.{IsSeeded}
 use Rattle.bus_server.specs.Runs.{IsRun}

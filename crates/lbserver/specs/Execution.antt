@@ -1,6 +1,6 @@
 -- The effect of `lbserver` for the arguments after its name: it serves as they order, or writes the
 -- text that they ask for.
-use Rattle.std.specs.Prelude.{ℕ, ◌≡◌, ◌⊎◌, ◌-◌, ◌^◌, List, [], Option, Some, None}
+use Rattle.std.specs.Prelude.{ℕ, ◌≡◌, ◌⊎◌, ◌-◌, ◌^◌, Bool, true, false, List, [], Option, Some, None, Result, Ok, Err}
 use Rattle.std.specs.Io.KnownBytes.{Appends}
 use Rattle.command_line.specs.declared.words.ServerOrder.{ServerOrder}
 use Rattle.command_line.specs.ServerLine.{IsServerOrderOf}
@@ -12,6 +12,8 @@ use Rattle.bus_server.specs.declared.losses.Losses.{Losses}
 use Rattle.bus_server.specs.Applied.{ServerState, initial_state}
 use Rattle.bus_server.specs.Draws.{IsSeeded}
 use Rattle.bus_server.specs.Runs.{IsRun, RunSnapshot}
+use Rattle.lbserver.specs.declared.fault.ServerFault.{ServerFault}
+use Rattle.lbserver.specs.declared.fault.ServerFault.TheVariants.{Output}
 
 -- how many clients have to disconnect before the server ends; without a number, as many as can be
 -- counted
@@ -51,3 +53,13 @@ AnswersWords words old_output new_output = AsksServer words × ((text : List ℕ
 
 abbrev pub RunsWords : List (List ℕ) → (old_output new_output : Option (List ℕ)) → Type 0
 RunsWords words old_output new_output = ServesWords words ⊎ AnswersWords words old_output new_output
+
+-- standard output could not be written
+abbrev pub is_output : ServerFault → Bool
+is_output Output = true
+is_output other = false
+
+-- whether a run ended for that
+abbrev pub ended_by_output : {A : Type 0} → Result A ServerFault → Bool
+ended_by_output (Ok a) = false
+ended_by_output (Err fault) = is_output fault

@@ -2,7 +2,7 @@
 ghost use Rattle.std.specs.Prelude.{None};
 
 use crate::standard_output::{STANDARD_OUTPUT, StandardOutput};
-use bus_log::{LogQueue, PageStates, Printer};
+use bus_log::{PageStates, Printer};
 use bus_server::{AfterRound, IoOutcome, Transport};
 use console::WriteError;
 use layout_core::World;
@@ -13,7 +13,7 @@ use std::alloc::AllocGlobal;
 use std::io;
 use std::io::Write;
 use std::net::{Net, SocketAddr};
-use std::time::Clock;
+use std::time::{Clock, Duration};
 
 /// The sockets, the decoder states that the page at each client index has received, and the clock
 /// that measures the deadlines of HTTP connections.
@@ -86,17 +86,20 @@ impl<R: Clock> Transport for Clients<'_, R> {
 
 /// Between two rounds pages receive the decoder states, and the queued lines of the log are
 /// written.
-impl<'o, 'w, 'p, R: Clock, O: Write> AfterRound<Clients<'w, R>, Printer<'p, LogQueue>>
-    for StandardOutput<'o, O> {
+impl<'w, 'p, R: Clock, O: Write> AfterRound<Clients<'w, R>, Printer<'p>> for StandardOutput<O> {
+    type Fault = WriteError;
+
+    ghost failed = { λ output. output.failed };
+
     fn after_round(
         &mut self,
         transport: &mut Clients<'w, R>,
-        printer: &mut Printer<'p, LogQueue>,
+        printer: &mut Printer<'p>,
         world: &World,
     ) -> Result<(), WriteError> {
         transport
             .page_states
             .send_all(&mut transport.sockets, printer, world);
-        printer.write_queued(self)
+        printer.write_queued(self, Duration::ZERO)
     }
 }

@@ -1,11 +1,11 @@
 //! Running the program on its arguments, its port and its clock.
-ghost use Rattle.std.specs.Prelude.{◌≡◌, ◌≤◌, OnOk, map};
+ghost use Rattle.std.specs.Prelude.{◌≡◌, ◌≤◌, OnOk, false, map, true};
 ghost use Rattle.bus_log.specs.Decoders.{entries_of, specs_of};
 ghost use Rattle.bus_log.specs.Verbosities.{verbosity_of};
 ghost use Rattle.bus_server.specs.Progress.{ObservesLayout, state_of};
 ghost use Rattle.command_line.specs.declared.words.ServerOrder.{ServerOrder as OrderValue};
 ghost use Rattle.console.specs.Files.{IsRosterOf};
-ghost use Rattle.lbserver.specs.Execution.{IsNewServer, RunsWords, ServesOrder, clients_of, entries_in};
+ghost use Rattle.lbserver.specs.Execution.{IsNewServer, RunsWords, ServesOrder, clients_of, ended_by_output, entries_in};
 
 use crate::answering::answer;
 use crate::clients::Clients;
@@ -15,7 +15,6 @@ use bus_log::{LogQueue, Printer, Verbosity, decoders, print_listening, write_que
 use bus_server::{Losses, Server, Stop};
 use command_line::{FileName, ServerOrder, server_order};
 use console::{RunFault, read_roster, read_whole};
-use mio::Poll;
 use roster::Roster;
 use sockets::{Sockets, Stopwatch, Ticking};
 use std::io::Write;
@@ -38,15 +37,19 @@ const LAST_WAIT_MILLIS: u64 = 1_000;
 pub(crate) fn execute<O: Write, E: Write>(
     rt: &HostRuntime,
     words: &[&str],
-    output: &mut O,
+    output: &mut StandardOutput<O>,
     faults: &mut E,
 ) -> u8
+    requires works { output.old.failed ≡ false }
     ensures most { result ≤ 6 }
     // Status 0 is returned only after a whole run of the order, or where the arguments ask for help
     // or the version, which is written to `output`.
     ensures serves { result ≡ 0 → RunsWords (map (λ word. word.now) words.entry.now)
-        (O.contents output.old) (O.contents output.new) }
+        (O.contents output.old.writer) (O.contents output.new.writer) }
     ensures quiet { result ≡ 0 → faults.new ≡ faults.old }
+    // No write of the output failed if the status is 0; if one failed, the status is 4.
+    ensures written { result ≡ 0 → output.new.failed ≡ false }
+    ensures unwritten { output.new.failed ≡ true → result ≡ 4 }
 {
     match run(rt, words, output) {
         Ok(()) => 0,
@@ -58,9 +61,15 @@ pub(crate) fn execute<O: Write, E: Write>(
 ///
 /// Each of the following functions creates one thing and passes a borrow of it to the next, because
 /// a function that returns early with a value to drop is hard to prove.
-fn run<O: Write>(rt: &HostRuntime, words: &[&str], output: &mut O) -> Result<(), ServerFault>
+fn run<O: Write>(
+    rt: &HostRuntime,
+    words: &[&str],
+    output: &mut StandardOutput<O>,
+) -> Result<(), ServerFault>
+    requires works { output.old.failed ≡ false }
     ensures serves { OnOk result (RunsWords (map (λ word. word.now) words.entry.now)
-        (O.contents output.old) (O.contents output.new)) }
+        (O.contents output.old.writer) (O.contents output.new.writer)) }
+    ensures failed { output.new.failed ≡ ended_by_output result }
 {
     match server_order(rt.alloc(), words) {
         Ok(mut order) => with_roster(rt, &mut order, output),
@@ -72,11 +81,13 @@ fn run<O: Write>(rt: &HostRuntime, words: &[&str], output: &mut O) -> Result<(),
 fn with_roster<O: Write>(
     rt: &HostRuntime,
     order: &mut ServerOrder,
-    output: &mut O,
+    output: &mut StandardOutput<O>,
 ) -> Result<(), ServerFault>
+    requires works { output.old.failed ≡ false }
     ensures serves { OnOk result
         ((roster : _) × IsRosterOf order.old.roster roster
         × ServesOrder order.old (entries_in roster)) }
+    ensures failed { output.new.failed ≡ ended_by_output result }
 {
     let roster = read_roster(rt, order.roster.take())?;
     with_server(rt, order, roster.as_ref(), output)
@@ -87,9 +98,11 @@ fn with_server<O: Write>(
     rt: &HostRuntime,
     order: &mut ServerOrder,
     roster: Option<&Roster>,
-    output: &mut O,
+    output: &mut StandardOutput<O>,
 ) -> Result<(), ServerFault>
+    requires works { output.old.failed ≡ false }
     ensures serves { OnOk result (ServesOrder order.old (entries_of roster.entry)) }
+    ensures failed { output.new.failed ≡ ended_by_output result }
 {
     let losses = Losses::new(order.lose, u64::from(order.seed));
     let mut server = Server::new(rt.alloc(), decoders(roster), order.turns, losses)?;
@@ -102,11 +115,13 @@ fn with_sockets<O: Write>(
     order: &mut ServerOrder,
     roster: Option<&Roster>,
     server: &mut Server,
-    output: &mut O,
+    output: &mut StandardOutput<O>,
 ) -> Result<(), ServerFault>
+    requires works { output.old.failed ≡ false }
     requires observes { ObservesLayout (specs_of (entries_of roster)) server.old.hub }
     requires new { IsNewServer order.old (entries_of roster) (state_of server.old.hub) }
     ensures serves { OnOk result (ServesOrder order.old (entries_of roster.entry)) }
+    ensures failed { output.new.failed ≡ ended_by_output result }
 {
     let address = SocketAddr::from((order.address, order.port));
     let mut clients = match Clients::bind(rt, address) {
@@ -125,39 +140,19 @@ fn with_page<O: Write>(
     roster: Option<&Roster>,
     server: &mut Server,
     clients: &mut Clients<'_, HostRuntime>,
-    output: &mut O,
+    output: &mut StandardOutput<O>,
 ) -> Result<(), ServerFault>
+    requires works { output.old.failed ≡ false }
     requires observes { ObservesLayout (specs_of (entries_of roster)) server.old.hub }
     requires new { IsNewServer order.old (entries_of roster) (state_of server.old.hub) }
     ensures serves { OnOk result (ServesOrder order.old (entries_of roster.entry)) }
+    ensures failed { output.new.failed ≡ ended_by_output result }
 {
     if let Some(page) = order.page {
         let address = SocketAddr::from((order.address, page));
         bind_page(rt, clients, address, order.page_file.take())?;
     }
-    with_printer(rt, order, roster, server, clients, output)
-}
-
-/// Continues with a log on standard output.
-fn with_printer<O: Write>(
-    rt: &HostRuntime,
-    order: &ServerOrder,
-    roster: Option<&Roster>,
-    server: &mut Server,
-    clients: &mut Clients<'_, HostRuntime>,
-    output: &mut O,
-) -> Result<(), ServerFault>
-    requires observes { ObservesLayout (specs_of (entries_of roster)) server.old.hub }
-    requires new { IsNewServer order.now (entries_of roster) (state_of server.old.hub) }
-    ensures serves { OnOk result (ServesOrder order.now (entries_of roster.entry)) }
-{
-    let Ok(poll) = Poll::new(rt) else {
-        return Err(ServerFault::Run(RunFault::Network));
-    };
-    let Ok(mut output) = StandardOutput::new(rt.alloc(), poll, output) else {
-        return Err(ServerFault::Run(RunFault::NoMemory));
-    };
-    with_log(rt, order, roster, server, clients, &mut output)
+    with_log(rt, order, roster, server, clients, output)
 }
 
 /// Serves, with a queue for the lines of the log. At the end the rest of them is written.
@@ -167,23 +162,26 @@ fn with_log<O: Write>(
     roster: Option<&Roster>,
     server: &mut Server,
     clients: &mut Clients<'_, HostRuntime>,
-    output: &mut StandardOutput<'_, O>,
+    output: &mut StandardOutput<O>,
 ) -> Result<(), ServerFault>
+    requires works { output.old.failed ≡ false }
     requires observes { ObservesLayout (specs_of (entries_of roster)) server.old.hub }
     requires new { IsNewServer order.now (entries_of roster) (state_of server.old.hub) }
     ensures serves { OnOk result (ServesOrder order.now (entries_of roster.entry)) }
+    ensures failed { output.new.failed ≡ ended_by_output result }
 {
     let mut log = LogQueue::new(rt.alloc())?;
     report_addresses(&clients.sockets, &mut log)?;
-    write_queued(&mut log, output)?;
+    write_queued(&mut log, output, Duration::ZERO)?;
     let verbosity = Verbosity::of(order.track, order.quiet);
     let mut printer = Printer::new(log, roster, verbosity, server.world());
     let served = serve(rt, order, server, clients, &mut printer, output);
+    if let Err(ServerFault::Output) = served {
+        return served;
+    }
     // A reader that accepts nothing for this long is not waited for.
-    output.longest = Duration::from_millis(LAST_WAIT_MILLIS);
-    let written = printer.write_queued(output);
-    served?;
-    Ok(written?)
+    printer.write_queued(output, Duration::from_millis(LAST_WAIT_MILLIS))?;
+    served
 }
 
 /// Reads a page, and serves it.
@@ -192,7 +190,9 @@ fn bind_page(
     clients: &mut Clients<'_, HostRuntime>,
     address: SocketAddr,
     file: Option<FileName>,
-) -> Result<(), ServerFault> {
+) -> Result<(), ServerFault>
+    ensures { ended_by_output result ≡ false }
+{
     let page = read_page(rt, file)?;
     match clients.bind_page(address, page.as_slice()) {
         Ok(()) => Ok(()),
@@ -201,7 +201,9 @@ fn bind_page(
 }
 
 /// Returns the page of this file, or that of the repository.
-fn read_page(rt: &HostRuntime, file: Option<FileName>) -> Result<Vec<u8>, ServerFault> {
+fn read_page(rt: &HostRuntime, file: Option<FileName>) -> Result<Vec<u8>, ServerFault>
+    ensures { ended_by_output result ≡ false }
+{
     let file = match file {
         Some(file) => file,
         None => FileName::new(rt.alloc(), PAGE_FILE)?,
@@ -209,12 +211,17 @@ fn read_page(rt: &HostRuntime, file: Option<FileName>) -> Result<Vec<u8>, Server
     Ok(read_whole(rt, file, LONGEST_PAGE)?)
 }
 
-/// Reports the bound addresses and ports at once.
-fn report_addresses<O: Write>(sockets: &Sockets, output: &mut O) -> Result<(), ServerFault> {
+/// Reports the bound addresses and ports.
+fn report_addresses(sockets: &Sockets, log: &mut LogQueue) -> Result<(), ServerFault>
+    ensures { ended_by_output result ≡ false }
+{
     let Ok((bus, page)) = sockets.addresses() else {
         return Err(ServerFault::Run(RunFault::Network));
     };
-    Ok(print_listening(output, bus, page)?)
+    match print_listening(log, bus, page) {
+        Ok(()) => Ok(()),
+        Err(_) => Err(ServerFault::Run(RunFault::Network)),
+    }
 }
 
 /// Serves an order until the given number of clients have disconnected; without a number for ever,
@@ -224,13 +231,15 @@ fn serve<O: Write>(
     order: &ServerOrder,
     server: &mut Server,
     clients: &mut Clients<'_, HostRuntime>,
-    printer: &mut Printer<'_, LogQueue>,
-    output: &mut StandardOutput<'_, O>,
+    printer: &mut Printer<'_>,
+    output: &mut StandardOutput<O>,
 ) -> Result<(), ServerFault>
+    requires works { output.old.failed ≡ false }
     requires observes { ObservesLayout (specs_of (entries_of printer.old.roster)) server.old.hub }
     requires new { IsNewServer order.now (entries_of printer.old.roster) (state_of server.old.hub) }
     requires verbosity { printer.old.verbosity ≡ verbosity_of order.now.track order.now.quiet }
     ensures serves { OnOk result (ServesOrder order.now (entries_of printer.old.roster)) }
+    ensures failed { output.new.failed ≡ ended_by_output result }
 {
     let Ok(watch) = Stopwatch::new(rt) else {
         return Err(ServerFault::Run(RunFault::Network));
@@ -240,7 +249,8 @@ fn serve<O: Write>(
     match server.run(clients, &mut clock, printer, output, most) {
         Ok(()) => Ok(()),
         Err(Stop::Transport(_)) | Err(Stop::Clock(_)) => Err(ServerFault::Run(RunFault::Network)),
-        Err(Stop::Observer(fault)) => Err(ServerFault::from(fault)),
+        Err(Stop::Observer(never)) => match never {},
+        Err(Stop::AfterRound(fault)) => Err(ServerFault::from(fault)),
     }
 }
 

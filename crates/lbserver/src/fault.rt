@@ -1,8 +1,9 @@
 //! The faults of a run that ends with a status other than 0, and their text.
-ghost use Rattle.std.specs.Prelude.{◌≡◌, ◌<◌, ◌≤◌};
-ghost use Rattle.console.specs.declared.fault.RunFault.TheVariants.{NoMemory, Output};
+ghost use Rattle.std.specs.Prelude.{◌≡◌, ◌<◌, ◌≤◌, false, true};
+ghost use Rattle.console.specs.declared.fault.RunFault.TheVariants.{NoMemory};
 ghost use Rattle.console.specs.Fault.{of_order};
-ghost use Rattle.lbserver.specs.declared.fault.ServerFault.TheVariants.{Run};
+ghost use Rattle.lbserver.specs.declared.fault.ServerFault.TheVariants.{Output, Run};
+ghost use Rattle.lbserver.specs.Execution.{is_output};
 
 use command_line::OrderFault;
 use console::{RunFault, WriteError, report_as};
@@ -19,13 +20,17 @@ pub(crate) const NAME: &'static str = "lbserver";
 pub(crate) enum ServerFault {
     /// Status 4: nothing can listen on this address and port.
     Listen { address: SocketAddr, why: ErrorKind },
+    /// Status 4: standard output could not be written.
+    Output,
     /// A fault that other programs have too.
     Run(RunFault),
 }
 
 impl ServerFault {
     /// Returns the fault of an address and port that could not be bound for this error.
-    pub(crate) fn of_bind(address: SocketAddr, error: &io::Error) -> ServerFault {
+    pub(crate) fn of_bind(address: SocketAddr, error: &io::Error) -> ServerFault
+        ensures { is_output result ≡ false }
+    {
         match error.kind() {
             ErrorKind::OutOfMemory => ServerFault::Run(RunFault::NoMemory),
             why => ServerFault::Listen { address, why },
@@ -37,8 +42,10 @@ impl ServerFault {
     pub(crate) fn report<E: Write>(&self, faults: &mut E) -> u8
         ensures some { 0 < result }
         ensures most { result ≤ 6 }
+        ensures output { is_output self.now ≡ true → result ≡ 4 }
     {
         match self {
+            ServerFault::Output => report_as(NAME, &RunFault::Output, faults),
             ServerFault::Run(fault) => report_as(NAME, fault, faults),
             ServerFault::Listen { address, why } => {
                 let reason = reason_of(*why);
@@ -84,9 +91,9 @@ impl From<AllocError> for ServerFault {
 }
 
 impl From<WriteError> for ServerFault {
-    ghost from_gives = { λ _ fault. fault ≡ Run Output };
+    ghost from_gives = { λ _ fault. fault ≡ Output };
 
     fn from(_error: WriteError) -> ServerFault {
-        ServerFault::Run(RunFault::Output)
+        ServerFault::Output
     }
 }

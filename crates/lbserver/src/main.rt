@@ -11,6 +11,7 @@ use command_line::{not_utf8_server_text, read_words, texts};
 use console::{RunFault, report_as};
 use executing::execute;
 use fault::NAME;
+use standard_output::StandardOutput;
 use std::io;
 use std::process::ExitCode;
 
@@ -29,5 +30,6 @@ fn main(rt: HostRuntime) -> ExitCode {
 fn run_words(rt: &HostRuntime) -> Result<u8, RunFault> {
     let words = read_words(rt.alloc(), rt, |alloc| not_utf8_server_text(alloc))?;
     let texts = texts(rt.alloc(), words.as_slice())?;
-    Ok(execute(rt, texts.as_slice(), &mut io::writer(rt), &mut rt.stderr()))
+    let mut output = StandardOutput::new(rt, io::writer(rt))?;
+    Ok(execute(rt, texts.as_slice(), &mut output, &mut rt.stderr()))
 }

@@ -1,56 +1,96 @@
 //! Standard output, written only while it accepts bytes.
-ghost use Rattle.std.specs.Prelude.{◌≤◌, IfOk, length};
+ghost use Rattle.std.specs.Prelude.{◌≡◌, IfOk, OnOk, false, true};
+ghost use Rattle.std.specs.Io.KnownBytes.{Appends};
+ghost use Rattle.input_text.specs.Write.{failed_after};
 
 use bus_log::LogOutput;
-use console::WriteError;
+use console::{RunFault, WriteError};
 use mio::unix::SourceFd;
 use mio::{Events, Interest, Poll, Token};
-use std::alloc::Global;
+use std::alloc::AllocGlobal;
 use std::io;
 use std::io::{ErrorKind, Write};
+use std::net::Net;
 use std::os::fd::RawFd;
 use std::time::Duration;
 
 /// The file descriptor of standard output.
 pub(crate) const STANDARD_OUTPUT: RawFd = 1;
 
-/// An output for standard output's file descriptor, written only while that accepts bytes.
+/// A writer of standard output's file descriptor, written only while that accepts bytes.
 ///
 /// A pipe or a terminal is registered for readiness. A file cannot be registered, and always
 /// accepts bytes.
 #[derive(Drop)]
-pub(crate) struct StandardOutput<'a, O> {
-    output: &'a mut O,
+pub(crate) struct StandardOutput<O> {
+    pub(crate) writer: O,
     poll: Poll,
     events: Events,
     is_pollable: bool,
-    /// How long to wait for readiness.
-    pub(crate) longest: Duration,
+    /// Whether a write failed.
+    pub(crate) failed: bool,
 }
 
-impl<'a, O: Write> StandardOutput<'a, O> {
-    /// Creates the output, with no waiting time.
+impl<O: Write + Drop> StandardOutput<O> {
+    /// Creates the output, which has not failed.
     ///
     /// # Errors
     ///
-    /// Out of memory.
-    pub(crate) fn new(alloc: Global, poll: Poll, output: &'a mut O) -> io::Result<Self> {
-        let events = Events::with_capacity(alloc, 1)?;
+    /// `Network` if the system has no poll left, and `NoMemory`.
+    pub(crate) fn new<R: Net + AllocGlobal>(rt: &R, writer: O) -> Result<Self, RunFault>
+        ensures { IfOk result (λ output. output.failed ≡ false) }
+    {
+        let Ok(poll) = Poll::new(rt) else {
+            return Err(RunFault::Network);
+        };
+        let Ok(events) = Events::with_capacity(rt.alloc(), 1) else {
+            return Err(RunFault::NoMemory);
+        };
         let mut source = SourceFd(&STANDARD_OUTPUT);
         let registered = poll
             .registry()
             .register(&mut source, Token(0), Interest::WRITABLE);
         Ok(StandardOutput {
-            output,
+            writer,
             poll,
             events,
             is_pollable: registered.is_ok(),
-            longest: Duration::ZERO,
+            failed: false,
         })
     }
+}
 
-    /// Returns whether standard output accepts bytes now.
-    fn is_writable(&mut self) -> bool {
+impl<O: Write> StandardOutput<O> {
+    /// Writes a whole text and flushes it, however long its reader takes.
+    ///
+    /// # Errors
+    ///
+    /// `WriteError` if the writer fails. The number of bytes written is then not known.
+    pub(crate) fn write_text(&mut self, text: &str) -> Result<(), WriteError>
+        ensures written { OnOk result
+            (Appends (O.contents self.old.writer) (O.contents self.new.writer) text.now) }
+        ensures failed { self.new.failed ≡ failed_after result self.old.failed }
+    {
+        match write_all(text, &mut self.writer) {
+            Ok(()) => Ok(()),
+            Err(_) => Err(self.fail()),
+        }
+    }
+
+    /// Records that a write failed.
+    fn fail(&mut self) -> WriteError
+        ensures writer { self.new.writer ≡ self.old.writer }
+        ensures failed { self.new.failed ≡ true }
+    {
+        self.failed = true;
+        WriteError
+    }
+
+    /// Returns whether standard output accepts bytes within `longest`.
+    fn is_writable(&mut self, longest: Duration) -> bool
+        ensures writer { self.new.writer ≡ self.old.writer }
+        ensures failed { self.new.failed ≡ self.old.failed }
+    {
         if !self.is_pollable {
             return true;
         }
@@ -60,24 +100,36 @@ impl<'a, O: Write> StandardOutput<'a, O> {
             .poll
             .registry()
             .reregister(&mut source, Token(0), Interest::WRITABLE);
-        match self.poll.poll(&mut self.events, Some(self.longest)) {
+        match self.poll.poll(&mut self.events, Some(longest)) {
             Ok(()) => self.events.iter().next().is_some(),
             Err(_) => false,
         }
     }
 }
 
-impl<O: Write> LogOutput for StandardOutput<'_, O> {
-    fn write_ready(&mut self, bytes: &[u8]) -> Result<usize, WriteError> {
-        if !self.is_writable() {
+impl<O: Write> LogOutput for StandardOutput<O> {
+    ghost written = { λ output. O.contents output.writer };
+
+    ghost failed = { λ output. output.failed };
+
+    fn write_ready(&mut self, bytes: &[u8], longest: Duration) -> Result<usize, WriteError> {
+        if !self.is_writable(longest) {
             return Ok(0);
         }
-        match self.output.write(bytes) {
+        match self.writer.write(bytes) {
             Ok(count) => Ok(count),
             Err(error) if is_retryable(&error) => Ok(0),
-            Err(_) => Err(WriteError),
+            Err(_) => Err(self.fail()),
         }
     }
+}
+
+/// Writes and flushes a text.
+fn write_all<O: Write>(text: &str, writer: &mut O) -> io::Result<()>
+    ensures { OnOk result (Appends (O.contents writer.old) (O.contents writer.new) text.now) }
+{
+    writer.write_all(text.as_bytes())?;
+    writer.flush()
 }
 
 /// Whether the write is to be retried later.

@@ -2,7 +2,7 @@
 ghost use Rattle.bus_log.specs.Decoders.{entries_of, specs_of};
 ghost use Rattle.bus_server.specs.Progress.{ObservesLayout};
 
-use bus_log::{PageStates, Printer, Verbosity, decoders};
+use bus_log::{LOG_CAPACITY, LogQueue, PageStates, Printer, Verbosity, decoders};
 use bus_server::{Losses, Server};
 use mio::Poll;
 use roster::Roster;
@@ -99,7 +99,7 @@ pub(crate) struct Desk<'a> {
     pub(crate) server: Server,
     pub(crate) sockets: Sockets,
     pub(crate) page_states: PageStates,
-    pub(crate) printer: Printer<'a, Vec<u8>>,
+    pub(crate) printer: Printer<'a>,
     pub(crate) streams: Streams,
     /// The microseconds since the start.
     now: u64,
@@ -116,7 +116,7 @@ impl<'a> Desk<'a> {
         let server = Server::new(rt.alloc(), decoders(roster), Some(turns), Losses::new(0, 0))?;
         let sockets = bound(rt)?;
         let printer = Printer::new(
-            Vec::new(rt.alloc()),
+            LogQueue::new(rt.alloc())?,
             roster,
             Verbosity::Packets,
             server.world(),
@@ -210,7 +210,7 @@ impl<'a> Desk<'a> {
 
     /// Whether this is the log so far.
     fn has_printed(&self, text: &str) -> bool {
-        self.printer.output().as_slice() == text.as_bytes()
+        self.printer.log().front(LOG_CAPACITY) == text.as_bytes()
     }
 }
 

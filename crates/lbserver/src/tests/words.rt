@@ -1,6 +1,7 @@
 //! The arguments of the command line.
 
 use crate::executing::execute;
+use crate::standard_output::StandardOutput;
 use command_line::{OrderFault, ServerOrder, not_utf8_server_text, read_words, server_order};
 use console::{RunFault, report_as};
 use std::net::Ipv4Addr;
@@ -161,7 +162,7 @@ fn words_that_are_no_order(rt: HostRuntime) {
 }
 
 /// Parts of the help.
-const HELP: [&'static str; 11] = [
+const HELP: [&'static str; 12] = [
     "Usage: lbserver",
     "anybody who can reach it can drive",
     "--port <P>",
@@ -170,29 +171,36 @@ const HELP: [&'static str; 11] = [
     "--quiet",
     "--page <PORT>",
     "--page-file <FILE>",
+    "--host <NAME>",
     "--lose <N>",
     "--seed <S>",
     "lbserver --roster layout.toml",
 ];
 
 #[test]
-fn help_and_version_are_no_faults(rt: HostRuntime) {
+fn help_and_version_are_no_faults(rt: HostRuntime) -> Result<(), Fail> {
     for (words, parts) in [
         (["--help"], HELP.as_slice()),
         (["--version"], ["lbserver 1."].as_slice()),
     ] {
         let mut faults = Vec::new(rt.alloc());
-        let mut output = Vec::new(rt.alloc());
+        let mut output = StandardOutput::new(&rt, Vec::new(rt.alloc())).map_err(|_| "no output")?;
         assert_eq!(rt; execute(&rt, &words, &mut output, &mut faults), 0);
-        assert!(rt; faults.is_empty() && has_all(output.as_slice(), parts), "of {words:?}");
+        assert!(rt;
+            faults.is_empty() && has_all(output.writer.as_slice(), parts),
+            "of {words:?}"
+        );
     }
+    Ok(())
 }
 
 #[test]
-fn help_that_cannot_be_written(rt: HostRuntime) {
+fn help_that_cannot_be_written(rt: HostRuntime) -> Result<(), Fail> {
     let mut faults = Vec::new(rt.alloc());
-    assert_eq!(rt; execute(&rt, &["--help"], &mut Broken::new(), &mut faults), 4);
+    let mut output = StandardOutput::new(&rt, Broken::new()).map_err(|_| "no output")?;
+    assert_eq!(rt; execute(&rt, &["--help"], &mut output, &mut faults), 4);
     assert_eq!(rt; faults.as_slice(), b"lbserver: output\n".as_slice());
+    Ok(())
 }
 
 /// Arguments, and parts of the text on standard error.
@@ -223,15 +231,16 @@ const TOLD: [(&'static [&'static str], &'static [&'static str]); 4] = [
 ];
 
 #[test]
-fn faults_are_told(rt: HostRuntime) {
+fn faults_are_told(rt: HostRuntime) -> Result<(), Fail> {
     for (words, parts) in TOLD {
         let mut faults = Vec::new(rt.alloc());
-        let mut output = Vec::new(rt.alloc());
+        let mut output = StandardOutput::new(&rt, Vec::new(rt.alloc())).map_err(|_| "no output")?;
         let status = execute(&rt, words, &mut output, &mut faults);
-        assert!(rt; output.is_empty(), "of {words:?}");
+        assert!(rt; output.writer.is_empty(), "of {words:?}");
         assert!(rt; status == 1 || status == 2, "of {words:?}");
         assert!(rt; has_all(faults.as_slice(), parts), "of {words:?}");
     }
+    Ok(())
 }
 
 #[test]

@@ -1,0 +1,6 @@
+use Rattle.std.proofs.Common.{inl}
+use Rattle.std.proofs.lemmas.Result.{on_ok_weaker}
+use Rattle.lbserver.proofs.executing.run.Goals as goal
+
+pub returns-in-Ok-clause-serves : goal.returns-in-Ok-clause-serves
+returns-in-Ok-clause-serves g c = on_ok_weaker c.with_roster.result (λ served. inl (c.in-Ok.order, served.0, c.in-Ok.ensures.order, served.1, served.2)) c.with_roster.ensures.serves
