@@ -143,7 +143,7 @@ def connections_end():
                 client.write(send(POWER_ON))
                 page.lines_until("RECEIVE 83 7C")
             with server.connect(port=server.page_port) as browser:
-                browser.sendall(b"GET / HTTP/1.0\r\n\r\n")
+                browser.sendall(b"GET / HTTP/1.0\r\nHost: localhost\r\n\r\n")
                 browser.makefile("rb").read()
         holds("descriptors are left", server.until(lambda: len(list(folder.iterdir())) == before))
         # The second leaves while the first index is free.

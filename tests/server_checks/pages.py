@@ -77,7 +77,7 @@ def serve_browsers(data):
             browsers = [stack.enter_context(server.connect(port=server.page_port)) for _ in range(40)]
             for browser in browsers:
                 # A head that is not read at once.
-                browser.sendall(get("/", f"X-Long: {3000 * 'x'}"))
+                browser.sendall(get("/", "Host: localhost", f"X-Long: {3000 * 'x'}"))
         start = time.monotonic()
         for browser in browsers:
             found = browser.makefile("rb").read()
@@ -95,7 +95,7 @@ def check_page(server, data):
     for line in [*wanted, "x-content-type-options: nosniff", "referrer-policy: no-referrer"]:
         holds(f"{line} in {lines}", line in lines)
     with server.connect(port=server.page_port, room=4096) as browser:
-        browser.sendall(get("/"))
+        browser.sendall(get("/", "Host: localhost"))
         time.sleep(0.2)
         found = browser.makefile("rb").read()
         same("the page, read slowly", found.endswith(b"\r\n\r\n" + data), True)
@@ -117,13 +117,32 @@ def requests():
             (upgrade_request(own, "http://example.com", Page.KEY), "403 Forbidden"),
             (upgrade_request(own, f"https://{own}", Page.KEY), "403 Forbidden"),
             (upgrade_request(own, "http://127.0.0.1", Page.KEY), "403 Forbidden"),
-            (upgrade_request("layout.example", "http://layout.example", Page.KEY), "403 Forbidden"),
+            (upgrade_request("layout.example", "http://layout.example", Page.KEY), "421 Misdirected Request"),
+            (get("/", "Host: layout.example"), "421 Misdirected Request"),
+            (get("/", "Host: "), "421 Misdirected Request"),
+            (get("/"), "400 Bad Request"),
         ):
             head, body = response_to(server, request)
             same(f"{request[:60]}", head.partition("\r\n")[0], f"HTTP/1.1 {status}")
             holds("a line that says why", body)
             same("Allow: GET", "\r\nallow: get\r\n" in head.lower(), status.startswith("405"))
         same("printed", server.printed()[2:], [])
+
+
+def names():
+    """a browser that names another host is told of --host, and by that name the page loads and connects"""
+    with serve("--turns", "1", "--host", "layout.example", "--host", "Station", page=True) as server:
+        for name in ("layout.example", f"station:{server.page_port}", "STATION", f"127.0.0.1:{server.page_port}"):
+            head, body = response_to(server, get("/", f"Host: {name}"))
+            same(f"the page of {name}", head.partition("\r\n")[0], "HTTP/1.1 200 OK")
+            with server.connect(port=server.page_port) as browser:
+                browser.sendall(upgrade_request(name, f"http://{name}", Page.KEY))
+                same(f"the bus of {name}", read_head(browser.makefile("rb")).partition("\r\n")[0][:12], "HTTP/1.1 101")
+        head, body = response_to(server, get("/", "Host: layout.example.com"))
+        same("another name", head.partition("\r\n")[0], "HTTP/1.1 421 Misdirected Request")
+        holds("--host", b"--host NAME" in body)
+        foreign = upgrade_request("layout.example", "http://station", Page.KEY)
+        same("another origin", response_to(server, foreign)[0].partition("\r\n")[0], "HTTP/1.1 403 Forbidden")
 
 
 STOPPED, RUNNING = SHUNTER.format("stop"), SHUNTER.format("step 63 of 128")

@@ -18,6 +18,7 @@ UNITS = {
     "quiet": ("", "nothing but the addresses", None),
     "page": ("<PORT>", "TCP port", None),
     "page-file": ("<FILE>", "pages/throttle.html", None),
+    "host": ("<NAME>", "besides localhost", None),
     "lose": ("<N>", "of 100 packets", "0"),
     "seed": ("<S>", "", "0"),
 }
@@ -60,6 +61,9 @@ BAD_WORDS = [
     (["--quiet=on"], "--quiet"),
     (["--page", "65536"], "0..=65535"),
     (["--page-file"], "--page-file"),
+    (["--page-file", "pages/throttle.html"], "--page-file needs --page"),
+    (["--host", ""], "the host is no name"),
+    (["--host", "station:8080"], "the host is no name"),
     (["--lose", "100"], "0..=99"),
     (["--lose", "x"], "--lose"),
     (["--seed", "4294967296"], "0..=4294967295"),

@@ -1,5 +1,5 @@
 -- The defaults of the options of `lbserver`.
-use Rattle.std.proofs.Common.{◌≡◌, ℕ, Bool, true, false, List, [], ◌∷◌, Option, Some, None, codes, refl, ap, sym, subst, ◌∙◌, map, lit<, lit≤, decimal, ◌++◌}
+use Rattle.std.proofs.Common.{◌≡◌, ℕ, Bool, true, false, String, Global, string_bytes, List, [], ◌∷◌, Option, Some, None, codes, refl, ap, sym, subst, ◌∙◌, map, lit<, lit≤, decimal, ◌++◌}
 use Rattle.std.specs.Prelude.{Result, Ok, Err, IfOk}
 use Rattle.std.specs.Borrow.{Bor}
 use Rattle.std.specs.Net.Addr.{ipv4_octets}
@@ -8,11 +8,11 @@ use Rattle.std.proofs.lemmas.Fmt.{decimal_digit, decimal_step}
 use Rattle.std.specs.Net.Grammar.{IsDotted}
 use Rattle.std.specs.declared.net.ipv4_addr.Ipv4Addr.{Ipv4Addr}
 use Rattle.std.proofs.NetLemmas.Theorems.{IsIpv4Text_unique}
-use Rattle.clap.specs.Words.{Row, Text, first_of, matches_of, one_of}
+use Rattle.clap.specs.Words.{Row, Text, all_of, first_of, matches_of, one_of}
 use Rattle.command_line.specs.declared.words.ServerOrder.{ServerOrder}
 use Rattle.command_line.specs.CommandLine.{roster_rule}
 use Rattle.command_line.specs.Order.{IsNumber, Writes, number_of}
-use Rattle.command_line.specs.ServerLine.{IsAddress, IsDefaultOrder, IsFlag, IsNumberIfGiven, IsServerOrder, address_rule, port_rule, turns_rule, clients_rule, track_rule, quiet_rule, page_rule, page_file_rule, lose_rule, seed_rule, bare_server_app, listening_app, paced_app, printed_app, shown_app, server_app}
+use Rattle.command_line.specs.ServerLine.{AreHosts, IsAddress, IsDefaultOrder, IsFlag, IsNumberIfGiven, IsServerOrder, address_rule, port_rule, turns_rule, clients_rule, track_rule, quiet_rule, page_rule, page_file_rule, host_rule, lose_rule, seed_rule, bare_server_app, listening_app, paced_app, printed_app, shown_app, server_app}
 
 -- clap's matches of no arguments
 record HasDefaults (rows : List Row) : Type 0 where
@@ -25,12 +25,13 @@ record HasDefaults (rows : List Row) : Type 0 where
   pub quiet : one_of (codes "quiet") rows ≡ Some (codes "false")
   pub page : one_of (codes "page") rows ≡ None
   pub page_file : first_of (codes "page-file") rows ≡ None
+  pub hosts : all_of (codes "host") rows ≡ None
   pub lose : one_of (codes "lose") rows ≡ Some (codes "0")
   pub seed : one_of (codes "seed") rows ≡ Some (codes "0")
 
 no_words : HasDefaults (matches_of server_app [])
-unfolding roster_rule address_rule port_rule turns_rule clients_rule track_rule quiet_rule page_rule page_file_rule lose_rule seed_rule bare_server_app listening_app paced_app printed_app shown_app server_app
-no_words = record { address = refl; port = refl; roster = refl; turns = refl; clients = refl; track = refl; quiet = refl; page = refl; page_file = refl; lose = refl; seed = refl }
+unfolding roster_rule address_rule port_rule turns_rule clients_rule track_rule quiet_rule page_rule page_file_rule host_rule lose_rule seed_rule bare_server_app listening_app paced_app printed_app shown_app server_app
+no_words = record { address = refl; port = refl; roster = refl; turns = refl; clients = refl; track = refl; quiet = refl; page = refl; page_file = refl; hosts = refl; lose = refl; seed = refl }
 
 number_is : (read : Option Text) (text : Text) (least most n : ℕ) → IsNumber read least most n → read ≡ Some text → n ≡ number_of text
 number_is read text least most n is same =
@@ -41,6 +42,11 @@ number_is_none : (read : Option Text) (least most : ℕ) (given : Option ℕ) �
 number_is_none read least most given is same =
     let P : Option Text → Type 0 = λ o. IsNumberIfGiven o least most given in
     subst P same is
+
+hosts_are_none : (read : Option (List Text)) (hosts : List (String Global)) → AreHosts read (map (λ host. string_bytes host) hosts) → read ≡ None → hosts ≡ []
+hosts_are_none read [] is same = refl
+hosts_are_none None (host ∷ hosts) is same = absurd cc
+hosts_are_none (Some names) (host ∷ hosts) is same = absurd cc
 
 flag_is : (read : Option Text) (flag : Bool) → IsFlag read flag → read ≡ Some (codes "false") → flag ≡ false
 flag_is read false is same = refl
@@ -75,6 +81,7 @@ defaults rows order has is = record {
   prints_log = flag_is _ order.quiet is.keeps_quiet has.quiet;
   without_page = number_is_none _ 0 65535 order.page is.at_page has.page;
   without_page_file = is.with_page ∙ has.page_file;
+  without_hosts = hosts_are_none _ order.hosts.items is.by_hosts has.hosts;
   loses_none = number_is _ (codes "0") 0 99 order.lose is.share_lost has.lose;
   with_seed = number_is _ (codes "0") 0 4294967295 order.seed is.with_seed has.seed;
 }

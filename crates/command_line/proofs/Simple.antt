@@ -4,14 +4,14 @@ use Rattle.clap.specs.Words.{Text, is_simple_and_free}
 use Rattle.command_line.specs.CommandLine.{roster_rule, lines_rule, file_rule, port_rule, turns_rule, reads_rule, connections_rule, replay_app, monitor_app, served_app, serve_app, bare_app, station_app}
 use Rattle.command_line.specs.FilterLine.{source_rule, bare_filter_app, filter_app}
 use Rattle.command_line.specs.ServerLine as server
-use Rattle.command_line.specs.ServerLine.{address_rule, clients_rule, track_rule, quiet_rule, page_rule, page_file_rule, lose_rule, seed_rule, bare_server_app, listening_app, paced_app, printed_app, shown_app, server_app}
+use Rattle.command_line.specs.ServerLine.{address_rule, clients_rule, track_rule, quiet_rule, page_rule, page_file_rule, host_rule, lose_rule, seed_rule, bare_server_app, listening_app, paced_app, printed_app, shown_app, server_app}
 
 pub is_simple_command : is_simple_and_free station_app ≡ true
 unfolding roster_rule lines_rule file_rule port_rule turns_rule reads_rule connections_rule replay_app monitor_app served_app serve_app bare_app station_app
 is_simple_command = refl
 
 pub is_simple_server_command : is_simple_and_free server_app ≡ true
-unfolding roster_rule address_rule server.port_rule server.turns_rule clients_rule track_rule quiet_rule page_rule page_file_rule lose_rule seed_rule bare_server_app listening_app paced_app printed_app shown_app server_app
+unfolding roster_rule address_rule server.port_rule server.turns_rule clients_rule track_rule quiet_rule page_rule page_file_rule host_rule lose_rule seed_rule bare_server_app listening_app paced_app printed_app shown_app server_app
 is_simple_server_command = refl
 
 pub is_simple_filter_command : (name : Text) → is_simple_and_free (filter_app name) ≡ true

@@ -1,11 +1,13 @@
 -- The command line of `lbserver`, as clap reads it, and its order: what clap's matches of its
 -- arguments hold.
-use Rattle.std.specs.Prelude.{◌≡◌, ℕ, List, codes, Bool, if◌then◌else◌, Option, Some, None, true, false, [], ◌∷◌}
+use Rattle.std.specs.Prelude.{◌≡◌, ◌≢◌, ◌==◌, ◌&&◌, ◌||◌, ℕ, List, codes, length, map, nat_lt, string_bytes, Bool, IsTrue, if◌then◌else◌, Option, Some, None, true, false, [], ◌∷◌}
+use Rattle.std.specs.List.{list_all}
+use Rattle.std.specs.Char.{is_ascii_alphanumeric}
 use Rattle.std.specs.Net.Addr.{ipv4_octets}
 use Rattle.std.specs.Net.Grammar.{IsIpv4Text}
 use Rattle.std.specs.declared.net.ipv4_addr.Ipv4Addr.{Ipv4Addr}
-use Rattle.clap.specs.Words.{App, Row, Rule, Text, first_of, matches_of, new_app, new_rule, one_of, with_rule}
-use Rattle.clap.specs.declared.builder.ArgAction.TheVariants.{SetTrue}
+use Rattle.clap.specs.Words.{App, Row, Rule, Text, all_of, first_of, matches_of, new_app, new_rule, one_of, with_rule}
+use Rattle.clap.specs.declared.builder.ArgAction.TheVariants.{Append, SetTrue}
 use Rattle.command_line.specs.declared.words.ServerOrder.{ServerOrder}
 use Rattle.command_line.specs.CommandLine.{number, option, or_else, roster_rule}
 use Rattle.command_line.specs.Order.{IsNumber}
@@ -46,6 +48,9 @@ page_rule = number (codes "page") 0 65535
 unfoldable pub page_file_rule : Rule
 page_file_rule = option (codes "page-file")
 
+unfoldable pub host_rule : Rule
+host_rule = record (option (codes "host")) { action = Some Append }
+
 -- The program, whose arguments do not include its name.
 
 unfoldable pub bare_server_app : App
@@ -61,7 +66,7 @@ unfoldable pub printed_app : App
 printed_app = with_rule (with_rule paced_app track_rule) quiet_rule
 
 unfoldable pub shown_app : App
-shown_app = with_rule (with_rule printed_app page_rule) page_file_rule
+shown_app = with_rule (with_rule (with_rule printed_app page_rule) page_file_rule) host_rule
 
 unfoldable pub server_app : App
 server_app = with_rule (with_rule shown_app lose_rule) seed_rule
@@ -83,6 +88,18 @@ IsNumberIfGiven (Some text) least most (Some n) = IsNumber (Some text) least mos
 abbrev pub IsFlag : Option Text → Bool → Type 0
 IsFlag text flag = text ≡ Some (if flag then codes "true" else codes "false")
 
+-- a host name: letters, digits, hyphens and dots (RFC 952, RFC 1123, section 2.1)
+abbrev pub is_host_byte : ℕ → Bool
+is_host_byte b = is_ascii_alphanumeric b || b == 45 || b == 46
+
+abbrev pub is_host_name : Text → Bool
+is_host_name name = nat_lt 0 (length name) && list_all is_host_byte name
+
+-- the names that the values of a repeated option are
+abbrev pub AreHosts : Option (List Text) → List Text → Type 0
+AreHosts None hosts = hosts ≡ []
+AreHosts (Some names) hosts = (hosts ≡ names) × IsTrue (list_all is_host_name names)
+
 pub record IsServerOrder (rows : List Row) (order : ServerOrder) : Type 0 where
   pub at_address : IsAddress (one_of (codes "address") rows) order.address
   pub at_port : IsNumber (one_of (codes "port") rows) 0 65535 order.port
@@ -93,6 +110,8 @@ pub record IsServerOrder (rows : List Row) (order : ServerOrder) : Type 0 where
   pub keeps_quiet : IsFlag (one_of (codes "quiet") rows) order.quiet
   pub at_page : IsNumberIfGiven (one_of (codes "page") rows) 0 65535 order.page
   pub with_page : order.page_file ≡ first_of (codes "page-file") rows
+  pub for_its_page : first_of (codes "page-file") rows ≢ None → one_of (codes "page") rows ≢ None
+  pub by_hosts : AreHosts (all_of (codes "host") rows) (map (λ host. string_bytes host) order.hosts.items)
   pub share_lost : IsNumber (one_of (codes "lose") rows) 0 99 order.lose
   pub with_seed : IsNumber (one_of (codes "seed") rows) 0 4294967295 order.seed
 
@@ -110,5 +129,6 @@ pub record IsDefaultOrder (order : ServerOrder) : Type 0 where
   pub prints_log : order.quiet ≡ false
   pub without_page : order.page ≡ None
   pub without_page_file : order.page_file ≡ None
+  pub without_hosts : order.hosts.items ≡ []
   pub loses_none : order.lose ≡ 0
   pub with_seed : order.seed ≡ 0

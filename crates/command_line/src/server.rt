@@ -1,17 +1,18 @@
 //! Parsing the command line of `lbserver`.
-ghost use Rattle.std.specs.Prelude.{◌≡◌, [], IfErr, IfOk, MatchOption, map};
-ghost use Rattle.clap.specs.Words.{fault_of, found_of, one_of, rows_of};
+ghost use Rattle.std.specs.Prelude.{◌≡◌, [], IfErr, IfOk, MatchOption, codes, map, option_map, string_bytes};
+ghost use Rattle.std.specs.List.{list_all};
+ghost use Rattle.clap.specs.Words.{all_of, fault_of, found_of, one_of, rows_of};
 ghost use Rattle.command_line.specs.Fault.{IsOfKind, IsServerFault, IsUnmatched};
 ghost use Rattle.command_line.specs.Order.{HasNone};
 ghost use Rattle.command_line.specs.Requests.{IsRequestedBy};
-ghost use Rattle.command_line.specs.ServerLine.{IsAddress, IsDefaultOrder, IsFlag, IsNumberIfGiven, IsServerOrder, IsServerOrderOf, server_app};
+ghost use Rattle.command_line.specs.ServerLine.{AreHosts, IsAddress, IsDefaultOrder, IsFlag, IsNumberIfGiven, IsServerOrder, IsServerOrderOf, is_host_byte, is_host_name, server_app};
 
 use crate::orders::{OrderFault, file_name, matches_of, not_utf8, number, text, usage};
 use crate::server_command::server_command;
 use crate::words::ServerOrder;
 use clap::ArgMatches;
 use clap::error::ErrorKind;
-use std::alloc::Global;
+use std::alloc::{AllocError, Global};
 use std::net::Ipv4Addr;
 
 /// Returns the address of an option, if its value is one.
@@ -82,6 +83,98 @@ pub fn not_utf8_server_text(alloc: Global) -> OrderFault
     not_utf8(server_command(alloc))
 }
 
+/// Returns the names of the repeated option `--host`. One that is no host name is a fault.
+fn hosts(alloc: Global, found: &ArgMatches<'_>) -> Result<Vec<String>, OrderFault>
+    ensures hosts { IfOk result
+        (λ hosts. AreHosts (all_of (codes "host") (rows_of (found_of found.now)))
+        (map (λ host. string_bytes host) hosts.items)) }
+    ensures fault { IfErr result
+        (IsUnmatched (AreHosts (all_of (codes "host") (rows_of (found_of found.now))))) }
+{
+    let Some(names) = values(found, "host") else {
+        return Ok(Vec::new(alloc));
+    };
+    if !are_host_names(names) {
+        return Err(no_host_name(alloc));
+    }
+    Ok(copied(alloc, names)?)
+}
+
+/// The values of an option that may be repeated.
+#[tactic(auto, using(crate::proofs::Found::all_in_rows))]
+fn values<'f, 'a>(found: &'f ArgMatches<'a>, id: &str) -> Option<&'f [&'a str]>
+    ensures { option_map (λ values. map (λ value. value.now) values.now) result
+        ≡ all_of id.now (rows_of (found_of found.now)) }
+{
+    found.get_strs(id)
+}
+
+/// Whether each of these is a host name.
+fn are_host_names(names: &[&str]) -> bool
+    ensures { result ≡ list_all is_host_name (map (λ name. name.now) names.now) }
+{
+    for name in names {
+        if !is_host_name(name.as_bytes()) {
+            return false;
+        }
+    }
+    true
+}
+
+/// Whether a name has letters, digits, hyphens and dots alone, and any.
+fn is_host_name(name: &[u8]) -> bool
+    ensures { result ≡ is_host_name name.now }
+{
+    !name.is_empty() && are_host_bytes(name)
+}
+
+fn are_host_bytes(bytes: &[u8]) -> bool
+    ensures { result ≡ list_all is_host_byte bytes.now }
+{
+    bytes.iter().all(|byte| is_host_byte(*byte))
+}
+
+fn is_host_byte(byte: u8) -> bool
+    ensures { result ≡ is_host_byte byte }
+{
+    byte.is_ascii_alphanumeric() || byte == b'-' || byte == b'.'
+}
+
+/// Copies texts.
+fn copied(alloc: Global, texts: &[&str]) -> Result<Vec<String>, AllocError>
+    ensures { IfOk result
+        (λ copies. map (λ copy. string_bytes copy) copies.items
+        ≡ map (λ text. text.now) texts.entry.now) }
+{
+    let mut copies = Vec::new(alloc);
+    for text in texts {
+        copies.push(String::from_str(alloc, text)?)?;
+    }
+    Ok(copies)
+}
+
+// Clap accepts any text as a name.
+fn no_host_name(alloc: Global) -> OrderFault
+    ensures { IsOfKind ErrorKind.ValueValidation result }
+{
+    usage(
+        server_command(alloc),
+        ErrorKind::ValueValidation,
+        "the host is no name: letters, digits, hyphens and dots, without a port",
+    )
+}
+
+// A file without a page.
+fn no_page(alloc: Global) -> OrderFault
+    ensures { IsOfKind ErrorKind.ValueValidation result }
+{
+    usage(
+        server_command(alloc),
+        ErrorKind::ValueValidation,
+        "--page-file needs --page",
+    )
+}
+
 fn matched(alloc: Global, found: &ArgMatches<'_>) -> Result<ServerOrder, OrderFault>
     ensures order { IfOk result (IsServerOrder (rows_of (found_of found.now))) }
     ensures fault { IfErr result (IsUnmatched (IsServerOrder (rows_of (found_of found.now)))) }
@@ -98,6 +191,9 @@ fn matched(alloc: Global, found: &ArgMatches<'_>) -> Result<ServerOrder, OrderFa
     ) else {
         return Err(out_of_range(alloc));
     };
+    if text(found, "page-file").is_some() && text(found, "page").is_none() {
+        return Err(no_page(alloc));
+    }
     Ok(ServerOrder {
         address,
         port: port as u16,
@@ -108,6 +204,7 @@ fn matched(alloc: Global, found: &ArgMatches<'_>) -> Result<ServerOrder, OrderFa
         quiet,
         page: number_if_given(alloc, found, "page", 0, 65_535)?.map(|port| port as u16),
         page_file: file_name(alloc, found, "page-file")?,
+        hosts: hosts(alloc, found)?,
         lose: lose as u8,
         seed,
     })

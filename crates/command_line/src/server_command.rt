@@ -2,7 +2,7 @@
 ghost use Rattle.std.specs.Prelude.{◌≡◌, false};
 ghost use Rattle.clap.specs.Words.{rule_of};
 ghost use Rattle.command_line.specs.CommandLine.{HasApp, HasNoGlobals};
-ghost use Rattle.command_line.specs.ServerLine.{flag, address_rule, port_rule, turns_rule, clients_rule, track_rule, quiet_rule, page_rule, page_file_rule, lose_rule, seed_rule, bare_server_app, listening_app, paced_app, printed_app, shown_app, server_app};
+ghost use Rattle.command_line.specs.ServerLine.{flag, address_rule, port_rule, turns_rule, clients_rule, track_rule, quiet_rule, page_rule, page_file_rule, host_rule, lose_rule, seed_rule, bare_server_app, listening_app, paced_app, printed_app, shown_app, server_app};
 
 use crate::command::{Draft, number, option, roster, with_arg};
 use crate::version::VERSION;
@@ -101,6 +101,17 @@ fn page_file<'a>(alloc: Global) -> Arg<'a>
     )
 }
 
+/// The option `--host NAME`, which may be repeated.
+#[tactic(auto, unfolding(crate::specs::ServerLine::host_rule))]
+fn host<'a>(alloc: Global) -> Arg<'a>
+    ensures rule { rule_of result ≡ host_rule }
+    ensures local { result.global ≡ false }
+{
+    option(alloc, "host", "NAME").action(ArgAction::Append).help(
+        "A name by which browsers reach the page, besides localhost and IP addresses; may be repeated",
+    )
+}
+
 /// The option `--lose N`.
 #[tactic(auto, unfolding(crate::specs::ServerLine::lose_rule))]
 fn lose<'a>(alloc: Global) -> Arg<'a>
@@ -168,7 +179,8 @@ fn shown<'a>(alloc: Global) -> Draft<'a>
     ensures app { HasApp result shown_app }
     ensures local { HasNoGlobals result }
 {
-    with_arg(with_arg(printed(alloc), page(alloc)), page_file(alloc))
+    let page = with_arg(with_arg(printed(alloc), page(alloc)), page_file(alloc));
+    with_arg(page, host(alloc))
 }
 
 /// The whole command line.

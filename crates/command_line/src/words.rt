@@ -96,6 +96,8 @@ pub struct ServerOrder {
     pub page: Option<u16>,
     /// The file of the page. Without it, the page of the repository is served.
     pub page_file: Option<FileName>,
+    /// The names by which browsers reach the page, besides `localhost` and IP addresses.
+    pub hosts: Vec<String>,
     /// How many of 100 packets each decoder misses, 0 to 99.
     pub lose: u8,
     /// The seed of the generator that draws the missed packets, any 32-bit number.

@@ -41,10 +41,16 @@ impl<'a, R: Net + AllocGlobal + Clock> Clients<'a, R> {
         })
     }
 
-    /// Serves this page on an address and a port.
-    pub(crate) fn bind_page(&mut self, address: SocketAddr, page: &[u8]) -> io::Result<()> {
+    /// Serves this page on an address and a port, and by these names.
+    pub(crate) fn bind_page(
+        &mut self,
+        address: SocketAddr,
+        page: &[u8],
+        names: Vec<String>,
+    ) -> io::Result<()> {
         let listener = TcpListener::bind(self.clock, address)?;
-        self.sockets.serve_page(self.clock.alloc(), listener, page)
+        self.sockets
+            .serve_page(self.clock.alloc(), listener, page, names)
     }
 
     /// Closes all connections and the ports.

@@ -18,6 +18,7 @@ use console::{RunFault, read_roster, read_whole};
 use roster::Roster;
 use sockets::{Sockets, Stopwatch, Ticking};
 use std::io::Write;
+use std::mem;
 use std::net::SocketAddr;
 use std::time::Duration;
 
@@ -150,7 +151,8 @@ fn with_page<O: Write>(
 {
     if let Some(page) = order.page {
         let address = SocketAddr::from((order.address, page));
-        bind_page(rt, clients, address, order.page_file.take())?;
+        let names = mem::replace(&mut order.hosts, Vec::new(rt.alloc()));
+        bind_page(rt, clients, address, order.page_file.take(), names)?;
     }
     with_log(rt, order, roster, server, clients, output)
 }
@@ -184,17 +186,18 @@ fn with_log<O: Write>(
     served
 }
 
-/// Reads a page, and serves it.
+/// Reads a page, and serves it by these names.
 fn bind_page(
     rt: &HostRuntime,
     clients: &mut Clients<'_, HostRuntime>,
     address: SocketAddr,
     file: Option<FileName>,
+    names: Vec<String>,
 ) -> Result<(), ServerFault>
     ensures { ended_by_output result ≡ false }
 {
     let page = read_page(rt, file)?;
-    match clients.bind_page(address, page.as_slice()) {
+    match clients.bind_page(address, page.as_slice(), names) {
         Ok(()) => Ok(()),
         Err(error) => Err(ServerFault::of_bind(address, &error)),
     }

@@ -71,17 +71,17 @@ impl<S: Stream> HttpConnection<S> {
         self.exchange.time_left(now)
     }
 
-    /// Advances the exchange by at most one read or one write. `page` is the whole response that
-    /// holds the page.
+    /// Advances the exchange by at most one read or one write. The server is reached by these names,
+    /// and `page` is the whole response that holds the page.
     ///
     /// Returns `Blocked` only before the deadline; after it, sends status 408 or returns
     /// `Finished`.
-    pub fn advance(&mut self, page: &[u8], now: u64) -> Progress
+    pub fn advance(&mut self, names: &[String], page: &[u8], now: u64) -> Progress
         ensures in_time { result ≡ Blocked → now < self.new.exchange.deadline }
         ensures upgrades { result ≡ Upgraded → IsUpgraded self.new.exchange.stage }
     {
         let progress = match self.exchange.stage() {
-            Stage::ReadingRequest => self.receive(now),
+            Stage::ReadingRequest => self.receive(names, now),
             Stage::WritingResponse { .. } => self.send(page, now),
             Stage::Upgraded { .. } => Progress::Upgraded,
             Stage::Draining => self.drain(),
@@ -119,7 +119,7 @@ impl<S: Stream> HttpConnection<S> {
     }
 
     /// Reads bytes of the request.
-    fn receive(&mut self, now: u64) -> Progress
+    fn receive(&mut self, names: &[String], now: u64) -> Progress
         requires { self.old.exchange.stage ≡ ReadingRequest }
         ensures { result ≡ Upgraded → IsUpgraded self.new.exchange.stage }
     {
@@ -127,7 +127,7 @@ impl<S: Stream> HttpConnection<S> {
         let most = self.exchange.room().min(READ_SIZE);
         match self.stream.read(&mut room[..most]) {
             Ok(count) if count > 0 => {
-                self.exchange.receive(&room[..count], now);
+                self.exchange.receive(names, &room[..count], now);
                 Progress::Advanced
             }
             Err(error) if is_retryable(&error) => Progress::Blocked,

@@ -32,6 +32,8 @@ pub(crate) struct HttpServer {
     listener: TcpListener,
     /// The whole response that holds the page.
     page: Vec<u8>,
+    /// The names by which browsers reach it.
+    names: Vec<String>,
     http: [HttpSlot; MAX_EXCHANGES],
     /// An exchange advanced in the last round, and there may be more to do.
     has_backlog: bool,
@@ -40,11 +42,17 @@ pub(crate) struct HttpServer {
 impl HttpServer {
     /// Creates a server on this listener. `page` is the whole response that holds the page.
     /// Exchanges allocate no memory.
-    pub(crate) fn new(alloc: Global, listener: TcpListener, page: Vec<u8>) -> HttpServer {
+    pub(crate) fn new(
+        alloc: Global,
+        listener: TcpListener,
+        page: Vec<u8>,
+        names: Vec<String>,
+    ) -> HttpServer {
         HttpServer {
             alloc,
             listener,
             page,
+            names,
             http: [
                 HttpSlot::Free,
                 HttpSlot::Free,
@@ -97,7 +105,8 @@ impl HttpServer {
             if let HttpSlot::Free = slot {
                 accept(&self.listener, slot, registry, token, now);
             }
-            self.has_backlog |= advance(slot, self.alloc, self.page.as_slice(), now);
+            let names = self.names.as_slice();
+            self.has_backlog |= advance(slot, self.alloc, names, self.page.as_slice(), now);
         }
     }
 
@@ -150,11 +159,11 @@ fn accept(
 }
 
 /// Advances the exchange in a slot. Returns true if there may be more to do.
-fn advance(slot: &mut HttpSlot, alloc: Global, page: &[u8], now: u64) -> bool {
+fn advance(slot: &mut HttpSlot, alloc: Global, names: &[String], page: &[u8], now: u64) -> bool {
     let HttpSlot::Asked(connection) = slot else {
         return false;
     };
-    match connection.advance(page, now) {
+    match connection.advance(names, page, now) {
         Progress::Blocked => return false,
         Progress::Advanced => {}
         Progress::Upgraded => join(slot, alloc),

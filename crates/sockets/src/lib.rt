@@ -7,7 +7,7 @@
 //!
 //! ```ignore
 //! let mut sockets = Sockets::new(alloc, poll, listener)?;
-//! sockets.serve_page(alloc, page_listener, page)?;
+//! sockets.serve_page(alloc, page_listener, page, names)?;
 //! let watch = Stopwatch::new(clock)?;
 //! sockets.poll(clock, &watch, Some(1_000))?;
 //! ```

@@ -56,8 +56,8 @@ impl Sockets {
         })
     }
 
-    /// Serves a page to browsers on this listener, and accepts pages as clients. All memory is
-    /// allocated here.
+    /// Serves a page to browsers on this listener, and accepts pages as clients. Browsers reach it by
+    /// an IP address, as `localhost`, or by one of these names. All memory is allocated here.
     ///
     /// # Errors
     ///
@@ -67,11 +67,12 @@ impl Sockets {
         alloc: Global,
         listener: TcpListener,
         page: &[u8],
+        names: Vec<String>,
     ) -> io::Result<()> {
         let reply = page_reply(alloc, page)?;
         let mut listener = listener;
         register_listener(&mut listener, self.poll.registry(), MAX_CLIENTS + 1)?;
-        self.http = Some(HttpServer::new(alloc, listener, reply));
+        self.http = Some(HttpServer::new(alloc, listener, reply, names));
         Ok(())
     }
 

@@ -89,24 +89,24 @@ whole-few (b ∷ text) = elim (cases_Bool (is_open (b ∷ text))) [
 
 -- ---- a whole head
 
-pub head_answered : (text lines more : List ℕ) (h : RequestHead) (rest : List ℕ) (a : Response)
-    → lines_so_far text ≡ lines ++ more → ReadsRequest lines h rest → IsResponseToHead h a → IsResponse text a
-head_answered text lines more h rest a is reads good =
+pub head_answered : (names : List (List ℕ)) (text lines more : List ℕ) (h : RequestHead) (rest : List ℕ) (a : Response)
+    → lines_so_far text ≡ lines ++ more → ReadsRequest lines h rest → IsResponseToHead names h a → IsResponse names text a
+head_answered names text lines more h rest a is reads good =
     let here : ReadsRequest (lines_so_far text) h (rest ++ more) = subst (λ (l : List ℕ). ReadsRequest l h (rest ++ more)) (sym is) (ReadsRequest-append lines h rest more reads) in
     record {
-      whole = λ k q other. subst (λ (k : RequestHead). IsResponseToHead k a) (request_unique (lines_so_far text) h k (rest ++ more) q here other).0 good;
+      whole = λ k q other. subst (λ (k : RequestHead). IsResponseToHead names k a) (request_unique (lines_so_far text) h k (rest ++ more) q here other).0 good;
       hopeless = λ never. absurd (never [] h ((rest ++ more) ++ []) (ReadsRequest-append (lines_so_far text) h (rest ++ more) [] here));
       waiting = λ none _. absurd (none h (rest ++ more) here);
     }
 
-pub answer_by_parts : {m m2 t t2 : List ℕ} {v v2 : ℕ} {f f2 : Fields} {l l2 : ℕ} (a : Response)
-    → m ≡ m2 → t ≡ t2 → v ≡ v2 → f ≡ f2 → l ≡ l2 → IsResponseTo m t v f l a → IsResponseTo m2 t2 v2 f2 l2 a
-answer_by_parts {m} {m2} {t} {t2} {v} {v2} {f} {f2} {l} {l2} a method target minor fields len good =
-    subst (λ (x : ℕ). IsResponseTo m2 t2 v2 f2 x a) len
-    (subst (λ (x : Fields). IsResponseTo m2 t2 v2 x l a) fields
-    (subst (λ (x : ℕ). IsResponseTo m2 t2 x f l a) minor
-    (subst (λ (x : List ℕ). IsResponseTo m2 x v f l a) target
-    (subst (λ (x : List ℕ). IsResponseTo x t v f l a) method good))))
+pub answer_by_parts : {m m2 t t2 : List ℕ} {v v2 : ℕ} {f f2 : Fields} {l l2 : ℕ} (names : List (List ℕ)) (a : Response)
+    → m ≡ m2 → t ≡ t2 → v ≡ v2 → f ≡ f2 → l ≡ l2 → IsResponseTo names m t v f l a → IsResponseTo names m2 t2 v2 f2 l2 a
+answer_by_parts {m} {m2} {t} {t2} {v} {v2} {f} {f2} {l} {l2} names a method target minor fields len good =
+    subst (λ (x : ℕ). IsResponseTo names m2 t2 v2 f2 x a) len
+    (subst (λ (x : Fields). IsResponseTo names m2 t2 v2 x l a) fields
+    (subst (λ (x : ℕ). IsResponseTo names m2 t2 x f l a) minor
+    (subst (λ (x : List ℕ). IsResponseTo names m2 x v f l a) target
+    (subst (λ (x : List ℕ). IsResponseTo names x t v f l a) method good))))
 
 -- ---- an incomplete head
 
@@ -165,9 +165,9 @@ lines_no_target : (text : List ℕ) → ¬ (EndsInTarget (lines_so_far text))
 unfolding lines_so_far
 lines_no_target text = no_target (take 8192 text)
 
-pub waiting_answered : (text lines : List ℕ) (a : Response) → lines_so_far text ≡ lines → HasNoRequest lines → MayBecomeRequest lines
-    → a ≡ unfinished text → IsResponse text a
-waiting_answered text lines a is none may same =
+pub waiting_answered : (names : List (List ℕ)) (text lines : List ℕ) (a : Response) → lines_so_far text ≡ lines → HasNoRequest lines → MayBecomeRequest lines
+    → a ≡ unfinished text → IsResponse names text a
+waiting_answered names text lines a is none may same =
     record {
       whole = λ h rest reads. absurd (none h rest (subst (λ (l : List ℕ). ReadsRequest l h rest) is reads));
       hopeless = λ never. absurd (still (subst NeverHasRequest is never) may);
@@ -199,18 +199,18 @@ refused_long text a same now = elim (cases_lt (length text) 8192) [
   | inr long ↦ (same ∙ sym (unfinished-long text long), long)
 ]
 
-pub waiting_stands : (text lines : List ℕ) (a : Response) → lines_so_far text ≡ lines → HasNoRequest lines → MayBecomeRequest lines
-    → a ≡ unfinished text → a ≢ Incomplete → (more : List ℕ) → IsResponse (text ++ more) a
-waiting_stands text lines a is none may same now more =
+pub waiting_stands : (names : List (List ℕ)) (text lines : List ℕ) (a : Response) → lines_so_far text ≡ lines → HasNoRequest lines → MayBecomeRequest lines
+    → a ≡ unfinished text → a ≢ Incomplete → (more : List ℕ) → IsResponse names (text ++ more) a
+waiting_stands names text lines a is none may same now more =
     let refused = refused_long text a same now in
     let longer : 8192 ≤ length (text ++ more) = omega (arith, refused.1, length-append text more) in
-    subst (λ (b : Response). IsResponse (text ++ more) b) (sym refused.0)
-    (waiting_answered (text ++ more) lines (Error TooLong) (lines_full text more refused.1 ∙ is) none may (unfinished-long (text ++ more) longer))
+    subst (λ (b : Response). IsResponse names (text ++ more) b) (sym refused.0)
+    (waiting_answered names (text ++ more) lines (Error TooLong) (lines_full text more refused.1 ∙ is) none may (unfinished-long (text ++ more) longer))
 
 -- ---- not a head, whatever follows
 
-pub never_answered : (text lines more : List ℕ) → lines_so_far text ≡ lines ++ more → NeverHasRequest lines → IsResponse text (Error BadRequest)
-never_answered text lines more is never =
+pub never_answered : (names : List (List ℕ)) (text lines more : List ℕ) → lines_so_far text ≡ lines ++ more → NeverHasRequest lines → IsResponse names text (Error BadRequest)
+never_answered names text lines more is never =
     let none : NeverHasRequest (lines_so_far text) = λ z h rest reads.
     never (more ++ z) h rest (subst (λ (l : List ℕ). ReadsRequest l h rest) (ap (λ (l : List ℕ). l ++ z) is ∙ append_assoc lines more z) reads) in
     record {

@@ -5,3 +5,4 @@ mod Pieces
 mod Determined
 mod Sending
 mod Wholes
+pub mod Naming

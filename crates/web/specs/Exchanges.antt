@@ -32,9 +32,9 @@ responded (Error error) now exchange = record exchange { stage = WritingResponse
 
 -- Bytes of the request are received. The response is to all bytes received so far, however they
 -- were divided.
-abbrev pub Receives : List ℕ → (now : ℕ) → ExchangeState → ExchangeState → Type 0
-Receives bytes now old new =
-    (response : Response) × IsResponse (old.received ++ bytes) response × (new ≡ responded response now (record old { received = old.received ++ bytes }))
+abbrev pub Receives : (names : List (List ℕ)) → List ℕ → (now : ℕ) → ExchangeState → ExchangeState → Type 0
+Receives names bytes now old new =
+    (response : Response) × IsResponse names (old.received ++ bytes) response × (new ≡ responded response now (record old { received = old.received ++ bytes }))
 
 -- a response as text; `page` is the whole response that holds the page
 abbrev pub reply_text : (page : List ℕ) → Response → List ℕ

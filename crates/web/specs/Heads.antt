@@ -1,13 +1,14 @@
 -- The response to a request, by the parts of its head (RFC 9112, section 2.1).
-use Rattle.std.specs.Prelude.{◌≡◌, ℕ, Bool, ◌&&◌, not, if◌then◌else◌, nat_lt, List, length, codes, bytes_eq, Option, Some, None, IfSome, Result, Ok, Err}
+use Rattle.std.specs.Prelude.{◌≡◌, ℕ, Bool, ◌&&◌, not, true, false, if◌then◌else◌, nat_lt, List, length, codes, bytes_eq, Option, Some, None, MatchOption, Result, Ok, Err}
 use Rattle.websocket.specs.Headers.{Fields}
 use Rattle.websocket.specs.Handshake.{Answers, requested_key}
 use Rattle.websocket.specs.declared.handshake.failure.HandshakeError.{HandshakeError}
 use Rattle.web.specs.declared.http_response.Response.{Response}
 use Rattle.web.specs.declared.http_response.Response.TheVariants.{Page, Upgrade, Error}
 use Rattle.web.specs.declared.http_response.UpgradeRequest.{UpgradeRequest}
-use Rattle.web.specs.declared.http_response.HttpError.TheVariants.{BadRequest, Forbidden, NotFound, MethodNotAllowed, TooLong}
-use Rattle.web.specs.Origins.{IsOwnOrigin}
+use Rattle.web.specs.declared.http_response.HttpError.{HttpError}
+use Rattle.web.specs.declared.http_response.HttpError.TheVariants.{BadRequest, Forbidden, Misdirected, NotFound, MethodNotAllowed, TooLong}
+use Rattle.web.specs.Origins.{IsOwnHost, IsSameOrigin, host_of}
 
 -- the known paths, byte for byte
 abbrev pub is_page : List ℕ → Bool
@@ -16,14 +17,13 @@ is_page target = bytes_eq target (codes "/")
 abbrev pub is_bus : List ℕ → Bool
 is_bus target = bytes_eq target (codes "/bus")
 
--- The response, in this order: too many fields, an unknown path, another method, the page. None if
--- the WebSocket is requested.
-abbrev pub settled : (method target : List ℕ) → Fields → Option Response
-settled method target fields =
-    if nat_lt 64 (length fields) then Some (Error TooLong)
-    else if not (is_page target) && not (is_bus target) then Some (Error NotFound)
-    else if not (bytes_eq method (codes "GET")) then Some (Error MethodNotAllowed)
-    else if is_page target then Some Page
+-- Why a request is rejected whatever its host is, in this order: too many fields, an unknown path,
+-- another method.
+abbrev pub rejection : (method target : List ℕ) → Fields → Option HttpError
+rejection method target fields =
+    if nat_lt 64 (length fields) then Some TooLong
+    else if not (is_page target) && not (is_bus target) then Some NotFound
+    else if not (bytes_eq method (codes "GET")) then Some MethodNotAllowed
     else None
 
 -- upgraded with the key that answers the handshake, after a head of `len` bytes; or not a valid
@@ -37,8 +37,16 @@ abbrev pub HasUpgraded : (method : List ℕ) → (minor : ℕ) → Fields → (l
 HasUpgraded method minor fields len a =
     (checked : Result (List ℕ) HandshakeError) × Answers checked (requested_key method minor fields) × IsUpgradeOf len checked a
 
--- the response to a head of `len` bytes: the origin is checked before the handshake
-pub record IsResponseTo (method target : List ℕ) (minor : ℕ) (fields : Fields) (len : ℕ) (a : Response) : Type 0 where
-  pub settles : IfSome (settled method target fields) (λ b. a ≡ b)
-  pub foreign : settled method target fields ≡ None → ¬ (IsOwnOrigin fields) → a ≡ Error Forbidden
-  pub own : settled method target fields ≡ None → IsOwnOrigin fields → HasUpgraded method minor fields len a
+-- The response to a head of `len` bytes, for a server with these names, once nothing else rejects
+-- it: its host has to be the server's, and a WebSocket's origin has to be its host.
+pub record IsResponseToHost (names : List (List ℕ)) (method target : List ℕ) (minor : ℕ) (fields : Fields) (len : ℕ) (a : Response) : Type 0 where
+  pub hostless : host_of fields ≡ None → a ≡ Error BadRequest
+  pub misdirected : (host : List ℕ) → host_of fields ≡ Some host → ¬ (IsOwnHost names host) → a ≡ Error Misdirected
+  pub page : (host : List ℕ) → host_of fields ≡ Some host → IsOwnHost names host → is_page target ≡ true → a ≡ Page
+  pub foreign : (host : List ℕ) → host_of fields ≡ Some host → IsOwnHost names host → is_page target ≡ false → ¬ (IsSameOrigin host fields) → a ≡ Error Forbidden
+  pub own : (host : List ℕ) → host_of fields ≡ Some host → IsOwnHost names host → is_page target ≡ false → IsSameOrigin host fields → HasUpgraded method minor fields len a
+
+-- the response to a head of `len` bytes
+abbrev pub IsResponseTo : (names : List (List ℕ)) → (method target : List ℕ) → (minor : ℕ) → Fields → (len : ℕ) → Response → Type 0
+IsResponseTo names method target minor fields len a =
+    MatchOption (rejection method target fields) (IsResponseToHost names method target minor fields len a) (λ error. a ≡ Error error)

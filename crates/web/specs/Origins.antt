@@ -1,7 +1,7 @@
--- Which page may connect: one served by this server, by the origin that its browser sends (RFC
--- 6454, section 7).
-use Rattle.std.specs.Prelude.{◌≡◌, ◌⊎◌, ℕ, Bool, ◌&&◌, ◌==◌, if◌then◌else◌, nat_le, nat_lt, IsTrue, true, List, [], ◌∷◌, ◌++◌, length, take, drop, codes, bytes_eq, Option, Some, None}
-use Rattle.std.specs.List.{list_all}
+-- Which requests are for this server, by the host that they name (RFC 9110, section 7.2), and which
+-- page may connect: one that it served, by the origin that its browser sends (RFC 6454, section 7).
+use Rattle.std.specs.Prelude.{◌≡◌, ◌⊎◌, ℕ, Bool, ◌&&◌, ◌||◌, ◌==◌, if◌then◌else◌, nat_le, nat_lt, IsTrue, true, List, [], ◌∷◌, ◌++◌, length, take, drop, codes, Option, Some, None}
+use Rattle.std.specs.List.{list_all, list_any}
 use Rattle.std.specs.Char.{is_ascii_digit}
 use Rattle.std.specs.Net.Grammar.{IsIpv4Text, IsSocketV4Text}
 use Rattle.std.specs.declared.net.ipv4_addr.Ipv4Addr.{Ipv4Addr}
@@ -30,17 +30,24 @@ abbrev pub may_be_port : List ℕ → Bool
 may_be_port [] = true
 may_be_port (b ∷ digits) = b == 58 && is_port digits
 
-abbrev pub is_localhost : List ℕ → Bool
-is_localhost host = bytes_eq (take 9 host) (codes "localhost") && may_be_port (drop 9 host)
+-- This name, in capitals or not (RFC 9110, section 4.2.3), with an optional port.
+abbrev pub is_name : (name host : List ℕ) → Bool
+is_name name host = eq_ignore_case (take (length name) host) name && may_be_port (drop (length name) host)
 
--- A host that no other party's name can resolve to: an IPv4 address or localhost, with an optional
+-- localhost, or one of these names
+abbrev pub is_named : (names : List (List ℕ)) → (host : List ℕ) → Bool
+is_named names host = is_name (codes "localhost") host || list_any (λ name. is_name name host) names
+
+-- A host of this server: an IPv4 address, localhost, or a name that it was given, with an optional
 -- port. The owner of any other name can make it resolve to this computer.
-abbrev pub IsOwnHost : List ℕ → Type 0
-IsOwnHost host =
-    ((a : Ipv4Addr) × IsIpv4Text host a) ⊎ ((a : SocketAddrV4) × IsSocketV4Text host a) ⊎ IsTrue (is_localhost host)
+abbrev pub IsOwnHost : (names : List (List ℕ)) → List ℕ → Type 0
+IsOwnHost names host =
+    ((a : Ipv4Addr) × IsIpv4Text host a) ⊎ ((a : SocketAddrV4) × IsSocketV4Text host a) ⊎ IsTrue (is_named names host)
 
--- exactly one Host, here, and exactly one Origin, which has that host
-abbrev pub IsOwnOrigin : Fields → Type 0
-IsOwnOrigin fields =
-    (host : List ℕ) × (only (values_of (codes "Host") fields) ≡ Some host)
-    × (only (values_of (codes "Origin") fields) ≡ Some (codes "http://" ++ host)) × IsOwnHost host
+-- the one Host of a request (RFC 9112, section 3.2)
+abbrev pub host_of : Fields → Option (List ℕ)
+host_of fields = only (values_of (codes "Host") fields)
+
+-- exactly one Origin, which has this host and port
+abbrev pub IsSameOrigin : (host : List ℕ) → Fields → Type 0
+IsSameOrigin host fields = only (values_of (codes "Origin") fields) ≡ Some (codes "http://" ++ host)

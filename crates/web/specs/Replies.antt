@@ -2,7 +2,7 @@
 use Rattle.std.specs.Prelude.{ℕ, List, [], ◌++◌, length, codes}
 use Rattle.std.specs.Fmt.{decimal}
 use Rattle.web.specs.declared.http_response.HttpError.{HttpError}
-use Rattle.web.specs.declared.http_response.HttpError.TheVariants.{BadRequest, Forbidden, NotFound, MethodNotAllowed, TimedOut, TooLong}
+use Rattle.web.specs.declared.http_response.HttpError.TheVariants.{BadRequest, Forbidden, NotFound, MethodNotAllowed, TimedOut, Misdirected, TooLong}
 
 abbrev pub status_of : HttpError → ℕ
 status_of BadRequest = 400
@@ -10,6 +10,7 @@ status_of Forbidden = 403
 status_of NotFound = 404
 status_of MethodNotAllowed = 405
 status_of TimedOut = 408
+status_of Misdirected = 421
 status_of TooLong = 431
 
 -- the standard's name of the status; 431 is in RFC 6585, section 5
@@ -19,6 +20,7 @@ name_of Forbidden = codes "Forbidden"
 name_of NotFound = codes "Not Found"
 name_of MethodNotAllowed = codes "Method Not Allowed"
 name_of TimedOut = codes "Request Timeout"
+name_of Misdirected = codes "Misdirected Request"
 name_of TooLong = codes "Request Header Fields Too Large"
 
 -- the reason shown to the reader, a line
@@ -28,6 +30,7 @@ reason_of Forbidden = codes "Only a page of this server may join the bus.\n"
 reason_of NotFound = codes "There is nothing at this path.\n"
 reason_of MethodNotAllowed = codes "Only GET is answered.\n"
 reason_of TimedOut = codes "The request did not come to its end in time.\n"
+reason_of Misdirected = codes "This server does not know that name: --host NAME lets it in.\n"
 reason_of TooLong = codes "The head of the request is too long.\n"
 
 -- a response with status 405 lists the allowed methods (RFC 9110, section 15.5.6)

@@ -1,5 +1,5 @@
 //! An HTTP exchange: the request received so far and the response still to be written.
-ghost use Rattle.std.specs.Prelude.{◌≡◌, ◌<◌, ◌≤◌, ◌+◌, ◌-◌, ◌↔◌, [], drop, length, true};
+ghost use Rattle.std.specs.Prelude.{◌≡◌, ◌<◌, ◌≤◌, ◌+◌, ◌-◌, ◌↔◌, [], drop, length, map, string_bytes, true};
 ghost use Rattle.web.specs.declared.exchange.Stage.TheVariants.{ReadingRequest};
 ghost use Rattle.web.specs.Exchanges.{Receives, initial_exchange, leftover_of, remaining_text, reply_text, time_out, text_of, after_write};
 
@@ -103,15 +103,16 @@ impl HttpExchange {
         self.received.remaining_capacity()
     }
 
-    /// Receives bytes of the request. As soon as the bytes received determine the response, it is
-    /// due, with ten seconds to write it.
-    pub fn receive(&mut self, bytes: &[u8], now: u64)
+    /// Receives bytes of the request to a server of these names ([`response`]). As soon as the bytes
+    /// received determine the response, it is due, with ten seconds to write it.
+    pub fn receive(&mut self, names: &[String], bytes: &[u8], now: u64)
         requires reading { self.old.stage ≡ ReadingRequest }
         requires room { length self.old.received + length bytes.now ≤ 8192 }
-        ensures { Receives bytes.now now self.old self.new }
+        ensures { Receives (map (λ name. string_bytes name) names.now) bytes.now now self.old
+            self.new }
     {
         let _has_room = self.received.try_extend_from_slice(bytes);
-        match response(self.received.as_slice()) {
+        match response(names, self.received.as_slice()) {
             Response::Incomplete => {}
             response => {
                 self.head = head_of(&response);

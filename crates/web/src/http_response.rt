@@ -35,6 +35,8 @@ pub enum HttpError {
     Forbidden,
     /// 404: unknown path.
     NotFound,
+    /// 421: the request is for a host that is not this server's.
+    Misdirected,
     /// 405: a method other than `GET`.
     MethodNotAllowed,
     /// 408: the head was not complete in time. [`crate::response`] has no clock and never returns it.

@@ -7,7 +7,7 @@
 //!
 //! ```ignore
 //! let mut exchange = HttpExchange::new(now);
-//! exchange.receive(bytes, now);
+//! exchange.receive(names, bytes, now);
 //! let count = write(stream, exchange.remaining(page));
 //! exchange.sent(count, page, now);
 //! if let Stage::Upgraded { .. } = exchange.stage() {

@@ -36,6 +36,7 @@ impl HttpError {
             HttpError::NotFound => 404,
             HttpError::MethodNotAllowed => 405,
             HttpError::TimedOut => 408,
+            HttpError::Misdirected => 421,
             HttpError::TooLong => 431,
         }
     }
@@ -51,14 +52,15 @@ impl HttpError {
             HttpError::NotFound => b"Not Found",
             HttpError::MethodNotAllowed => b"Method Not Allowed",
             HttpError::TimedOut => b"Request Timeout",
+            HttpError::Misdirected => b"Misdirected Request",
             HttpError::TooLong => b"Request Header Fields Too Large",
         }
     }
 
-    /// The reason shown to the reader, a line of at most 45 bytes.
+    /// The reason shown to the reader, a line of at most 61 bytes.
     fn reason(self) -> &'static [u8]
         ensures reason { result.now ≡ reason_of self }
-        ensures most { length result.now ≤ 45 }
+        ensures most { length result.now ≤ 61 }
     {
         match self {
             HttpError::BadRequest => b"This is no request that can be answered.\n",
@@ -66,6 +68,9 @@ impl HttpError {
             HttpError::NotFound => b"There is nothing at this path.\n",
             HttpError::MethodNotAllowed => b"Only GET is answered.\n",
             HttpError::TimedOut => b"The request did not come to its end in time.\n",
+            HttpError::Misdirected => {
+                b"This server does not know that name: --host NAME lets it in.\n"
+            }
             HttpError::TooLong => b"The head of the request is too long.\n",
         }
     }

@@ -1,14 +1,14 @@
 //! The response to a request.
-ghost use Rattle.std.specs.Prelude.{◌≡◌, ◌≢◌, ◌<◌, ◌++◌, List, ℕ, length, take, IsTrue};
+ghost use Rattle.std.specs.Prelude.{◌≡◌, ◌≢◌, ◌<◌, ◌++◌, List, ℕ, length, map, string_bytes, take, IsTrue};
 ghost use Rattle.httparse.specs.Spans.{IsRequestWithin, span_bytes};
 ghost use Rattle.websocket.specs.Headers.{fields_of};
 ghost use Rattle.web.specs.declared.http_response.Response.TheVariants.{Incomplete};
 ghost use Rattle.web.specs.Responses.{IsResponse, unfinished};
-ghost use Rattle.web.specs.Heads.{IsResponseTo, HasUpgraded};
+ghost use Rattle.web.specs.Heads.{IsResponseTo, IsResponseToHost, HasUpgraded};
 ghost use Rattle.web.specs.Lines.{whole_lines};
 
 use crate::http_response::{HttpError, Response, UpgradeRequest};
-use crate::origin::is_own_origin;
+use crate::origin::{host, is_own_host, is_same_origin};
 use httparse::Status;
 use httparse::spans::{EMPTY_HEADER_SPAN, HeaderSpan, RequestSpans, parse_request};
 use memchr::memrchr;
@@ -23,25 +23,27 @@ pub const MAX_FIELDS: usize = 64;
 /// More fields than a head of [`MAX_HEAD`] bytes can have: a field has at least three bytes.
 const ROOM: usize = 2_731;
 
-/// Returns the response to a request whose bytes so far are `text`. Once it is other than
-/// [`Response::Incomplete`], it stays the same whatever follows, and however the text is divided into
-/// pieces.
+/// Returns the response to a request whose bytes so far are `text`, for a server that is reached by
+/// IP addresses, as `localhost` and by these names. Once it is other than [`Response::Incomplete`],
+/// it stays the same whatever follows, and however the text is divided into pieces.
 ///
 /// The head is examined up to its last whole line. A head of [`MAX_HEAD`] bytes that has not ended
 /// is rejected (431), as is a whole head of more than [`MAX_FIELDS`] fields; lines that cannot
 /// begin a request are rejected at once (400). The form of a request is given in RFC 9112, section
-/// 3.
-pub fn response(text: &[u8]) -> Response
-    ensures response { IsResponse text.now result }
+/// 3. A request without exactly one `Host` is rejected (400), and one for another name (421), so that
+/// no other name that resolves to this computer reaches the bus.
+pub fn response(names: &[String], text: &[u8]) -> Response
+    ensures response { IsResponse (map (λ name. string_bytes name) names.now) text.now result }
     // A final response does not change with further bytes.
-    ensures stands { result ≢ Incomplete → (more : List ℕ) → IsResponse (text.now ++ more) result }
+    ensures stands { result ≢ Incomplete → (more : List ℕ)
+        → IsResponse (map (λ name. string_bytes name) names.now) (text.now ++ more) result }
     // An incomplete head leaves room for more.
     ensures room { result ≡ Incomplete → length text.now < 8192 }
 {
     let lines = whole_lines(&text[..text.len().min(MAX_HEAD)]);
     let mut spans = [EMPTY_HEADER_SPAN; ROOM];
     match parse_request(lines, &mut spans) {
-        Ok(Status::Complete(request)) => route(lines, &request, &spans),
+        Ok(Status::Complete(request)) => route(names, lines, &request, &spans),
         Ok(Status::Partial) => unfinished(text),
         Err(_) => Response::Error(HttpError::BadRequest),
     }
@@ -69,9 +71,10 @@ fn whole_lines(text: &[u8]) -> &[u8]
 }
 
 /// The response to a whole head.
-fn route(lines: &[u8], request: &RequestSpans, spans: &[HeaderSpan]) -> Response
+fn route(names: &[String], lines: &[u8], request: &RequestSpans, spans: &[HeaderSpan]) -> Response
     requires { IsRequestWithin lines.now spans.now request.now }
-    ensures response { IsResponseTo (span_bytes lines.now request.now.method)
+    ensures response { IsResponseTo (map (λ name. string_bytes name) names.now)
+        (span_bytes lines.now request.now.method)
         (span_bytes lines.now request.now.path)
         request.now.version (fields_of lines.now (take request.now.headers spans.now))
         request.now.len result }
@@ -84,9 +87,35 @@ fn route(lines: &[u8], request: &RequestSpans, spans: &[HeaderSpan]) -> Response
         Response::Error(HttpError::NotFound)
     } else if request.method.of(lines) != b"GET".as_slice() {
         Response::Error(HttpError::MethodNotAllowed)
-    } else if path == b"/".as_slice() {
+    } else {
+        route_host(names, lines, request, spans)
+    }
+}
+
+/// The response to a head that only its host or its origin can reject.
+fn route_host(
+    names: &[String],
+    lines: &[u8],
+    request: &RequestSpans,
+    spans: &[HeaderSpan],
+) -> Response
+    requires { IsRequestWithin lines.now spans.now request.now }
+    ensures response { IsResponseToHost (map (λ name. string_bytes name) names.now)
+        (span_bytes lines.now request.now.method)
+        (span_bytes lines.now request.now.path)
+        request.now.version (fields_of lines.now (take request.now.headers spans.now))
+        request.now.len result }
+    ensures now { result ≢ Incomplete }
+{
+    let fields = &spans[..request.headers];
+    let Some(host) = host(lines, fields) else {
+        return Response::Error(HttpError::BadRequest);
+    };
+    if !is_own_host(names, host) {
+        Response::Error(HttpError::Misdirected)
+    } else if request.path.of(lines) == b"/".as_slice() {
         Response::Page
-    } else if is_own_origin(lines, &spans[..request.headers]) {
+    } else if is_same_origin(host, lines, fields) {
         upgrade_of(lines, request, spans)
     } else {
         Response::Error(HttpError::Forbidden)

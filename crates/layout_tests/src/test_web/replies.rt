@@ -55,7 +55,7 @@ fn a_handshake_has_the_standard_key(rt: HostRuntime) -> Result<(), Fail> {
     let text =
         b"GET /bus HTTP/1.1\r\nHost: 127.0.0.1\r\nUpgrade: websocket\r\nConnection: Upgrade\r\nSec-WebSocket-Key: dGhlIHNhbXBsZSBub25jZQ==\r\nOrigin: http://127.0.0.1\r\nSec-WebSocket-Version: 13\r\n\r\n";
     let mut head = Head::new();
-    match response(text) {
+    match response(&[], text) {
         Response::Upgrade(upgrade) => push_upgrade(&mut head, &upgrade),
         _ => assert!(rt; false),
     }

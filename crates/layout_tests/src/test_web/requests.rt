@@ -5,7 +5,7 @@ use web::{MAX_HEAD, Response, response};
 
 /// A status, or 0 for an incomplete request.
 fn status(text: &[u8]) -> u16 {
-    match response(text) {
+    match response(&[], text) {
         Response::Incomplete => 0,
         Response::Page => 200,
         Response::Upgrade(_) => 101,
@@ -14,11 +14,23 @@ fn status(text: &[u8]) -> u16 {
 }
 
 /// Whole requests, or lines that cannot begin one.
-const REQUESTS: [(&[u8], u16); 36] = [
+const REQUESTS: [(&[u8], u16); 41] = [
     (b"GET / HTTP/1.1\r\nHost: localhost:8080\r\n\r\n", 200),
-    (b"GET / HTTP/1.0\r\n\r\n", 200),
+    (b"GET / HTTP/1.0\r\nHost: 10.0.0.7\r\n\r\n", 200),
+    // No host, two of them, and that of another (RFC 9112, section 3.2; RFC 9110, section 15.5.20).
+    (b"GET / HTTP/1.1\r\n\r\n", 400),
+    (
+        b"GET / HTTP/1.1\r\nHost: localhost\r\nHost: localhost\r\n\r\n",
+        400,
+    ),
+    (b"GET / HTTP/1.1\r\nHost: \r\n\r\n", 421),
+    (b"GET / HTTP/1.1\r\nHost: station.local:8080\r\n\r\n", 421),
+    (
+        b"GET /bus HTTP/1.1\r\nHost: station.local:8080\r\nOrigin: http://station.local:8080\r\n\r\n",
+        421,
+    ),
     // A line may end in a line feed alone, and empty lines may come first (RFC 9112, section 2.2).
-    (b"\r\nGET / HTTP/1.1\n\n", 200),
+    (b"\r\nGET / HTTP/1.1\nHost: localhost\n\n", 200),
     (b"GET /?x HTTP/1.1\r\n\r\n", 404),
     (b"GET // HTTP/1.1\r\n\r\n", 404),
     (b"GET /bus/ HTTP/1.1\r\n\r\n", 404),
@@ -49,7 +61,10 @@ const REQUESTS: [(&[u8], u16); 36] = [
     (b"GET / HTTP/1.1\r\nHost: local\0host\r\n\r\n", 400),
     // A target that is not UTF-8, rejected where its line ends.
     (b"GET /\xff HTTP/1.1\r\n\r\n", 400),
-    (b"GET / HTTP/1.1\r\nCookie: a=\xff\xe9\r\n\r\n", 200),
+    (
+        b"GET / HTTP/1.1\r\nHost: localhost\r\nCookie: a=\xff\xe9\r\n\r\n",
+        200,
+    ),
     // The upgrade, without an origin and without a handshake.
     (b"GET /bus HTTP/1.1\r\nHost: localhost:8080\r\n\r\n", 403),
     (
@@ -94,10 +109,10 @@ fn requests_have_their_statuses(rt: HostRuntime) {
 /// Whether a text has the same response however it is divided: incomplete, and from some byte on
 /// its response.
 fn has_one_answer(text: &[u8]) -> bool {
-    let whole = response(text);
+    let whole = response(&[], text);
     let mut is_told = false;
     for end in 0..=text.len() {
-        let found = response(&text[..end]);
+        let found = response(&[], &text[..end]);
         if found == Response::Incomplete && !is_told {
             continue;
         }
@@ -130,10 +145,10 @@ const ORIGINS: [(&[u8], u16); 25] = [
     ),
     (b"HOST: 127.0.0.1\r\nORIGIN:http://127.0.0.1\r\n", 101),
     (b"Host: localhost:8080\r\n", 403),
-    (b"Origin: http://localhost:8080\r\n", 403),
+    (b"Origin: http://localhost:8080\r\n", 400),
     (
         b"Host: localhost\r\nHost: localhost\r\nOrigin: http://localhost\r\n",
-        403,
+        400,
     ),
     (
         b"Host: localhost\r\nOrigin: http://localhost\r\nOrigin: http://localhost\r\n",
@@ -167,27 +182,27 @@ const ORIGINS: [(&[u8], u16); 25] = [
     // A name that its owner has made resolve to this computer.
     (
         b"Host: evil.com:8080\r\nOrigin: http://evil.com:8080\r\n",
-        403,
+        421,
     ),
     (
         b"Host: 127.0.0.1.evil.com:8080\r\nOrigin: http://127.0.0.1.evil.com:8080\r\n",
-        403,
+        421,
     ),
     (
         b"Host: localhost.evil.com\r\nOrigin: http://localhost.evil.com\r\n",
-        403,
+        421,
     ),
-    (b"Host: localhost:\r\nOrigin: http://localhost:\r\n", 403),
+    (b"Host: localhost:\r\nOrigin: http://localhost:\r\n", 421),
     (
         b"Host: localhost:port\r\nOrigin: http://localhost:port\r\n",
-        403,
+        421,
     ),
     (
         b"Host: 127.0.0.1:65536\r\nOrigin: http://127.0.0.1:65536\r\n",
-        403,
+        421,
     ),
-    (b"Host: 127.1\r\nOrigin: http://127.1\r\n", 403),
-    (b"Host: \r\nOrigin: http://\r\n", 403),
+    (b"Host: 127.1\r\nOrigin: http://127.1\r\n", 421),
+    (b"Host: \r\nOrigin: http://\r\n", 421),
 ];
 
 #[test]
@@ -203,6 +218,41 @@ fn only_an_own_page_joins(rt: HostRuntime) -> Result<(), Fail> {
     Ok(())
 }
 
+/// A host and its origin, and whether a server of the names `station` and `Layout.Local` serves it.
+const NAMES: [(&[u8], &[u8], bool); 9] = [
+    (b"station", b"http://station", true),
+    (b"station:8080", b"http://station:8080", true),
+    (b"STATION:8080", b"http://STATION:8080", true),
+    (b"layout.local", b"http://layout.local", true),
+    (b"localhost:8080", b"http://localhost:8080", true),
+    (b"station.local", b"http://station.local", false),
+    (b"stat", b"http://stat", false),
+    (b"stations", b"http://stations", false),
+    (b"station:", b"http://station:", false),
+];
+
+#[test]
+fn a_server_has_names(rt: HostRuntime) -> Result<(), Fail> {
+    let mut names = Vec::new(rt.alloc());
+    names.push(String::from_str(rt.alloc(), "station")?)?;
+    names.push(String::from_str(rt.alloc(), "Layout.Local")?)?;
+    for (host, origin, is_served) in NAMES {
+        let mut text = Vec::new(rt.alloc());
+        text.extend_from_slice(b"GET /bus HTTP/1.1\r\nHost: ")?;
+        text.extend_from_slice(host)?;
+        text.extend_from_slice(b"\r\nOrigin: ")?;
+        text.extend_from_slice(origin)?;
+        text.extend_from_slice(b"\r\n")?;
+        text.extend_from_slice(HANDSHAKE)?;
+        let is_upgraded = matches!(
+            response(names.as_slice(), text.as_slice()),
+            Response::Upgrade(_)
+        );
+        assert!(rt; is_upgraded == is_served);
+    }
+    Ok(())
+}
+
 #[test]
 fn a_handshake_tells_how_long_its_head_is(rt: HostRuntime) -> Result<(), Fail> {
     let mut text = Vec::new(rt.alloc());
@@ -212,17 +262,17 @@ fn a_handshake_tells_how_long_its_head_is(rt: HostRuntime) -> Result<(), Fail> {
     text.extend_from_slice(HANDSHAKE)?;
     let length = text.len();
     text.extend_from_slice(b"\x81\x80\0\0\0\0")?;
-    match response(text.as_slice()) {
+    match response(&[], text.as_slice()) {
         Response::Upgrade(upgrade) => assert_eq!(rt; upgrade.head_length, length),
         _ => assert!(rt; false),
     }
     Ok(())
 }
 
-/// A request of one line and a number of fields of three bytes, and its end.
-fn with_fields(rt: &HostRuntime, count: usize) -> Result<Vec<u8>, Fail> {
+/// A request that begins with these lines, then a number of fields of three bytes, and its end.
+fn with_fields(rt: &HostRuntime, lines: &[u8], count: usize) -> Result<Vec<u8>, Fail> {
     let mut text = Vec::new(rt.alloc());
-    text.extend_from_slice(b"GET / HTTP/1.1\n")?;
+    text.extend_from_slice(lines)?;
     for _ in 0..count {
         text.extend_from_slice(b"a:\n")?;
     }
@@ -232,21 +282,23 @@ fn with_fields(rt: &HostRuntime, count: usize) -> Result<Vec<u8>, Fail> {
 
 #[test]
 fn a_head_has_so_many_fields(rt: HostRuntime) -> Result<(), Fail> {
-    assert_eq!(rt; status(with_fields(&rt, 64)?.as_slice()), 200);
-    assert_eq!(rt; status(with_fields(&rt, 65)?.as_slice()), 431);
+    let host = b"GET / HTTP/1.1\nHost: localhost\n".as_slice();
+    assert_eq!(rt; status(with_fields(&rt, host, 63)?.as_slice()), 200);
+    assert_eq!(rt; status(with_fields(&rt, host, 64)?.as_slice()), 431);
     // As many as fit into a head; one byte longer, it stays incomplete up to the limit.
-    let most = with_fields(&rt, 2_725)?;
+    let line = b"GET / HTTP/1.1\n".as_slice();
+    let most = with_fields(&rt, line, 2_725)?;
     assert_eq!(rt; most.len(), 8_191);
     assert_eq!(rt; status(most.as_slice()), 431);
-    assert_eq!(rt; status(with_fields(&rt, 2_726)?.as_slice()), 431);
+    assert_eq!(rt; status(with_fields(&rt, line, 2_726)?.as_slice()), 431);
     Ok(())
 }
 
 #[test]
 fn a_head_has_so_many_bytes(rt: HostRuntime) -> Result<(), Fail> {
     let mut text = Vec::new(rt.alloc());
-    text.extend_from_slice(b"GET / HTTP/1.1\r\nA: ")?;
-    for _ in 0..8_172 {
+    text.extend_from_slice(b"GET / HTTP/1.1\r\nHost: localhost\r\nA: ")?;
+    for _ in 0..8_155 {
         text.push(b'a')?;
     }
     assert_eq!(rt; text.len(), MAX_HEAD - 1);

@@ -24,12 +24,16 @@ const JOINED: &'static str =
 const GREETING: &'static str = "VERSION lbserver station";
 
 /// Requests, and the beginnings of their responses.
-const REPLIES: [(&'static [u8], &'static [&'static str]); 9] = [
+const REPLIES: [(&'static [u8], &'static [&'static str]); 10] = [
     (
         b"GET / HTTP/1.1\r\nHost: 127.0.0.1:8080\r\n\r\n",
         &[PAGE_REPLY],
     ),
-    (b"GET / HTTP/1.0\r\n\r\n", &[PAGE_REPLY]),
+    (b"GET / HTTP/1.0\r\nHost: localhost\r\n\r\n", &[PAGE_REPLY]),
+    (
+        b"GET / HTTP/1.1\r\nHost: station.local\r\n\r\n",
+        &["HTTP/1.1 421 Misdirected Request\r\n"],
+    ),
     (
         b"GET /index.html HTTP/1.1\r\n\r\n",
         &["HTTP/1.1 404 Not Found\r\n"],
@@ -88,7 +92,7 @@ fn a_request_in_every_cut(rt: HostRuntime) -> Result<(), Fail> {
 /// The page ends with its connection.
 const WHOLE_PAGE: &'static [Step] = &[
     Browses(0),
-    Writes(0, b"GET / HTTP/1.1\r\n\r\n"),
+    Writes(0, b"GET / HTTP/1.1\r\nHost: localhost\r\n\r\n"),
     Reads(0, &[PAGE_REPLY]),
     ReadsEnd(0),
 ];
@@ -178,7 +182,7 @@ fn wait_for_a_door<R: Place>(rt: &R, desk: &mut Desk<'_>) -> Result<(), Fail> {
     desk.play(
         rt,
         &[
-            Writes(16, b"GET / HTTP/1.1\r\n\r\n"),
+            Writes(16, b"GET / HTTP/1.1\r\nHost: localhost\r\n\r\n"),
             At(5_000_000, 4),
             At(6_000_000, 4),
             Reads(16, &[PAGE_REPLY]),

@@ -240,7 +240,8 @@ fn bound<R: Place>(rt: &R) -> Result<Sockets, Fail> {
     let listener = mio::net::TcpListener::bind(rt, loopback())?;
     let mut sockets = Sockets::new(rt.alloc(), poll, listener)?;
     let listener = mio::net::TcpListener::bind(rt, loopback())?;
-    sockets.serve_page(rt.alloc(), listener, PAGE.as_bytes())?;
+    let names = Vec::new(rt.alloc());
+    sockets.serve_page(rt.alloc(), listener, PAGE.as_bytes(), names)?;
     Ok(sockets)
 }
 

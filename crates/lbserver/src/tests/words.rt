@@ -132,7 +132,7 @@ fn orders(rt: HostRuntime) -> Result<(), Fail> {
 
 #[test]
 fn words_that_are_no_order(rt: HostRuntime) {
-    let rows: [&[&str]; 19] = [
+    let rows: [&[&str]; 23] = [
         &["--help"],
         &["help"],
         &["1234"],
@@ -141,6 +141,10 @@ fn words_that_are_no_order(rt: HostRuntime) {
         &["--address", "::1"],
         &["--address", ""],
         &["--port", "65536"],
+        &["--host", ""],
+        &["--host", "station:8080"],
+        &["--host", "http://station"],
+        &["--page-file", "a b.html"],
         &["--turns", "256"],
         &["--clients", "-1"],
         &["--clients", "4294967296"],
