@@ -14,6 +14,11 @@ pub is_simple_server_command : is_simple_and_free server_app ≡ true
 unfolding roster_rule address_rule server.port_rule server.turns_rule clients_rule track_rule quiet_rule page_rule page_file_rule host_rule lose_rule seed_rule bare_server_app listening_app paced_app printed_app shown_app server_app
 is_simple_server_command = refl
 
-pub is_simple_filter_command : (name : Text) → is_simple_and_free (filter_app name) ≡ true
+pub is_simple_filter_command : (text : FilterText) → is_simple_and_free (filter_app text) ≡ true
 unfolding source_rule bare_filter_app filter_app
-is_simple_filter_command name = refl
+is_simple_filter_command text = by_flag text.flag
+  where
+    by_flag : (option : Option FilterFlag) → is_simple_and_free (with_flag (flag_of option) (with_rule (bare_filter_app text.name.now) source_rule)) ≡ true
+    unfolding source_rule bare_filter_app
+    by_flag None = refl
+    by_flag (Some option) = refl

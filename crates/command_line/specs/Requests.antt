@@ -7,6 +7,7 @@ use Rattle.clap.specs.declared.error.kind.ErrorKind.{ErrorKind}
 use Rattle.clap.specs.declared.error.kind.ErrorKind.TheVariants.{DisplayHelp, DisplayVersion}
 use Rattle.command_line.specs.declared.orders.OrderFault.{OrderFault}
 use Rattle.command_line.specs.declared.orders.OrderFault.TheVariants.{Usage, NoMemory}
+use Rattle.command_line.specs.declared.filter_text.FilterText.{FilterText}
 use Rattle.command_line.specs.FilterLine.{filter_app}
 use Rattle.command_line.specs.ServerLine.{server_app}
 
@@ -32,5 +33,5 @@ IsRequestedBy kinds fault = is_request fault ≡ true → AsksForText kinds
 abbrev pub AsksServer : List Text → Type 0
 AsksServer words = AsksForText (fault_of server_app words)
 
-abbrev pub AsksFilter : (name : Text) → List Text → Type 0
-AsksFilter name words = AsksForText (fault_of (filter_app name) words)
+abbrev pub AsksFilter : FilterText → List Text → Type 0
+AsksFilter text words = AsksForText (fault_of (filter_app text) words)

@@ -1,40 +1,34 @@
 //! Parsing the command line of a filter: a program that reads a file or standard input, and writes
 //! to standard output.
 ghost use Rattle.std.specs.Prelude.{◌≡◌, [], IfErr, IfOk, map};
-ghost use Rattle.clap.specs.Words.{fault_of};
+ghost use Rattle.clap.specs.Words.{fault_of, found_of, rows_of};
 ghost use Rattle.clap.specs.declared.error.kind.ErrorKind.TheVariants.{InvalidValue};
 ghost use Rattle.command_line.specs.Fault.{IsOfKind, IsRejectedBy};
-ghost use Rattle.command_line.specs.FilterLine.{file_in, filter_app};
+ghost use Rattle.command_line.specs.FilterLine.{IsFilterOrder, IsFlagIn, filter_app, flag_of};
 ghost use Rattle.command_line.specs.Requests.{IsRequestedBy};
 
 use crate::filter_command::filter_command;
+use crate::filter_text::{FilterFlag, FilterOrder, FilterText};
 use crate::orders::{OrderFault, file_name, matches_of, not_utf8};
-use crate::words::FileName;
+use crate::server::flag;
+use clap::ArgMatches;
 use std::alloc::Global;
-
-/// What `--help` says of a filter.
-#[derive(Clone, Copy)]
-pub struct FilterText<'a> {
-    /// The name of the program.
-    pub name: &'a str,
-    /// What it does, in one line.
-    pub about: &'a str,
-    /// What it reads, and an example; they follow the arguments.
-    pub details: &'a str,
-}
-
-/// An order to a filter.
-#[derive(Debug, Drop)]
-pub struct FilterOrder {
-    /// The file to read. Without it standard input is read.
-    pub file: Option<FileName>,
-}
 
 /// Returns the text for an argument that is not UTF-8, followed by the usage of a filter.
 pub fn not_utf8_filter_text(alloc: Global, text: FilterText<'_>) -> OrderFault
     ensures kind { IsOfKind InvalidValue result }
 {
     not_utf8(filter_command(alloc, text))
+}
+
+/// Whether a flag is set, if there is one.
+fn is_set(found: &ArgMatches<'_>, text: Option<FilterFlag<'_>>) -> bool
+    ensures { IsFlagIn (flag_of text) (rows_of (found_of found.now)) result }
+{
+    match text {
+        Some(text) => flag(found, text.name) == Some(true),
+        None => false,
+    }
 }
 
 /// Parses the arguments of a filter, given without the program's name.
@@ -48,22 +42,23 @@ pub fn filter_order<'a>(
     text: FilterText<'a>,
     words: &'a [&'a str],
 ) -> Result<FilterOrder, OrderFault>
-    // The file is the one that clap's matches hold, if they hold one.
-    ensures order { IfOk result (λ order. order.file
-        ≡ file_in text.entry.name.now (map (λ word. word.now) words.entry.now)) }
+    // The order holds what clap's matches hold.
+    ensures order { IfOk result
+        (IsFilterOrder text.entry (map (λ word. word.now) words.entry.now)) }
     // Clap accepts the arguments of an order.
     ensures taken { IfOk result
-        (λ _. fault_of (filter_app text.entry.name.now) (map (λ word. word.now) words.entry.now) ≡ []) }
+        (λ _. fault_of (filter_app text.entry) (map (λ word. word.now) words.entry.now) ≡ []) }
     // `Usage` is returned only if clap rejects the arguments, and then with a kind for which it
     // does.
     ensures fault { IfErr result (IsRejectedBy
-        (fault_of (filter_app text.entry.name.now) (map (λ word. word.now) words.entry.now))) }
+        (fault_of (filter_app text.entry) (map (λ word. word.now) words.entry.now))) }
     // It is help or the version only if clap answers the arguments with it.
     ensures requested { IfErr result (IsRequestedBy
-        (fault_of (filter_app text.entry.name.now) (map (λ word. word.now) words.entry.now))) }
+        (fault_of (filter_app text.entry) (map (λ word. word.now) words.entry.now))) }
 {
     let matches = matches_of(filter_command(alloc, text), words)?;
     Ok(FilterOrder {
         file: file_name(alloc, &matches, "file")?,
+        is_flagged: is_set(&matches, text.flag),
     })
 }

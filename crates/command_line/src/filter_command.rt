@@ -1,11 +1,12 @@
 //! The command line of a filter, as `clap` builders.
 ghost use Rattle.std.specs.Prelude.{◌≡◌, false};
-ghost use Rattle.clap.specs.Words.{rule_of};
+ghost use Rattle.clap.specs.Words.{App, rule_of};
 ghost use Rattle.command_line.specs.CommandLine.{HasApp, HasNoGlobals};
-ghost use Rattle.command_line.specs.FilterLine.{bare_filter_app, filter_app, source_rule};
+ghost use Rattle.command_line.specs.FilterLine.{bare_filter_app, filter_app, flag_of, source_rule, with_flag};
 
 use crate::command::{Draft, with_arg};
-use crate::filter::FilterText;
+use crate::filter_text::{FilterFlag, FilterText};
+use crate::server_command::flag;
 use crate::version::VERSION;
 use clap::{Arg, ArgAction, Command};
 use std::alloc::Global;
@@ -22,7 +23,18 @@ fn source<'a>(alloc: Global) -> Arg<'a>
         .help("The file to read; standard input without it")
 }
 
-/// The program, without its argument. Its arguments do not include its name, so the usage is given
+/// Adds the flag, if there is one.
+fn with_flag<'a>(alloc: Global, draft: Draft<'a>, text: Option<FilterFlag<'a>>) -> Draft<'a>
+    ensures app { (app : App) → HasApp draft.entry app
+        → HasApp result (with_flag (flag_of text.entry) app) }
+{
+    match text {
+        Some(text) => with_arg(draft, flag(alloc, text.name).help(text.help)),
+        None => draft,
+    }
+}
+
+/// The program, without its arguments. Its arguments do not include its name, so the usage is given
 /// the name.
 #[tactic(auto, unfolding(crate::specs::FilterLine::bare_filter_app))]
 fn program<'a>(alloc: Global, text: FilterText<'a>) -> Draft<'a>
@@ -40,7 +52,11 @@ fn program<'a>(alloc: Global, text: FilterText<'a>) -> Draft<'a>
 /// The whole command line of a filter.
 #[tactic(auto, unfolding(crate::specs::FilterLine::filter_app))]
 pub(crate) fn filter_command<'a>(alloc: Global, text: FilterText<'a>) -> Draft<'a>
-    ensures { HasApp result (filter_app text.entry.name.now) }
+    ensures { HasApp result (filter_app text.entry) }
 {
-    with_arg(program(alloc, text), source(alloc))
+    with_flag(
+        alloc,
+        with_arg(program(alloc, text), source(alloc)),
+        text.flag,
+    )
 }

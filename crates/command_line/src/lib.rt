@@ -18,6 +18,7 @@ mod arguments;
 mod command;
 mod filter;
 mod filter_command;
+mod filter_text;
 mod orders;
 mod requests;
 mod server;
@@ -26,7 +27,8 @@ mod version;
 mod words;
 
 pub use arguments::{read_words, texts};
-pub use filter::{FilterOrder, FilterText, filter_order, not_utf8_filter_text};
+pub use filter::{filter_order, not_utf8_filter_text};
+pub use filter_text::{FilterFlag, FilterOrder, FilterText};
 pub use orders::{OrderFault, no_text, order};
 pub use server::{not_utf8_server_text, server_order};
 pub use version::VERSION;

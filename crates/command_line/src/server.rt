@@ -25,7 +25,7 @@ fn address(found: &ArgMatches<'_>, id: &str) -> Option<Ipv4Addr>
 }
 
 /// Returns whether a flag is set, if clap has a value for it.
-fn flag(found: &ArgMatches<'_>, id: &str) -> Option<bool>
+pub(crate) fn flag(found: &ArgMatches<'_>, id: &str) -> Option<bool>
     ensures { MatchOption result (HasNone (IsFlag (one_of id.now (rows_of (found_of found.now)))))
         (IsFlag (one_of id.now (rows_of (found_of found.now)))) }
 {

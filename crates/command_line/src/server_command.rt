@@ -54,7 +54,7 @@ fn clients<'a>(alloc: Global) -> Arg<'a>
 }
 
 /// The flag `--ID`.
-fn flag<'a>(alloc: Global, id: &'a str) -> Arg<'a>
+pub(crate) fn flag<'a>(alloc: Global, id: &'a str) -> Arg<'a>
     ensures rule { rule_of result ≡ flag id.entry.now }
     ensures local { result.global ≡ false }
 {

@@ -39,7 +39,7 @@ end-in x y zs a b = rw (not_end x y zs a b) refl
 one_not_end : (x : ℕ) → (x == 10) ≡ false → is_end (x ∷ []) ≡ false
 one_not_end x a = elim (cases_Bool (x == 13)) [ inl e ↦ rw (a, e) refl | inr e ↦ rw (a, e) refl ]
 
-body-open : (xs : List ℕ) → is_open xs ≡ true → body_of xs ≡ xs
+pub body-open : (xs : List ℕ) → is_open xs ≡ true → body_of xs ≡ xs
 body-open [] h = refl
 body-open (x ∷ []) h = rw (one_not_end x (first-open x [] h)) refl
 body-open (x ∷ y ∷ ys) h =

@@ -31,9 +31,13 @@ lines-open [] ys h = refl
 lines-open (x ∷ xs) ys h = lines-in x xs h (xs ++ ys) ∙ ap (onto_line x) (lines-open xs ys (rest-open x xs h))
 
 -- the line that a line feed ends, and the others
-lines-ended : (xs more : List ℕ) → is_open xs ≡ true → lines_of (xs ++ 10 ∷ more) ≡ (xs ++ 10 ∷ []) ∷ lines_of more
+pub lines-ended : (xs more : List ℕ) → is_open xs ≡ true → lines_of (xs ++ 10 ∷ more) ≡ (xs ++ 10 ∷ []) ∷ lines_of more
 lines-ended [] more h = refl
 lines-ended (x ∷ xs) more h = lines-open (x ∷ xs) (10 ∷ more) h ∙ onto-some x xs (10 ∷ []) (lines_of more)
+
+-- the last line of a text, if it has no end
+pub lines-last : (x : ℕ) (xs : List ℕ) → is_open (x ∷ xs) ≡ true → lines_of (x ∷ xs) ≡ (x ∷ xs) ∷ []
+lines-last x xs h = ap lines_of (sym (append-nil (x ∷ xs))) ∙ lines-open (x ∷ xs) [] h ∙ onto-none x xs
 
 -- Within a line that is too long, its bytes are written.
 

@@ -1,7 +1,9 @@
+pub mod Conversion
 pub mod Ends
 pub mod Explained
 pub mod Fault
 pub mod FaultLines
+pub mod HexText
 pub mod Lines
 pub mod Streams
 pub mod LineKinds

@@ -1,35 +1,45 @@
 //! The program as a filter.
-ghost use Rattle.explain.specs.Streams.{ExplainsWhole};
+ghost use Rattle.explain.specs.Streams.{ExplainsOrConverts};
 
+use crate::conversion::convert;
 use crate::streams::execute;
-use command_line::FilterText;
+use command_line::{FilterFlag, FilterText};
 use filter::Filter;
 use input_text::{Input, Output};
 use std::alloc::Global;
 use std::io::Write;
 
-/// Adds explanations to the lines of an input.
+/// Adds explanations to the lines of an input, or converts its messages to hex text.
 pub struct Explain;
 
 impl Filter for Explain {
-    ghost filters = { ExplainsWhole };
+    ghost filters = { ExplainsOrConverts };
 
     fn text(&self) -> FilterText<'static> {
         FilterText {
             name: "explain",
             about: "Copies its input, and adds to each line of a message or a packet what it says",
             details: "It reads what station and lbserver print, lines of LocoNet over TCP (RECEIVE, SEND), and messages and packets as pairs of hexadecimal digits, one a line.\n\nExample: station replay --roster layout.toml < session.script | explain",
+            flag: Some(FilterFlag {
+                name: "hex",
+                help: "Writes only the bytes of messages, one message a line, as station monitor reads them",
+            }),
         }
     }
 
     fn execute<I: Input, O: Output, E: Write>(
         &self,
         alloc: Global,
+        is_flagged: bool,
         source: &str,
         input: &mut I,
         output: &mut O,
         faults: &mut E,
     ) -> u8 {
-        execute(alloc, source, input, output, faults)
+        if is_flagged {
+            convert(alloc, source, input, output, faults)
+        } else {
+            execute(alloc, source, input, output, faults)
+        }
     }
 }

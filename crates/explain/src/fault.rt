@@ -1,9 +1,9 @@
 //! The faults of a run that ends with a status other than 0.
 ghost use Rattle.std.specs.Prelude.{◌≡◌};
 ghost use Rattle.explain.specs.declared.fault.ExplainFault.TheVariants.{NoMemory, Output};
-ghost use Rattle.explain.specs.Fault.{status_of};
+ghost use Rattle.explain.specs.Fault.{of_read, status_of};
 
-use input_text::Broken;
+use input_text::{Broken, ReadFault};
 use std::alloc::AllocError;
 use thiserror::Error;
 
@@ -16,6 +16,9 @@ pub enum ExplainFault {
     /// Status 4: standard output could not be written.
     #[error("output")]
     Output = 4,
+    /// Status 5: a log to be converted has more than 16,777,216 bytes.
+    #[error("too long")]
+    TooLong = 5,
     /// Status 6: out of memory.
     #[error("no memory")]
     NoMemory = 6,
@@ -35,6 +38,14 @@ impl From<AllocError> for ExplainFault {
 
     fn from(_: AllocError) -> Self {
         ExplainFault::NoMemory
+    }
+}
+
+impl From<ReadFault> for ExplainFault {
+    ghost from_gives = { λ read fault. fault ≡ of_read read };
+
+    fn from(fault: ReadFault) -> Self {
+        fault.choose(ExplainFault::Unreadable, ExplainFault::NoMemory)
     }
 }
 

@@ -24,7 +24,7 @@ pub(crate) fn cut_line(text: &[u8]) -> Option<(&[u8], &[u8])>
 
 /// Splits a line that a line feed follows into its text and its end.
 #[tactic(auto, using(crate::proofs::Ends::ends))]
-fn body_and_end(line: &[u8]) -> (&[u8], &[u8])
+pub(crate) fn body_and_end(line: &[u8]) -> (&[u8], &[u8])
     requires { IsTrue (is_open line.now) }
     ensures body { result.0.now ≡ body_of (line.now ++ 10 ∷ []) }
     ensures end { result.1.now ≡ end_of (line.now ++ 10 ∷ []) }

@@ -2,20 +2,24 @@
 //! plain words.
 #![tactic(auto)]
 
+mod conversion;
 mod end;
 mod explain;
 mod explainer;
 mod fault;
 mod fault_lines;
+mod hex;
 mod laws;
 mod line_kinds;
 mod lines;
 mod streams;
 
+pub use conversion::convert;
 pub use explain::Explain;
 pub use explainer::Explainer;
 pub use fault::ExplainFault;
 use filter::run_filter;
+pub use hex::hex_text;
 pub use laws::messages_are_explained;
 use std::process::ExitCode;
 pub use streams::execute;

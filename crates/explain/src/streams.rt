@@ -58,7 +58,7 @@ where
 }
 
 /// Reports a fault and returns its status. A failure of this report cannot be reported.
-fn report<E: Write>(fault: ExplainFault, source: &str, faults: &mut E) -> u8
+pub(crate) fn report<E: Write>(fault: ExplainFault, source: &str, faults: &mut E) -> u8
     ensures { result ≡ status_of fault }
 {
     let _ = match fault {
@@ -162,7 +162,7 @@ fn push_some<I: Input, O: Output>(
 }
 
 /// Writes and flushes a text. In every case, a prefix of the text was written.
-fn write_text<O: Output>(text: &[u8], output: &mut O) -> Result<(), ExplainFault>
+pub(crate) fn write_text<O: Output>(text: &[u8], output: &mut O) -> Result<(), ExplainFault>
     ensures written { OnOk result (Appends (O.held output.old) (O.held output.new) text.now) }
     ensures front { AppendsFront (O.held output.old) (O.held output.new) text.now }
     ensures fault { IfErr result (λ e. e ≡ ExplainFault.Output) }

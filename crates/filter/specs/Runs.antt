@@ -1,8 +1,10 @@
 -- The effect of a filter for the arguments after its name.
-use Rattle.std.specs.Prelude.{ℕ, ◌≡◌, ◌⊎◌, List, [], Option, Some, None}
+use Rattle.std.specs.Prelude.{ℕ, ◌≡◌, ◌⊎◌, Bool, List, [], Option, Some, None}
 use Rattle.std.specs.Io.KnownBytes.{Appends}
 use Rattle.clap.specs.Words.{Text, fault_of}
-use Rattle.command_line.specs.FilterLine.{file_in, filter_app}
+use Rattle.command_line.specs.declared.filter_text.FilterOrder.{FilterOrder}
+use Rattle.command_line.specs.declared.filter_text.FilterText.{FilterText}
+use Rattle.command_line.specs.FilterLine.{IsFilterOrder, filter_app}
 use Rattle.command_line.specs.Requests.{AsksFilter}
 
 -- the effect of a filter on its input and its output
@@ -21,12 +23,13 @@ RunsOn filters None old_input new_input old_output new_output = filters old_inpu
 RunsOn filters (Some file) old_input new_input old_output new_output = (new_input ≡ old_input) × RunsOnFile filters old_output new_output
 
 -- Help or the version was written, and nothing was read. Which text clap has is not specified.
-abbrev pub Answers : (name : Text) → (words : List Text) → (old_input new_input old_output new_output : Option (List ℕ)) → Type 0
-Answers name words old_input new_input old_output new_output =
-    AsksFilter name words × (new_input ≡ old_input) × ((text : List ℕ) × Appends old_output new_output text)
+abbrev pub Answers : FilterText → (words : List Text) → (old_input new_input old_output new_output : Option (List ℕ)) → Type 0
+Answers text words old_input new_input old_output new_output =
+    AsksFilter text words × (new_input ≡ old_input) × ((answer : List ℕ) × Appends old_output new_output answer)
 
--- A filter with this name ran on what its arguments name, or answered them.
-abbrev pub RunsWords : Effect → (name : Text) → (words : List Text) → (old_input new_input old_output new_output : Option (List ℕ)) → Type 0
-RunsWords filters name words old_input new_input old_output new_output =
-    ((fault_of (filter_app name) words ≡ []) × RunsOn filters (file_in name words) old_input new_input old_output new_output)
-    ⊎ Answers name words old_input new_input old_output new_output
+-- A filter with these texts ran as its arguments order, or answered them.
+abbrev pub RunsWords : (Bool → Effect) → FilterText → (words : List Text) → (old_input new_input old_output new_output : Option (List ℕ)) → Type 0
+RunsWords filters text words old_input new_input old_output new_output =
+    ((fault_of (filter_app text) words ≡ []) × ((order : FilterOrder) × IsFilterOrder text words order
+    × RunsOn (filters order.is_flagged) order.file old_input new_input old_output new_output))
+    ⊎ Answers text words old_input new_input old_output new_output

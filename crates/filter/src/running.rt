@@ -39,17 +39,17 @@ pub fn execute_words<F: Filter, R: Files + AllocGlobal, I: Input, O: Output, E: 
     // Status 0 is returned only after a whole run, or where the arguments ask for a text, which is
     // written.
     ensures done { result ≡ 0
-        → RunsWords F.filters text.entry.name.now (map (λ word. word.now) words.entry.now)
+        → RunsWords F.filters text.entry (map (λ word. word.now) words.entry.now)
         (I.left input.old) (I.left input.new) (O.held output.old) (O.held output.new) }
     // If a file is named, standard input is left as it was.
     ensures unread { (file : Text)
-        → file_in text.entry.name.now (map (λ word. word.now) words.entry.now) ≡ Some file
+        → file_in text.entry (map (λ word. word.now) words.entry.now) ≡ Some file
         → input.new ≡ input.old }
     // Arguments that clap rejects read nothing, and write nothing unless they ask for a text.
-    ensures rejected { fault_of (filter_app text.entry.name.now) (map (λ word. word.now) words.entry.now) ≢ []
+    ensures rejected { fault_of (filter_app text.entry) (map (λ word. word.now) words.entry.now) ≢ []
         → input.new ≡ input.old }
-    ensures kept { fault_of (filter_app text.entry.name.now) (map (λ word. word.now) words.entry.now) ≢ []
-        → (AsksFilter text.entry.name.now (map (λ word. word.now) words.entry.now) → ⊥)
+    ensures kept { fault_of (filter_app text.entry) (map (λ word. word.now) words.entry.now) ≢ []
+        → (AsksFilter text.entry (map (λ word. word.now) words.entry.now) → ⊥)
         → output.new ≡ output.old }
     // The status is 4 exactly if a write or a flush failed.
     ensures unwritten { O.failed output.new ≡ (result == 4) }
@@ -75,15 +75,22 @@ fn run_order<F: Filter, R: Files + AllocGlobal, I: Input, O: Output, E: Write>(
     requires writes { O.failed output.old ≡ false }
     ensures most { result ≤ 6 }
     ensures done { result ≡ 0
-        → RunsOn F.filters order.file (I.left input.old) (I.left input.new)
+        → RunsOn (F.filters order.is_flagged) order.file (I.left input.old) (I.left input.new)
         (O.held output.old) (O.held output.new) }
     ensures unread { (file : Text) → order.file ≡ Some file → input.new ≡ input.old }
     ensures unwritten { O.failed output.new ≡ (result == 4) }
     ensures quiet { result ≡ 0 → faults.new ≡ faults.old }
 {
     match order.file {
-        Some(file) => run_on_file(filter, program, rt, file, output, faults),
-        None => filter.execute(rt.alloc(), STANDARD_INPUT, input, output, faults),
+        Some(file) => run_on_file(filter, program, rt, order.is_flagged, file, output, faults),
+        None => filter.execute(
+            rt.alloc(),
+            order.is_flagged,
+            STANDARD_INPUT,
+            input,
+            output,
+            faults,
+        ),
     }
 }
 
@@ -92,18 +99,26 @@ fn run_on_file<F: Filter, R: Files + AllocGlobal, O: Output, E: Write>(
     filter: &F,
     program: &str,
     rt: &R,
+    is_flagged: bool,
     file: FileName,
     output: &mut O,
     faults: &mut E,
 ) -> u8
     requires writes { O.failed output.old ≡ false }
     ensures most { result ≤ 6 }
-    ensures done { result ≡ 0 → RunsOnFile F.filters (O.held output.old) (O.held output.new) }
+    ensures done { result ≡ 0 → RunsOnFile (F.filters is_flagged) (O.held output.old) (O.held output.new) }
     ensures unwritten { O.failed output.new ≡ (result == 4) }
     ensures quiet { result ≡ 0 → faults.new ≡ faults.old }
 {
     match open(rt, &file) {
-        Ok(mut input) => filter.execute(rt.alloc(), file.as_str(), &mut input, output, faults),
+        Ok(mut input) => filter.execute(
+            rt.alloc(),
+            is_flagged,
+            file.as_str(),
+            &mut input,
+            output,
+            faults,
+        ),
         Err(why) => StartFault::of_opening(file, why).report(program, faults),
     }
 }

@@ -29,6 +29,7 @@ impl Drawing for Timeline {
             name: "timeline",
             about: "Draws what station prints as a picture (SVG), turn by turn",
             details: "It reads the packets and the states of decoders that station prints: lines that begin with track and node. It skips the other lines.\n\nExample: station replay --roster layout.toml < session.script | timeline > session.svg",
+            flag: None,
         }
     }
 

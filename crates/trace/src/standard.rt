@@ -17,7 +17,7 @@ struct DrawingFilter<'a, D> {
 }
 
 impl<D: Drawing> Filter for DrawingFilter<'_, D> {
-    ghost filters = { DrawsInput D.parses D.drawn };
+    ghost filters = { λ _. DrawsInput D.parses D.drawn };
 
     fn text(&self) -> FilterText<'static> {
         self.drawing.text()
@@ -26,6 +26,7 @@ impl<D: Drawing> Filter for DrawingFilter<'_, D> {
     fn execute<I: Input, O: Output, E: Write>(
         &self,
         alloc: Global,
+        _is_flagged: bool,
         source: &str,
         input: &mut I,
         output: &mut O,

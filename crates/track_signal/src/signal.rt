@@ -27,6 +27,7 @@ impl Drawing for TrackSignal {
             name: "track_signal",
             about: "Writes the signal on the rails as a value change dump (VCD) for wave viewers",
             details: "It reads the packets that station prints: lines that begin with track. It skips the other lines.\n\nExample: station replay --roster layout.toml < session.script | track_signal > session.vcd",
+            flag: None,
         }
     }
 

@@ -11,7 +11,7 @@ const RUNS: [(
     u8,
     &'static [&'static str],
     &'static [&'static str],
-); 6] = [
+); 7] = [
     (&[], 0, &["83 7C  track power on"], &[]),
     (
         &["--help"],
@@ -19,6 +19,7 @@ const RUNS: [(
         &["Usage: explain [FILE]", "standard input", "Example: "],
         &[],
     ),
+    (&["--hex"], 0, &["83 7C\n"], &[]),
     (&["--version"], 0, &["explain 1."], &[]),
     (&["--other"], 1, &[], &["'--other'", "Usage: explain"]),
     (&["one", "two"], 1, &[], &["'two'", "Usage: explain"]),

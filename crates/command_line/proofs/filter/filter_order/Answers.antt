@@ -7,23 +7,23 @@ use Rattle.command_line.proofs.filter.filter_order.Goals as goal
 
 pub returns-clause-order : goal.returns-clause-order
 returns-clause-order c =
-    let name = c.args.text.name.now in
-    let rows = c.in_ok-matches.ensures.rows (filter_app name) c.filter_command.ensures (is_simple_filter_command name) in
+    let text = c.args.text in
+    let rows = c.in_ok-matches.ensures.rows (filter_app text) c.filter_command.ensures (is_simple_filter_command text) in
     search rules
 
 pub returns-clause-taken : goal.returns-clause-taken
 returns-clause-taken c =
-    let name = c.args.text.name.now in
-    c.in_ok-matches.ensures.kinds (filter_app name) c.filter_command.ensures (is_simple_filter_command name)
+    let text = c.args.text in
+    c.in_ok-matches.ensures.kinds (filter_app text) c.filter_command.ensures (is_simple_filter_command text)
 
 pub returns-in_err-matches-clause-fault : goal.returns-in_err-matches-clause-fault
 returns-in_err-matches-clause-fault c =
-    let name = c.args.text.name.now in
+    let text = c.args.text in
     let words = map (λ word. word.now) c.args.words.now in
-    of_rejection (fault_of (filter_app name) words) c.in_err-matches.field-0.0 c.from_residual.result c.from_residual.ensures.1
-    (c.in_err-matches.ensures.kinds (filter_app name) c.filter_command.ensures (is_simple_filter_command name))
+    of_rejection (fault_of (filter_app text) words) c.in_err-matches.field-0.0 c.from_residual.result c.from_residual.ensures.1
+    (c.in_err-matches.ensures.kinds (filter_app text) c.filter_command.ensures (is_simple_filter_command text))
 
 pub returns-in_err-matches-clause-requested : goal.returns-in_err-matches-clause-requested
 returns-in_err-matches-clause-requested c =
     let words = map (λ word. word.now) c.args.words.now in
-    of_rejected (fault_of (filter_app c.args.text.name.now) words) c.from_residual.result (returns-in_err-matches-clause-fault c)
+    of_rejected (fault_of (filter_app c.args.text) words) c.from_residual.result (returns-in_err-matches-clause-fault c)

@@ -1,0 +1,34 @@
+//! The texts of a filter's command line, and the order that it gives.
+
+use crate::words::FileName;
+
+/// A flag of a filter.
+#[derive(Clone, Copy)]
+pub struct FilterFlag<'a> {
+    /// Its name after the two dashes.
+    pub name: &'a str,
+    /// What it does, in one line.
+    pub help: &'a str,
+}
+
+/// What `--help` says of a filter.
+#[derive(Clone, Copy)]
+pub struct FilterText<'a> {
+    /// The name of the program.
+    pub name: &'a str,
+    /// What it does, in one line.
+    pub about: &'a str,
+    /// What it reads, and an example; they follow the arguments.
+    pub details: &'a str,
+    /// The flag that it has, if it has one.
+    pub flag: Option<FilterFlag<'a>>,
+}
+
+/// An order to a filter.
+#[derive(Debug, Drop)]
+pub struct FilterOrder {
+    /// The file to read. Without it standard input is read.
+    pub file: Option<FileName>,
+    /// Whether the flag is set. Without a flag it is false.
+    pub is_flagged: bool,
+}

@@ -1,0 +1,103 @@
+//! The messages of a log as hex text.
+ghost use Rattle.std.specs.Prelude.{◌≡◌, ◌≤◌, ◌++◌, IfOk, OnOk, length};
+ghost use Rattle.explain.specs.HexText.{bytes_in, hex_line, hex_line_of, hex_text, message_in_line, pairs_in};
+ghost use Rattle.loconet_tcp.specs.ClientLines.{hex_words};
+
+use crate::lines::{body_and_end, cut_line};
+use ascii_words::{cut_piece, hex_char};
+use ln_frame::Msg;
+use loconet_tcp::{Bytes, LONGEST_LINE, bytes_of, leading_bytes};
+use std::alloc::{AllocError, Global};
+
+/// Returns the bytes of a text whose words are all pairs of digits; otherwise none.
+fn pairs_in(text: &[u8]) -> Bytes
+    requires { length text.now ≤ 400 }
+    ensures { result.items ≡ pairs_in text.now }
+{
+    match bytes_of(text) {
+        Some(bytes) => bytes,
+        None => Bytes::new(),
+    }
+}
+
+/// Returns the bytes of the message in a line of at most 400 characters, by its first word; none if
+/// it has no message.
+fn bytes_in(line: &[u8]) -> Bytes
+    requires { length line.now ≤ 400 }
+    ensures { result.items ≡ bytes_in line.now }
+{
+    let (first, rest) = cut_piece(line);
+    if first == b"msg".as_slice() {
+        return leading_bytes(rest);
+    }
+    if first == b"reply".as_slice() {
+        return pairs_in(cut_piece(rest).1);
+    }
+    if first == b"RECEIVE".as_slice() || first == b"SEND".as_slice() {
+        return pairs_in(rest);
+    }
+    pairs_in(line)
+}
+
+/// Returns the message in a line, if it has a whole one.
+fn message_in_line(line: &[u8]) -> Option<Msg>
+    ensures { result ≡ message_in_line line.now }
+{
+    if line.len() > LONGEST_LINE {
+        return None;
+    }
+    Msg::whole(bytes_in(line).as_slice())
+}
+
+/// Appends bytes, each as a space and two digits.
+fn push_words(bytes: &[u8], text: &mut Vec<u8>) -> Result<(), AllocError>
+    ensures { OnOk result (text.new.items ≡ text.old.items ++ hex_words bytes.now) }
+{
+    for byte in bytes {
+        text.push(b' ')?;
+        text.push(hex_char(*byte / 16))?;
+        text.push(hex_char(*byte % 16))?;
+    }
+    Ok(())
+}
+
+/// Appends a message as a line of pairs of digits.
+fn push_message(message: &Msg, text: &mut Vec<u8>) -> Result<(), AllocError>
+    ensures { OnOk result (text.new.items ≡ text.old.items ++ hex_line message.now) }
+{
+    let [first, rest @ ..] = message.bytes() else {
+        return Ok(());
+    };
+    text.push(hex_char(*first / 16))?;
+    text.push(hex_char(*first % 16))?;
+    push_words(rest, text)?;
+    text.push(b'\n')
+}
+
+/// Appends the message in a line, if it has a whole one.
+fn push_line(line: &[u8], text: &mut Vec<u8>) -> Result<(), AllocError>
+    ensures { OnOk result (text.new.items ≡ text.old.items ++ hex_line_of line.now) }
+{
+    match message_in_line(line) {
+        Some(message) => push_message(&message, text),
+        None => Ok(()),
+    }
+}
+
+/// Returns the hex text of a log: each whole message in its lines, in order, one a line.
+///
+/// # Errors
+///
+/// Out of memory.
+pub fn hex_text(alloc: Global, log: &[u8]) -> Result<Vec<u8>, AllocError>
+    ensures text { IfOk result (λ text. text.items ≡ hex_text log.now) }
+{
+    let mut text = Vec::new(alloc);
+    let mut rest = log;
+    while let Some((line, behind)) = cut_line(rest) {
+        push_line(body_and_end(line).0, &mut text)?;
+        rest = behind;
+    }
+    push_line(rest, &mut text)?;
+    Ok(text)
+}
