@@ -23,10 +23,10 @@ pub fn not_utf8_filter_text(alloc: Global, text: FilterText<'_>) -> OrderFault
 
 /// Whether a flag is set, if there is one.
 fn is_set(found: &ArgMatches<'_>, text: Option<FilterFlag<'_>>) -> bool
-    ensures { IsFlagIn (flag_of text) (rows_of (found_of found.now)) result }
+    ensures { IsFlagIn (flag_of text.entry) (rows_of (found_of found.now)) result }
 {
     match text {
-        Some(text) => flag(found, text.name) == Some(true),
+        Some(text) => flag(found, text.name).unwrap_or(false),
         None => false,
     }
 }
