@@ -3,4 +3,4 @@ mod Held
 mod Copying
 mod Pieces
 mod Messages
-mod Hex
+mod LogLines

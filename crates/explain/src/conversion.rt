@@ -31,8 +31,7 @@ where
     E: Write,
     requires reads { I.failed input.old ≡ false }
     requires writes { O.failed output.old ≡ false }
-    ensures status {
-        (result ≡ 0) ⊎ (result ≡ 2) ⊎ (result ≡ 4) ⊎ (result ≡ 5) ⊎ (result ≡ 6) }
+    ensures status { (result ≡ 0) ⊎ (result ≡ 2) ⊎ (result ≡ 4) ⊎ (result ≡ 5) ⊎ (result ≡ 6) }
     ensures converted { result ≡ 0
         → Converts (I.left input.old) (I.left input.new) (O.held output.old) (O.held output.new) }
     // The status is 2 exactly if a read failed, and 4 exactly if a write or a flush did.

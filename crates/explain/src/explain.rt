@@ -1,5 +1,5 @@
 //! The program as a filter.
-ghost use Rattle.explain.specs.Streams.{ExplainsOrConverts};
+ghost use Rattle.explain.specs.Conversion.{ExplainsOrConverts};
 
 use crate::conversion::convert;
 use crate::streams::execute;

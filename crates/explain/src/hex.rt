@@ -71,10 +71,12 @@ fn push_message(message: &Msg, text: &mut Vec<u8>) -> Result<(), AllocError>
     text.push(hex_char(*first / 16))?;
     text.push(hex_char(*first % 16))?;
     push_words(rest, text)?;
-    text.push(b'\n')
+    text.push(b'\n')?;
+    Ok(())
 }
 
 /// Appends the message in a line, if it has a whole one.
+#[tactic(auto, unfolding(crate::specs::HexText::hex_line_of))]
 fn push_line(line: &[u8], text: &mut Vec<u8>) -> Result<(), AllocError>
     ensures { OnOk result (text.new.items ≡ text.old.items ++ hex_line_of line.now) }
 {
@@ -89,6 +91,7 @@ fn push_line(line: &[u8], text: &mut Vec<u8>) -> Result<(), AllocError>
 /// # Errors
 ///
 /// Out of memory.
+#[tactic(auto, using(crate::proofs::LogLines::log_lines))]
 pub fn hex_text(alloc: Global, log: &[u8]) -> Result<Vec<u8>, AllocError>
     ensures text { IfOk result (λ text. text.items ≡ hex_text log.now) }
 {

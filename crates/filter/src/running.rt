@@ -81,16 +81,19 @@ fn run_order<F: Filter, R: Files + AllocGlobal, I: Input, O: Output, E: Write>(
     ensures unwritten { O.failed output.new ≡ (result == 4) }
     ensures quiet { result ≡ 0 → faults.new ≡ faults.old }
 {
+    let is_flagged = order.is_flagged;
     match order.file {
-        Some(file) => run_on_file(filter, program, rt, order.is_flagged, file, output, faults),
-        None => filter.execute(
-            rt.alloc(),
-            order.is_flagged,
-            STANDARD_INPUT,
-            input,
-            output,
-            faults,
-        ),
+        Some(file) => run_on_file(filter, program, rt, is_flagged, file, output, faults),
+        None => {
+            filter.execute(
+                rt.alloc(),
+                is_flagged,
+                STANDARD_INPUT,
+                input,
+                output,
+                faults,
+            )
+        }
     }
 }
 
