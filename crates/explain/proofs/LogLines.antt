@@ -3,7 +3,7 @@ use Rattle.std.proofs.Common.{◌≡◌, ℕ, true, List, [], ◌∷◌, ◌++�
 use Rattle.ascii_words.specs.Words.{words_of}
 use Rattle.loconet_tcp.specs.Requests.{are_pairs, bytes_of, leading_bytes}
 use Rattle.explain.specs.HexText.{hex_line_of, hex_text}
-use Rattle.explain.specs.Lines.{body_of, is_open, lines_of}
+use Rattle.explain.specs.Lines.{body_of, is_open}
 use Rattle.explain.proofs.Ends.{body-open}
 use Rattle.explain.proofs.Held.{lines-ended, lines-last}
 

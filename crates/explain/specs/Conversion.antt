@@ -1,5 +1,5 @@
 -- The effect of a conversion on the streams.
-use Rattle.std.specs.Prelude.{ℕ, ◌≤◌, Bool, true, false, List, Option, Result, Ok, Err, length}
+use Rattle.std.specs.Prelude.{ℕ, ◌≤◌, Bool, true, false, List, Option, Result, Err, length}
 use Rattle.std.specs.Io.KnownBytes.{Appends, Consumes, IsAtEnd}
 use Rattle.explain.specs.declared.fault.ExplainFault.{ExplainFault}
 use Rattle.explain.specs.declared.fault.ExplainFault.TheVariants as fault
