@@ -11,6 +11,7 @@
 //! ```
 #![tactic(auto)]
 
+mod announced;
 mod filter;
 mod opening;
 mod report;

@@ -1,5 +1,6 @@
 //! Running a filter on the arguments of the process and the standard streams.
 
+use crate::announced::Announced;
 use crate::filter::Filter;
 use crate::report::StartFault;
 use crate::running::execute_words;
@@ -7,7 +8,6 @@ use crate::terminal::is_terminal;
 use command_line::{FilterText, OrderFault, not_utf8_filter_text, read_words, texts};
 use input_text::{TrackedReader, TrackedWriter};
 use std::io;
-use std::io::Write;
 use std::process::ExitCode;
 
 /// Runs a filter on the arguments of the process and the standard streams, and returns the exit
@@ -30,15 +30,13 @@ fn run_words<F: Filter>(
 ) -> Result<u8, OrderFault> {
     let words = read_words(rt.alloc(), rt, |alloc| not_utf8_filter_text(alloc, text))?;
     let texts = texts(rt.alloc(), words.as_slice())?;
-    if texts.is_empty() && is_terminal(rt) {
-        let _ = writeln!(rt.stderr(), "{}: reading standard input", text.name);
-    }
+    let standard = Announced::new(rt.reader(), rt.stderr(), text.name, is_terminal(rt));
     Ok(execute_words(
         filter,
         text,
         rt,
         texts.as_slice(),
-        &mut TrackedReader::new(rt.reader()),
+        &mut TrackedReader::new(standard),
         &mut TrackedWriter::new(io::writer(rt)),
         &mut rt.stderr(),
     ))
