@@ -1,5 +1,5 @@
 -- The effect of a filter for the arguments after its name.
-use Rattle.std.specs.Prelude.{ℕ, ◌≡◌, ◌⊎◌, Bool, List, [], Option, Some, None}
+use Rattle.std.specs.Prelude.{ℕ, ◌≡◌, ◌≢◌, ◌⊎◌, Bool, List, [], Option, Some, None}
 use Rattle.std.specs.Io.KnownBytes.{Appends}
 use Rattle.clap.specs.Words.{Text, fault_of}
 use Rattle.command_line.specs.declared.filter_text.FilterOrder.{FilterOrder}
@@ -26,6 +26,10 @@ RunsOn filters (Some file) old_input new_input old_output new_output = (new_inpu
 abbrev pub Answers : FilterText → (words : List Text) → (old_input new_input old_output new_output : Option (List ℕ)) → Type 0
 Answers text words old_input new_input old_output new_output =
     AsksFilter text words × (new_input ≡ old_input) × ((answer : List ℕ) × Appends old_output new_output answer)
+
+-- clap rejects the arguments
+abbrev pub Rejects : FilterText → (words : List Text) → Type 0
+Rejects text words = fault_of (filter_app text) words ≢ []
 
 -- A filter with these texts ran as its arguments order, or answered them.
 abbrev pub RunsWords : (Bool → Effect) → FilterText → (words : List Text) → (old_input new_input old_output new_output : Option (List ℕ)) → Type 0

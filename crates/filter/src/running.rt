@@ -1,10 +1,10 @@
 //! Running a filter on its arguments.
-ghost use Rattle.std.specs.Prelude.{◌≡◌, ◌≢◌, ◌==◌, ◌≤◌, [], List, ℕ, Option, Some, OnOk, IfErr, OnErr, true, false, map};
+ghost use Rattle.std.specs.Prelude.{ℕ, ◌≡◌, ◌==◌, ◌≤◌, List, Some, OnOk, true, false, map};
 ghost use Rattle.std.specs.Io.KnownBytes.{Appends};
-ghost use Rattle.clap.specs.Words.{Text, fault_of};
-ghost use Rattle.command_line.specs.FilterLine.{file_in, filter_app};
+ghost use Rattle.clap.specs.Words.{Text};
+ghost use Rattle.command_line.specs.FilterLine.{file_in};
 ghost use Rattle.command_line.specs.Requests.{AsksFilter, is_request};
-ghost use Rattle.filter.specs.Runs.{RunsOn, RunsOnFile, RunsWords};
+ghost use Rattle.filter.specs.Runs.{Rejects, RunsOn, RunsOnFile, RunsWords};
 ghost use Rattle.input_text.specs.Write.{failed_after};
 
 use crate::filter::Filter;
@@ -46,9 +46,9 @@ pub fn execute_words<F: Filter, R: Files + AllocGlobal, I: Input, O: Output, E: 
         → file_in text.entry (map (λ word. word.now) words.entry.now) ≡ Some file
         → input.new ≡ input.old }
     // Arguments that clap rejects read nothing, and write nothing unless they ask for a text.
-    ensures rejected { fault_of (filter_app text.entry) (map (λ word. word.now) words.entry.now) ≢ []
+    ensures rejected { Rejects text.entry (map (λ word. word.now) words.entry.now)
         → input.new ≡ input.old }
-    ensures kept { fault_of (filter_app text.entry) (map (λ word. word.now) words.entry.now) ≢ []
+    ensures kept { Rejects text.entry (map (λ word. word.now) words.entry.now)
         → (AsksFilter text.entry (map (λ word. word.now) words.entry.now) → ⊥)
         → output.new ≡ output.old }
     // The status is 4 exactly if a write or a flush failed.
