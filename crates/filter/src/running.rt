@@ -109,7 +109,8 @@ fn run_on_file<F: Filter, R: Files + AllocGlobal, O: Output, E: Write>(
 ) -> u8
     requires writes { O.failed output.old ≡ false }
     ensures most { result ≤ 6 }
-    ensures done { result ≡ 0 → RunsOnFile (F.filters is_flagged) (O.held output.old) (O.held output.new) }
+    ensures done { result ≡ 0
+        → RunsOnFile (F.filters is_flagged) (O.held output.old) (O.held output.new) }
     ensures unwritten { O.failed output.new ≡ (result == 4) }
     ensures quiet { result ≡ 0 → faults.new ≡ faults.old }
 {
