@@ -13,8 +13,8 @@ use std::io::Write;
 
 /// Draws the lines of `input`, read to its end, and returns the exit status, 0 to 6.
 ///
-/// `source` is the name of the input in fault lines. The drawing is written to `output`. If the status is not 0, one line that begins with the
-/// program's name is written to `faults`.
+/// `source` is the name of the input in fault lines. The drawing is written to `output`. If the
+/// status is not 0, one line that begins with the program's name is written to `faults`.
 pub fn execute<D, I, O, E>(
     drawing: &D,
     alloc: Global,
