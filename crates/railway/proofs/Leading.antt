@@ -1,0 +1,111 @@
+-- Where joints and turnouts lead.
+use Rattle.std.proofs.Common.{◌≡◌, ◌++◌, ℕ, ◌<◌, ◌&&◌, true, false, Bool, List, [], ◌∷◌, Option, Some, None, length, map, refl, ap, sym, subst, ◌∙◌}
+use Rattle.std.proofs.lemmas.Bool.{and_from, and_parts, cond_both, ltb-true}
+use Rattle.std.specs.List.{list_all}
+use Rattle.std.specs.Option.{option_or}
+use Rattle.std.specs.Prelude.{IfSome, IsTrue, nat_lt}
+use Rattle.layout_core.specs.declared.node.Node.{Node}
+use Rattle.railway.specs.declared.block.BlockEnd.{BlockEnd}
+use Rattle.railway.specs.declared.joint.Joint.{Joint}
+use Rattle.railway.specs.declared.joint.Turnout.{Turnout}
+use Rattle.railway.specs.declared.joint.TurnoutState.{TurnoutState}
+use Rattle.railway.specs.Blocks.{are_distinct, is_block, same_block_end}
+use Rattle.railway.specs.Ends.{are_apart, ends_of, is_end, is_joint, is_turnout}
+use Rattle.railway.specs.Network.{Network, across, as_joint, is_sound, joined, partner, turnouts_of}
+use Rattle.railway.specs.Turnouts.{laid, observed}
+
+or_assoc : (first all one two : Option BlockEnd) → all ≡ option_or one two → option_or first all ≡ option_or (option_or first one) two
+or_assoc None all one two h = h
+or_assoc (Some next) all one two h = refl
+
+pub partner-append : (these those : List Joint) (end : BlockEnd) → partner (these ++ those) end ≡ option_or (partner these end) (partner those end)
+partner-append [] those end = refl
+partner-append (joint ∷ these) those end = or_assoc (across joint end) (partner (these ++ those) end) (partner these end) (partner those end) (partner-append these those end)
+
+pub partner-first : (these those : List Joint) (end next : BlockEnd) → partner these end ≡ Some next → partner (these ++ those) end ≡ Some next
+partner-first these those end next h = partner-append these those end ∙ ap (λ (o : Option BlockEnd). option_or o (partner those end)) h
+
+pub partner-second : (these those : List Joint) (end : BlockEnd) → partner these end ≡ None → partner (these ++ those) end ≡ partner those end
+partner-second these those end h = partner-append these those end ∙ ap (λ (o : Option BlockEnd). option_or o (partner those end)) h
+
+-- an end of one of so many blocks
+abbrev pub IsOf : ℕ → BlockEnd → Type 0
+IsOf n end = end.block < n
+
+of_either : (n : ℕ) (one two : Option BlockEnd) → IfSome one (IsOf n) → IfSome two (IsOf n) → IfSome (option_or one two) (IsOf n)
+of_either n None two h g = g
+of_either n (Some end) two h g = h
+
+across-of : (n : ℕ) (joint : Joint) (end : BlockEnd) → is_joint n joint ≡ true → IfSome (across joint end) (IsOf n)
+across-of n joint end h =
+    let parts = and_parts (nat_lt joint.one.block n) (nat_lt joint.two.block n) h in
+    cond_both (same_block_end joint.one end) (Some joint.two) _ (λ next. IfSome next (IsOf n)) (λ _. ltb-true joint.two.block n parts.1)
+    (λ _. cond_both (same_block_end joint.two end) (Some joint.one) None (λ next. IfSome next (IsOf n)) (λ _. ltb-true joint.one.block n parts.0) (λ _. tt))
+
+partner-of : (n : ℕ) (joints : List Joint) (end : BlockEnd) → list_all (is_joint n) joints ≡ true → IfSome (partner joints end) (IsOf n)
+partner-of n [] end h = tt
+partner-of n (joint ∷ joints) end h =
+    let parts = and_parts (is_joint n joint) (list_all (is_joint n) joints) h in
+    of_either n (across joint end) (partner joints end) (across-of n joint end parts.0) (partner-of n joints end parts.1)
+
+as_joint-of : (n : ℕ) (state : TurnoutState) → is_turnout n state.turnout ≡ true → is_joint n (as_joint state) ≡ true
+as_joint-of n state h =
+    let turnout = state.turnout in
+    let parts = and_parts (is_end n turnout.common && is_end n turnout.closed) (is_end n turnout.thrown) h in
+    let first = and_parts (is_end n turnout.common) (is_end n turnout.closed) parts.0 in
+    and_from (is_end n turnout.common) (is_end n (as_joint state).two) first.0
+    (cond_both state.is_thrown turnout.thrown turnout.closed (λ end. is_end n end ≡ true) (λ _. parts.1) (λ _. first.1))
+
+as_joints-of : (n : ℕ) (states : List TurnoutState) → list_all (is_turnout n) (turnouts_of states) ≡ true → list_all (is_joint n) (map as_joint states) ≡ true
+as_joints-of n [] h = refl
+as_joints-of n (state ∷ states) h =
+    let parts = and_parts (is_turnout n state.turnout) (list_all (is_turnout n) (turnouts_of states)) h in
+    and_from (is_joint n (as_joint state)) (list_all (is_joint n) (map as_joint states)) (as_joint-of n state parts.0) (as_joints-of n states parts.1)
+
+-- What a sound network is.
+
+pub record Sound (network : Network) : Type 0 where
+  pub lengths : list_all is_block network.blocks ≡ true
+  pub sensors : are_distinct network.blocks ≡ true
+  pub joints : list_all (is_joint (length network.blocks)) network.joints ≡ true
+  pub turnouts : list_all (is_turnout (length network.blocks)) (turnouts_of network.turnouts) ≡ true
+  pub apart : are_apart (ends_of network.joints (turnouts_of network.turnouts)) ≡ true
+
+pub sound : (network : Network) → IsTrue (is_sound network) → Sound network
+sound network h =
+    let n = length network.blocks in
+    let states = turnouts_of network.turnouts in
+    let one : Bool = list_all is_block network.blocks in
+    let two : Bool = are_distinct network.blocks in
+    let three : Bool = list_all (is_joint n) network.joints in
+    let four : Bool = list_all (is_turnout n) states in
+    let last = and_parts (one && two && three && four) (are_apart (ends_of network.joints states)) h in
+    let third = and_parts (one && two && three) four last.0 in
+    let second = and_parts (one && two) three third.0 in
+    let first = and_parts one two second.0 in
+    record { lengths = first.0; sensors = first.1; joints = second.1; turnouts = third.1; apart = last.1 }
+
+append-all : (n : ℕ) (these those : List Joint) → list_all (is_joint n) these ≡ true → list_all (is_joint n) those ≡ true → list_all (is_joint n) (these ++ those) ≡ true
+append-all n [] those h g = g
+append-all n (joint ∷ these) those h g =
+    let parts = and_parts (is_joint n joint) (list_all (is_joint n) these) h in
+    and_from (is_joint n joint) (list_all (is_joint n) (these ++ those)) parts.0 (append-all n these those parts.1 g)
+
+-- the track leads to blocks of the plan
+pub joined-of : (network : Network) (end : BlockEnd) → IsTrue (is_sound network) → IfSome (partner (joined network) end) (IsOf (length network.blocks))
+joined-of network end h =
+    let is = sound network h in
+    let n = length network.blocks in
+    partner-of n (joined network) end (append-all n network.joints (map as_joint network.turnouts) is.joints (as_joints-of n network.turnouts is.turnouts))
+
+-- Turnouts that are laid stay the turnouts of the plan.
+
+turnouts-laid : (nodes : List Node) (states : List TurnoutState) → turnouts_of (map (observed nodes) states) ≡ turnouts_of states
+turnouts-laid nodes [] = refl
+turnouts-laid nodes (state ∷ states) = ap (λ (turnouts : List Turnout). state.turnout ∷ turnouts) (turnouts-laid nodes states)
+
+pub laid-sound : (nodes : List Node) (network : Network) → IsTrue (is_sound network) → IsTrue (is_sound (laid nodes network))
+laid-sound nodes network h =
+    let n = length network.blocks in
+    let start : Bool = list_all is_block network.blocks && are_distinct network.blocks && list_all (is_joint n) network.joints in
+    subst (λ (turnouts : List Turnout). IsTrue (start && list_all (is_turnout n) turnouts && are_apart (ends_of network.joints turnouts))) (sym (turnouts-laid nodes network.turnouts)) h

@@ -1,0 +1,10 @@
+pub mod Blocks
+pub mod Ends
+pub mod Faults
+pub mod Network
+pub mod Places
+pub mod Railway
+pub mod Reports
+pub mod Running
+pub mod Trains
+pub mod Turnouts

@@ -1,0 +1,123 @@
+-- The track: where it leads, and how a train runs on it.
+use Rattle.std.specs.Prelude.{ℕ, zero, suc, ◌*◌, ◌-◌, ◌==◌, ◌<◌, ◌&&◌, ◌||◌, ◌++◌, Bool, true, false, if◌then◌else◌, List, [], ◌∷◌, length, map, Option, Some, None}
+use Rattle.std.specs.List.{list_all, list_any}
+use Rattle.std.specs.Option.{option_and_then, option_eq, option_or}
+use Rattle.railway.specs.declared.block.Block.{Block}
+use Rattle.railway.specs.declared.block.BlockEnd.{BlockEnd}
+use Rattle.railway.specs.declared.joint.Joint.{Joint}
+use Rattle.railway.specs.declared.joint.Turnout.{Turnout}
+use Rattle.railway.specs.declared.joint.TurnoutState.{TurnoutState}
+use Rattle.railway.specs.declared.exit.Exit.{Exit}
+use Rattle.railway.specs.declared.exit.Exit.TheVariants.{Leads, BufferStop, Against}
+use Rattle.railway.specs.declared.exit.Onward.{Onward}
+use Rattle.railway.specs.declared.exit.Onward.TheVariants.{To, BufferStop as Stopped, Against as Derails}
+use Rattle.railway.specs.declared.train.Place.{Place}
+use Rattle.railway.specs.declared.train.TrainState.{TrainState}
+use Rattle.railway.specs.Blocks.{are_distinct, is_block, length_of, same_block_end}
+use Rattle.railway.specs.Ends.{are_apart, ends_of, is_joint, is_turnout}
+use Rattle.railway.specs.Places.{end_ahead, further, same_place, span, start_at, to_end}
+
+-- the blocks of a plan, and what joins their ends
+pub record Network : Type 0 where
+  pub blocks : List Block
+  pub joints : List Joint
+  pub turnouts : List TurnoutState
+
+-- a turnout as it lies is a joint of two ends
+abbrev pub as_joint : TurnoutState → Joint
+as_joint state = record {
+  one = state.turnout.common;
+  two = if state.is_thrown then state.turnout.thrown else state.turnout.closed;
+}
+
+-- where a joint leads from an end, if it is one of the joint's
+abbrev pub across : Joint → BlockEnd → Option BlockEnd
+across joint end =
+    if same_block_end joint.one end then Some joint.two else (if same_block_end joint.two end then Some joint.one else None)
+
+-- where the first of the joints leads that has the end
+abbrev pub partner : List Joint → BlockEnd → Option BlockEnd
+partner [] end = None
+partner (joint ∷ joints) end = option_or (across joint end) (partner joints end)
+
+-- what is joined, as the turnouts lie
+abbrev pub joined : Network → List Joint
+joined network = network.joints ++ map as_joint network.turnouts
+
+-- the end is one of the two that a turnout chooses from
+abbrev pub is_branch : BlockEnd → TurnoutState → Bool
+is_branch end state = same_block_end state.turnout.closed end || same_block_end state.turnout.thrown end
+
+abbrev pub exit_to : Option BlockEnd → (branch : Bool) → Exit
+exit_to (Some end) branch = Leads end
+exit_to None branch = if branch then Against else BufferStop
+
+-- what is behind an end: an end of a block, a turnout that lies against it, or a buffer stop
+abbrev pub exit_of : Network → BlockEnd → Exit
+exit_of network end = exit_to (partner (joined network) end) (list_any (is_branch end) network.turnouts)
+
+-- an exit leads to a block of the plan, if it leads anywhere
+abbrev pub LeadsToPlan : Network → Exit → Type 0
+LeadsToPlan network (Leads end) = end.block < length network.blocks
+LeadsToPlan network BufferStop = Unit {0}
+LeadsToPlan network Against = Unit {0}
+
+abbrev pub onward_by : List Block → Exit → Onward
+onward_by blocks (Leads end) = To (start_at blocks end)
+onward_by blocks BufferStop = Stopped
+onward_by blocks Against = Derails
+
+-- one picometre ahead
+abbrev pub onward : Network → Place → Onward
+onward network place =
+    if to_end (length_of network.blocks place.block) place == 0 then onward_by network.blocks (exit_of network (end_ahead place)) else To (further place 1)
+
+abbrev pub place_of : Onward → Option Place
+place_of (To place) = Some place
+place_of Stopped = None
+place_of Derails = None
+
+-- so many picometres ahead, one after another, if the track leads so far
+unfoldable pub way_on : Network → Place → (way : ℕ) → Option Place
+way_on network place zero = Some place
+way_on network place (suc way) = option_and_then (λ next. way_on network next way) (place_of (onward network place))
+
+-- Both ends of a train go where the track leads. Its front stops at a buffer stop, and leaves the
+-- rails at a turnout that lies against it.
+abbrev pub stepped : TrainState → (front rear : Onward) → TrainState
+stepped train (To front) (To rear) = record train { front = front; rear = rear }
+stepped train (To front) Stopped = train
+stepped train (To front) Derails = train
+stepped train Stopped rear = train
+stepped train Derails rear = record train { derailed = true }
+
+-- a train runs forward by one picometre
+abbrev pub step : Network → TrainState → TrainState
+step network train = if train.derailed then train else stepped train (onward network train.front) (onward network train.rear)
+
+-- and by so many, one after another
+unfoldable pub run_on : Network → TrainState → (way : ℕ) → TrainState
+run_on network train zero = train
+run_on network train (suc way) = run_on network (step network train) way
+
+-- the track leads from the rear of a train to its front, over exactly its length
+abbrev pub spans : Network → TrainState → Bool
+spans network train = option_eq same_place (way_on network train.rear (span train)) (Some train.front)
+
+-- a train is on the rails from its rear to its front, or is derailed
+abbrev pub is_whole : Network → TrainState → Bool
+is_whole network train = train.derailed || spans network train
+
+-- a train with a turnout thrown under it is derailed
+abbrev pub checked : Network → TrainState → TrainState
+checked network train = if spans network train then train else record train { derailed = true }
+
+abbrev pub turnouts_of : List TurnoutState → List Turnout
+turnouts_of states = map (λ state. state.turnout) states
+
+-- a network of a plan without faults: blocks have their lengths, no sensor is used twice, joints and
+-- turnouts join ends of its blocks, and no end is named twice
+abbrev pub is_sound : Network → Bool
+is_sound network =
+    list_all is_block network.blocks && are_distinct network.blocks && list_all (is_joint (length network.blocks)) network.joints
+    && list_all (is_turnout (length network.blocks)) (turnouts_of network.turnouts) && are_apart (ends_of network.joints (turnouts_of network.turnouts))

@@ -1,0 +1,22 @@
+//! Where the track leads.
+use crate::block::BlockEnd;
+use crate::train::Place;
+
+/// What is behind an end of a block.
+#[derive(Clone, Copy, Debug, PartialEq, Eq)]
+pub enum Exit {
+    /// The end that it is joined with, as the turnouts lie.
+    Leads(BlockEnd),
+    /// Nothing: a train stops.
+    BufferStop,
+    /// A turnout that lies against it: a train leaves the rails.
+    Against,
+}
+
+/// Where the next picometre ahead of a place is.
+#[derive(Clone, Copy, Debug, PartialEq, Eq)]
+pub(crate) enum Onward {
+    To(Place),
+    BufferStop,
+    Against,
+}

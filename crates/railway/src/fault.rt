@@ -1,0 +1,44 @@
+//! Why a plan is refused.
+use crate::block::BlockEnd;
+
+/// A part of a plan, by its index from 0.
+#[derive(Clone, Copy, Debug, PartialEq, Eq)]
+pub enum Part {
+    Joint(usize),
+    Turnout(usize),
+    Train(usize),
+}
+
+/// Why a plan is refused. Blocks and trains are named by their index from 0.
+#[derive(Clone, Copy, Debug, PartialEq, Eq)]
+pub enum PlanFault {
+    /// The block is not 1 to 100,000 millimetres long.
+    BlockLength(usize),
+    /// The block has the name of a later one.
+    NameTwice(usize),
+    /// The sensor of the block is not 1 to 4096.
+    Sensor(usize),
+    /// The block has the sensor of a later one.
+    SensorTwice(usize),
+    /// The part names a block that is not in the plan.
+    UnknownBlock(Part),
+    /// Joints and turnouts name this end twice.
+    EndTwice(BlockEnd),
+    /// The layout has no decoder that moves the turnout or runs the train.
+    UnknownDecoder(Part),
+    /// The train is shorter than a millimetre, or longer than a block.
+    TrainLength(usize),
+    /// The train does not fit into its block where it is put.
+    OffTrack(usize),
+}
+
+/// Why a train was not placed.
+#[derive(Clone, Copy, Debug, PartialEq, Eq)]
+pub enum PlaceFault {
+    /// No train has this index.
+    UnknownTrain,
+    /// No block has this index.
+    UnknownBlock,
+    /// The train does not fit into the block there.
+    OffTrack,
+}

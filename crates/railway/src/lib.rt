@@ -1,0 +1,23 @@
+//! Trains on the track plan of a layout, and the sensors of its blocks.
+#![tactic(auto)]
+
+mod block;
+mod checking;
+mod exit;
+mod fault;
+mod joint;
+mod plan;
+mod reading;
+mod report;
+mod track;
+mod train;
+
+pub use block::{Block, BlockEnd, End, LONGEST_BLOCK, LONGEST_NAME, Name, Point};
+pub use exit::Exit;
+pub use fault::{Part, PlaceFault, PlanFault};
+pub use joint::{Joint, Turnout, TurnoutState};
+pub use plan::{MAX_BLOCKS, MAX_JOINTS, MAX_TRAINS, MAX_TURNOUTS, Plan};
+pub use ln_sensor::{Report, is_interrogation};
+pub use report::{MAX_REPORTS, Reports};
+pub use track::Track;
+pub use train::{Place, Position, Train, TrainState};

@@ -1,0 +1,94 @@
+//! What the sensors report.
+ghost use Rattle.std.specs.Prelude.{◌≡◌, ◌≤◌, ◌<◌, ◌+◌, ◌++◌, length};
+ghost use Rattle.arrayvec.specs.ArrayVec.{array_vec_len};
+ghost use Rattle.railway.specs.Reports.{change_of, changes, changes_from, full, is_occupied, occupies};
+
+use crate::block::Block;
+use crate::plan::MAX_BLOCKS;
+use crate::train::TrainState;
+use arrayvec::ArrayVec;
+use ln_sensor::Report;
+
+/// The most reports of one moment: two of each block.
+pub const MAX_REPORTS: usize = 2 * MAX_BLOCKS;
+
+/// The reports of one moment.
+pub type Reports = ArrayVec<Report, MAX_REPORTS>;
+
+impl TrainState {
+    /// Whether a part of the train is in a block.
+    pub fn occupies(&self, block: usize) -> bool
+        ensures occupies { result ≡ occupies block self.now }
+    {
+        usize::from(self.front.block) == block || usize::from(self.rear.block) == block
+    }
+}
+
+/// Whether a part of a train is in a block.
+pub(crate) fn is_occupied(trains: &[TrainState], block: usize) -> bool
+    ensures { result ≡ is_occupied trains.now block }
+{
+    trains.iter().any(|train| train.occupies(block))
+}
+
+/// Returns what the sensors report as trains move: first those whose block becomes occupied, then
+/// those whose block becomes free.
+pub(crate) fn changes(blocks: &[Block], was: &[TrainState], is: &[TrainState]) -> Reports
+    requires { length blocks.now ≤ 64 }
+    ensures { result.items ≡ changes blocks.now was.now is.now }
+{
+    let mut reports = ArrayVec::new();
+    add_changes(&mut reports, true, blocks, was, is);
+    add_changes(&mut reports, false, blocks, was, is);
+    reports
+}
+
+/// Adds the reports of those that change to one level.
+fn add_changes(
+    reports: &mut Reports,
+    level: bool,
+    blocks: &[Block],
+    was: &[TrainState],
+    is: &[TrainState],
+)
+    requires room { array_vec_len reports.old + length blocks.now ≤ 128 }
+    ensures added { reports.new.items
+        ≡ reports.old.items ++ changes_from level was.now is.now 0 blocks.now }
+    ensures few { array_vec_len reports.new ≤ array_vec_len reports.old + length blocks.now }
+{
+    for (i, block) in blocks.iter().enumerate() {
+        let (before, after) = (is_occupied(was, i), is_occupied(is, i));
+        if let Some(report) = change_of(level, block.sensor, before, after) {
+            reports.push(report);
+        }
+    }
+}
+
+fn change_of(level: bool, sensor: Option<u16>, was: bool, is: bool) -> Option<Report>
+    ensures { result ≡ change_of level sensor was is }
+{
+    match sensor {
+        Some(sensor) if is == level && was != level => Some(Report {
+            sensor,
+            occupied: level,
+        }),
+        _ => None,
+    }
+}
+
+/// Returns a full report: each sensor, as its block is.
+pub(crate) fn full(blocks: &[Block], trains: &[TrainState]) -> Reports
+    requires { length blocks.now ≤ 64 }
+    ensures { result.items ≡ full blocks.now trains.now }
+{
+    let mut reports = ArrayVec::new();
+    for (i, block) in blocks.iter().enumerate() {
+        if let Some(sensor) = block.sensor {
+            reports.push(Report {
+                sensor,
+                occupied: is_occupied(trains, i),
+            });
+        }
+    }
+    reports
+}

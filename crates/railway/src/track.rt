@@ -1,0 +1,359 @@
+//! The track, and how a train runs on it.
+ghost use Rattle.std.specs.Prelude.{◌≡◌, ◌+◌, ◌<◌, ◌≤◌, IsTrue, length, IfSome, map, None, Some};
+ghost use Rattle.std.specs.List.{list_all, list_any};
+ghost use Rattle.railway.specs.Blocks.{length_of};
+ghost use Rattle.railway.specs.Network.{LeadsToPlan, across, as_joint, exit_of, is_branch, joined, onward, partner, place_of, run_on, way_on};
+ghost use Rattle.railway.specs.Places.{is_on_track, start_at, to_end};
+ghost use Rattle.railway.specs.Running.{is_within};
+
+use crate::block::{Block, BlockEnd, End};
+use crate::exit::{Exit, Onward};
+use crate::joint::{Joint, TurnoutState};
+use crate::plan::{MAX_BLOCKS, MAX_JOINTS, MAX_TURNOUTS};
+use crate::reading::{observed, running};
+use crate::train::{Place, TrainState, Trains, is_forward, speed};
+use arrayvec::ArrayVec;
+use layout_core::{Running, World};
+use std::marker::Model;
+
+/// The track: blocks, and what joins their ends.
+///
+/// Contracts see it as a `Network`.
+#[derive(Drop)]
+pub struct Track {
+    pub(crate) blocks: ArrayVec<Block, MAX_BLOCKS>,
+    pub(crate) joints: ArrayVec<Joint, MAX_JOINTS>,
+    pub(crate) turnouts: ArrayVec<TurnoutState, MAX_TURNOUTS>,
+}
+
+impl Model for Track {
+    ghost use Rattle.std.specs.Prelude.{◌≤◌, length, IsTrue};
+    ghost use Rattle.railway.specs.Network.{Network, is_sound};
+
+    ghost Value = { Network };
+
+    ghost view = { λ t. record {
+      blocks = t.blocks.items;
+      joints = t.joints.items;
+      turnouts = t.turnouts.items;
+    } };
+
+    ghost invariant = { λ t. IsTrue (is_sound (record {
+      blocks = t.blocks.items;
+      joints = t.joints.items;
+      turnouts = t.turnouts.items;
+    })) };
+}
+
+impl Joint {
+    /// Returns where it leads from an end, if it has this end.
+    fn across(&self, end: BlockEnd) -> Option<BlockEnd>
+        ensures { result ≡ across self.now end }
+    {
+        if self.one.is(end) {
+            Some(self.two)
+        } else if self.two.is(end) {
+            Some(self.one)
+        } else {
+            None
+        }
+    }
+}
+
+impl TurnoutState {
+    /// Returns the joint that it is, as it lies.
+    fn as_joint(&self) -> Joint
+        ensures { result ≡ as_joint self.now }
+    {
+        let turnout = self.turnout;
+        Joint {
+            one: turnout.common,
+            two: if self.is_thrown { turnout.thrown } else { turnout.closed },
+        }
+    }
+
+    /// Whether it chooses from this end and another.
+    fn is_branch(&self, end: BlockEnd) -> bool
+        ensures { result ≡ is_branch end self.now }
+    {
+        self.turnout.closed.is(end) || self.turnout.thrown.is(end)
+    }
+}
+
+/// Returns where the joints lead from an end.
+fn over_joints(joints: &[Joint], end: BlockEnd) -> Option<BlockEnd>
+    ensures { result ≡ partner joints.now end }
+{
+    for (i, joint) in joints.iter().enumerate() {
+        if let Some(next) = joint.across(end) {
+            return Some(next);
+        }
+    }
+    None
+}
+
+/// Returns where the turnouts lead from an end, as they lie.
+fn over_turnouts(turnouts: &[TurnoutState], end: BlockEnd) -> Option<BlockEnd>
+    ensures { result ≡ partner (map as_joint turnouts.now) end }
+{
+    for (i, turnout) in turnouts.iter().enumerate() {
+        if let Some(next) = turnout.as_joint().across(end) {
+            return Some(next);
+        }
+    }
+    None
+}
+
+fn is_branch(turnouts: &[TurnoutState], end: BlockEnd) -> bool
+    ensures { result ≡ list_any (is_branch end) turnouts.now }
+{
+    turnouts.iter().any(|turnout| turnout.is_branch(end))
+}
+
+impl Track {
+    /// Returns the length of a block in picometres.
+    fn length(&self, block: u8) -> u64
+        requires { block < length self.now.blocks }
+        ensures length { result ≡ length_of self.now.blocks block }
+        ensures shortest { 1 ≤ result }
+        ensures longest { result ≤ 100000000000000 }
+    {
+        self.blocks.as_slice()[usize::from(block)].picometres()
+    }
+
+    /// Returns what is behind an end of a block, as the turnouts lie.
+    pub fn exit(&self, end: BlockEnd) -> Exit
+        ensures exit { result ≡ exit_of self.now end }
+        ensures of_plan { LeadsToPlan self.now result }
+    {
+        match self.next(end) {
+            Some(next) => Exit::Leads(next),
+            None => {
+                if is_branch(self.turnouts.as_slice(), end) {
+                    Exit::Against
+                } else {
+                    Exit::BufferStop
+                }
+            }
+        }
+    }
+
+    /// Returns the end that an end is joined with, as the turnouts lie.
+    fn next(&self, end: BlockEnd) -> Option<BlockEnd>
+        ensures next { result ≡ partner (joined self.now) end }
+        ensures of_plan { IfSome result (λ next. next.block < length self.now.blocks) }
+    {
+        match over_joints(self.joints.as_slice(), end) {
+            Some(next) => Some(next),
+            None => over_turnouts(self.turnouts.as_slice(), end),
+        }
+    }
+}
+
+impl Track {
+    /// Returns the first picometre behind an end.
+    fn start_at(&self, end: BlockEnd) -> Place
+        requires { end.block < length self.now.blocks }
+        ensures place { result ≡ start_at self.now.blocks end }
+        ensures on_track { IsTrue (is_on_track self.now.blocks result) }
+    {
+        let length = self.length(end.block);
+        let at = match end.end {
+            End::A => 0,
+            End::B => length - 1,
+        };
+        Place {
+            block: end.block,
+            at,
+            toward: end.end.other(),
+        }
+    }
+
+    /// Returns how many picometres lie ahead in the block.
+    fn to_end(&self, place: Place) -> u64
+        requires { IsTrue (is_on_track self.now.blocks place) }
+        ensures ahead { result ≡ to_end (length_of self.now.blocks place.block) place }
+        ensures fits { place.at + result ≤ 200000000000000 }
+    {
+        place.to_end(self.length(place.block))
+    }
+
+    /// Returns the picometre ahead.
+    fn onward(&self, place: Place) -> Onward
+        requires { IsTrue (is_on_track self.now.blocks place) }
+        ensures onward { result ≡ onward self.now place }
+        ensures on_track { IfSome (place_of result) (λ next. IsTrue (is_on_track self.now.blocks next)) }
+    {
+        if self.to_end(place) > 0 {
+            return Onward::To(place.further(1));
+        }
+        let end = BlockEnd {
+            block: place.block,
+            end: place.toward,
+        };
+        match self.exit(end) {
+            Exit::Leads(next) => Onward::To(self.start_at(next)),
+            Exit::BufferStop => Onward::BufferStop,
+            Exit::Against => Onward::Against,
+        }
+    }
+
+    /// Goes some of the way ahead, at most to the next block. Returns the place and the way that is
+    /// left, or `None` if the track ends here.
+    fn go_on(&self, place: Place, way: u64) -> Option<(Place, u64)>
+        requires on_track { IsTrue (is_on_track self.now.blocks place) }
+        requires goes { 0 < way }
+        ensures none { result ≡ None → way_on self.now place way ≡ None }
+        ensures some { IfSome result (λ next. way_on self.now place way ≡ way_on self.now next.0 next.1) }
+        ensures on_track { IfSome result (λ next. IsTrue (is_on_track self.now.blocks next.0)) }
+        ensures less { IfSome result (λ next. next.1 < way) }
+    {
+        let ahead = self.to_end(place);
+        if ahead > 0 {
+            let moved = ahead.min(way);
+            return Some((place.further(moved), way - moved));
+        }
+        match self.onward(place) {
+            Onward::To(next) => Some((next, way - 1)),
+            _ => None,
+        }
+    }
+
+    /// Returns the place `way` picometres ahead, or `None` if the track ends before.
+    fn way_on(&self, place: Place, way: u64) -> Option<Place>
+        requires { IsTrue (is_on_track self.now.blocks place) }
+        ensures { result ≡ way_on self.now place way }
+    {
+        let mut place = place;
+        let mut left = way;
+        while left > 0 {
+            (place, left) = self.go_on(place, left)?;
+        }
+        Some(place)
+    }
+
+    /// Runs a train forward for some of the way, at most into the next blocks. Returns the train
+    /// and the way that is left.
+    fn run_some(&self, train: &TrainState, way: u64) -> (TrainState, u64)
+        requires within { IsTrue (is_within self.now.blocks train.now) }
+        requires goes { 0 < way }
+        ensures run { run_on self.now train.now way ≡ run_on self.now result.0 result.1 }
+        ensures within { IsTrue (is_within self.now.blocks result.0) }
+        ensures less { result.1 < way }
+    {
+        if train.derailed {
+            return (*train, 0);
+        }
+        let ahead = self.to_end(train.front).min(self.to_end(train.rear));
+        if ahead > 0 {
+            let moved = ahead.min(way);
+            return (train.moved(moved), way - moved);
+        }
+        match self.onward(train.front) {
+            Onward::BufferStop => (*train, 0),
+            Onward::Against => (train.off_the_rails(), 0),
+            Onward::To(front) => match self.onward(train.rear) {
+                Onward::To(rear) => {
+                    let next = TrainState {
+                        front,
+                        rear,
+                        ..*train
+                    };
+                    (next, way - 1)
+                }
+                _ => (*train, 0),
+            },
+        }
+    }
+
+    /// Runs a train forward by so many picometres.
+    fn run_on(&self, train: &TrainState, way: u64) -> TrainState
+        requires { IsTrue (is_within self.now.blocks train.now) }
+        ensures run { result ≡ run_on self.now train.now way }
+        ensures within { IsTrue (is_within self.now.blocks result) }
+    {
+        let mut train = *train;
+        let mut left = way;
+        while left > 0 {
+            (train, left) = self.run_some(&train, left);
+        }
+        train
+    }
+}
+
+impl Track {
+    ghost use Rattle.railway.specs.Network.{checked, spans};
+    ghost use Rattle.railway.specs.Railway.{run_in};
+    ghost use Rattle.railway.specs.Running.{run_for};
+    ghost use Rattle.railway.specs.Turnouts.{laid, observed};
+
+    /// Whether the track leads from the rear of a train to its front, over its length.
+    fn spans(&self, train: &TrainState) -> bool
+        requires { IsTrue (is_within self.now.blocks train.now) }
+        ensures { result ≡ spans self.now train.now }
+    {
+        match self.way_on(train.rear, train.span()) {
+            Some(place) => place.is(train.front),
+            None => false,
+        }
+    }
+
+    /// Returns the train, derailed if a turnout was thrown under it.
+    fn checked(&self, train: &TrainState) -> TrainState
+        requires { IsTrue (is_within self.now.blocks train.now) }
+        ensures { result ≡ checked self.now train.now }
+    {
+        if self.spans(train) {
+            *train
+        } else {
+            train.off_the_rails()
+        }
+    }
+
+    /// Returns a train that has run for `micros` microseconds as its decoder runs.
+    fn run_for(&self, train: &TrainState, micros: u32, running: Option<Running>) -> TrainState
+        requires { IsTrue (is_within self.now.blocks train.now) }
+        ensures run { result ≡ run_for self.now micros running train.now }
+        ensures within { IsTrue (is_within self.now.blocks result) }
+    {
+        let way = speed(train.top, running) * u64::from(micros);
+        if is_forward(running) {
+            self.run_on(train, way)
+        } else {
+            self.run_on(&train.turned(), way).turned()
+        }
+    }
+
+    /// Returns the turnouts as their decoders move them.
+    fn observed(&self, world: &World) -> ArrayVec<TurnoutState, MAX_TURNOUTS>
+        ensures { result.items ≡ map (observed world.now.nodes) self.now.turnouts }
+    {
+        let mut turnouts = ArrayVec::new();
+        for turnout in self.turnouts.as_slice() {
+            turnouts.push(observed(world, turnout));
+        }
+        turnouts
+    }
+
+    /// Returns these trains after `micros` microseconds: each has run as its decoder runs, or is
+    /// derailed where a turnout was thrown under it.
+    pub(crate) fn run_all(&self, trains: &[TrainState], micros: u32, world: &World) -> Trains
+        requires few { length trains.now ≤ 64 }
+        requires within { IsTrue (list_all (is_within self.now.blocks) trains.now) }
+        ensures { result.items ≡ map (run_in self.now micros world.now.nodes) trains.now }
+    {
+        let mut after = ArrayVec::new();
+        for (i, train) in trains.iter().enumerate() {
+            let train = self.checked(train);
+            after.push(self.run_for(&train, micros, running(world, train.decoder)));
+        }
+        after
+    }
+
+    /// Lays the turnouts as their decoders move them.
+    pub(crate) fn lay(&mut self, world: &World)
+        ensures { self.new ≡ laid world.now.nodes self.old }
+    {
+        self.turnouts = self.observed(world);
+    }
+}
