@@ -1,2 +1,3 @@
 pub mod Ways
 pub mod Leading
+pub mod Joining

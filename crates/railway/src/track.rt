@@ -301,7 +301,9 @@ impl Track {
     /// Returns the train, derailed if a turnout was thrown under it.
     fn checked(&self, train: &TrainState) -> TrainState
         requires { IsTrue (is_within self.now.blocks train.now) }
-        ensures { result ≡ checked self.now train.now }
+        ensures checked { result ≡ checked self.now train.now }
+        ensures within { IsTrue (is_within self.now.blocks result) }
+        ensures decoder { result.decoder ≡ train.now.decoder }
     {
         if self.spans(train) {
             *train
@@ -344,10 +346,18 @@ impl Track {
     {
         let mut after = ArrayVec::new();
         for (i, train) in trains.iter().enumerate() {
-            let train = self.checked(train);
-            after.push(self.run_for(&train, micros, running(world, train.decoder)));
+            after.push(self.run_in(train, micros, world));
         }
         after
+    }
+
+    /// Returns this train after `micros` microseconds.
+    fn run_in(&self, train: &TrainState, micros: u32, world: &World) -> TrainState
+        requires { IsTrue (is_within self.now.blocks train.now) }
+        ensures { result ≡ run_in self.now micros world.now.nodes train.now }
+    {
+        let train = self.checked(train);
+        self.run_for(&train, micros, running(world, train.decoder))
     }
 
     /// Lays the turnouts as their decoders move them.

@@ -10,5 +10,5 @@ pub invariant_of-self : goal.invariant_of-self
 invariant_of-self c =
     let nodes = c.args.world.now.nodes in
     let old : Network = record { blocks = c.self.inside.blocks.items; joints = c.self.inside.joints.items; turnouts = c.self.inside.turnouts.items } in
-    let laid_out : c.observed-self-inside.result.items ≡ map (observed nodes) c.self.inside.turnouts.items = c.observed-self-inside.ensures in
+    let laid_out : c.observed-self-inside.result.items ≡ map (observed nodes) c.self.inside.turnouts.items = c.observed-self-inside.ensures ∙ ap (λ (n : Network). map (observed nodes) n.turnouts) (sym c.self.view_is) in
     subst (λ (states : List TurnoutState). IsTrue (is_sound (record old { turnouts = states }))) (sym laid_out) (laid-sound nodes old c.self.invariant)
