@@ -1,3 +1,5 @@
 pub mod Ways
 pub mod Leading
 pub mod Joining
+pub mod Turning
+pub mod Keeping
