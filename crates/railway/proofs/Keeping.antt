@@ -188,3 +188,10 @@ run_all-trains n m micros nodes [] is same h = refl
 run_all-trains n m micros nodes (t ∷ ts) is same h =
     let parts = and_parts (is_train n t) (list_all (is_train n) ts) h in
     and_from (is_train m (run_in m micros nodes t)) (list_all (is_train m) (map (run_in m micros nodes) ts)) (run_in-train n m micros nodes t is same parts.0) (run_all-trains n m micros nodes ts is same parts.1)
+
+pub all-within : (n : Network) (ts : List TrainState) → list_all (is_train n) ts ≡ true → list_all (is_within n.blocks) ts ≡ true
+all-within n [] h = refl
+all-within n (t ∷ ts) h =
+    let parts = and_parts (is_train n t) (list_all (is_train n) ts) h in
+    let first = and_parts (is_train_length n.blocks t.length && is_within n.blocks t) (is_whole n t) parts.0 in
+    and_from (is_within n.blocks t) (list_all (is_within n.blocks) ts) (and_parts (is_train_length n.blocks t.length) (is_within n.blocks t) first.0).1 (all-within n ts parts.1)

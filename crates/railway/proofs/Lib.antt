@@ -3,3 +3,6 @@ pub mod Leading
 pub mod Joining
 pub mod Turning
 pub mod Keeping
+pub mod Planning
+pub mod Sensors
+pub mod Observing

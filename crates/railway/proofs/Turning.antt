@@ -130,7 +130,7 @@ moved-within : (end : End) (length at : ℕ) → at < length → 0 < left_to end
 moved-within A length at h g = omega (arith, h)
 moved-within B length at h g = omega (arith, g)
 
-on_track-from : (blocks : List Block) (p : Place) → p.block < length blocks → p.at < length_of blocks p.block → is_on_track blocks p ≡ true
+pub on_track-from : (blocks : List Block) (p : Place) → p.block < length blocks → p.at < length_of blocks p.block → is_on_track blocks p ≡ true
 on_track-from blocks p h g = and_from (nat_lt p.block (length blocks)) (nat_lt p.at (length_of blocks p.block)) (lt-ltb p.block (length blocks) h) (lt-ltb p.at (length_of blocks p.block) g)
 
 pub onward-on_track : (n : Network) (p q : Place) → IsTrue (is_sound n) → is_on_track n.blocks p ≡ true → onward n p ≡ To q → is_on_track n.blocks q ≡ true

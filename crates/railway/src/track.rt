@@ -20,7 +20,7 @@ use std::marker::Model;
 ///
 /// Contracts see it as a `Network`.
 #[derive(Drop)]
-pub struct Track {
+pub(crate) struct Track {
     pub(crate) blocks: ArrayVec<Block, MAX_BLOCKS>,
     pub(crate) joints: ArrayVec<Joint, MAX_JOINTS>,
     pub(crate) turnouts: ArrayVec<TurnoutState, MAX_TURNOUTS>,
@@ -122,7 +122,7 @@ impl Track {
     }
 
     /// Returns what is behind an end of a block, as the turnouts lie.
-    pub fn exit(&self, end: BlockEnd) -> Exit
+    pub(crate) fn exit(&self, end: BlockEnd) -> Exit
         ensures exit { result ≡ exit_of self.now end }
         ensures of_plan { LeadsToPlan self.now result }
     {

@@ -1,0 +1,59 @@
+-- Reports are of sensors 1 to 4096.
+use Rattle.std.proofs.Common.{◌≡◌, ℕ, ◌+◌, ◌&&◌, ◌++◌, Bool, true, false, not, List, [], ◌∷◌, Option, Some, None, refl}
+use Rattle.std.proofs.lemmas.Bool.{and_from, and_parts}
+use Rattle.std.specs.List.{list_all}
+use Rattle.std.specs.Prelude.{if◌then◌else◌}
+use Rattle.ln_sensor.specs.declared.report.Report.{Report}
+use Rattle.railway.specs.declared.block.Block.{Block}
+use Rattle.railway.specs.declared.train.TrainState.{TrainState}
+use Rattle.railway.specs.Blocks.{is_block, is_block_sensor, is_length}
+use Rattle.railway.specs.Turnouts.{same_bool}
+use Rattle.railway.specs.Reports.{changes, changes_from, full, full_from, level_of, is_occupied, is_report, onto, change_of}
+
+abbrev IsLegal : Option Report → Type 0
+IsLegal None = Unit {0}
+IsLegal (Some report) = is_report report ≡ true
+
+legal_onto : (report : Option Report) (reports : List Report) → IsLegal report → list_all is_report reports ≡ true → list_all is_report (onto report reports) ≡ true
+legal_onto None reports h rest = rest
+legal_onto (Some report) reports h rest = and_from (is_report report) (list_all is_report reports) h rest
+
+legal_report : (level : Bool) (sensor : Option ℕ) (was is : Bool) → is_block_sensor sensor ≡ true → IsLegal (change_of level sensor was is)
+legal_report level None was is h = tt
+legal_report level (Some sensor) was is h = chosen (same_bool is level && not (same_bool was level)) where
+  chosen : (b : Bool) → IsLegal (if b then Some (record { sensor = sensor; occupied = level }) else None)
+  chosen true = h
+  chosen false = tt
+
+legal_full : (sensor : Option ℕ) (is : Bool) → is_block_sensor sensor ≡ true → IsLegal (level_of sensor is)
+legal_full None is h = tt
+legal_full (Some sensor) is h = h
+
+sensor_of : (block : Block) → is_block block ≡ true → is_block_sensor block.sensor ≡ true
+sensor_of block h = (and_parts (is_length block.length) (is_block_sensor block.sensor) h).1
+
+legal_from : (level : Bool) (was is : List TrainState) (i : ℕ) (blocks : List Block) → list_all is_block blocks ≡ true → list_all is_report (changes_from level was is i blocks) ≡ true
+legal_from level was is i [] h = refl
+legal_from level was is i (block ∷ blocks) h =
+    let parts = and_parts (is_block block) (list_all is_block blocks) h in
+    legal_onto (change_of level block.sensor (is_occupied was i) (is_occupied is i)) (changes_from level was is (i + 1) blocks)
+    (legal_report level block.sensor (is_occupied was i) (is_occupied is i) (sensor_of block parts.0)) (legal_from level was is (i + 1) blocks parts.1)
+
+legal-append : (these those : List Report) → list_all is_report these ≡ true → list_all is_report those ≡ true → list_all is_report (these ++ those) ≡ true
+legal-append [] those h g = g
+legal-append (report ∷ these) those h g =
+    let parts = and_parts (is_report report) (list_all is_report these) h in
+    and_from (is_report report) (list_all is_report (these ++ those)) parts.0 (legal-append these those parts.1 g)
+
+pub legal_changes : (blocks : List Block) (was is : List TrainState) → list_all is_block blocks ≡ true → list_all is_report (changes blocks was is) ≡ true
+legal_changes blocks was is h =
+    legal-append (changes_from true was is 0 blocks) (changes_from false was is 0 blocks) (legal_from true was is 0 blocks h) (legal_from false was is 0 blocks h)
+
+legal_full_from : (trains : List TrainState) (i : ℕ) (blocks : List Block) → list_all is_block blocks ≡ true → list_all is_report (full_from trains i blocks) ≡ true
+legal_full_from trains i [] h = refl
+legal_full_from trains i (block ∷ blocks) h =
+    let parts = and_parts (is_block block) (list_all is_block blocks) h in
+    legal_onto (level_of block.sensor (is_occupied trains i)) (full_from trains (i + 1) blocks) (legal_full block.sensor (is_occupied trains i) (sensor_of block parts.0)) (legal_full_from trains (i + 1) blocks parts.1)
+
+pub legal_all : (blocks : List Block) (trains : List TrainState) → list_all is_block blocks ≡ true → list_all is_report (full blocks trains) ≡ true
+legal_all blocks trains h = legal_full_from trains 0 blocks h

@@ -1,0 +1,42 @@
+use Rattle.std.proofs.Common.{◌≡◌, List, None, map, ap, subst, sym, ◌∙◌}
+use Rattle.std.specs.Prelude.{IsTrue}
+use Rattle.railway.specs.declared.joint.Turnout.{Turnout}
+use Rattle.railway.specs.declared.joint.TurnoutState.{TurnoutState}
+use Rattle.railway.specs.declared.train.Train.{Train}
+use Rattle.railway.specs.declared.train.TrainState.{TrainState}
+use Rattle.railway.specs.Faults.{fault_of}
+use Rattle.railway.specs.Network.{Network, is_sound}
+use Rattle.railway.specs.Railway.{is_railway}
+use Rattle.railway.specs.Trains.{state_of_train}
+use Rattle.railway.specs.Turnouts.{state_of_turnout}
+use Rattle.railway.proofs.Planning.{planned-railway}
+use Rattle.railway.proofs.railway.Railway.new.Goals as goal
+
+-- The plan has no fault, and its turnouts and trains are those of the definition.
+
+no_fault : (c : goal.After-train_states-trains) → fault_of c.as_slice-decoders.result.now c.args.plan ≡ None
+no_fault c = sym c.fault_of.ensures ∙ c.in-None.is
+
+turnouts : (c : goal.After-train_states-trains) → c.turnout_states-turnouts.result.items ≡ map (state_of_turnout c.as_slice-decoders.result.now) c.args.plan.turnouts.items
+turnouts c = c.turnout_states-turnouts.ensures ∙ ap (λ (ts : List Turnout). map (state_of_turnout c.as_slice-decoders.result.now) ts) c.as_slice.ensures.value
+
+trains : (c : goal.After-train_states-trains) → c.train_states-trains.result.items ≡ map state_of_train c.args.plan.trains.items
+trains c = c.train_states-trains.ensures ∙ ap (λ (ts : List Train). map state_of_train ts) c.as_slice-2.ensures.value
+
+pub invariant_of-track : goal.invariant_of-track
+invariant_of-track c =
+    subst (λ (states : List TurnoutState). IsTrue (is_sound (record { blocks = c.args.plan.blocks.items; joints = c.args.plan.joints.items; turnouts = states })))
+    (sym (turnouts c)) (planned-railway c.as_slice-decoders.result.now c.args.plan (no_fault c)).0
+
+pub invariant_of-result : goal.invariant_of-result
+invariant_of-result c =
+    let plan = c.args.plan in
+    let with_turnouts =
+      subst (λ (states : List TurnoutState). IsTrue (is_railway (record {
+        network = record { blocks = plan.blocks.items; joints = plan.joints.items; turnouts = states };
+        trains = map state_of_train plan.trains.items;
+      }))) (sym (turnouts c)) (planned-railway c.as_slice-decoders.result.now plan (no_fault c)).1 in
+    subst (λ (states : List TrainState). IsTrue (is_railway (record {
+      network = record { blocks = plan.blocks.items; joints = plan.joints.items; turnouts = c.turnout_states-turnouts.result.items };
+      trains = states;
+    }))) (sym (trains c)) with_turnouts

@@ -1,0 +1,9 @@
+use Rattle.std.proofs.Common.{◌≡◌, ◌≤◌, length, map, take}
+use Rattle.railway.specs.Turnouts.{state_of_turnout}
+use Rattle.railway.proofs.railway.turnout_states.Given as goal
+
+abbrev pub invariant-loop-i : goal.invariant-loop-i
+invariant-loop-i l = record {
+  made : l.states.items ≡ map (state_of_turnout l.decoders) (take l.i l.turnouts);
+  few : length l.states.items ≤ l.i;
+}

@@ -1,0 +1,141 @@
+//! A railway: the track and the trains on it.
+ghost use Rattle.std.specs.Prelude.{◌≡◌, ◌≤◌, ◌<◌, IfErr, IfOk, IsTrue, List, None, OnErr, OnOk, Some, length, map, slice_set};
+ghost use Rattle.std.specs.List.{list_all};
+ghost use Rattle.railway.specs.Faults.{decoder_of, fault_of};
+ghost use Rattle.railway.specs.Trains.{state_of_train};
+ghost use Rattle.railway.specs.Turnouts.{state_of_turnout};
+
+use crate::block::{Block, BlockEnd};
+use crate::checking::{decoder_of, fault_of};
+use crate::exit::Exit;
+use crate::fault::{PlaceFault, PlanFault};
+use crate::joint::{Joint, Turnout, TurnoutState};
+use crate::plan::{MAX_TURNOUTS, Plan};
+use crate::report::{Reports, changes, full, is_occupied};
+use crate::track::Track;
+use crate::train::{Position, Train, TrainState, Trains, fits, placed};
+use arrayvec::ArrayVec;
+use decoder_node::{NodeList, NodeSpec};
+use layout_core::World;
+use std::marker::Model;
+
+/// Trains on a track plan, which run as their decoders run.
+///
+/// Contracts see it as a `RailwayState`.
+#[derive(Drop)]
+pub struct Railway {
+    track: Track,
+    trains: Trains,
+}
+
+impl Model for Railway {
+    ghost use Rattle.std.specs.Prelude.{IsTrue};
+    ghost use Rattle.railway.specs.Railway.{RailwayState, is_railway};
+
+    ghost Value = { RailwayState };
+
+    ghost view = { λ r. record { network = r.track; trains = r.trains.items } };
+
+    ghost invariant = { λ r. IsTrue (is_railway (record {
+      network = r.track;
+      trains = r.trains.items;
+    })) };
+}
+
+impl Railway {
+    ghost use Rattle.railway.specs.Network.{exit_of};
+    ghost use Rattle.railway.specs.Railway.{elapsed, is_railway, place_fault, placed_in, planned, reports_in};
+    ghost use Rattle.railway.specs.Reports.{changes, full, is_occupied, is_report};
+
+    /// Creates the railway of a plan for a layout with these decoders, or returns the first fault
+    /// of the plan.
+    pub fn new(plan: Plan, decoders: &NodeList) -> Result<Railway, PlanFault>
+        ensures ok { IfOk result (λ railway. railway ≡ planned decoders.now.items plan) }
+        ensures sound { OnOk result (fault_of decoders.now.items plan ≡ None) }
+        ensures fault { IfErr result (λ fault. fault_of decoders.now.items plan ≡ Some fault) }
+    {
+        let decoders = decoders.as_slice();
+        match fault_of(decoders, &plan) {
+            Some(fault) => return Err(fault),
+            None => {}
+        }
+        let turnouts = turnout_states(decoders, plan.turnouts.as_slice());
+        let trains = train_states(plan.trains.as_slice());
+        let Plan { blocks, joints, .. } = plan;
+        let track = Track {
+            blocks,
+            joints,
+            turnouts,
+        };
+        Ok(Railway { track, trains })
+    }
+
+    /// What holds of every railway.
+    pub fn invariant_holds(&self)
+        ensures kept { IsTrue (is_railway self.now) }
+    {
+        let _track = &self.track;
+    }
+
+    /// Lets `micros` microseconds pass in which the decoders of the layout do what they do now.
+    ///
+    /// Turnouts lie as their decoders move them. A train runs as its decoder runs, up to a buffer
+    /// stop. It is derailed if a turnout is thrown under it or lies against it. Returns the
+    /// reports of the sensors whose blocks became occupied, then of those that became free.
+    pub fn elapse(&mut self, micros: u32, world: &World) -> Reports
+        ensures railway { self.new ≡ elapsed self.old micros world.now.nodes }
+        ensures reports { result.items ≡ reports_in self.old micros world.now.nodes }
+        ensures sensors { IsTrue (list_all is_report result.items) }
+    {
+        self.track.lay(world);
+        let track = &self.track;
+        let trains = track.run_all(self.trains.as_slice(), micros, world);
+        let blocks = track.blocks.as_slice();
+        let reports = changes(blocks, self.trains.as_slice(), trains.as_slice());
+        self.trains = trains;
+        reports
+    }
+}
+
+/// Returns the turnouts of a plan, closed, each with the index of its decoder.
+fn turnout_states(
+    decoders: &[NodeSpec],
+    turnouts: &[Turnout],
+) -> ArrayVec<TurnoutState, MAX_TURNOUTS>
+    requires decoders { length decoders.now ≤ 64 }
+    requires turnouts { length turnouts.now ≤ 64 }
+    ensures { result.items ≡ map (state_of_turnout decoders.now) turnouts.now }
+{
+    let mut states = ArrayVec::new();
+    for (i, turnout) in turnouts.iter().enumerate() {
+        states.push(turnout_state(decoders, turnout));
+    }
+    states
+}
+
+fn turnout_state(decoders: &[NodeSpec], turnout: &Turnout) -> TurnoutState
+    requires { length decoders.now ≤ 64 }
+    ensures { result ≡ state_of_turnout decoders.now turnout.now }
+{
+    let decoder = match decoder_of(decoders, turnout.switch) {
+        Some(i) => i as u8,
+        None => 0,
+    };
+    TurnoutState {
+        turnout: *turnout,
+        decoder,
+        is_thrown: false,
+    }
+}
+
+/// Returns the trains of a plan, as they are put.
+fn train_states(trains: &[Train]) -> Trains
+    requires { length trains.now ≤ 64 }
+    ensures { result.items ≡ map state_of_train trains.now }
+{
+    let mut states = ArrayVec::new();
+    for (i, train) in trains.iter().enumerate() {
+        states.push(placed(train.decoder, train.top, train.length, train.position));
+    }
+    states
+}
