@@ -4,5 +4,6 @@ pub mod Joining
 pub mod Turning
 pub mod Keeping
 pub mod Planning
+pub mod Placing
 pub mod Sensors
 pub mod Observing

@@ -1,4 +1,5 @@
 pub mod Blocks
+pub mod Conflicts
 pub mod Ends
 pub mod Faults
 pub mod Network

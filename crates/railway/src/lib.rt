@@ -3,6 +3,7 @@
 
 mod block;
 mod checking;
+mod conflict;
 mod exit;
 mod fault;
 mod joint;
@@ -14,6 +15,7 @@ mod track;
 mod train;
 
 pub use block::{Block, BlockEnd, End, LONGEST_BLOCK, LONGEST_NAME, Name, Point};
+pub use conflict::{Conflict, Conflicts};
 pub use exit::Exit;
 pub use fault::{Part, PlaceFault, PlanFault};
 pub use joint::{Joint, Turnout, TurnoutState};

@@ -1,12 +1,17 @@
 //! A railway: the track and the trains on it.
 ghost use Rattle.std.specs.Prelude.{◌≡◌, ◌≤◌, ◌<◌, IfErr, IfOk, IsTrue, List, None, OnErr, OnOk, Some, length, map, slice_set};
-ghost use Rattle.std.specs.List.{list_all};
-ghost use Rattle.railway.specs.Faults.{decoder_of, fault_of};
-ghost use Rattle.railway.specs.Trains.{state_of_train};
+ghost use Rattle.std.specs.List.{list_all, slice_index_or};
+ghost use Rattle.railway.specs.Conflicts.{conflicts};
+ghost use Rattle.railway.specs.Faults.{fault_of};
+ghost use Rattle.railway.specs.Network.{exit_of};
+ghost use Rattle.railway.specs.Railway.{elapsed, is_railway, place_fault, placed_in, planned, replaced, reports_in};
+ghost use Rattle.railway.specs.Reports.{changes, full, is_occupied, is_report};
+ghost use Rattle.railway.specs.Trains.{default_state, state_of_train};
 ghost use Rattle.railway.specs.Turnouts.{state_of_turnout};
 
 use crate::block::{Block, BlockEnd};
 use crate::checking::{decoder_of, fault_of};
+use crate::conflict::{Conflicts, conflicts};
 use crate::exit::Exit;
 use crate::fault::{PlaceFault, PlanFault};
 use crate::joint::{Joint, Turnout, TurnoutState};
@@ -43,10 +48,6 @@ impl Model for Railway {
 }
 
 impl Railway {
-    ghost use Rattle.railway.specs.Network.{exit_of};
-    ghost use Rattle.railway.specs.Railway.{elapsed, is_railway, place_fault, placed_in, planned, reports_in};
-    ghost use Rattle.railway.specs.Reports.{changes, full, is_occupied, is_report};
-
     /// Creates the railway of a plan for a layout with these decoders, or returns the first fault
     /// of the plan.
     pub fn new(plan: Plan, decoders: &NodeList) -> Result<Railway, PlanFault>
@@ -95,6 +96,137 @@ impl Railway {
         self.trains = trains;
         reports
     }
+}
+
+impl Railway {
+    /// Puts a train on the track, derailed or not: its front at a position, the train behind it.
+    /// Returns the reports of the sensors whose blocks became occupied, then of those that became
+    /// free.
+    ///
+    /// Fails, and changes nothing, if there is no such train or block, or if the train does not
+    /// fit into the block there.
+    pub fn place(&mut self, train: usize, position: Position) -> Result<Reports, PlaceFault>
+        ensures fault { IfErr result (λ fault. place_fault self.old train position ≡ Some fault) }
+        ensures same { OnErr result (self.new ≡ self.old) }
+        ensures fits { OnOk result (place_fault self.old train position ≡ None) }
+        ensures railway { OnOk result (self.new ≡ placed_in self.old train position) }
+        ensures reports { IfOk result (λ reports. reports.items
+            ≡ changes self.old.network.blocks self.old.trains self.new.trains) }
+        ensures sensors { IfOk result (λ reports. IsTrue (list_all is_report reports.items)) }
+    {
+        if let Some(fault) = self.place_fault(train, position) {
+            return Err(fault);
+        }
+        let track = &self.track;
+        let old = self.trains.as_slice();
+        let trains = replaced(old, train, position);
+        let reports = changes(track.blocks.as_slice(), old, trains.as_slice());
+        self.trains = trains;
+        Ok(reports)
+    }
+
+    /// Returns why a train cannot be put at a position, if it cannot.
+    fn place_fault(&self, train: usize, position: Position) -> Option<PlaceFault>
+        ensures { result ≡ place_fault self.now train position }
+    {
+        let Some(train) = self.trains.as_slice().get(train) else {
+            return Some(PlaceFault::UnknownTrain);
+        };
+        let track = &self.track;
+        let Some(block) = track.blocks.as_slice().get(usize::from(position.block)) else {
+            return Some(PlaceFault::UnknownBlock);
+        };
+        if !fits(block.length, train.length, position) {
+            return Some(PlaceFault::OffTrack);
+        }
+        None
+    }
+
+    /// Returns a full report: each sensor, as its block is.
+    pub fn report_all(&self) -> Reports
+        ensures reports { result.items ≡ full self.now.network.blocks self.now.trains }
+        ensures sensors { IsTrue (list_all is_report result.items) }
+    {
+        let track = &self.track;
+        full(track.blocks.as_slice(), self.trains.as_slice())
+    }
+
+    /// Whether a part of a train is in a block.
+    pub fn is_occupied(&self, block: usize) -> bool
+        ensures occupied { result ≡ is_occupied self.now.trains block }
+    {
+        is_occupied(self.trains.as_slice(), block)
+    }
+
+    /// Returns the blocks with two or more trains in them.
+    pub fn conflicts(&self) -> Conflicts
+        ensures conflicts { result.items ≡ conflicts self.now.network.blocks self.now.trains }
+    {
+        let track = &self.track;
+        conflicts(track.blocks.as_slice(), self.trains.as_slice())
+    }
+
+    /// Returns the trains, as they are.
+    pub fn trains(&self) -> &[TrainState]
+        ensures trains { result.now ≡ self.now.trains }
+    {
+        self.trains.as_slice()
+    }
+
+    /// Returns the turnouts, as they lie.
+    pub fn turnouts(&self) -> &[TurnoutState]
+        ensures turnouts { result.now ≡ self.now.network.turnouts }
+    {
+        let track = &self.track;
+        track.turnouts.as_slice()
+    }
+
+    /// Returns the blocks of the plan.
+    pub fn blocks(&self) -> &[Block]
+        ensures blocks { result.now ≡ self.now.network.blocks }
+    {
+        let track = &self.track;
+        track.blocks.as_slice()
+    }
+
+    /// Returns the joints of the plan.
+    pub fn joints(&self) -> &[Joint]
+        ensures joints { result.now ≡ self.now.network.joints }
+    {
+        let track = &self.track;
+        track.joints.as_slice()
+    }
+
+    /// Returns what is behind an end of a block, as the turnouts lie.
+    pub fn exit(&self, end: BlockEnd) -> Exit
+        ensures exit { result ≡ exit_of self.now.network end }
+    {
+        self.track.exit(end)
+    }
+}
+
+/// Returns these trains, with one of them put at a position.
+fn replaced(trains: &[TrainState], i: usize, position: Position) -> Trains
+    requires few { length trains.now ≤ 64 }
+    requires train { i < length trains.now }
+    ensures { result.items ≡ slice_set trains.now i
+        (replaced (slice_index_or trains.now i default_state) position) }
+{
+    let train = trains[i];
+    let mut after = copied(trains);
+    after.as_mut_slice()[i] = placed(train.decoder, train.top, train.length, position);
+    after
+}
+
+fn copied(trains: &[TrainState]) -> Trains
+    requires { length trains.now ≤ 64 }
+    ensures { result.items ≡ trains.now }
+{
+    let mut copy = ArrayVec::new();
+    for (i, train) in trains.iter().enumerate() {
+        copy.push(*train);
+    }
+    copy
 }
 
 /// Returns the turnouts of a plan, closed, each with the index of its decoder.
