@@ -71,7 +71,7 @@ pub step-spans : (n : Network) (t : TrainState) (front rear : Place) → spans n
 step-spans n t front rear h f r = sym (way_on-suc n t.rear rear (span t) r) ∙ way_on-snoc n t.rear t.front front (span t) (spans-way n t h) f
 
 -- what holds of a train that stands holds after a step, and what holds of one that goes on or derails
-by-step : (P : TrainState → Type 0) (n : Network) (t : TrainState) → P t → P (record t { derailed = true })
+pub by-step : (P : TrainState → Type 0) (n : Network) (t : TrainState) → P t → P (record t { derailed = true })
     → ((front rear : Place) → t.derailed ≡ false → onward n t.front ≡ To front → onward n t.rear ≡ To rear → P (record t { front = front; rear = rear })) → P (step n t)
 by-step P n t stands derails goes = elim (cases_Bool t.derailed) [
   | inl derailed ↦ subst P (sym (step-derailed n t derailed)) stands

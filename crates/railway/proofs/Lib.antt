@@ -5,5 +5,10 @@ pub mod Turning
 pub mod Keeping
 pub mod Planning
 pub mod Placing
+pub mod Runs
+pub mod Facts
+pub mod Occupying
+pub mod Changing
+pub mod Times
 pub mod Sensors
 pub mod Observing

@@ -40,7 +40,7 @@ leads-partner (Some end) branch next h = cc
 leads-partner None true next h = cc
 leads-partner None false next h = cc
 
-exit-back : (n : Network) (end next : BlockEnd) → Apart n → exit_of n end ≡ Leads next → exit_of n next ≡ Leads end
+pub exit-back : (n : Network) (end next : BlockEnd) → Apart n → exit_of n end ≡ Leads next → exit_of n next ≡ Leads end
 exit-back n end next apart h =
     ap (λ (found : Option BlockEnd). exit_to found (list_any (is_branch next) n.turnouts))
     (joined-back n end next apart (leads-partner (partner (joined n) end) _ next h))
@@ -56,7 +56,7 @@ behind : (end : End) (length at : ℕ) → at < length → 0 < left_to end lengt
 behind A length at h g = omega arith
 behind B length at h g = omega arith
 
-return : (end : End) (length at : ℕ) → at < length → 0 < left_to end length at → moved_to (other end) (moved_to end at 1) 1 ≡ at
+pub return : (end : End) (length at : ℕ) → at < length → 0 < left_to end length at → moved_to (other end) (moved_to end at 1) 1 ≡ at
 return A length at h g = omega arith
 return B length at h g = omega arith
 
@@ -65,16 +65,16 @@ at-end : (end : End) (length at : ℕ) → at < length → left_to end length at
 at-end A length at h g = omega arith
 at-end B length at h g = omega arith
 
-start-end : (end : End) (length : ℕ) → left_to end length (end_at end length) ≡ 0
+pub start-end : (end : End) (length : ℕ) → left_to end length (end_at end length) ≡ 0
 start-end A length = refl
 start-end B length = omega arith
 
-onward-end : (n : Network) (p : Place) → to_end (length_of n.blocks p.block) p ≡ 0 → onward n p ≡ onward_by n.blocks (exit_of n (end_ahead p))
+pub onward-end : (n : Network) (p : Place) → to_end (length_of n.blocks p.block) p ≡ 0 → onward n p ≡ onward_by n.blocks (exit_of n (end_ahead p))
 onward-end n p h =
     ap (λ (b : Bool). if b then onward_by n.blocks (exit_of n (end_ahead p)) else To (further p 1)) (eq-eqb (to_end (length_of n.blocks p.block) p) 0 h)
 
 -- an exit by which a train goes on
-leads-to : (blocks : List Block) (exit : Exit) (q : Place) → onward_by blocks exit ≡ To q → (next : BlockEnd) × (exit ≡ Leads next) × (start_at blocks next ≡ q)
+pub leads-to : (blocks : List Block) (exit : Exit) (q : Place) → onward_by blocks exit ≡ To q → (next : BlockEnd) × (exit ≡ Leads next) × (start_at blocks next ≡ q)
 leads-to blocks (Leads next) q h = (next, refl, cc)
 leads-to blocks Stop q h = cc
 leads-to blocks Lies q h = cc
@@ -113,7 +113,7 @@ onward-back n p q apart h g = elim (cases_Bool (to_end (length_of n.blocks p.blo
 
 -- The track leads within its blocks.
 
-length-positive : (blocks : List Block) (i : ℕ) → list_all is_block blocks ≡ true → 0 < length_of blocks i
+pub length-positive : (blocks : List Block) (i : ℕ) → list_all is_block blocks ≡ true → 0 < length_of blocks i
 length-positive [] i h = omega arith
 length-positive (block ∷ blocks) zero h =
     let parts = and_parts (is_block block) (list_all is_block blocks) h in
@@ -157,7 +157,7 @@ none-some q h = cc
 some-same : (p q : Place) → Some p ≡ Some q → p ≡ q
 some-same p q h = cc
 
-onward-cases : (o : Onward) → ((q : Place) × (o ≡ To q)) ⊎ (place_of o ≡ None)
+pub onward-cases : (o : Onward) → ((q : Place) × (o ≡ To q)) ⊎ (place_of o ≡ None)
 onward-cases (To q) = inl (q, refl)
 onward-cases BufferStop = inr refl
 onward-cases Against = inr refl

@@ -1,7 +1,9 @@
 pub mod Blocks
 pub mod Conflicts
+pub mod Course
 pub mod Ends
 pub mod Faults
+pub mod Laws
 pub mod Network
 pub mod Places
 pub mod Railway

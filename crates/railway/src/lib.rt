@@ -7,6 +7,7 @@ mod conflict;
 mod exit;
 mod fault;
 mod joint;
+pub mod laws;
 mod plan;
 mod railway;
 mod reading;

@@ -1,0 +1,6 @@
+use Rattle.railway.specs.Railway.{elapsed}
+use Rattle.railway.proofs.Changing.{are-changes}
+use Rattle.railway.proofs.laws.reports_are_changes.Goals as goal
+
+pub returns : goal.returns
+returns c = record { changes = λ railway micros nodes. are-changes railway.network.blocks railway.trains (elapsed railway micros nodes).trains }
