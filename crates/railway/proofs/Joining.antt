@@ -1,18 +1,17 @@
 -- What is joined is joined both ways.
-use Rattle.std.proofs.Common.{◌≡◌, ℕ, ◌++◌, ◌&&◌, ◌||◌, Bool, true, false, not, inl, inr, List, [], ◌∷◌, Option, Some, None, map, refl, ap, sym, subst, ◌∙◌}
+use Rattle.std.proofs.Common.{◌≡◌, ℕ, ◌++◌, ◌&&◌, Bool, true, false, not, inl, inr, List, [], ◌∷◌, Option, Some, None, map, refl, ap, sym, subst, ◌∙◌}
 use Rattle.std.proofs.lemmas.Bool.{and_from, and_parts, both_ways, cases_Bool, eq-eqb, eqb-true, not-true}
-use Rattle.std.specs.List.{list_any}
 use Rattle.std.specs.Option.{option_or}
 use Rattle.std.specs.Prelude.{if◌then◌else◌, nat_eq}
 use Rattle.railway.specs.declared.block.BlockEnd.{BlockEnd}
 use Rattle.railway.specs.declared.block.End.{End}
 use Rattle.railway.specs.declared.block.End.TheVariants.{A, B}
 use Rattle.railway.specs.declared.joint.Joint.{Joint}
-use Rattle.railway.specs.declared.joint.Turnout.{Turnout}
 use Rattle.railway.specs.declared.joint.TurnoutState.{TurnoutState}
 use Rattle.railway.specs.Blocks.{same_block_end, same_end}
 use Rattle.railway.specs.Ends.{are_apart, ends_of, ends_of_joints, ends_of_turnouts, has_end}
 use Rattle.railway.specs.Network.{Network, across, as_joint, joined, partner, turnouts_of}
+use Rattle.railway.proofs.Facts.{or-left, or-right, or-right-true, or-left-true, or-none, not-from}
 
 -- The same end is an equal one.
 
@@ -40,30 +39,6 @@ apart-from end other ends none has = elim (cases_Bool (same_block_end end other)
   | inl same ↦ absurd (both_ways (has_end end ends) none (subst (λ (e : BlockEnd). has_end e ends ≡ true) (sym (same-true end other same)) has))
   | inr different ↦ different
 ]
-
-or-left : (one two : Bool) → (one || two) ≡ false → one ≡ false
-or-left true two h = h
-or-left false two h = refl
-
-or-right : (one two : Bool) → (one || two) ≡ false → two ≡ false
-or-right true two h = cc
-or-right false two h = h
-
-or-from-right : (one two : Bool) → two ≡ true → (one || two) ≡ true
-or-from-right true two h = refl
-or-from-right false two h = h
-
-or-from-left : (one two : Bool) → one ≡ true → (one || two) ≡ true
-or-from-left true two h = refl
-or-from-left false two h = cc
-
-or-none : (one two : Bool) → one ≡ false → two ≡ false → (one || two) ≡ false
-or-none true two h g = h
-or-none false two h g = g
-
-not-from : (b : Bool) → b ≡ false → not b ≡ true
-not-from true h = cc
-not-from false h = refl
 
 -- Joints.
 
@@ -95,14 +70,14 @@ partner-has [] end next h = cc
 partner-has (joint ∷ joints) end next h = elim (cases_Bool (same_block_end joint.one end)) [
   | inl one ↦
       let is : joint.two ≡ next = some-same joint.two next (sym (first-found (across joint end) (partner joints end) joint.two (across-one joint end one)) ∙ h) in
-      or-from-right (same_block_end next joint.one) _ (or-from-left (same_block_end next joint.two) _ (subst (λ (e : BlockEnd). same_block_end next e ≡ true) (sym is) (same-self next)))
+      or-right-true (same_block_end next joint.one) _ (or-left-true (same_block_end next joint.two) _ (subst (λ (e : BlockEnd). same_block_end next e ≡ true) (sym is) (same-self next)))
   | inr not_one ↦ elim (cases_Bool (same_block_end joint.two end)) [
     | inl two ↦
         let is : joint.one ≡ next = some-same joint.one next (sym (first-found (across joint end) (partner joints end) joint.one (across-two joint end not_one two)) ∙ h) in
-        or-from-left (same_block_end next joint.one) _ (subst (λ (e : BlockEnd). same_block_end next e ≡ true) (sym is) (same-self next))
+        or-left-true (same_block_end next joint.one) _ (subst (λ (e : BlockEnd). same_block_end next e ≡ true) (sym is) (same-self next))
     | inr not_two ↦
         let rest = partner-has joints end next (sym (rest-found (across joint end) (partner joints end) (across-none joint end not_one not_two)) ∙ h) in
-        or-from-right (same_block_end next joint.one) _ (or-from-right (same_block_end next joint.two) _ rest)
+        or-right-true (same_block_end next joint.one) _ (or-right-true (same_block_end next joint.two) _ rest)
   ]
 ]
 
@@ -207,11 +182,11 @@ lying-apart (state ∷ states) h =
     let branch : BlockEnd = (as_joint state).two in
     and_from (not (has_end turnout.common (branch ∷ lying states))) (not (has_end branch (lying states)) && are_apart (lying states))
     (not-from _ (or-none (same_block_end turnout.common branch) (has_end turnout.common (lying states))
-      (branch-not state.is_thrown turnout.common turnout.thrown turnout.closed (or-left (same_block_end turnout.common turnout.closed) _ common) (or-left (same_block_end turnout.common turnout.thrown) _ past-closed))
-      (lying-part states turnout.common past-thrown)))
+    (branch-not state.is_thrown turnout.common turnout.thrown turnout.closed (or-left (same_block_end turnout.common turnout.closed) _ common) (or-left (same_block_end turnout.common turnout.thrown) _ past-closed))
+    (lying-part states turnout.common past-thrown)))
     (and_from (not (has_end branch (lying states))) (are_apart (lying states))
-      (not-from _ (branch-has state.is_thrown turnout.thrown turnout.closed (lying states) (lying-part states turnout.thrown thrown) (lying-part states turnout.closed closed)))
-      (lying-apart states three.1))
+    (not-from _ (branch-has state.is_thrown turnout.thrown turnout.closed (lying states) (lying-part states turnout.thrown thrown) (lying-part states turnout.closed closed)))
+    (lying-apart states three.1))
 
 apart-last : (these those : List BlockEnd) → are_apart (these ++ those) ≡ true → are_apart those ≡ true
 apart-last [] those h = h

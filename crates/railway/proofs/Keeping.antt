@@ -1,5 +1,5 @@
 -- Trains stay on the rails from their rear to their front, or are derailed.
-use Rattle.std.proofs.Common.{◌≡◌, ◌⊎◌, ℕ, zero, suc, ◌*◌, ◌&&◌, ◌||◌, Bool, true, false, inl, inr, List, [], ◌∷◌, Option, Some, None, map, refl, ap, sym, subst, ◌∙◌}
+use Rattle.std.proofs.Common.{◌≡◌, ℕ, zero, suc, ◌*◌, ◌&&◌, ◌||◌, Bool, true, false, inl, inr, List, [], ◌∷◌, Option, Some, None, map, refl, ap, sym, subst, ◌∙◌}
 use Rattle.std.proofs.lemmas.Bool.{and_from, and_parts, cases_Bool, eq-eqb, eqb-true}
 use Rattle.std.specs.List.{list_all}
 use Rattle.std.specs.Option.{option_eq}
@@ -13,13 +13,14 @@ use Rattle.railway.specs.declared.train.TrainState.{TrainState}
 use Rattle.railway.specs.Blocks.{same_end}
 use Rattle.railway.specs.Faults.{is_train_length}
 use Rattle.railway.specs.Network.{Network, checked, is_sound, is_whole, onward, run_on, spans, step, stepped, way_on}
-use Rattle.railway.specs.Places.{is_on_track, same_place, span, turned, turned_place}
+use Rattle.railway.specs.Places.{is_on_track, same_place, span, turned}
 use Rattle.railway.specs.Railway.{is_train, run_in}
-use Rattle.railway.specs.Running.{is_within, run_by, run_for}
+use Rattle.railway.specs.Running.{is_within, run_by}
 use Rattle.railway.specs.Trains.{is_forward, running_in, speed_of}
 use Rattle.railway.proofs.Joining.{same_end-self, same_end-true}
 use Rattle.railway.proofs.Turning.{onward-on_track, way-back, way_on-snoc}
-use Rattle.railway.proofs.Ways.{step-onward, way_on-suc}
+use Rattle.railway.proofs.Ways.{step-derailed, step-onward, way_on-suc}
+use Rattle.railway.proofs.Facts.{or-right-true, or-left-true}
 
 -- The way from the rear of a train to its front.
 
@@ -46,14 +47,6 @@ spans-way n t h = reaches (way_on n t.rear (span t)) t.front h
 pub way-spans : (n : Network) (t : TrainState) → way_on n t.rear (span t) ≡ Some t.front → spans n t ≡ true
 way-spans n t h = ap (λ (o : Option Place). option_eq same_place o (Some t.front)) h ∙ same_place-self t.front
 
-or-right-true : (one two : Bool) → two ≡ true → (one || two) ≡ true
-or-right-true true two h = refl
-or-right-true false two h = h
-
-or-left-true : (one two : Bool) → one ≡ true → (one || two) ≡ true
-or-left-true true two h = refl
-or-left-true false two h = cc
-
 pub whole-spans : (n : Network) (t : TrainState) → is_whole n t ≡ true → t.derailed ≡ false → spans n t ≡ true
 whole-spans n t h g = sym (ap (λ (b : Bool). b || spans n t) g) ∙ h
 
@@ -61,9 +54,6 @@ pub spans-whole : (n : Network) (t : TrainState) → spans n t ≡ true → is_w
 spans-whole n t h = or-right-true t.derailed (spans n t) h
 
 -- One picometre.
-
-step-derailed : (n : Network) (t : TrainState) → t.derailed ≡ true → step n t ≡ t
-step-derailed n t h = ap (λ (d : Bool). if d then t else stepped t (onward n t.front) (onward n t.rear)) h
 
 -- both ends of a train that spans its length go on over it
 pub step-spans : (n : Network) (t : TrainState) (front rear : Place) → spans n t ≡ true → onward n t.front ≡ To front → onward n t.rear ≡ To rear

@@ -1,5 +1,5 @@
 -- Where joints and turnouts lead.
-use Rattle.std.proofs.Common.{◌≡◌, ◌++◌, ℕ, ◌<◌, ◌&&◌, true, false, Bool, List, [], ◌∷◌, Option, Some, None, length, map, refl, ap, sym, subst, ◌∙◌}
+use Rattle.std.proofs.Common.{◌≡◌, ◌++◌, ℕ, ◌<◌, ◌&&◌, true, Bool, List, [], ◌∷◌, Option, Some, None, length, map, refl, ap, sym, subst, ◌∙◌}
 use Rattle.std.proofs.lemmas.Bool.{and_from, and_parts, cond_both, ltb-true}
 use Rattle.std.specs.List.{list_all}
 use Rattle.std.specs.Option.{option_or}

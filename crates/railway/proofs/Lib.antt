@@ -1,3 +1,4 @@
+pub mod Facts
 pub mod Ways
 pub mod Leading
 pub mod Joining
@@ -6,7 +7,6 @@ pub mod Keeping
 pub mod Planning
 pub mod Placing
 pub mod Runs
-pub mod Facts
 pub mod Occupying
 pub mod Changing
 pub mod Times

@@ -1,5 +1,5 @@
 -- What an observer knows by the reports of sensors.
-use Rattle.std.proofs.Common.{◌≡◌, ℕ, zero, suc, ◌+◌, ◌<◌, ◌==◌, ◌&&◌, ◌||◌, ◌++◌, Bool, true, false, not, inl, inr, List, [], ◌∷◌, length, Option, Some, None, refl, ap, sym, subst, ◌∙◌, arith}
+use Rattle.std.proofs.Common.{◌≡◌, ℕ, zero, suc, ◌+◌, ◌<◌, ◌==◌, ◌&&◌, ◌++◌, Bool, true, false, not, inl, inr, List, [], ◌∷◌, length, Option, Some, None, refl, ap, sym, subst, ◌∙◌, arith}
 use Rattle.std.proofs.lemmas.Bool.{and_parts, both_ways, cases_Bool, eq-eqb, eqb-true, not-true}
 use Rattle.std.proofs.lemmas.List.Folds.{list_any_at}
 use Rattle.std.specs.List.{slice_index_or}
@@ -11,6 +11,7 @@ use Rattle.railway.specs.declared.train.TrainState.{TrainState}
 use Rattle.railway.specs.Blocks.{are_distinct, has_sensor, is_free, default_block}
 use Rattle.railway.specs.Turnouts.{same_bool}
 use Rattle.railway.specs.Reports.{changes, changes_from, full, full_from, level_of, is_occupied, level_after, onto, change_of}
+use Rattle.railway.proofs.Facts.{or-left, or-right}
 
 pub level_after-append : (these those : List Report) (sensor : ℕ) (level : Bool) → level_after (these ++ those) sensor level ≡ level_after those sensor (level_after these sensor level)
 level_after-append [] those sensor level = refl
@@ -56,14 +57,6 @@ full-other None sensor is taken other = refl
 full-other (Some own) sensor is taken other = rw other refl
 
 -- Of all blocks.
-
-or-left : (one two : Bool) → (one || two) ≡ false → one ≡ false
-or-left true two h = h
-or-left false two h = refl
-
-or-right : (one two : Bool) → (one || two) ≡ false → two ≡ false
-or-right true two h = cc
-or-right false two h = h
 
 -- a sensor that no block has is that of none of them
 not-has : (own sensor : ℕ) (blocks : List Block) (j : ℕ) → has_sensor own blocks ≡ false → j < length blocks → (slice_index_or blocks j default_block).sensor ≡ Some sensor → nat_eq own sensor ≡ false

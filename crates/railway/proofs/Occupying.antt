@@ -1,20 +1,17 @@
 -- A train is in the blocks of its two ends, and in no other.
-use Rattle.std.proofs.Common.{◌≡◌, ℕ, zero, suc, ◌+◌, ◌-◌, ◌*◌, ◌<◌, ◌≤◌, ◌&&◌, ◌||◌, Bool, true, false, inl, inr, List, [], ◌∷◌, Option, Some, None, length, refl, ap, sym, subst, ◌∙◌, arith}
+use Rattle.std.proofs.Common.{◌≡◌, ℕ, zero, suc, ◌-◌, ◌<◌, ◌≤◌, true, false, inl, inr, List, [], ◌∷◌, Some, length, refl, ap, sym, subst, ◌∙◌, arith}
 use Rattle.std.proofs.lemmas.Bool.{and_parts, cases_lt, eq-eqb, leb-true}
 use Rattle.std.specs.List.{list_all, slice_index_or}
-use Rattle.std.specs.Prelude.{IsTrue, nat_eq, nat_le, nat_lt}
+use Rattle.std.specs.Prelude.{IsTrue, nat_eq, nat_le}
 use Rattle.railway.specs.declared.block.Block.{Block}
-use Rattle.railway.specs.declared.block.BlockEnd.{BlockEnd}
 use Rattle.railway.specs.declared.block.End.{End}
 use Rattle.railway.specs.declared.block.End.TheVariants.{A, B}
-use Rattle.railway.specs.declared.exit.Onward.{Onward}
 use Rattle.railway.specs.declared.exit.Onward.TheVariants.{To}
 use Rattle.railway.specs.declared.train.Place.{Place}
 use Rattle.railway.specs.declared.train.TrainState.{TrainState}
 use Rattle.railway.specs.Blocks.{default_block, length_of, other}
-use Rattle.railway.specs.Faults.{is_train_length}
-use Rattle.railway.specs.Network.{Network, exit_of, is_sound, onward, spans, way_on}
-use Rattle.railway.specs.Places.{end_ahead, end_at, further, is_on_track, left_to, moved_to, span, start_at, to_end}
+use Rattle.railway.specs.Network.{Network, exit_of, is_sound, onward, way_on}
+use Rattle.railway.specs.Places.{end_ahead, end_at, further, is_on_track, left_to, moved_to, span, to_end}
 use Rattle.railway.specs.Railway.{is_train}
 use Rattle.railway.specs.Reports.{occupies}
 use Rattle.railway.proofs.Keeping.{spans-way, whole-spans}
@@ -99,7 +96,7 @@ two-blocks n t part p is h rails less g =
           let in-next = entered n t.rear p part is parts.rear more g in
           let next = in-next.next in
           let size : t.length ≤ (slice_index_or n.blocks next.block default_block).length =
-            no-longer n.blocks t.length next.block (and_parts (nat_le 1 t.length) (list_all (λ block. nat_le t.length block.length) n.blocks) parts.size).1 (on-track n.blocks next in-next.on_track).of_plan in
+          no-longer n.blocks t.length next.block (and_parts (nat_le 1 t.length) (list_all (λ block. nat_le t.length block.length) n.blocks) parts.size).1 (on-track n.blocks next in-next.on_track).of_plan in
           let room : span t - a - 1 ≤ to_end (length_of n.blocks next.block) next = omega (arith, size, in-next.ahead) in
           let part-room : part - a - 1 ≤ to_end (length_of n.blocks next.block) next = omega (arith, room, less) in
           let here = stays-in n next p (part - a - 1) part-room (rest-of n t.rear next p part more in-next.on g) in

@@ -1,6 +1,6 @@
 -- A plan without faults is that of a railway.
 use Rattle.std.proofs.Common.{◌≡◌, ℕ, ◌+◌, ◌-◌, ◌*◌, ◌<◌, ◌≤◌, ◌&&◌, Bool, true, false, not, List, [], ◌∷◌, Option, Some, None, length, map, refl, ap, sym, subst, ◌∙◌, arith}
-use Rattle.std.proofs.lemmas.Bool.{and_from, and_parts, leb-true, lt-ltb, ltb-true}
+use Rattle.std.proofs.lemmas.Bool.{and_from, and_parts, leb-true, ltb-true}
 use Rattle.std.specs.List.{list_all, slice_index_or}
 use Rattle.std.specs.Option.{option_map, option_or}
 use Rattle.std.specs.Prelude.{if◌then◌else◌, IsTrue, nat_le, nat_lt, slice_get}
@@ -15,15 +15,14 @@ use Rattle.railway.specs.declared.fault.PlanFault.TheVariants.{BlockLength, Name
 use Rattle.railway.specs.declared.joint.Joint.{Joint}
 use Rattle.railway.specs.declared.joint.Turnout.{Turnout}
 use Rattle.railway.specs.declared.plan.Plan.{Plan}
-use Rattle.railway.specs.declared.train.Place.{Place}
 use Rattle.railway.specs.declared.train.Position.{Position}
 use Rattle.railway.specs.declared.train.Train.{Train}
 use Rattle.railway.specs.declared.train.TrainState.{TrainState}
-use Rattle.railway.specs.Blocks.{are_distinct, default_block, is_block, is_block_sensor, is_free, is_length, length_of}
+use Rattle.railway.specs.Blocks.{are_distinct, default_block, is_block, is_block_sensor, is_free, is_length}
 use Rattle.railway.specs.Ends.{are_apart, ends_of, has_end, is_joint, is_turnout, named_twice}
 use Rattle.railway.specs.Faults.{fault_of, fault_of_block, fault_of_blocks, fault_of_joints, fault_of_motors, fault_of_train, fault_of_trains, fault_of_turnouts, fits_there, is_loco, is_renamed, is_train_length, unless}
 use Rattle.railway.specs.Network.{Network, is_sound, turnouts_of, way_on}
-use Rattle.railway.specs.Places.{further, left_to, moved_to, span, to_end}
+use Rattle.railway.specs.Places.{left_to, moved_to, span}
 use Rattle.railway.specs.Railway.{is_railway, is_train, planned}
 use Rattle.railway.specs.Trains.{fits, front_at, placed, rear_at, state_of_train}
 use Rattle.railway.specs.Turnouts.{state_of_turnout}
@@ -104,7 +103,7 @@ placed-train n decoder top size position block h g =
     let one : 1 ≤ size = leb-true 1 size (and_parts (nat_le 1 size) (list_all (λ block. nat_le size block.length) n.blocks) h).0 in
     let is = fits-parts (slice_index_or n.blocks position.block default_block).length size position.at position.facing one g in
     let way : way_on n train.rear (span train) ≡ Some train.front =
-      way_on-within n train.rear (span train) is.ahead ∙ ap (λ (at : ℕ). Some (record train.front { at = at })) is.apart in
+    way_on-within n train.rear (span train) is.ahead ∙ ap (λ (at : ℕ). Some (record train.front { at = at })) is.apart in
     train-from n train h (record {
       within = and_from _ _ (on_track-from n.blocks train.front block is.front) (on_track-from n.blocks train.rear block is.rear);
       whole = spans-whole n train (way-spans n train way);
@@ -143,5 +142,5 @@ planned-railway specs plan h =
     let all : (a && b && d && e && f) ≡ true = and_from (a && b && d && e) f (and_from (a && b && d) e (and_from (a && b) d (and_from a b blocks.0 blocks.1) joints) turnouts) ends in
     let network : Network = (planned specs plan).network in
     let sound : is_sound network ≡ true =
-      subst (λ (ts : List Turnout). (a && b && d && list_all (is_turnout n) ts && are_apart (ends_of plan.joints.items ts)) ≡ true) (sym (turnouts-of-states specs plan.turnouts.items)) all in
+    subst (λ (ts : List Turnout). (a && b && d && list_all (is_turnout n) ts && are_apart (ends_of plan.joints.items ts)) ≡ true) (sym (turnouts-of-states specs plan.turnouts.items)) all in
     (sound, and_from (is_sound network) (list_all (is_train network) (map state_of_train plan.trains.items)) sound (sound_trains specs network 0 plan.trains.items five.1))

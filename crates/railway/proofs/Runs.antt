@@ -1,31 +1,25 @@
 -- Where trains get to, and what they occupy.
-use Rattle.std.proofs.Common.{◌≡◌, ◌⊎◌, ℕ, zero, suc, ◌+◌, ◌-◌, ◌*◌, ◌<◌, ◌≤◌, ◌==◌, ◌&&◌, ◌||◌, Bool, true, false, inl, inr, List, [], ◌∷◌, Option, Some, None, length, map, refl, ap, sym, subst, ◌∙◌, arith}
-use Rattle.std.proofs.lemmas.Bool.{and_from, and_parts, cases_Bool, eq-eqb, leb-true, ltb-true}
-use Rattle.std.specs.List.{list_all, slice_index_or}
-use Rattle.std.specs.Option.{option_and_then}
-use Rattle.std.specs.Prelude.{if◌then◌else◌, IsTrue, nat_le, nat_lt}
-use Rattle.decoder_node.specs.declared.running.Running.{Running}
+use Rattle.std.proofs.Common.{◌≡◌, ℕ, zero, suc, ◌+◌, ◌-◌, ◌*◌, ◌<◌, ◌≤◌, ◌&&◌, Bool, true, false, inl, inr, List, Some, length, refl, ap, sym, subst, ◌∙◌, arith}
+use Rattle.std.proofs.lemmas.Bool.{and_from, and_parts, ltb-true}
+use Rattle.std.specs.Prelude.{if◌then◌else◌, IsTrue, nat_lt}
 use Rattle.layout_core.specs.declared.node.Node.{Node}
 use Rattle.railway.specs.declared.block.Block.{Block}
-use Rattle.railway.specs.declared.block.BlockEnd.{BlockEnd}
 use Rattle.railway.specs.declared.block.End.{End}
-use Rattle.railway.specs.declared.block.End.TheVariants.{A, B}
-use Rattle.railway.specs.declared.exit.Onward.{Onward}
 use Rattle.railway.specs.declared.exit.Onward.TheVariants.{To, BufferStop, Against}
 use Rattle.railway.specs.declared.train.Place.{Place}
 use Rattle.railway.specs.declared.train.TrainState.{TrainState}
-use Rattle.railway.specs.Blocks.{default_block, length_of, other}
+use Rattle.railway.specs.Blocks.{length_of, other}
 use Rattle.railway.specs.Faults.{is_train_length}
 use Rattle.railway.specs.Laws.{IsOnRails, IsOnTrack, leading, leading_end, way_of}
-use Rattle.railway.specs.Network.{Network, checked, exit_of, is_sound, is_whole, onward, place_of, run_on, spans, step, stepped, way_on}
-use Rattle.railway.specs.Places.{end_ahead, end_at, further, is_on_track, left_to, span, start_at, to_end, turned, turned_place}
-use Rattle.railway.specs.Railway.{is_railway, is_train, run_in}
-use Rattle.railway.specs.Reports.{occupies}
-use Rattle.railway.specs.Running.{is_within, run_by, run_for}
+use Rattle.railway.specs.Network.{Network, checked, is_sound, is_whole, onward, run_on, spans, step, way_on}
+use Rattle.railway.specs.Places.{is_on_track, span, turned, turned_place}
+use Rattle.railway.specs.Railway.{is_train, run_in}
+use Rattle.railway.specs.Running.{is_within, run_by}
 use Rattle.railway.specs.Trains.{is_forward, running_in, speed_of}
 use Rattle.railway.proofs.Keeping.{by-step, checked-by, spans-way, step-spans, turned-spans, way-spans, whole-spans}
 use Rattle.railway.proofs.Turning.{onward-cases, way-back, way_on-snoc}
 use Rattle.railway.proofs.Ways.{run_on-add, run_on-derailed, run_on-stands, run_on-step, step-onward, way_on-ends, way_on-suc}
+use Rattle.railway.proofs.Facts.{some-same, none-some, other-other}
 
 -- What a train of a railway is.
 
@@ -61,19 +55,6 @@ on-rails n t is h =
     }
 
 -- Where nothing stops it.
-
-to-some : (o : Onward) (q : Place) → place_of o ≡ Some q → o ≡ To q
-to-some (To p) q h = ap (λ (r : Place). To r) (same p q h) where
-  same : (p q : Place) → Some p ≡ Some q → p ≡ q
-  same p q h = cc
-to-some BufferStop q h = cc
-to-some Against q h = cc
-
-some-same : (p q : Place) → Some p ≡ Some q → p ≡ q
-some-same p q h = cc
-
-none-some : (q : Place) → None ≡ Some q → ⊥
-none-some q h = cc
 
 -- the rear of a train goes on where its front does
 rear-goes : (n : Network) (t : TrainState) (front : Place) → spans n t ≡ true → onward n t.front ≡ To front → (rear : Place) × (onward n t.rear ≡ To rear)
@@ -127,10 +108,6 @@ run-derails n t p ahead way h rails g against less =
     ∙ ap (λ (u : TrainState). u.derailed) (run_on-add n t ahead (way - ahead) ∙ run_on-step n end off (way - ahead) more derails ∙ run_on-derailed n off (way - ahead - 1) refl)
 
 -- With either end ahead.
-
-other-other : (end : End) → other (other end) ≡ end
-other-other A = refl
-other-other B = refl
 
 pub turned-back : (t : TrainState) → turned (turned t) ≡ t
 turned-back t =

@@ -1,12 +1,12 @@
 -- Times add up.
-use Rattle.std.proofs.Common.{◌≡◌, ℕ, ◌+◌, ◌*◌, ◌%◌, ◌&&◌, ◌||◌, Bool, true, false, inl, inr, List, [], ◌∷◌, Option, Some, None, map, refl, ap, sym, subst, ◌∙◌, arith}
+use Rattle.std.proofs.Common.{◌≡◌, ℕ, ◌+◌, ◌*◌, ◌%◌, Bool, true, false, inl, inr, List, [], ◌∷◌, Option, Some, None, map, refl, ap, sym, ◌∙◌, arith}
 use Rattle.std.proofs.lemmas.Bool.{and_parts, cases_Bool}
 use Rattle.std.specs.List.{list_all}
 use Rattle.std.specs.Prelude.{if◌then◌else◌, IsTrue}
 use Rattle.layout_core.specs.declared.node.Node.{Node}
 use Rattle.railway.specs.declared.joint.TurnoutState.{TurnoutState}
 use Rattle.railway.specs.declared.train.TrainState.{TrainState}
-use Rattle.railway.specs.Network.{Network, checked, is_sound, is_whole, run_on, spans}
+use Rattle.railway.specs.Network.{Network, checked, is_sound, run_on}
 use Rattle.railway.specs.Places.{turned}
 use Rattle.railway.specs.Railway.{RailwayState, elapsed, is_railway, is_train, run_in}
 use Rattle.railway.specs.Running.{run_by}

@@ -1,9 +1,9 @@
 -- Ways lead back, and trains stay on the rails from rear to front.
-use Rattle.std.proofs.Common.{◌≡◌, ◌⊎◌, ℕ, zero, suc, ◌+◌, ◌-◌, ◌<◌, ◌≤◌, ◌==◌, ◌&&◌, ◌||◌, Bool, true, false, inl, inr, List, [], ◌∷◌, Option, Some, None, length, refl, ap, sym, subst, ◌∙◌, arith}
+use Rattle.std.proofs.Common.{◌≡◌, ◌⊎◌, ℕ, zero, suc, ◌+◌, ◌<◌, ◌≤◌, ◌==◌, Bool, true, false, inl, inr, List, [], ◌∷◌, Option, Some, None, length, refl, ap, sym, subst, ◌∙◌, arith}
 use Rattle.std.proofs.lemmas.Bool.{and_from, and_parts, cases_Bool, eq-eqb, eqb-true, leb-true, lt-ltb, ltb-true}
-use Rattle.std.specs.Option.{option_and_then, option_eq}
+use Rattle.std.specs.Option.{option_and_then}
 use Rattle.std.specs.List.{list_all, list_any}
-use Rattle.std.specs.Prelude.{IfSome, if◌then◌else◌, IsTrue, nat_eq, nat_le, nat_lt}
+use Rattle.std.specs.Prelude.{IfSome, if◌then◌else◌, IsTrue, nat_le, nat_lt}
 use Rattle.railway.specs.declared.block.Block.{Block}
 use Rattle.railway.specs.declared.block.BlockEnd.{BlockEnd}
 use Rattle.railway.specs.declared.block.End.{End}
@@ -13,14 +13,14 @@ use Rattle.railway.specs.declared.exit.Exit.TheVariants.{Leads, BufferStop as St
 use Rattle.railway.specs.declared.exit.Onward.{Onward}
 use Rattle.railway.specs.declared.exit.Onward.TheVariants.{To, BufferStop, Against}
 use Rattle.railway.specs.declared.train.Place.{Place}
-use Rattle.railway.specs.declared.train.TrainState.{TrainState}
-use Rattle.railway.specs.Blocks.{is_block, is_block_sensor, is_length, length_of, other, same_end}
+use Rattle.railway.specs.Blocks.{is_block, is_block_sensor, is_length, length_of, other}
 use Rattle.railway.specs.Ends.{are_apart, ends_of}
-use Rattle.railway.specs.Network.{Network, exit_of, exit_to, is_branch, is_sound, is_whole, joined, onward, onward_by, partner, place_of, run_on, spans, step, stepped, turnouts_of, way_on}
-use Rattle.railway.specs.Places.{end_ahead, end_at, further, is_on_track, left_to, moved_to, same_place, span, start_at, to_end, turned, turned_place}
-use Rattle.railway.proofs.Joining.{joined-back, same_end-self, same_end-true}
+use Rattle.railway.specs.Network.{Network, exit_of, exit_to, is_branch, is_sound, joined, onward, onward_by, partner, place_of, turnouts_of, way_on}
+use Rattle.railway.specs.Places.{end_ahead, end_at, further, is_on_track, left_to, moved_to, start_at, to_end, turned_place}
+use Rattle.railway.proofs.Joining.{joined-back}
 use Rattle.railway.proofs.Leading.{IsOf, joined-of, sound}
-use Rattle.railway.proofs.Ways.{onward-within, step-onward, way_on-add, way_on-ends, way_on-suc}
+use Rattle.railway.proofs.Ways.{onward-within, way_on-add, way_on-ends, way_on-suc}
+use Rattle.railway.proofs.Facts.{none-some, some-same, other-other}
 
 -- A place of the track.
 
@@ -46,10 +46,6 @@ exit-back n end next apart h =
     (joined-back n end next apart (leads-partner (partner (joined n) end) _ next h))
 
 -- One picometre.
-
-other-other : (end : End) → other (other end) ≡ end
-other-other A = refl
-other-other B = refl
 
 -- what lies ahead after a turn
 behind : (end : End) (length at : ℕ) → at < length → 0 < left_to end length at → 0 < left_to (other end) length (moved_to end at 1)
@@ -150,12 +146,6 @@ onward-on_track n p q is h g = elim (cases_Bool (to_end (length_of n.blocks p.bl
 ]
 
 -- A way leads back.
-
-none-some : (q : Place) → None ≡ Some q → ⊥
-none-some q h = cc
-
-some-same : (p q : Place) → Some p ≡ Some q → p ≡ q
-some-same p q h = cc
 
 pub onward-cases : (o : Onward) → ((q : Place) × (o ≡ To q)) ⊎ (place_of o ≡ None)
 onward-cases (To q) = inl (q, refl)

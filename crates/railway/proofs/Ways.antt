@@ -1,6 +1,6 @@
 -- Ways along the track.
-use Rattle.std.proofs.Common.{◌≡◌, ℕ, zero, suc, ◌+◌, ◌-◌, ◌<◌, ◌≤◌, Bool, true, false, List, Option, Some, None, refl, ap, sym, subst, ◌∙◌, arith}
-use Rattle.std.proofs.lemmas.Bool.{eq-eqb, ne_eqb}
+use Rattle.std.proofs.Common.{◌≡◌, ℕ, zero, suc, ◌+◌, ◌-◌, ◌<◌, ◌≤◌, Bool, true, false, Option, Some, None, refl, ap, sym, ◌∙◌, arith}
+use Rattle.std.proofs.lemmas.Bool.{ne_eqb}
 use Rattle.std.specs.Option.{option_and_then}
 use Rattle.std.specs.Prelude.{if◌then◌else◌}
 use Rattle.railway.specs.declared.block.End.{End}
@@ -52,8 +52,8 @@ unfolding way_on
 way_on-ends n p way goes h =
     let whole : way ≡ suc (way - 1) = omega arith in
     ap (λ (w : ℕ). way_on n p w) whole ∙ ends (way - 1) where
-  ends : (w : ℕ) → way_on n p (suc w) ≡ None
-  ends w = ap (λ (o : Option Place). option_and_then (λ next. way_on n next w) o) h
+      ends : (w : ℕ) → way_on n p (suc w) ≡ None
+      ends w = ap (λ (o : Option Place). option_and_then (λ next. way_on n next w) o) h
 
 -- an end at which the track does not lead on
 pub not-to : (o : Onward) → ((q : Place) → o ≡ To q → ⊥) → place_of o ≡ None
@@ -100,7 +100,7 @@ unfolding run_on
 run_on-stands n t zero h = refl
 run_on-stands n t (suc way) h = ap (λ (u : TrainState). run_on n u way) h ∙ run_on-stands n t way h
 
-step-derailed : (n : Network) (t : TrainState) → t.derailed ≡ true → step n t ≡ t
+pub step-derailed : (n : Network) (t : TrainState) → t.derailed ≡ true → step n t ≡ t
 step-derailed n t h = ap (λ (d : Bool). if d then t else stepped t (onward n t.front) (onward n t.rear)) h
 
 pub run_on-derailed : (n : Network) (t : TrainState) (way : ℕ) → t.derailed ≡ true → run_on n t way ≡ t
@@ -116,8 +116,8 @@ unfolding run_on
 run_on-step n t next way goes h =
     let whole : way ≡ suc (way - 1) = omega arith in
     ap (λ (w : ℕ). run_on n t w) whole ∙ first (way - 1) where
-  first : (w : ℕ) → run_on n t (suc w) ≡ run_on n next w
-  first w = ap (λ (u : TrainState). run_on n u w) h
+      first : (w : ℕ) → run_on n t (suc w) ≡ run_on n next w
+      first w = ap (λ (u : TrainState). run_on n u w) h
 
 moved-zero : (t : TrainState) → t ≡ moved t 0
 moved-zero t = ap (λ (p : Place). record t { front = p }) (further-zero t.front) ∙ ap (λ (p : Place). record t { front = further t.front 0; rear = p }) (further-zero t.rear)

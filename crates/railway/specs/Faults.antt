@@ -6,7 +6,6 @@ use Rattle.dcc_packet.specs.Sent.{module_of}
 use Rattle.decoder_node.specs.declared.node.NodeSpec.{NodeSpec}
 use Rattle.decoder_node.specs.declared.node.NodeSpec.TheVariants.{Loco, Accessory}
 use Rattle.railway.specs.declared.block.Block.{Block}
-use Rattle.railway.specs.declared.fault.Part.{Part}
 use Rattle.railway.specs.declared.fault.Part.TheVariants.{Joint as JointPart, Turnout as TurnoutPart, Train as TrainPart}
 use Rattle.railway.specs.declared.fault.PlanFault.{PlanFault}
 use Rattle.railway.specs.declared.fault.PlanFault.TheVariants.{BlockLength, NameTwice, Sensor, SensorTwice, UnknownBlock, EndTwice, UnknownDecoder, TrainLength, OffTrack}

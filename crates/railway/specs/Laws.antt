@@ -1,5 +1,5 @@
 -- What the laws of a railway speak of.
-use Rattle.std.specs.Prelude.{ℕ, ◌≡◌, ◌*◌, ◌<◌, Bool, true, false, not, if◌then◌else◌, List, [], ◌∷◌, length, Some, IsTrue}
+use Rattle.std.specs.Prelude.{ℕ, ◌≡◌, ◌*◌, ◌<◌, Bool, false, not, if◌then◌else◌, List, [], ◌∷◌, length, Some}
 use Rattle.std.specs.List.{slice_index_or}
 use Rattle.layout_core.specs.declared.node.Node.{Node}
 use Rattle.ln_sensor.specs.declared.report.Report.{Report}

@@ -140,7 +140,7 @@ fn ends_of_joints(joints: &[Joint]) -> Ends
     ensures few { length result.items ≤ 256 }
 {
     let mut ends = ArrayVec::new();
-    for (i, joint) in joints.iter().enumerate() {
+    for joint in joints {
         ends.push(joint.one);
         ends.push(joint.two);
     }
@@ -152,7 +152,7 @@ fn push_ends_of_turnouts(ends: &mut Ends, turnouts: &[Turnout])
     requires turnouts { length turnouts.now ≤ 64 }
     ensures { ends.new.items ≡ ends.old.items ++ ends_of_turnouts turnouts.now }
 {
-    for (i, turnout) in turnouts.iter().enumerate() {
+    for turnout in turnouts {
         ends.push(turnout.common);
         ends.push(turnout.closed);
         ends.push(turnout.thrown);
@@ -220,11 +220,7 @@ fn is_module(number: u16, spec: &NodeSpec) -> bool
     }
 }
 
-fn fault_of_trains(
-    decoders: &[NodeSpec],
-    blocks: &[Block],
-    trains: &[Train],
-) -> Option<PlanFault>
+fn fault_of_trains(decoders: &[NodeSpec], blocks: &[Block], trains: &[Train]) -> Option<PlanFault>
     ensures { result ≡ fault_of_trains decoders.now blocks.now 0 trains.now }
 {
     for (i, train) in trains.iter().enumerate() {

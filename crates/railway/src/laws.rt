@@ -94,7 +94,7 @@ pub fn observers_know()
         → IsTrue (is_railway railway) → block < length railway.network.blocks
         → (slice_index_or railway.network.blocks block default_block).sensor ≡ Some sensor
         → level_after (reports_of_all railway happenings) sensor
-            (is_occupied railway.trains block)
+        (is_occupied railway.trains block)
         ≡ is_occupied (after_all railway happenings).trains block }
 {}
 
@@ -102,5 +102,5 @@ pub fn observers_know()
 pub fn reports_are_changes()
     ensures changes { (railway : RailwayState) (micros : ℕ) (nodes : List Node)
         → AreChanges railway.network.blocks railway.trains (elapsed railway micros nodes).trains
-            (reports_in railway micros nodes) }
+        (reports_in railway micros nodes) }
 {}

@@ -223,7 +223,7 @@ fn copied(trains: &[TrainState]) -> Trains
     ensures { result.items ≡ trains.now }
 {
     let mut copy = ArrayVec::new();
-    for (i, train) in trains.iter().enumerate() {
+    for train in trains {
         copy.push(*train);
     }
     copy
@@ -239,7 +239,7 @@ fn turnout_states(
     ensures { result.items ≡ map (state_of_turnout decoders.now) turnouts.now }
 {
     let mut states = ArrayVec::new();
-    for (i, turnout) in turnouts.iter().enumerate() {
+    for turnout in turnouts {
         states.push(turnout_state(decoders, turnout));
     }
     states
@@ -266,7 +266,7 @@ fn train_states(trains: &[Train]) -> Trains
     ensures { result.items ≡ map state_of_train trains.now }
 {
     let mut states = ArrayVec::new();
-    for (i, train) in trains.iter().enumerate() {
+    for train in trains {
         states.push(placed(train.decoder, train.top, train.length, train.position));
     }
     states

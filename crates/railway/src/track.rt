@@ -68,7 +68,11 @@ impl TurnoutState {
         let turnout = self.turnout;
         Joint {
             one: turnout.common,
-            two: if self.is_thrown { turnout.thrown } else { turnout.closed },
+            two: if self.is_thrown {
+                turnout.thrown
+            } else {
+                turnout.closed
+            },
         }
     }
 
@@ -84,7 +88,7 @@ impl TurnoutState {
 fn over_joints(joints: &[Joint], end: BlockEnd) -> Option<BlockEnd>
     ensures { result ≡ partner joints.now end }
 {
-    for (i, joint) in joints.iter().enumerate() {
+    for joint in joints {
         if let Some(next) = joint.across(end) {
             return Some(next);
         }
@@ -96,7 +100,7 @@ fn over_joints(joints: &[Joint], end: BlockEnd) -> Option<BlockEnd>
 fn over_turnouts(turnouts: &[TurnoutState], end: BlockEnd) -> Option<BlockEnd>
     ensures { result ≡ partner (map as_joint turnouts.now) end }
 {
-    for (i, turnout) in turnouts.iter().enumerate() {
+    for turnout in turnouts {
         if let Some(next) = turnout.as_joint().across(end) {
             return Some(next);
         }
@@ -182,7 +186,8 @@ impl Track {
     fn onward(&self, place: Place) -> Onward
         requires { IsTrue (is_on_track self.now.blocks place) }
         ensures onward { result ≡ onward self.now place }
-        ensures on_track { IfSome (place_of result) (λ next. IsTrue (is_on_track self.now.blocks next)) }
+        ensures on_track { IfSome (place_of result)
+            (λ next. IsTrue (is_on_track self.now.blocks next)) }
     {
         if self.to_end(place) > 0 {
             return Onward::To(place.further(1));
@@ -204,7 +209,8 @@ impl Track {
         requires on_track { IsTrue (is_on_track self.now.blocks place) }
         requires goes { 0 < way }
         ensures none { result ≡ None → way_on self.now place way ≡ None }
-        ensures some { IfSome result (λ next. way_on self.now place way ≡ way_on self.now next.0 next.1) }
+        ensures some { IfSome result
+            (λ next. way_on self.now place way ≡ way_on self.now next.0 next.1) }
         ensures on_track { IfSome result (λ next. IsTrue (is_on_track self.now.blocks next.0)) }
         ensures less { IfSome result (λ next. next.1 < way) }
     {
@@ -345,7 +351,7 @@ impl Track {
         ensures { result.items ≡ map (run_in self.now micros world.now.nodes) trains.now }
     {
         let mut after = ArrayVec::new();
-        for (i, train) in trains.iter().enumerate() {
+        for train in trains {
             after.push(self.run_in(train, micros, world));
         }
         after

@@ -202,7 +202,10 @@ pub(crate) fn placed(decoder: u8, top: u16, length: u32, position: Position) -> 
     let at = u64::from(position.at);
     let size = u64::from(length);
     let (front, rear) = match position.facing {
-        End::A => (at * MILLIMETRE, ((at + size) * MILLIMETRE).saturating_sub(1)),
+        End::A => (
+            at * MILLIMETRE,
+            ((at + size) * MILLIMETRE).saturating_sub(1),
+        ),
         End::B => (
             (at * MILLIMETRE).saturating_sub(1),
             at.saturating_sub(size) * MILLIMETRE,

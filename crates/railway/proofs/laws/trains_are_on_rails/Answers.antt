@@ -8,6 +8,8 @@ use Rattle.railway.proofs.Runs.{on-rails}
 use Rattle.railway.proofs.laws.trains_are_on_rails.Goals as goal
 
 pub returns : goal.returns
-returns c = record { rails = λ railway i none h less.
-    let parts = and_parts (is_sound railway.network) (list_all (is_train railway.network) railway.trains) h in
-    on-rails railway.network (slice_index_or railway.trains i none) parts.0 (all-at (is_train railway.network) railway.trains i none parts.1 less) }
+returns c = record {
+  rails = λ railway i none h less.
+      let parts = and_parts (is_sound railway.network) (list_all (is_train railway.network) railway.trains) h in
+      on-rails railway.network (slice_index_or railway.trains i none) parts.0 (all-at (is_train railway.network) railway.trains i none parts.1 less);
+}

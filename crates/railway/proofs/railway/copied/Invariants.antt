@@ -1,8 +1,8 @@
 use Rattle.std.proofs.Common.{◌≡◌, ◌≤◌, length, take}
 use Rattle.railway.proofs.railway.copied.Given as goal
 
-abbrev pub invariant-loop-i : goal.invariant-loop-i
-invariant-loop-i l = record {
-  copied : l.copy.items ≡ take l.i l.trains;
-  few : length l.copy.items ≤ l.i;
+abbrev pub invariant-loop-train : goal.invariant-loop-train
+invariant-loop-train l = record {
+  copied : l.copy.items ≡ take l.train-index l.trains;
+  few : length l.copy.items ≤ l.train-index;
 }

@@ -2,8 +2,8 @@ use Rattle.std.proofs.Common.{◌≡◌, ◌≤◌, length, map, take}
 use Rattle.railway.specs.Trains.{state_of_train}
 use Rattle.railway.proofs.railway.train_states.Given as goal
 
-abbrev pub invariant-loop-i : goal.invariant-loop-i
-invariant-loop-i l = record {
-  made : l.states.items ≡ map state_of_train (take l.i l.trains);
-  few : length l.states.items ≤ l.i;
+abbrev pub invariant-loop-train : goal.invariant-loop-train
+invariant-loop-train l = record {
+  made : l.states.items ≡ map state_of_train (take l.train-index l.trains);
+  few : length l.states.items ≤ l.train-index;
 }

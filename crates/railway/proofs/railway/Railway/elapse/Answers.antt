@@ -10,7 +10,6 @@ use Rattle.railway.specs.Network.{Network, is_sound}
 use Rattle.railway.specs.Railway.{is_train, run_in}
 use Rattle.railway.specs.Reports.{changes, is_report}
 use Rattle.railway.specs.Running.{is_within}
-use Rattle.railway.specs.Turnouts.{laid}
 use Rattle.railway.proofs.Keeping.{all-within, run_all-trains}
 use Rattle.railway.proofs.Leading.{laid-sound, sound}
 use Rattle.railway.proofs.Sensors.{legal_changes}

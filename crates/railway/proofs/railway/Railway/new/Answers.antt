@@ -5,7 +5,7 @@ use Rattle.railway.specs.declared.joint.TurnoutState.{TurnoutState}
 use Rattle.railway.specs.declared.train.Train.{Train}
 use Rattle.railway.specs.declared.train.TrainState.{TrainState}
 use Rattle.railway.specs.Faults.{fault_of}
-use Rattle.railway.specs.Network.{Network, is_sound}
+use Rattle.railway.specs.Network.{is_sound}
 use Rattle.railway.specs.Railway.{is_railway}
 use Rattle.railway.specs.Trains.{state_of_train}
 use Rattle.railway.specs.Turnouts.{state_of_turnout}
@@ -32,10 +32,10 @@ pub invariant_of-result : goal.invariant_of-result
 invariant_of-result c =
     let plan = c.args.plan in
     let with_turnouts =
-      subst (λ (states : List TurnoutState). IsTrue (is_railway (record {
-        network = record { blocks = plan.blocks.items; joints = plan.joints.items; turnouts = states };
-        trains = map state_of_train plan.trains.items;
-      }))) (sym (turnouts c)) (planned-railway c.as_slice-decoders.result.now plan (no_fault c)).1 in
+    subst (λ (states : List TurnoutState). IsTrue (is_railway (record {
+      network = record { blocks = plan.blocks.items; joints = plan.joints.items; turnouts = states };
+      trains = map state_of_train plan.trains.items;
+    }))) (sym (turnouts c)) (planned-railway c.as_slice-decoders.result.now plan (no_fault c)).1 in
     subst (λ (states : List TrainState). IsTrue (is_railway (record {
       network = record { blocks = plan.blocks.items; joints = plan.joints.items; turnouts = c.turnout_states-turnouts.result.items };
       trains = states;

@@ -18,10 +18,10 @@ pub invariant_of-self : goal.invariant_of-self
 invariant_of-self c =
     let old : RailwayState = record { network = c.self.inside.track; trains = c.self.inside.trains.items } in
     let none : place_fault old c.args.train c.args.position ≡ None =
-      ap (λ (r : RailwayState). place_fault r c.args.train c.args.position) c.self.view_is ∙ sym c.place_fault.ensures ∙ c.in_default.is in
+    ap (λ (r : RailwayState). place_fault r c.args.train c.args.position) c.self.view_is ∙ sym c.place_fault.ensures ∙ c.in_default.is in
     let same : c.replaced-trains.result.items ≡ slice_set old.trains c.args.train (replaced (slice_index_or old.trains c.args.train default_state) c.args.position) =
-      c.replaced-trains.ensures
-      ∙ ap (λ (ts : List TrainState). slice_set ts c.args.train (replaced (slice_index_or ts c.args.train default_state) c.args.position)) c.as_slice-old.ensures.value in
+    c.replaced-trains.ensures
+    ∙ ap (λ (ts : List TrainState). slice_set ts c.args.train (replaced (slice_index_or ts c.args.train default_state) c.args.position)) c.as_slice-old.ensures.value in
     subst (λ (ts : List TrainState). is_railway (record { network = old.network; trains = ts }) ≡ true) (sym same) (placed-railway old c.args.train c.args.position c.self.invariant none)
 
 pub returns-clause-sensors : goal.returns-clause-sensors

@@ -1,9 +1,9 @@
-use Rattle.std.proofs.Common.{◌≡◌, ℕ, ◌<◌, ◌≤◌, ◌-◌, Option, Some, None, ap, sym, subst, ◌∙◌, arith}
+use Rattle.std.proofs.Common.{◌≡◌, ◌-◌, None, ap, sym, ◌∙◌, arith}
 use Rattle.railway.specs.declared.exit.Onward.{Onward}
 use Rattle.railway.specs.declared.train.Place.{Place}
 use Rattle.railway.specs.Blocks.{length_of}
-use Rattle.railway.specs.Network.{Network, onward, place_of, way_on}
-use Rattle.railway.specs.Places.{further, to_end}
+use Rattle.railway.specs.Network.{onward, place_of, way_on}
+use Rattle.railway.specs.Places.{to_end}
 use Rattle.railway.proofs.Ways.{not-to, way_on-ends, way_on-part, way_on-step}
 use Rattle.railway.proofs.track.Track.go_on.Goals as goal
 

@@ -1,8 +1,8 @@
-use Rattle.std.proofs.Common.{◌≡◌, ◌&&◌, List, Bool, length, map, ap, subst, sym, ◌∙◌}
+use Rattle.std.proofs.Common.{◌≡◌, List, map, ap, subst, sym, ◌∙◌}
 use Rattle.std.specs.Prelude.{IsTrue}
 use Rattle.railway.specs.declared.joint.TurnoutState.{TurnoutState}
 use Rattle.railway.specs.Network.{Network, is_sound}
-use Rattle.railway.specs.Turnouts.{laid, observed}
+use Rattle.railway.specs.Turnouts.{observed}
 use Rattle.railway.proofs.Leading.{laid-sound}
 use Rattle.railway.proofs.track.Track.lay.Goals as goal
 

@@ -2,8 +2,8 @@ use Rattle.std.proofs.Common.{◌≡◌, ◌≤◌, length, map, take}
 use Rattle.railway.specs.Railway.{run_in}
 use Rattle.railway.proofs.track.Track.run_all.Given as goal
 
-abbrev pub invariant-loop-i : goal.invariant-loop-i
-invariant-loop-i l = record {
-  ran : l.after.items ≡ map (run_in l.self l.micros l.world.nodes) (take l.i l.trains);
-  few : length l.after.items ≤ l.i;
+abbrev pub invariant-loop-train : goal.invariant-loop-train
+invariant-loop-train l = record {
+  ran : l.after.items ≡ map (run_in l.self l.micros l.world.nodes) (take l.train-index l.trains);
+  few : length l.after.items ≤ l.train-index;
 }

@@ -1,9 +1,8 @@
-use Rattle.std.proofs.Common.{◌≡◌, ℕ, ◌<◌, ◌≤◌, ◌-◌, true, refl, ap, sym, subst, ◌∙◌, arith}
-use Rattle.railway.specs.declared.exit.Onward.{Onward}
+use Rattle.std.proofs.Common.{◌≡◌, ◌-◌, true, refl, ap, sym, ◌∙◌, arith}
 use Rattle.railway.specs.declared.exit.Onward.TheVariants.{To, BufferStop, Against}
 use Rattle.railway.specs.declared.train.TrainState.{TrainState}
 use Rattle.railway.specs.Blocks.{length_of}
-use Rattle.railway.specs.Network.{Network, onward, run_on}
+use Rattle.railway.specs.Network.{onward, run_on}
 use Rattle.railway.specs.Places.{to_end}
 use Rattle.railway.proofs.Ways.{rear-stands, run_on-derailed, run_on-part, run_on-stands, run_on-step, step-onward}
 use Rattle.railway.proofs.track.Track.run_some.Goals as goal
@@ -56,5 +55,5 @@ returns-in_default c =
     let network = c.args.self.now in
     let train = c.args.train.now in
     let stands = step-onward network train (To c.in-To.front) c.onward-in-To.result c.if-train.false (sym c.onward.ensures.onward ∙ c.in-To.is) (sym c.onward-in-To.ensures.onward)
-      ∙ rear-stands train c.in-To.front c.onward-in-To.result c.in_default.not-To in
+    ∙ rear-stands train c.in-To.front c.onward-in-To.result c.in_default.not-To in
     record { run = run_on-stands network train c.args.way stands; within = c.requires.within; less = c.requires.goes }
