@@ -62,10 +62,9 @@ impl Railway {
         }
         let turnouts = turnout_states(decoders, plan.turnouts.as_slice());
         let trains = train_states(plan.trains.as_slice());
-        let Plan { blocks, joints, .. } = plan;
         let track = Track {
-            blocks,
-            joints,
+            blocks: plan.blocks,
+            joints: plan.joints,
             turnouts,
         };
         Ok(Railway { track, trains })
