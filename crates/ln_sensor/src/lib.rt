@@ -10,7 +10,7 @@
 //! assert_eq!(Report::read(&message), Some(report));
 //! ```
 //!
-//! The tests are in `library_tests/src/test_ln_sensor.rt`.
+//! The tests are in `railway_tests/src/test_ln_sensor.rt`.
 #![tactic(auto)]
 
 mod report;

@@ -1,4 +1,21 @@
 //! Trains on the track plan of a layout, and the sensors of its blocks.
+//!
+//! A [`Plan`] has blocks, joints and turnouts between their ends, and trains. [`Railway::new`]
+//! checks it. A caller passes each piece of time to [`Railway::elapse`], with the layout whose
+//! decoders run the trains and move the turnouts, and receives the reports of the sensors. The
+//! layout is only read.
+//!
+//! ```ignore
+//! let mut railway = Railway::new(plan, &decoders)?;
+//! for report in railway.elapse(5_796, &world).as_slice() { /* send report.message() */ }
+//! ```
+//!
+//! Trains run as their decoders run, not as they were asked to: speed step n of N is n / N of the
+//! top speed, at once. A train stops at an end that nothing joins. It is derailed by a turnout that
+//! lies against it or is thrown under it, and stands until [`Railway::place`] puts it back. Two
+//! trains in a block are a [`Conflict`].
+//!
+//! The tests are in `railway_tests/src`: `test_plan.rt` and `test_railway.rt`.
 #![tactic(auto)]
 
 mod block;
