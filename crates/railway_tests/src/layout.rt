@@ -17,17 +17,11 @@ pub(crate) fn block(name: &str, sensor: u16) -> Result<Block, Fail> {
 }
 
 pub(crate) const fn end_a(block: u8) -> BlockEnd {
-    BlockEnd {
-        block,
-        end: End::A,
-    }
+    BlockEnd { block, end: End::A }
 }
 
 pub(crate) const fn end_b(block: u8) -> BlockEnd {
-    BlockEnd {
-        block,
-        end: End::B,
-    }
+    BlockEnd { block, end: End::B }
 }
 
 /// A train of 200 millimetres in block 1, its front 600 millimetres from end A. It runs 300

@@ -1,7 +1,7 @@
 //! The first fault of a plan: the oval with one more part.
 
 use crate::layout::{EXPRESS, block, decoders, end_a, end_b, oval};
-use railway::{Block, Joint, Part, Plan, PlanFault, Position, Railway, Train, Turnout};
+use railway::{Block, End, Joint, Part, Plan, PlanFault, Position, Railway, Train, Turnout};
 use std::test::Fail;
 
 fn fault(plan: Plan) -> Result<Option<PlanFault>, Fail> {
@@ -108,7 +108,7 @@ fn joints_and_turnouts(rt: HostRuntime) -> Result<(), Fail> {
 const BACK: Position = Position {
     block: 4,
     at: 200,
-    ..EXPRESS.position
+    facing: End::B,
 };
 
 #[test]

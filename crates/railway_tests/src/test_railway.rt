@@ -5,31 +5,34 @@ use decoder_cv::CvSet;
 use decoder_node::NodeSpec;
 use layout_core::World;
 use railway::{
-    Conflict, End, Exit, Joint, PlaceFault, Plan, Position, Railway, Report, Train, TrainState,
+    Conflict, End, Exit, Joint, PlaceFault, Plan, Position, Railway, Report, Reports, Train,
+    TrainState,
 };
 use std::test::Fail;
 
-const fn on(sensor: u16) -> Report {
-    Report {
-        sensor,
-        occupied: true,
-    }
-}
-
-const fn off(sensor: u16) -> Report {
-    Report {
-        sensor,
-        occupied: false,
-    }
-}
+/// Reports: sensors, and whether their blocks are occupied.
+type Rows = &'static [(u16, bool)];
 
 /// Times that elapse in microseconds, and what is reported of each.
-type Story = &'static [(u32, &'static [Report])];
+type Story = &'static [(u32, Rows)];
+
+/// Whether these are the reports.
+fn are(reports: &Reports, rows: Rows) -> bool {
+    let mut same = reports.len() == rows.len();
+    for (i, (sensor, occupied)) in rows.iter().enumerate() {
+        let report = Report {
+            sensor: *sensor,
+            occupied: *occupied,
+        };
+        same = same && reports.get(i) == Some(&report);
+    }
+    same
+}
 
 /// Returns the first row of a story that is not as it says.
 fn first_wrong(railway: &mut Railway, world: &World, story: Story) -> Option<usize> {
-    for (i, (micros, reports)) in story.iter().enumerate() {
-        if railway.elapse(*micros, world).as_slice() != *reports {
+    for (i, (micros, rows)) in story.iter().enumerate() {
+        if !are(&railway.elapse(*micros, world), rows) {
             return Some(i);
         }
     }
@@ -44,20 +47,23 @@ fn drive(world: &mut World) {
 /// The front has 400 millimetres to go to the east, the rear 600; then a metre each.
 const ROUND: Story = &[
     (2_666_666, &[]),
-    (1, &[on(4)]),
+    (1, &[(4, true)]),
     (1_333_332, &[]),
-    (1, &[off(2)]),
+    (1, &[(2, false)]),
     // Occupied blocks are reported before free ones.
-    (6_666_667, &[on(5), off(4)]),
-    (6_666_667, &[on(1), off(5)]),
-    (8_000_000, &[on(2), off(1)]),
+    (6_666_667, &[(5, true), (4, false)]),
+    (6_666_667, &[(1, true), (5, false)]),
+    (8_000_000, &[(2, true), (1, false)]),
 ];
 
 #[test]
 fn round_the_oval(rt: HostRuntime) -> Result<(), Fail> {
     let mut world = layout(&rt)?;
     let mut railway = Railway::new(oval()?, &decoders()?).map_err(|_| "plan")?;
-    assert!(rt; railway.elapse(1_000_000, &world).is_empty(), "a train that nobody drives");
+    assert!(rt;
+        railway.elapse(1_000_000, &world).is_empty(),
+        "a train that nobody drives"
+    );
     drive(&mut world);
     assert!(rt; first_wrong(&mut railway, &world, ROUND) == None);
     Ok(())
@@ -75,8 +81,13 @@ fn train(railway: &Railway, i: usize) -> Result<TrainState, Fail> {
 #[test]
 fn a_full_report_has_each_sensor(rt: HostRuntime) -> Result<(), Fail> {
     let railway = oval_railway()?;
-    let all = [off(1), on(2), off(3), off(4), off(5)];
-    assert!(rt; railway.report_all().as_slice() == all.as_slice());
+    let all = railway.report_all();
+    assert!(rt;
+        are(
+            &all,
+            &[(1, false), (2, true), (3, false), (4, false), (5, false)]
+        )
+    );
     assert!(rt; railway.is_occupied(1) && !railway.is_occupied(0));
     assert_eq!(rt; railway.blocks().len(), 5);
     assert_eq!(rt; railway.joints().len(), 2);
@@ -91,13 +102,18 @@ fn a_train_runs_as_its_decoder_does(rt: HostRuntime) -> Result<(), Fail> {
     drive(&mut world);
     // A stop that the decoder misses, and then receives.
     say_missed(&mut world, &[0xA0, 0x01, 0x00], 1);
-    assert!(rt; railway.elapse(3_000_000, &world).as_slice() == [on(4)].as_slice());
+    assert!(rt; are(&railway.elapse(3_000_000, &world), &[(4, true)]));
     say(&mut world, &[0xA0, 0x01, 0x00]);
     assert!(rt; railway.elapse(60_000_000, &world).is_empty());
     Ok(())
 }
 
-const MAIN: Position = EXPRESS.position;
+/// Where the express is put.
+const MAIN: Position = Position {
+    block: 1,
+    at: 600,
+    facing: End::B,
+};
 
 #[test]
 fn a_turnout_thrown_under_a_train_derails_it(rt: HostRuntime) -> Result<(), Fail> {
@@ -105,7 +121,7 @@ fn a_turnout_thrown_under_a_train_derails_it(rt: HostRuntime) -> Result<(), Fail
     let mut railway = oval_railway()?;
     drive(&mut world);
     // The front is 50 millimetres in the east, the rear in main.
-    assert!(rt; railway.elapse(3_000_000, &world).as_slice() == [on(4)].as_slice());
+    assert!(rt; are(&railway.elapse(3_000_000, &world), &[(4, true)]));
     assert!(rt; railway.exit(end_b(1)) == Exit::Leads(end_a(3)));
     say(&mut world, &[0xB0, 0x01, 0x10]);
     assert!(rt; railway.elapse(60_000_000, &world).is_empty());
@@ -114,7 +130,7 @@ fn a_turnout_thrown_under_a_train_derails_it(rt: HostRuntime) -> Result<(), Fail
     assert!(rt; railway.exit(end_b(1)) == Exit::Against);
     // It is put back, and the turnout lies against it.
     let placed = railway.place(0, MAIN).map_err(|_| "place")?;
-    assert!(rt; placed.as_slice() == [off(4)].as_slice());
+    assert!(rt; are(&placed, &[(4, false)]));
     assert!(rt; !train(&railway, 0)?.derailed);
     assert!(rt; railway.elapse(60_000_000, &world).is_empty());
     assert!(rt; train(&railway, 0)?.derailed);
@@ -137,7 +153,7 @@ fn a_train_is_placed_where_it_fits(rt: HostRuntime) -> Result<(), Fail> {
         facing: End::A,
     };
     let placed = railway.place(0, turned).map_err(|_| "place")?;
-    assert!(rt; placed.as_slice() == [on(3), off(2)].as_slice());
+    assert!(rt; are(&placed, &[(3, true), (2, false)]));
     assert_eq!(rt; train(&railway, 0)?.front.at, 800_000_000_000);
     assert_eq!(rt; train(&railway, 0)?.rear.at, 999_999_999_999);
     Ok(())
@@ -167,7 +183,12 @@ fn a_train_stops_at_a_buffer_stop(rt: HostRuntime) -> Result<(), Fail> {
     assert_eq!(rt; train(&railway, 0)?.rear.at, 800_000_000_000);
     // Backward, to the other one.
     say(&mut world, &[0xA1, 0x01, 0x20]);
-    assert!(rt; railway.elapse(60_000_000, &world).as_slice() == [on(1), off(2)].as_slice());
+    assert!(rt;
+        are(
+            &railway.elapse(60_000_000, &world),
+            &[(1, true), (2, false)]
+        )
+    );
     assert_eq!(rt; train(&railway, 0)?.rear.at, 0);
     assert_eq!(rt; train(&railway, 0)?.front.at, 199_999_999_999);
     assert!(rt; !train(&railway, 0)?.derailed);
