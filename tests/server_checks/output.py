@@ -166,4 +166,4 @@ def quiet():
             same("status", server.process.wait(20), 0)
             same("standard error", server.faults.read_text(), "")
             same("printed", server.printed(), wanted)
-    holds("--help has it", "--quiet" in run("--help")[2])
+    holds("--help has it", "--quiet" in run("--help")[1])

@@ -27,8 +27,8 @@ UNITS = {
 def help_text():
     """--help has each option of docs/CLIENTS.md with its range, its unit and its default"""
     status, wrote, faults = run("--help")
-    same("status and standard output", (status, wrote), (1, ""))
-    parts = dict(re.findall(r"^ +--([a-z-]+) ?(.*)$", faults, re.M))
+    same("status and standard error", (status, faults), (0, ""))
+    parts = dict(re.findall(r"^ +--([a-z-]+) ?(.*)$", wrote, re.M))
     rows = re.findall(r"^`--([a-z-]+)[^|]*\| (.*) \| (.*)$", (TOP / "docs/CLIENTS.md").read_text(), re.M)
     same("options of the document", {name for name, _, _ in rows} >= set(UNITS), True)
     for name, meaning, without in rows:
