@@ -16,5 +16,5 @@ no_order words old_input new_input failed write_failed fault (Ok a) written is r
 no_order words old_input new_input failed write_failed NoMemory (Err run) written is refused = inr (inl (ap status_of is, written))
 no_order words old_input new_input failed write_failed (Usage error) (Err run) written is refused = elim refused [
   | inl among ↦ inl (ap status_of is, inl (kind_of error, among), written)
-  | inr none ↦ inl (ap status_of is, inr none, written)
+  | inr none ↦ inl (ap status_of is, inr none.0, written)
 ]
