@@ -165,35 +165,36 @@ fn words_that_are_no_order(rt: HostRuntime) {
     }
 }
 
-/// Parts of the help.
-const HELP: [&'static str; 12] = [
-    "Usage: lbserver",
-    "anybody who can reach it can drive",
-    "--port <P>",
-    "--clients <C>",
-    "--track",
-    "--quiet",
-    "--page <PORT>",
-    "--page-file <FILE>",
-    "--host <NAME>",
-    "--lose <N>",
-    "--seed <S>",
-    "lbserver --roster layout.toml",
+/// Arguments that ask for a text, and parts of the text on standard output.
+const ASKED: [(&'static [&'static str], &'static [&'static str]); 2] = [
+    (
+        &["--help"],
+        &[
+            "Usage: lbserver",
+            "anybody who can reach it can drive",
+            "--port <P>",
+            "--clients <C>",
+            "--track",
+            "--quiet",
+            "--page <PORT>",
+            "--page-file <FILE>",
+            "--host <NAME>",
+            "--lose <N>",
+            "--seed <S>",
+            "lbserver --roster layout.toml",
+        ],
+    ),
+    (&["--version"], &["lbserver 1."]),
 ];
 
 #[test]
 fn help_and_version_are_no_faults(rt: HostRuntime) -> Result<(), Fail> {
-    for (words, parts) in [
-        (["--help"], HELP.as_slice()),
-        (["--version"], ["lbserver 1."].as_slice()),
-    ] {
+    for (words, parts) in ASKED {
         let mut faults = Vec::new(rt.alloc());
         let mut output = StandardOutput::new(&rt, Vec::new(rt.alloc())).map_err(|_| "no output")?;
-        assert_eq!(rt; execute(&rt, &words, &mut output, &mut faults), 0);
-        assert!(rt;
-            faults.is_empty() && has_all(output.writer.as_slice(), parts),
-            "of {words:?}"
-        );
+        let status = execute(&rt, words, &mut output, &mut faults);
+        assert!(rt; status == 0 && faults.is_empty(), "of {words:?}");
+        assert!(rt; has_all(output.writer.as_slice(), parts), "of {words:?}");
     }
     Ok(())
 }
