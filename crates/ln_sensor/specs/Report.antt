@@ -1,5 +1,5 @@
 -- What sensors report on a LocoNet line (LocoNet Personal Use Edition 1.0, OPC_INPUT_REP).
-use Rattle.std.specs.Prelude.{ℕ, ◌+◌, ◌-◌, ◌*◌, ◌/◌, ◌%◌, ◌==◌, ◌&&◌, ◌++◌, Bool, true, false, nat_le, if◌then◌else◌, List, [], ◌∷◌, Option, Some, None}
+use Rattle.std.specs.Prelude.{ℕ, ◌+◌, ◌-◌, ◌*◌, ◌/◌, ◌%◌, ◌==◌, ◌&&◌, ◌++◌, Bool, false, nat_le, if◌then◌else◌, List, [], ◌∷◌, Option, Some, None}
 use Rattle.ln_frame.specs.Message.{check_of}
 use Rattle.ln_sensor.specs.declared.report.Report.{Report}
 
@@ -14,14 +14,16 @@ in1 sensor = (sensor - 1) / 2 % 128
 -- IN2 has control bit 6, bit 0 of the address as bit 5, the level as bit 4, and bits 11 to 8 of the
 -- address as bits 3 to 0
 abbrev pub in2 : (sensor : ℕ) → (occupied : Bool) → ℕ
-in2 sensor occupied = 64 + (sensor - 1) % 2 * 32 + (if occupied then 1 else 0) * 16 + (sensor - 1) / 256 % 16
+in2 sensor occupied =
+    64 + (sensor - 1) % 2 * 32 + (if occupied then 1 else 0) * 16 + (sensor - 1) / 256 % 16
 
 abbrev pub report_body : (sensor : ℕ) → (occupied : Bool) → List ℕ
 report_body sensor occupied = 0xB2 ∷ in1 sensor ∷ in2 sensor occupied ∷ []
 
 -- the message of a report
 abbrev pub report_bytes : (sensor : ℕ) → (occupied : Bool) → List ℕ
-report_bytes sensor occupied = report_body sensor occupied ++ check_of (report_body sensor occupied) ∷ []
+report_bytes sensor occupied =
+    report_body sensor occupied ++ check_of (report_body sensor occupied) ∷ []
 
 -- the report of a message, as layout software reads it
 abbrev pub report_of : List ℕ → Option Report

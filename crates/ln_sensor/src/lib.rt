@@ -13,6 +13,7 @@
 //! The tests are in `railway_tests/src/test_ln_sensor.rt`.
 #![tactic(auto)]
 
+pub mod laws;
 mod report;
 
-pub use report::{LAST_SENSOR, Report, is_interrogation, reports_are_read};
+pub use report::{LAST_SENSOR, Report, is_interrogation};

@@ -1,7 +1,7 @@
 //! The report of a sensor.
-ghost use Rattle.std.specs.Prelude.{◌≡◌, ℕ, Bool, IsTrue, Some};
+ghost use Rattle.std.specs.Prelude.{◌≡◌};
 ghost use Rattle.ln_frame.specs.Message.{IsWhole};
-ghost use Rattle.ln_sensor.specs.Report.{is_interrogation, is_sensor, report_bytes, report_of};
+ghost use Rattle.ln_sensor.specs.Report.{is_interrogation, report_bytes, report_of};
 
 use ln_frame::Msg;
 
@@ -38,7 +38,7 @@ impl Report {
 
     /// Returns the report that a message is, or `None` for any other message.
     pub fn read(message: &Msg) -> Option<Report>
-        ensures { result ≡ report_of message.now }
+        ensures report { result ≡ report_of message.now }
     {
         match message.bytes() {
             [OPC_INPUT_REP, low, high, _] => {
@@ -59,17 +59,10 @@ impl Report {
 /// them alone, turnout 1017 closed with its output off, is answered, so that one round gives one
 /// report of each sensor.
 pub fn is_interrogation(message: &Msg) -> bool
-    ensures { result ≡ is_interrogation message.now }
+    ensures asks { result ≡ is_interrogation message.now }
 {
     match message.bytes() {
         [OPC_SW_REQ, low, high, _] => *low == 0x78 && *high == 0x27,
         _ => false,
     }
 }
-
-/// The message of a report is read as that report: a law.
-pub fn reports_are_read()
-    ensures read { (sensor : ℕ) (occupied : Bool) → IsTrue (is_sensor sensor)
-        → report_of (report_bytes sensor occupied)
-        ≡ Some (record { sensor = sensor; occupied = occupied }) }
-{}

@@ -9,6 +9,7 @@ pub mod Placing
 pub mod Runs
 pub mod Occupying
 pub mod Changing
+pub mod Meeting
 pub mod Times
 pub mod Sensors
 pub mod Observing

@@ -28,7 +28,13 @@ default_end = record { block = 0; end = A }
 
 -- a block without a name
 abbrev pub default_block : Block
-default_block = record { name = record { bytes = []; spare = [] }; length = 1; sensor = None; point_a = None; point_b = None }
+default_block = record {
+  name = record { bytes = []; spare = [] };
+  length = 1;
+  sensor = None;
+  point_a = None;
+  point_b = None;
+}
 
 -- the sensor of a block, if it has one, is one of 1 to 4096
 abbrev pub is_block_sensor : Option ℕ → Bool

@@ -19,16 +19,19 @@ unless_refused (Some fault) placed railway = railway
 
 abbrev pub after : RailwayState → Happening → RailwayState
 after railway (Elapses micros nodes) = elapsed railway micros nodes
-after railway (Places train position) = unless_refused (place_fault railway train position) (placed_in railway train position) railway
+after railway (Places train position) =
+    unless_refused (place_fault railway train position) (placed_in railway train position) railway
 
 abbrev pub after_all : RailwayState → List Happening → RailwayState
 after_all railway [] = railway
 after_all railway (happening ∷ happenings) = after_all (after railway happening) happenings
 
 abbrev pub reports_of : RailwayState → Happening → List Report
-reports_of railway happening = changes railway.network.blocks railway.trains (after railway happening).trains
+reports_of railway happening =
+    changes railway.network.blocks railway.trains (after railway happening).trains
 
 -- all that is reported, in order
 abbrev pub reports_of_all : RailwayState → List Happening → List Report
 reports_of_all railway [] = []
-reports_of_all railway (happening ∷ happenings) = reports_of railway happening ++ reports_of_all (after railway happening) happenings
+reports_of_all railway (happening ∷ happenings) =
+    reports_of railway happening ++ reports_of_all (after railway happening) happenings

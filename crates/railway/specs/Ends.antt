@@ -10,7 +10,8 @@ abbrev pub default_joint : Joint
 default_joint = record { one = default_end; two = default_end }
 
 abbrev pub default_turnout : Turnout
-default_turnout = record { switch = 0; common = default_end; closed = default_end; thrown = default_end }
+default_turnout =
+    record { switch = 0; common = default_end; closed = default_end; thrown = default_end }
 
 -- the end is one of a block of the plan
 abbrev pub is_end : (blocks : ℕ) → BlockEnd → Bool
@@ -20,7 +21,8 @@ abbrev pub is_joint : (blocks : ℕ) → Joint → Bool
 is_joint blocks joint = is_end blocks joint.one && is_end blocks joint.two
 
 abbrev pub is_turnout : (blocks : ℕ) → Turnout → Bool
-is_turnout blocks turnout = is_end blocks turnout.common && is_end blocks turnout.closed && is_end blocks turnout.thrown
+is_turnout blocks turnout =
+    is_end blocks turnout.common && is_end blocks turnout.closed && is_end blocks turnout.thrown
 
 -- the ends that joints name, in order
 abbrev pub ends_of_joints : List Joint → List BlockEnd
@@ -29,7 +31,8 @@ ends_of_joints (joint ∷ joints) = joint.one ∷ joint.two ∷ ends_of_joints j
 
 abbrev pub ends_of_turnouts : List Turnout → List BlockEnd
 ends_of_turnouts [] = []
-ends_of_turnouts (turnout ∷ turnouts) = turnout.common ∷ turnout.closed ∷ turnout.thrown ∷ ends_of_turnouts turnouts
+ends_of_turnouts (turnout ∷ turnouts) =
+    turnout.common ∷ turnout.closed ∷ turnout.thrown ∷ ends_of_turnouts turnouts
 
 -- all ends that a plan names
 abbrev pub ends_of : List Joint → List Turnout → List BlockEnd

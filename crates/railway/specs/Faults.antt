@@ -33,21 +33,25 @@ abbrev pub fault_of_block : (i : ℕ) → Block → (rest : List Block) → Opti
 fault_of_block i block rest =
     option_or (unless (is_length block.length) (BlockLength i))
     (option_or (unless (not (is_renamed block rest)) (NameTwice i))
-    (option_or (unless (is_block_sensor block.sensor) (Sensor i)) (unless (is_free block.sensor rest) (SensorTwice i))))
+    (option_or (unless (is_block_sensor block.sensor) (Sensor i))
+    (unless (is_free block.sensor rest) (SensorTwice i))))
 
 abbrev pub fault_of_blocks : (i : ℕ) → List Block → Option PlanFault
 fault_of_blocks i [] = None
-fault_of_blocks i (block ∷ blocks) = option_or (fault_of_block i block blocks) (fault_of_blocks (i + 1) blocks)
+fault_of_blocks i (block ∷ blocks) =
+    option_or (fault_of_block i block blocks) (fault_of_blocks (i + 1) blocks)
 
 abbrev pub fault_of_joints : (blocks i : ℕ) → List Joint → Option PlanFault
 fault_of_joints blocks i [] = None
 fault_of_joints blocks i (joint ∷ joints) =
-    option_or (unless (is_joint blocks joint) (UnknownBlock (JointPart i))) (fault_of_joints blocks (i + 1) joints)
+    option_or (unless (is_joint blocks joint) (UnknownBlock (JointPart i)))
+    (fault_of_joints blocks (i + 1) joints)
 
 abbrev pub fault_of_turnouts : (blocks i : ℕ) → List Turnout → Option PlanFault
 fault_of_turnouts blocks i [] = None
 fault_of_turnouts blocks i (turnout ∷ turnouts) =
-    option_or (unless (is_turnout blocks turnout) (UnknownBlock (TurnoutPart i))) (fault_of_turnouts blocks (i + 1) turnouts)
+    option_or (unless (is_turnout blocks turnout) (UnknownBlock (TurnoutPart i)))
+    (fault_of_turnouts blocks (i + 1) turnouts)
 
 -- the decoder is one of a locomotive
 abbrev pub is_loco : Option NodeSpec → Bool
@@ -63,33 +67,41 @@ is_module number (Accessory own) = own == number
 -- the index of the first decoder of a module, from i on
 abbrev pub module_index : (number i : ℕ) → List NodeSpec → Option ℕ
 module_index number i [] = None
-module_index number i (spec ∷ specs) = if is_module number spec then Some i else module_index number (i + 1) specs
+module_index number i (spec ∷ specs) =
+    if is_module number spec then Some i else module_index number (i + 1) specs
 
 -- The decoder that moves a turnout. Switch 1 is the first of module 1, which the packets call 0.
 abbrev pub decoder_of : List NodeSpec → (switch : ℕ) → Option ℕ
-decoder_of specs switch = if switch == 0 then None else module_index (module_of (switch - 1)) 0 specs
+decoder_of specs switch =
+    if switch == 0 then None else module_index (module_of (switch - 1)) 0 specs
 
 abbrev pub fault_of_motors : List NodeSpec → (i : ℕ) → List Turnout → Option PlanFault
 fault_of_motors specs i [] = None
 fault_of_motors specs i (turnout ∷ turnouts) =
-    option_or (none_of (decoder_of specs turnout.switch) (UnknownDecoder (TurnoutPart i))) (fault_of_motors specs (i + 1) turnouts)
+    option_or (none_of (decoder_of specs turnout.switch) (UnknownDecoder (TurnoutPart i)))
+    (fault_of_motors specs (i + 1) turnouts)
 
 -- at least a millimetre, and no longer than any block
 abbrev pub is_train_length : List Block → ℕ → Bool
-is_train_length blocks length = nat_le 1 length && list_all (λ block. nat_le length block.length) blocks
+is_train_length blocks length =
+    nat_le 1 length && list_all (λ block. nat_le length block.length) blocks
 
 abbrev pub fits_there : List Block → Train → Bool
-fits_there blocks train = fits (slice_index_or blocks train.position.block default_block).length train.length train.position.at train.position.facing
+fits_there blocks train =
+    fits (slice_index_or blocks train.position.block default_block).length train.length
+    train.position.at train.position.facing
 
 abbrev pub fault_of_train : List NodeSpec → List Block → (i : ℕ) → Train → Option PlanFault
 fault_of_train specs blocks i train =
     option_or (unless (is_loco (slice_get specs train.decoder)) (UnknownDecoder (TrainPart i)))
     (option_or (unless (nat_lt train.position.block (length blocks)) (UnknownBlock (TrainPart i)))
-    (option_or (unless (is_train_length blocks train.length) (TrainLength i)) (unless (fits_there blocks train) (OffTrack i))))
+    (option_or (unless (is_train_length blocks train.length) (TrainLength i))
+    (unless (fits_there blocks train) (OffTrack i))))
 
 abbrev pub fault_of_trains : List NodeSpec → List Block → (i : ℕ) → List Train → Option PlanFault
 fault_of_trains specs blocks i [] = None
-fault_of_trains specs blocks i (train ∷ trains) = option_or (fault_of_train specs blocks i train) (fault_of_trains specs blocks (i + 1) trains)
+fault_of_trains specs blocks i (train ∷ trains) =
+    option_or (fault_of_train specs blocks i train) (fault_of_trains specs blocks (i + 1) trains)
 
 -- what is wrong with a plan first, if something is
 abbrev pub fault_of : List NodeSpec → Plan → Option PlanFault
@@ -98,4 +110,5 @@ fault_of specs plan =
     (option_or (fault_of_joints (length plan.blocks.items) 0 plan.joints.items)
     (option_or (fault_of_turnouts (length plan.blocks.items) 0 plan.turnouts.items)
     (option_or (option_map EndTwice (named_twice (ends_of plan.joints.items plan.turnouts.items)))
-    (option_or (fault_of_motors specs 0 plan.turnouts.items) (fault_of_trains specs plan.blocks.items 0 plan.trains.items)))))
+    (option_or (fault_of_motors specs 0 plan.turnouts.items)
+    (fault_of_trains specs plan.blocks.items 0 plan.trains.items)))))

@@ -1,5 +1,5 @@
 -- What the laws of a railway speak of.
-use Rattle.std.specs.Prelude.{ℕ, ◌≡◌, ◌*◌, ◌<◌, Bool, false, not, if◌then◌else◌, List, [], ◌∷◌, length, Some}
+use Rattle.std.specs.Prelude.{ℕ, ◌≡◌, ◌*◌, ◌<◌, Bool, false, not, if◌then◌else◌, List, [], ◌∷◌, length, Some, IsTrue}
 use Rattle.std.specs.List.{slice_index_or}
 use Rattle.layout_core.specs.declared.node.Node.{Node}
 use Rattle.ln_sensor.specs.declared.report.Report.{Report}
@@ -9,7 +9,7 @@ use Rattle.railway.specs.declared.train.TrainState.{TrainState}
 use Rattle.railway.specs.Blocks.{default_block, length_of}
 use Rattle.railway.specs.Network.{Network, way_on}
 use Rattle.railway.specs.Places.{span, turned_place}
-use Rattle.railway.specs.Reports.{is_occupied}
+use Rattle.railway.specs.Reports.{is_occupied, occupies}
 use Rattle.railway.specs.Trains.{is_forward, running_in, speed_of}
 
 -- the place is in a block of the plan, within its length
@@ -17,13 +17,14 @@ pub record IsOnTrack (blocks : List Block) (place : Place) : Type 0 where
   pub of_plan : place.block < length blocks
   pub within : place.at < length_of blocks place.block
 
--- both ends of a train are on the track; unless it is derailed, the track leads from its rear to its
--- front and back, over exactly its length
+-- Both ends of a train are on the track. Unless it is derailed, the track leads from its rear to its
+-- front and back, over exactly its length.
 pub record IsOnRails (network : Network) (train : TrainState) : Type 0 where
   pub front : IsOnTrack network.blocks train.front
   pub rear : IsOnTrack network.blocks train.rear
   pub apart : train.derailed ≡ false → way_on network train.rear (span train) ≡ Some train.front
-  pub back : train.derailed ≡ false → way_on network (turned_place train.front) (span train) ≡ Some (turned_place train.rear)
+  pub back : train.derailed ≡ false
+      → way_on network (turned_place train.front) (span train) ≡ Some (turned_place train.rear)
 
 -- the end of a train that leads, its front or its rear, with what lies ahead of it
 abbrev pub leading_end : (forward : Bool) → TrainState → Place
@@ -38,7 +39,8 @@ abbrev pub way_of : List Node → (micros : ℕ) → TrainState → ℕ
 way_of nodes micros train = speed_of train.top (running_in nodes train.decoder) * micros
 
 -- a report is one of a change: of a sensor whose block was not as it says, and now is
-pub record IsChange (blocks : List Block) (was is : List TrainState) (report : Report) : Type 0 where
+pub record IsChange (blocks : List Block) (was is : List TrainState)
+    (report : Report) : Type 0 where
   pub block : ℕ
   pub of_plan : block < length blocks
   pub sensor : (slice_index_or blocks block default_block).sensor ≡ Some report.sensor
@@ -48,4 +50,13 @@ pub record IsChange (blocks : List Block) (was is : List TrainState) (report : R
 -- each of the reports is one of a change
 abbrev pub AreChanges : List Block → (was is : List TrainState) → List Report → Type 0
 AreChanges blocks was is [] = Unit {0}
-AreChanges blocks was is (report ∷ reports) = IsChange blocks was is report × AreChanges blocks was is reports
+AreChanges blocks was is (report ∷ reports) =
+    IsChange blocks was is report × AreChanges blocks was is reports
+
+-- two different trains are in the block
+pub record IsConflict (trains : List TrainState) (block first second : ℕ)
+    (none : TrainState) : Type 0 where
+  pub apart : first < second
+  pub of_railway : second < length trains
+  pub first_in_block : IsTrue (occupies block (slice_index_or trains first none))
+  pub second_in_block : IsTrue (occupies block (slice_index_or trains second none))

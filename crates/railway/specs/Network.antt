@@ -33,7 +33,8 @@ as_joint state = record {
 -- where a joint leads from an end, if it is one of the joint's
 abbrev pub across : Joint → BlockEnd → Option BlockEnd
 across joint end =
-    if same_block_end joint.one end then Some joint.two else (if same_block_end joint.two end then Some joint.one else None)
+    if same_block_end joint.one end then Some joint.two else
+    (if same_block_end joint.two end then Some joint.one else None)
 
 -- where the first of the joints leads that has the end
 abbrev pub partner : List Joint → BlockEnd → Option BlockEnd
@@ -46,15 +47,17 @@ joined network = network.joints ++ map as_joint network.turnouts
 
 -- the end is one of the two that a turnout chooses from
 abbrev pub is_branch : BlockEnd → TurnoutState → Bool
-is_branch end state = same_block_end state.turnout.closed end || same_block_end state.turnout.thrown end
+is_branch end state =
+    same_block_end state.turnout.closed end || same_block_end state.turnout.thrown end
 
 abbrev pub exit_to : Option BlockEnd → (branch : Bool) → Exit
 exit_to (Some end) branch = Leads end
 exit_to None branch = if branch then Against else BufferStop
 
--- what is behind an end: an end of a block, a turnout that lies against it, or a buffer stop
+-- what lies beyond an end: an end of a block, a turnout that lies against it, or a buffer stop
 abbrev pub exit_of : Network → BlockEnd → Exit
-exit_of network end = exit_to (partner (joined network) end) (list_any (is_branch end) network.turnouts)
+exit_of network end =
+    exit_to (partner (joined network) end) (list_any (is_branch end) network.turnouts)
 
 -- an exit leads to a block of the plan, if it leads anywhere
 abbrev pub LeadsToPlan : Network → Exit → Type 0
@@ -70,7 +73,8 @@ onward_by blocks Against = Derails
 -- one picometre ahead
 abbrev pub onward : Network → Place → Onward
 onward network place =
-    if to_end (length_of network.blocks place.block) place == 0 then onward_by network.blocks (exit_of network (end_ahead place)) else To (further place 1)
+    if to_end (length_of network.blocks place.block) place == 0 then
+    onward_by network.blocks (exit_of network (end_ahead place)) else To (further place 1)
 
 abbrev pub place_of : Onward → Option Place
 place_of (To place) = Some place
@@ -80,7 +84,8 @@ place_of Derails = None
 -- so many picometres ahead, one after another, if the track leads so far
 unfoldable pub way_on : Network → Place → (way : ℕ) → Option Place
 way_on network place zero = Some place
-way_on network place (suc way) = option_and_then (λ next. way_on network next way) (place_of (onward network place))
+way_on network place (suc way) =
+    option_and_then (λ next. way_on network next way) (place_of (onward network place))
 
 -- Both ends of a train go where the track leads. Its front stops at a buffer stop, and leaves the
 -- rails at a turnout that lies against it.
@@ -93,7 +98,9 @@ stepped train Derails rear = record train { derailed = true }
 
 -- a train runs forward by one picometre
 abbrev pub step : Network → TrainState → TrainState
-step network train = if train.derailed then train else stepped train (onward network train.front) (onward network train.rear)
+step network train =
+    if train.derailed then train else
+    stepped train (onward network train.front) (onward network train.rear)
 
 -- and by so many, one after another
 unfoldable pub run_on : Network → TrainState → (way : ℕ) → TrainState
@@ -102,7 +109,8 @@ run_on network train (suc way) = run_on network (step network train) way
 
 -- the track leads from the rear of a train to its front, over exactly its length
 abbrev pub spans : Network → TrainState → Bool
-spans network train = option_eq same_place (way_on network train.rear (span train)) (Some train.front)
+spans network train =
+    option_eq same_place (way_on network train.rear (span train)) (Some train.front)
 
 -- a train is on the rails from its rear to its front, or is derailed
 abbrev pub is_whole : Network → TrainState → Bool
@@ -119,5 +127,7 @@ turnouts_of states = map (λ state. state.turnout) states
 -- turnouts join ends of its blocks, and no end is named twice
 abbrev pub is_sound : Network → Bool
 is_sound network =
-    list_all is_block network.blocks && are_distinct network.blocks && list_all (is_joint (length network.blocks)) network.joints
-    && list_all (is_turnout (length network.blocks)) (turnouts_of network.turnouts) && are_apart (ends_of network.joints (turnouts_of network.turnouts))
+    list_all is_block network.blocks && are_distinct network.blocks
+    && list_all (is_joint (length network.blocks)) network.joints
+    && list_all (is_turnout (length network.blocks)) (turnouts_of network.turnouts)
+    && are_apart (ends_of network.joints (turnouts_of network.turnouts))

@@ -37,16 +37,21 @@ turned_place place = record place { toward = other place.toward }
 abbrev pub end_ahead : Place → BlockEnd
 end_ahead place = record { block = place.block; end = place.toward }
 
--- the first picometre behind an end, for one who comes in there
+-- the first picometre beyond an end, for a train that comes in there
 abbrev pub start_at : List Block → BlockEnd → Place
-start_at blocks end = record { block = end.block; at = end_at end.end (length_of blocks end.block); toward = other end.end }
+start_at blocks end = record {
+  block = end.block;
+  at = end_at end.end (length_of blocks end.block);
+  toward = other end.end;
+}
 
 abbrev pub same_place : Place → Place → Bool
 same_place one two = one.block == two.block && one.at == two.at && same_end one.toward two.toward
 
 -- the place is in a block of the plan, within its length
 abbrev pub is_on_track : List Block → Place → Bool
-is_on_track blocks place = nat_lt place.block (length blocks) && nat_lt place.at (length_of blocks place.block)
+is_on_track blocks place =
+    nat_lt place.block (length blocks) && nat_lt place.at (length_of blocks place.block)
 
 -- a train seen from behind: its rear leads
 abbrev pub turned : TrainState → TrainState

@@ -26,23 +26,30 @@ pub record RailwayState : Type 0 where
 -- the railway of a plan, with these decoders
 abbrev pub planned : List NodeSpec → Plan → RailwayState
 planned specs plan = record {
-  network = record { blocks = plan.blocks.items; joints = plan.joints.items; turnouts = map (state_of_turnout specs) plan.turnouts.items };
+  network = record {
+    blocks = plan.blocks.items;
+    joints = plan.joints.items;
+    turnouts = map (state_of_turnout specs) plan.turnouts.items;
+  };
   trains = map state_of_train plan.trains.items;
 }
 
--- a train is no longer than a block, in blocks of the plan within their lengths, and on the rails from
--- its rear to its front or derailed
+-- a train is no longer than a block, in blocks of the plan within their lengths, and on the rails
+-- from its rear to its front, or derailed
 abbrev pub is_train : Network → TrainState → Bool
-is_train network train = is_train_length network.blocks train.length && is_within network.blocks train && is_whole network train
+is_train network train =
+    is_train_length network.blocks train.length && is_within network.blocks train
+    && is_whole network train
 
 -- what holds of every railway
 abbrev pub is_railway : RailwayState → Bool
 is_railway railway = is_sound railway.network && list_all (is_train railway.network) railway.trains
 
--- a train after so many microseconds in which the decoders do this: it runs as its own decoder runs,
--- or is derailed where a turnout was thrown under it
+-- a train after so many microseconds in which the decoders do this: it runs as its own decoder
+-- runs, or is derailed where a turnout was thrown under it
 abbrev pub run_in : Network → (micros : ℕ) → List Node → TrainState → TrainState
-run_in network micros nodes train = run_for network micros (running_in nodes train.decoder) (checked network train)
+run_in network micros nodes train =
+    run_for network micros (running_in nodes train.decoder) (checked network train)
 
 -- so many microseconds pass in which the decoders do this
 abbrev pub elapsed : RailwayState → (micros : ℕ) → List Node → RailwayState
@@ -53,7 +60,8 @@ elapsed railway micros nodes = record {
 
 -- what the sensors report of it
 abbrev pub reports_in : RailwayState → (micros : ℕ) → List Node → List Report
-reports_in railway micros nodes = changes railway.network.blocks railway.trains (elapsed railway micros nodes).trains
+reports_in railway micros nodes =
+    changes railway.network.blocks railway.trains (elapsed railway micros nodes).trains
 
 -- a train is put back on the track
 abbrev pub replaced : TrainState → Position → TrainState
@@ -62,11 +70,15 @@ replaced train position = placed train.decoder train.top train.length position
 -- the train of this index, put there
 abbrev pub placed_in : RailwayState → (train : ℕ) → Position → RailwayState
 placed_in railway train position =
-    record railway { trains = slice_set railway.trains train (replaced (slice_index_or railway.trains train default_state) position) }
+    record railway {
+      trains = slice_set railway.trains train
+          (replaced (slice_index_or railway.trains train default_state) position);
+    }
 
 abbrev pub fits_in : RailwayState → (train : ℕ) → Position → Bool
 fits_in railway train position =
-    fits (slice_index_or railway.network.blocks position.block default_block).length (slice_index_or railway.trains train default_state).length position.at position.facing
+    fits (slice_index_or railway.network.blocks position.block default_block).length
+    (slice_index_or railway.trains train default_state).length position.at position.facing
 
 abbrev pub place_unless : Bool → PlaceFault → Option PlaceFault
 place_unless holds fault = if holds then None else Some fault
@@ -75,4 +87,5 @@ place_unless holds fault = if holds then None else Some fault
 abbrev pub place_fault : RailwayState → (train : ℕ) → Position → Option PlaceFault
 place_fault railway train position =
     option_or (place_unless (nat_lt train (length railway.trains)) UnknownTrain)
-    (option_or (place_unless (nat_lt position.block (length railway.network.blocks)) UnknownBlock) (place_unless (fits_in railway train position) OffTrack))
+    (option_or (place_unless (nat_lt position.block (length railway.network.blocks)) UnknownBlock)
+    (place_unless (fits_in railway train position) OffTrack))

@@ -22,17 +22,21 @@ is_report report = is_sensor report.sensor
 -- what a sensor reports whose block changes to this level, if it does
 abbrev pub change_of : (level : Bool) → Option ℕ → (was is : Bool) → Option Report
 change_of level None was is = None
-change_of level (Some sensor) was is = if same_bool is level && not (same_bool was level) then Some (record { sensor = sensor; occupied = level }) else None
+change_of level (Some sensor) was is =
+    if same_bool is level && not (same_bool was level) then
+    Some (record { sensor = sensor; occupied = level }) else None
 
 abbrev pub onto : Option Report → List Report → List Report
 onto None reports = reports
 onto (Some report) reports = report ∷ reports
 
 -- what sensors report whose blocks change to this level, from block i on
-abbrev pub changes_from : (level : Bool) → (was is : List TrainState) → (i : ℕ) → List Block → List Report
+abbrev pub changes_from : (level : Bool) → (was is : List TrainState) → (i : ℕ) → List Block
+    → List Report
 changes_from level was is i [] = []
 changes_from level was is i (block ∷ blocks) =
-    onto (change_of level block.sensor (is_occupied was i) (is_occupied is i)) (changes_from level was is (i + 1) blocks)
+    onto (change_of level block.sensor (is_occupied was i) (is_occupied is i))
+    (changes_from level was is (i + 1) blocks)
 
 -- what they report as trains move: each block that becomes occupied, then each that becomes free
 abbrev pub changes : List Block → (was is : List TrainState) → List Report
@@ -44,7 +48,8 @@ level_of (Some sensor) is = Some (record { sensor = sensor; occupied = is })
 
 abbrev pub full_from : List TrainState → (i : ℕ) → List Block → List Report
 full_from trains i [] = []
-full_from trains i (block ∷ blocks) = onto (level_of block.sensor (is_occupied trains i)) (full_from trains (i + 1) blocks)
+full_from trains i (block ∷ blocks) =
+    onto (level_of block.sensor (is_occupied trains i)) (full_from trains (i + 1) blocks)
 
 -- a full report: each sensor, as its block is
 abbrev pub full : List Block → List TrainState → List Report
@@ -53,4 +58,5 @@ full blocks trains = full_from trains 0 blocks
 -- the level that an observer of these reports knows of a sensor: that of its last one
 abbrev pub level_after : List Report → (sensor : ℕ) → Bool → Bool
 level_after [] sensor level = level
-level_after (report ∷ reports) sensor level = level_after reports sensor (if report.sensor == sensor then report.occupied else level)
+level_after (report ∷ reports) sensor level =
+    level_after reports sensor (if report.sensor == sensor then report.occupied else level)

@@ -13,8 +13,10 @@ is_within blocks train = is_on_track blocks train.front && is_on_track blocks tr
 
 -- a train runs so far, with its front ahead or its rear
 abbrev pub run_by : Network → (forward : Bool) → (way : ℕ) → TrainState → TrainState
-run_by network forward way train = if forward then run_on network train way else turned (run_on network (turned train) way)
+run_by network forward way train =
+    if forward then run_on network train way else turned (run_on network (turned train) way)
 
 -- A train runs as its decoder runs. A micrometre a second is a picometre a microsecond.
 abbrev pub run_for : Network → (micros : ℕ) → Option Running → TrainState → TrainState
-run_for network micros running train = run_by network (is_forward running) (speed_of train.top running * micros) train
+run_for network micros running train =
+    run_by network (is_forward running) (speed_of train.top running * micros) train

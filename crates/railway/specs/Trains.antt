@@ -25,7 +25,14 @@ abbrev pub default_place : Place
 default_place = record { block = 0; at = 0; toward = A }
 
 abbrev pub default_state : TrainState
-default_state = record { decoder = 0; top = 0; length = 1; front = default_place; rear = default_place; derailed = false }
+default_state = record {
+  decoder = 0;
+  top = 0;
+  length = 1;
+  front = default_place;
+  rear = default_place;
+  derailed = false;
+}
 
 -- A train of this length whose front is so far from end A fits into a block, all in millimetres.
 abbrev pub fits : (block length at : ℕ) → End → Bool
@@ -48,8 +55,16 @@ placed decoder top length position = record {
   decoder = decoder;
   top = top;
   length = length;
-  front = record { block = position.block; at = front_at position.facing position.at; toward = position.facing };
-  rear = record { block = position.block; at = rear_at position.facing position.at length; toward = position.facing };
+  front = record {
+    block = position.block;
+    at = front_at position.facing position.at;
+    toward = position.facing;
+  };
+  rear = record {
+    block = position.block;
+    at = rear_at position.facing position.at length;
+    toward = position.facing;
+  };
   derailed = false;
 }
 

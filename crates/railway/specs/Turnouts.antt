@@ -25,7 +25,8 @@ is_on outputs output = bit_at outputs output == 1
 abbrev pub lies_thrown : Option ℕ → (pair : ℕ) → (lay : Bool) → Bool
 lies_thrown None pair lay = lay
 lies_thrown (Some outputs) pair lay =
-    if same_bool (is_on outputs (2 * (pair % 4) + 1)) (is_on outputs (2 * (pair % 4))) then lay else is_on outputs (2 * (pair % 4))
+    if same_bool (is_on outputs (2 * (pair % 4) + 1)) (is_on outputs (2 * (pair % 4))) then lay else
+    is_on outputs (2 * (pair % 4))
 
 -- the pair of a switch, which counts from 1, among the four of its decoder
 abbrev pub pair_of : (switch : ℕ) → ℕ
@@ -33,7 +34,10 @@ pair_of switch = (switch - 1) % 4
 
 -- a turnout as its decoder moves it
 abbrev pub observed : List Node → TurnoutState → TurnoutState
-observed nodes state = record state { is_thrown = lies_thrown (outputs_in nodes state.decoder) (pair_of state.turnout.switch) state.is_thrown }
+observed nodes state = record state {
+  is_thrown = lies_thrown (outputs_in nodes state.decoder) (pair_of state.turnout.switch)
+      state.is_thrown;
+}
 
 -- the network as its turnouts lie
 abbrev pub laid : List Node → Network → Network
@@ -45,4 +49,8 @@ index_or_zero (Some i) = i
 
 -- a turnout of a plan: it is closed until its decoder moves it
 abbrev pub state_of_turnout : List NodeSpec → Turnout → TurnoutState
-state_of_turnout specs turnout = record { turnout = turnout; decoder = index_or_zero (decoder_of specs turnout.switch); is_thrown = false }
+state_of_turnout specs turnout = record {
+  turnout = turnout;
+  decoder = index_or_zero (decoder_of specs turnout.switch);
+  is_thrown = false;
+}

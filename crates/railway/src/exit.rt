@@ -2,7 +2,7 @@
 use crate::block::BlockEnd;
 use crate::train::Place;
 
-/// What is behind an end of a block.
+/// What lies beyond an end of a block.
 #[derive(Clone, Copy, Debug, PartialEq, Eq)]
 pub enum Exit {
     /// The end that it is joined with, as the turnouts lie.

@@ -1,16 +1,18 @@
 //! The laws of a railway, each as a function that does nothing and ensures it: a call hands the
 //! law to a proof.
-ghost use Rattle.std.specs.Prelude.{◌≡◌, ◌≢◌, ℕ, ◌+◌, ◌<◌, ◌≤◌, Bool, List, length, true, false, IsTrue, Some};
+ghost use Rattle.std.specs.Prelude.{◌≡◌, ◌≢◌, ℕ, ◌+◌, ◌<◌, ◌≤◌, Bool, List, length, true, false, IsTrue, Some, None};
 ghost use Rattle.std.specs.List.{slice_index_or};
 ghost use Rattle.layout_core.specs.declared.node.Node.{Node};
 ghost use Rattle.railway.specs.declared.block.BlockEnd.{BlockEnd};
+ghost use Rattle.railway.specs.declared.conflict.Conflict.{Conflict};
 ghost use Rattle.railway.specs.declared.exit.Exit.TheVariants.{Leads};
 ghost use Rattle.railway.specs.declared.exit.Onward.TheVariants.{BufferStop, Against};
 ghost use Rattle.railway.specs.declared.train.Place.{Place};
 ghost use Rattle.railway.specs.declared.train.TrainState.{TrainState};
 ghost use Rattle.railway.specs.Blocks.{default_block};
+ghost use Rattle.railway.specs.Conflicts.{conflict_in};
 ghost use Rattle.railway.specs.Course.{Happening, after_all, reports_of_all};
-ghost use Rattle.railway.specs.Laws.{AreChanges, IsOnRails, leading, way_of};
+ghost use Rattle.railway.specs.Laws.{AreChanges, IsConflict, IsOnRails, leading, way_of};
 ghost use Rattle.railway.specs.Network.{Network, exit_of, is_sound, onward, way_on};
 ghost use Rattle.railway.specs.Places.{span};
 ghost use Rattle.railway.specs.Railway.{RailwayState, elapsed, is_railway, is_train, reports_in, run_in};
@@ -103,4 +105,13 @@ pub fn reports_are_changes()
     ensures changes { (railway : RailwayState) (micros : ℕ) (nodes : List Node)
         → AreChanges railway.network.blocks railway.trains (elapsed railway micros nodes).trains
         (reports_in railway micros nodes) }
+{}
+
+/// A conflict is reported of a block exactly if two different trains are in it.
+pub fn conflicts_are_two_trains()
+    ensures reported { (trains : List TrainState) (block : ℕ) (conflict : Conflict)
+        (none : TrainState) → conflict_in block trains ≡ Some conflict
+        → IsConflict trains block conflict.first conflict.second none }
+    ensures found { (trains : List TrainState) (block first second : ℕ) (none : TrainState)
+        → IsConflict trains block first second none → conflict_in block trains ≢ None }
 {}

@@ -98,7 +98,7 @@ impl Railway {
 }
 
 impl Railway {
-    /// Puts a train on the track, derailed or not: its front at a position, the train behind it.
+    /// Puts a train on the track, derailed or not: its front at a position, the rest within the same block.
     /// Returns the reports of the sensors whose blocks became occupied, then of those that became
     /// free.
     ///
@@ -196,7 +196,7 @@ impl Railway {
         track.joints.as_slice()
     }
 
-    /// Returns what is behind an end of a block, as the turnouts lie.
+    /// Returns what lies beyond an end of a block, as the turnouts lie.
     pub fn exit(&self, end: BlockEnd) -> Exit
         ensures exit { result ≡ exit_of self.now.network end }
     {

@@ -125,7 +125,7 @@ impl Track {
         self.blocks.as_slice()[usize::from(block)].picometres()
     }
 
-    /// Returns what is behind an end of a block, as the turnouts lie.
+    /// Returns what lies beyond an end of a block, as the turnouts lie.
     pub(crate) fn exit(&self, end: BlockEnd) -> Exit
         ensures exit { result ≡ exit_of self.now end }
         ensures of_plan { LeadsToPlan self.now result }
@@ -155,7 +155,7 @@ impl Track {
 }
 
 impl Track {
-    /// Returns the first picometre behind an end.
+    /// Returns the first picometre beyond an end.
     fn start_at(&self, end: BlockEnd) -> Place
         requires { end.block < length self.now.blocks }
         ensures place { result ≡ start_at self.now.blocks end }

@@ -58,7 +58,7 @@ pub struct TrainState {
     pub front: Place,
     /// The rearmost one. The end ahead is the one on the way to the front.
     pub rear: Place,
-    /// Whether it stands beside the rails, until it is placed again.
+    /// Whether it stands off the rails, until it is placed again.
     pub derailed: bool,
 }
 
@@ -149,7 +149,7 @@ impl TrainState {
 impl Default for Train {
     ghost is_default = { λ train. train ≡ default_train };
 
-    /// A train of one millimetre of the first decoder, which stands at end A of the first block.
+    /// A train of one millimetre of the first decoder, at end A of the first block.
     fn default() -> Train {
         Train {
             decoder: 0,

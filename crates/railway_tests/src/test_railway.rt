@@ -159,7 +159,7 @@ fn a_train_is_placed_where_it_fits(rt: HostRuntime) -> Result<(), Fail> {
     Ok(())
 }
 
-/// Two blocks in a line, with sensors 1 and 2, between buffer stops. A train stands in the second.
+/// Two blocks in a line, with sensors 1 and 2, between buffer stops. A train is in the second.
 fn line() -> Result<Plan, Fail> {
     let mut plan = Plan::default();
     let _ = plan.blocks.try_push(block("yard", 1)?);

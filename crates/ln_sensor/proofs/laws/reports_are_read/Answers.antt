@@ -1,9 +1,8 @@
-use Rattle.std.proofs.Common.{◌≡◌, ℕ, ◌+◌, ◌-◌, ◌*◌, ◌/◌, ◌%◌, ◌==◌, ◌≤◌, Bool, true, false, Option, Some, refl, ap, ◌∙◌, arith}
-use Rattle.std.specs.Prelude.{if◌then◌else◌, nat_le, IsTrue}
+use Rattle.std.proofs.Common.{◌≡◌, ℕ, ◌+◌, ◌*◌, ◌/◌, ◌%◌, ◌==◌, ◌≤◌, Bool, true, false, Some, refl, ap, ◌∙◌, arith}
+use Rattle.std.specs.Prelude.{nat_le, IsTrue}
 use Rattle.std.proofs.lemmas.Bool.{and_parts, eq-eqb, leb-true}
-use Rattle.ln_sensor.specs.declared.report.Report.{Report}
 use Rattle.ln_sensor.specs.Report.{in1, in2, is_sensor, report_bytes, report_of}
-use Rattle.ln_sensor.proofs.report.reports_are_read.Goals as goal
+use Rattle.ln_sensor.proofs.laws.reports_are_read.Goals as goal
 
 -- the number that is read
 number : (sensor : ℕ) (occupied : Bool) → 1 ≤ sensor → sensor ≤ 4096 → 1 + in2 sensor occupied % 16 * 256 + in1 sensor * 2 + in2 sensor occupied / 32 % 2 ≡ sensor
