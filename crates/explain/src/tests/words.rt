@@ -16,7 +16,11 @@ const RUNS: [(
     (
         &["--help"],
         0,
-        &["Usage: explain [FILE]", "standard input", "Example: "],
+        &[
+            "Usage: explain [OPTIONS] [FILE]",
+            "standard input",
+            "Example: ",
+        ],
         &[],
     ),
     (&["--hex"], 0, &["83 7C\n"], &[]),
