@@ -69,7 +69,6 @@ drop-length zero ts = omega arith
 drop-length (suc n) [] = omega arith
 drop-length (suc n) (t ∷ ts) = let rest : length (drop n ts) ≡ length ts - n = drop-length n ts in omega (arith, rest)
 
-
 -- what is found when the first train and the next are
 abbrev conflict-of : (block : ℕ) (ts : List TrainState) (first : ℕ) → Option Conflict
 conflict-of block ts first =
@@ -100,6 +99,7 @@ conflict-is ts block conflict none h = first (first_in block 0 ts) refl where
       } in
       let is : record { block = block; first = k; second = m } ≡ conflict = same-conflict _ conflict g in
       subst (λ (c : Conflict). IsConflict ts block c.first c.second none) is found
+
   first : (o : Option ℕ) → first_in block 0 ts ≡ o → IsConflict ts block conflict.first conflict.second none
   first None f = absurd (no-conflict conflict (sym (ap (λ (o : Option ℕ). option_and_then (conflict-of block ts) o) f) ∙ h))
   first (Some k) f =
@@ -117,6 +117,6 @@ conflict-found ts block first second none is missing =
     let in_block = subst (λ (t : TrainState). occupies block t ≡ true) (sym (drop-index (k + 1) (second - (k + 1)) ts none ∙ ap (λ (j : ℕ). slice_index_or ts j none) far)) is.second_in_block in
     let two = is-found block (k + 1) (second - (k + 1)) (drop (k + 1) ts) none less in_block in
     let found : conflict_in block ts ≡ Some (record { block = block; first = k; second = two.0 }) =
-      ap (λ (o : Option ℕ). option_and_then (conflict-of block ts) o) one.1
-      ∙ ap (λ (o : Option ℕ). option_map (λ second. record { block = block; first = k; second = second }) o) two.1 in
+    ap (λ (o : Option ℕ). option_and_then (conflict-of block ts) o) one.1
+    ∙ ap (λ (o : Option ℕ). option_map (λ second. record { block = block; first = k; second = second }) o) two.1 in
     no-conflict (record { block = block; first = k; second = two.0 }) (sym missing ∙ found)

@@ -25,8 +25,12 @@ trains c = c.train_states-trains.ensures ∙ ap (λ (ts : List Train). map state
 
 pub invariant_of-track : goal.invariant_of-track
 invariant_of-track c =
-    subst (λ (states : List TurnoutState). IsTrue (is_sound (record { blocks = c.args.plan.blocks.items; joints = c.args.plan.joints.items; turnouts = states })))
-    (sym (turnouts c)) (planned-railway c.as_slice-decoders.result.now c.args.plan (no_fault c)).0
+    let plan = c.args.plan in
+    subst (λ (states : List TurnoutState). IsTrue (is_sound (record {
+      blocks = plan.blocks.items;
+      joints = plan.joints.items;
+      turnouts = states;
+    }))) (sym (turnouts c)) (planned-railway c.as_slice-decoders.result.now plan (no_fault c)).0
 
 pub invariant_of-result : goal.invariant_of-result
 invariant_of-result c =
