@@ -97,7 +97,7 @@ conflict-is ts block conflict none h = first (first_in block 0 ts) refl where
         first_in_block = subst (λ (j : ℕ). occupies block (slice_index_or ts j none) ≡ true) here one.in_block;
         second_in_block = subst (λ (t : TrainState). occupies block t ≡ true) (drop-index (k + 1) (m - (k + 1)) ts none ∙ ap (λ (j : ℕ). slice_index_or ts j none) there) two.in_block;
       } in
-      let is : record { block = block; first = k; second = m } ≡ conflict = same-conflict _ conflict g in
+      let is : record { block = block; first = k; second = m } ≡ conflict = same-conflict (record { block = block; first = k; second = m }) conflict g in
       subst (λ (c : Conflict). IsConflict ts block c.first c.second none) is found
 
   first : (o : Option ℕ) → first_in block 0 ts ≡ o → IsConflict ts block conflict.first conflict.second none
@@ -105,18 +105,27 @@ conflict-is ts block conflict none h = first (first_in block 0 ts) refl where
   first (Some k) f =
       second k f (first_in block (k + 1) (drop (k + 1) ts)) refl (sym (ap (λ (o : Option ℕ). option_and_then (conflict-of block ts) o) f) ∙ h)
 
-pub conflict-found : (ts : List TrainState) (block first second : ℕ) (none : TrainState) → IsConflict ts block first second none → conflict_in block ts ≢ None
-conflict-found ts block first second none is missing =
-    let before : first < length ts = omega (arith, is.apart, is.of_railway) in
-    let one = is-found block 0 first ts none before is.first_in_block in
-    let k : ℕ = one.0 in
-    let early : k ≤ first = omega (arith, one.2) in
+-- the first train in a block and the next one are its conflict
+conflict-from : (ts : List TrainState) (block k m : ℕ) → first_in block 0 ts ≡ Some k → first_in block (k + 1) (drop (k + 1) ts) ≡ Some m
+    → conflict_in block ts ≡ Some (record { block = block; first = k; second = m })
+conflict-from ts block k m f s =
+    ap (λ (o : Option ℕ). option_and_then (conflict-of block ts) o) f
+    ∙ ap (λ (o : Option ℕ). option_map (λ second. record { block = block; first = k; second = second }) o) s
+
+-- a train in the block after the first one there is found
+is-next : (ts : List TrainState) (block k first second : ℕ) (none : TrainState) → k ≤ first → IsConflict ts block first second none → (m : ℕ) × (first_in block (k + 1) (drop (k + 1) ts) ≡ Some m)
+is-next ts block k first second none early is =
     let far : k + 1 + (second - (k + 1)) ≡ second = omega (arith, early, is.apart) in
     let size : length (drop (k + 1) ts) ≡ length ts - (k + 1) = drop-length (k + 1) ts in
     let less : second - (k + 1) < length (drop (k + 1) ts) = omega (arith, size, early, is.apart, is.of_railway) in
     let in_block = subst (λ (t : TrainState). occupies block t ≡ true) (sym (drop-index (k + 1) (second - (k + 1)) ts none ∙ ap (λ (j : ℕ). slice_index_or ts j none) far)) is.second_in_block in
     let two = is-found block (k + 1) (second - (k + 1)) (drop (k + 1) ts) none less in_block in
-    let found : conflict_in block ts ≡ Some (record { block = block; first = k; second = two.0 }) =
-    ap (λ (o : Option ℕ). option_and_then (conflict-of block ts) o) one.1
-    ∙ ap (λ (o : Option ℕ). option_map (λ second. record { block = block; first = k; second = second }) o) two.1 in
-    no-conflict (record { block = block; first = k; second = two.0 }) (sym missing ∙ found)
+    (two.0, two.1)
+
+pub conflict-found : (ts : List TrainState) (block first second : ℕ) (none : TrainState) → IsConflict ts block first second none → conflict_in block ts ≢ None
+conflict-found ts block first second none is missing =
+    let before : first < length ts = omega (arith, is.apart, is.of_railway) in
+    let one = is-found block 0 first ts none before is.first_in_block in
+    let early : one.0 ≤ first = omega (arith, one.2) in
+    let two = is-next ts block one.0 first second none early is in
+    no-conflict (record { block = block; first = one.0; second = two.0 }) (sym missing ∙ conflict-from ts block one.0 two.0 one.1 two.1)

@@ -6,7 +6,7 @@ use Rattle.railway.specs.declared.train.Train.{Train}
 use Rattle.railway.specs.declared.train.TrainState.{TrainState}
 use Rattle.railway.specs.Faults.{fault_of}
 use Rattle.railway.specs.Network.{is_sound}
-use Rattle.railway.specs.Railway.{is_railway}
+use Rattle.railway.specs.Railway.{RailwayState, is_railway, planned}
 use Rattle.railway.specs.Trains.{state_of_train}
 use Rattle.railway.specs.Turnouts.{state_of_turnout}
 use Rattle.railway.proofs.Planning.{planned-railway}
@@ -23,24 +23,21 @@ turnouts c = c.turnout_states-turnouts.ensures ∙ ap (λ (ts : List Turnout). m
 trains : (c : goal.After-train_states-trains) → c.train_states-trains.result.items ≡ map state_of_train c.args.plan.trains.items
 trains c = c.train_states-trains.ensures ∙ ap (λ (ts : List Train). map state_of_train ts) c.as_slice-2.ensures.value
 
+-- the railway of the plan
+abbrev plan_of : goal.After-train_states-trains → RailwayState
+plan_of c = planned c.as_slice-decoders.result.now c.args.plan
+
 pub invariant_of-track : goal.invariant_of-track
 invariant_of-track c =
-    let plan = c.args.plan in
-    subst (λ (states : List TurnoutState). IsTrue (is_sound (record {
-      blocks = plan.blocks.items;
-      joints = plan.joints.items;
-      turnouts = states;
-    }))) (sym (turnouts c)) (planned-railway c.as_slice-decoders.result.now plan (no_fault c)).0
+    subst (λ (states : List TurnoutState). IsTrue (is_sound (record (plan_of c).network { turnouts = states }))) (sym (turnouts c))
+    (planned-railway c.as_slice-decoders.result.now c.args.plan (no_fault c)).0
 
 pub invariant_of-result : goal.invariant_of-result
 invariant_of-result c =
-    let plan = c.args.plan in
     let with_turnouts =
-    subst (λ (states : List TurnoutState). IsTrue (is_railway (record {
-      network = record { blocks = plan.blocks.items; joints = plan.joints.items; turnouts = states };
-      trains = map state_of_train plan.trains.items;
-    }))) (sym (turnouts c)) (planned-railway c.as_slice-decoders.result.now plan (no_fault c)).1 in
+    subst (λ (states : List TurnoutState). IsTrue (is_railway (record (plan_of c) { network = record (plan_of c).network { turnouts = states } })))
+    (sym (turnouts c)) (planned-railway c.as_slice-decoders.result.now c.args.plan (no_fault c)).1 in
     subst (λ (states : List TrainState). IsTrue (is_railway (record {
-      network = record { blocks = plan.blocks.items; joints = plan.joints.items; turnouts = c.turnout_states-turnouts.result.items };
+      network = record (plan_of c).network { turnouts = c.turnout_states-turnouts.result.items };
       trains = states;
     }))) (sym (trains c)) with_turnouts
