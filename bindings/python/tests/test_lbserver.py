@@ -284,7 +284,7 @@ class TestServer(unittest.TestCase):
     def test_page(self):
         with Server(page=True) as server:
             with socket.create_connection(("127.0.0.1", server.page_port), 10) as stream:
-                stream.sendall(b"GET / HTTP/1.0\r\n\r\n")
+                stream.sendall(b"GET / HTTP/1.0\r\nHost: localhost\r\n\r\n")
                 self.assertTrue(stream.makefile("rb").readline().startswith(b"HTTP/1.1 200 "))
 
     def test_options_that_are_wrong(self):
