@@ -4,7 +4,7 @@
 //!
 //! [`Server::run`] is the loop. [`Losses`] draws the packets that decoders miss.
 //!
-//! The tests are in `bus_server_tests` and in `layout_tests/src/test_losses.rt`.
+//! The tests are in `layout_tests/src`: `test_bus_server` and `test_losses.rt`.
 #![tactic(auto)]
 
 mod after_round;

@@ -29,6 +29,8 @@ mod test_loconet_tcp;
 #[cfg(test)]
 mod test_refresh_ring;
 #[cfg(test)]
+mod test_sensor;
+#[cfg(test)]
 mod test_show_text;
 #[cfg(test)]
 mod test_slot_table;

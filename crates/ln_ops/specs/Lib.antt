@@ -1,4 +1,5 @@
 pub mod Fields
 pub mod Message
 pub mod Reply
+pub mod Sensor
 pub mod Slot

@@ -1,7 +1,7 @@
 -- Each report is one of a change.
 use Rattle.std.proofs.Common.{◌≡◌, ℕ, suc, ◌+◌, ◌<◌, ◌++◌, Bool, true, false, List, [], ◌∷◌, Option, Some, None, length, refl, ap, subst, arith}
 use Rattle.std.specs.List.{slice_index_or}
-use Rattle.ln_sensor.specs.declared.report.Report.{Report}
+use Rattle.ln_ops.specs.declared.sensor.SensorReport.{SensorReport}
 use Rattle.railway.specs.declared.block.Block.{Block}
 use Rattle.railway.specs.declared.train.TrainState.{TrainState}
 use Rattle.railway.specs.Blocks.{default_block}
@@ -9,15 +9,15 @@ use Rattle.railway.specs.Laws.{AreChanges, IsChange}
 use Rattle.railway.specs.Reports.{change_of, changes, changes_from, is_occupied, onto}
 
 -- a report, if there is one, is one of a change
-abbrev IsOne : List Block → (was is : List TrainState) → Option Report → Type 0
+abbrev IsOne : List Block → (was is : List TrainState) → Option SensorReport → Type 0
 IsOne blocks was is None = Unit {0}
 IsOne blocks was is (Some report) = IsChange blocks was is report
 
-onto-changes : (blocks : List Block) (was is : List TrainState) (report : Option Report) (reports : List Report) → IsOne blocks was is report → AreChanges blocks was is reports → AreChanges blocks was is (onto report reports)
+onto-changes : (blocks : List Block) (was is : List TrainState) (report : Option SensorReport) (reports : List SensorReport) → IsOne blocks was is report → AreChanges blocks was is reports → AreChanges blocks was is (onto report reports)
 onto-changes blocks was is None reports h rest = rest
 onto-changes blocks was is (Some report) reports h rest = (h, rest)
 
-append-changes : (blocks : List Block) (was is : List TrainState) (these those : List Report) → AreChanges blocks was is these → AreChanges blocks was is those → AreChanges blocks was is (these ++ those)
+append-changes : (blocks : List Block) (was is : List TrainState) (these those : List SensorReport) → AreChanges blocks was is these → AreChanges blocks was is those → AreChanges blocks was is (these ++ those)
 append-changes blocks was is [] those h g = g
 append-changes blocks was is (report ∷ these) those h g = (h.0, append-changes blocks was is these those h.1 g)
 

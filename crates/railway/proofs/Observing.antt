@@ -6,23 +6,23 @@ use Rattle.std.specs.List.{slice_index_or}
 use Rattle.std.specs.Option.{option_eq}
 use Rattle.std.specs.Prelude.{nat_eq, if◌then◌else◌}
 use Rattle.railway.specs.declared.block.Block.{Block}
-use Rattle.ln_sensor.specs.declared.report.Report.{Report}
+use Rattle.ln_ops.specs.declared.sensor.SensorReport.{SensorReport}
 use Rattle.railway.specs.declared.train.TrainState.{TrainState}
 use Rattle.railway.specs.Blocks.{are_distinct, has_sensor, is_free, default_block}
 use Rattle.railway.specs.Turnouts.{same_bool}
 use Rattle.railway.specs.Reports.{changes, changes_from, full, full_from, level_of, is_occupied, level_after, onto, change_of}
 use Rattle.railway.proofs.Facts.{or-left, or-right}
 
-pub level_after-append : (these those : List Report) (sensor : ℕ) (level : Bool) → level_after (these ++ those) sensor level ≡ level_after those sensor (level_after these sensor level)
+pub level_after-append : (these those : List SensorReport) (sensor : ℕ) (level : Bool) → level_after (these ++ those) sensor level ≡ level_after those sensor (level_after these sensor level)
 level_after-append [] those sensor level = refl
 level_after-append (report ∷ these) those sensor level = level_after-append these those sensor (if report.sensor == sensor then report.occupied else level)
 
 -- the level that is known of a sensor after one report or none
-abbrev known : Option Report → ℕ → Bool → Bool
+abbrev known : Option SensorReport → ℕ → Bool → Bool
 known None sensor level = level
 known (Some report) sensor level = if report.sensor == sensor then report.occupied else level
 
-level_after-onto : (report : Option Report) (reports : List Report) (sensor : ℕ) (level : Bool) → level_after (onto report reports) sensor level ≡ level_after reports sensor (known report sensor level)
+level_after-onto : (report : Option SensorReport) (reports : List SensorReport) (sensor : ℕ) (level : Bool) → level_after (onto report reports) sensor level ≡ level_after reports sensor (known report sensor level)
 level_after-onto None reports sensor level = refl
 level_after-onto (Some report) reports sensor level = refl
 

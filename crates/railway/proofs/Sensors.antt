@@ -3,18 +3,18 @@ use Rattle.std.proofs.Common.{◌≡◌, ℕ, ◌+◌, ◌&&◌, ◌++◌, Bool,
 use Rattle.std.proofs.lemmas.Bool.{and_from, and_parts}
 use Rattle.std.specs.List.{list_all}
 use Rattle.std.specs.Prelude.{if◌then◌else◌}
-use Rattle.ln_sensor.specs.declared.report.Report.{Report}
+use Rattle.ln_ops.specs.declared.sensor.SensorReport.{SensorReport}
 use Rattle.railway.specs.declared.block.Block.{Block}
 use Rattle.railway.specs.declared.train.TrainState.{TrainState}
 use Rattle.railway.specs.Blocks.{is_block, is_block_sensor, is_length}
 use Rattle.railway.specs.Turnouts.{same_bool}
 use Rattle.railway.specs.Reports.{changes, changes_from, full, full_from, level_of, is_occupied, is_report, onto, change_of}
 
-abbrev IsLegal : Option Report → Type 0
+abbrev IsLegal : Option SensorReport → Type 0
 IsLegal None = Unit {0}
 IsLegal (Some report) = is_report report ≡ true
 
-legal_onto : (report : Option Report) (reports : List Report) → IsLegal report → list_all is_report reports ≡ true → list_all is_report (onto report reports) ≡ true
+legal_onto : (report : Option SensorReport) (reports : List SensorReport) → IsLegal report → list_all is_report reports ≡ true → list_all is_report (onto report reports) ≡ true
 legal_onto None reports h rest = rest
 legal_onto (Some report) reports h rest = and_from (is_report report) (list_all is_report reports) h rest
 
@@ -39,7 +39,7 @@ legal_from level was is i (block ∷ blocks) h =
     legal_onto (change_of level block.sensor (is_occupied was i) (is_occupied is i)) (changes_from level was is (i + 1) blocks)
     (legal_report level block.sensor (is_occupied was i) (is_occupied is i) (sensor_of block parts.0)) (legal_from level was is (i + 1) blocks parts.1)
 
-legal-append : (these those : List Report) → list_all is_report these ≡ true → list_all is_report those ≡ true → list_all is_report (these ++ those) ≡ true
+legal-append : (these those : List SensorReport) → list_all is_report these ≡ true → list_all is_report those ≡ true → list_all is_report (these ++ those) ≡ true
 legal-append [] those h g = g
 legal-append (report ∷ these) those h g =
     let parts = and_parts (is_report report) (list_all is_report these) h in

@@ -1,7 +1,7 @@
 -- What happens to a railway, and what the sensors report of it.
 use Rattle.std.specs.Prelude.{ℕ, ◌++◌, List, [], ◌∷◌, Option, Some, None}
 use Rattle.layout_core.specs.declared.node.Node.{Node}
-use Rattle.ln_sensor.specs.declared.report.Report.{Report}
+use Rattle.ln_ops.specs.declared.sensor.SensorReport.{SensorReport}
 use Rattle.railway.specs.declared.fault.PlaceFault.{PlaceFault}
 use Rattle.railway.specs.declared.train.Position.{Position}
 use Rattle.railway.specs.Railway.{RailwayState, elapsed, place_fault, placed_in}
@@ -26,12 +26,12 @@ abbrev pub after_all : RailwayState → List Happening → RailwayState
 after_all railway [] = railway
 after_all railway (happening ∷ happenings) = after_all (after railway happening) happenings
 
-abbrev pub reports_of : RailwayState → Happening → List Report
+abbrev pub reports_of : RailwayState → Happening → List SensorReport
 reports_of railway happening =
     changes railway.network.blocks railway.trains (after railway happening).trains
 
 -- all that is reported, in order
-abbrev pub reports_of_all : RailwayState → List Happening → List Report
+abbrev pub reports_of_all : RailwayState → List Happening → List SensorReport
 reports_of_all railway [] = []
 reports_of_all railway (happening ∷ happenings) =
     reports_of railway happening ++ reports_of_all (after railway happening) happenings

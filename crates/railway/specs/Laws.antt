@@ -2,7 +2,7 @@
 use Rattle.std.specs.Prelude.{ℕ, ◌≡◌, ◌*◌, ◌<◌, Bool, false, not, if◌then◌else◌, List, [], ◌∷◌, length, Some, IsTrue}
 use Rattle.std.specs.List.{slice_index_or}
 use Rattle.layout_core.specs.declared.node.Node.{Node}
-use Rattle.ln_sensor.specs.declared.report.Report.{Report}
+use Rattle.ln_ops.specs.declared.sensor.SensorReport.{SensorReport}
 use Rattle.railway.specs.declared.block.Block.{Block}
 use Rattle.railway.specs.declared.train.Place.{Place}
 use Rattle.railway.specs.declared.train.TrainState.{TrainState}
@@ -40,7 +40,7 @@ way_of nodes micros train = speed_of train.top (running_in nodes train.decoder) 
 
 -- a report is one of a change: of a sensor whose block was not as it says, and now is
 pub record IsChange (blocks : List Block) (was is : List TrainState)
-    (report : Report) : Type 0 where
+    (report : SensorReport) : Type 0 where
   pub block : ℕ
   pub of_plan : block < length blocks
   pub sensor : (slice_index_or blocks block default_block).sensor ≡ Some report.sensor
@@ -48,7 +48,7 @@ pub record IsChange (blocks : List Block) (was is : List TrainState)
   pub after : is_occupied is block ≡ report.occupied
 
 -- each of the reports is one of a change
-abbrev pub AreChanges : List Block → (was is : List TrainState) → List Report → Type 0
+abbrev pub AreChanges : List Block → (was is : List TrainState) → List SensorReport → Type 0
 AreChanges blocks was is [] = Unit {0}
 AreChanges blocks was is (report ∷ reports) =
     IsChange blocks was is report × AreChanges blocks was is reports

@@ -4,7 +4,7 @@ use Rattle.std.specs.List.{list_all, slice_index_or}
 use Rattle.std.specs.Option.{option_or}
 use Rattle.decoder_node.specs.declared.node.NodeSpec.{NodeSpec}
 use Rattle.layout_core.specs.declared.node.Node.{Node}
-use Rattle.ln_sensor.specs.declared.report.Report.{Report}
+use Rattle.ln_ops.specs.declared.sensor.SensorReport.{SensorReport}
 use Rattle.railway.specs.declared.fault.PlaceFault.{PlaceFault}
 use Rattle.railway.specs.declared.fault.PlaceFault.TheVariants.{UnknownTrain, UnknownBlock, OffTrack}
 use Rattle.railway.specs.declared.plan.Plan.{Plan}
@@ -59,7 +59,7 @@ elapsed railway micros nodes = record {
 }
 
 -- what the sensors report of it
-abbrev pub reports_in : RailwayState → (micros : ℕ) → List Node → List Report
+abbrev pub reports_in : RailwayState → (micros : ℕ) → List Node → List SensorReport
 reports_in railway micros nodes =
     changes railway.network.blocks railway.trains (elapsed railway micros nodes).trains
 

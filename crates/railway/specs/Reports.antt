@@ -1,8 +1,8 @@
 -- What sensors report, and what an observer knows by it.
 use Rattle.std.specs.Prelude.{ℕ, ◌+◌, ◌==◌, ◌&&◌, ◌||◌, ◌++◌, Bool, true, false, not, if◌then◌else◌, List, [], ◌∷◌, Option, Some, None}
 use Rattle.std.specs.List.{list_any}
-use Rattle.ln_sensor.specs.Report.{is_sensor}
-use Rattle.ln_sensor.specs.declared.report.Report.{Report}
+use Rattle.ln_ops.specs.Sensor.{is_sensor}
+use Rattle.ln_ops.specs.declared.sensor.SensorReport.{SensorReport}
 use Rattle.railway.specs.declared.block.Block.{Block}
 use Rattle.railway.specs.declared.train.TrainState.{TrainState}
 use Rattle.railway.specs.Turnouts.{same_bool}
@@ -16,47 +16,47 @@ abbrev pub is_occupied : List TrainState → (block : ℕ) → Bool
 is_occupied trains block = list_any (occupies block) trains
 
 -- a report of a sensor, 1 to 4096
-abbrev pub is_report : Report → Bool
+abbrev pub is_report : SensorReport → Bool
 is_report report = is_sensor report.sensor
 
 -- what a sensor reports whose block changes to this level, if it does
-abbrev pub change_of : (level : Bool) → Option ℕ → (was is : Bool) → Option Report
+abbrev pub change_of : (level : Bool) → Option ℕ → (was is : Bool) → Option SensorReport
 change_of level None was is = None
 change_of level (Some sensor) was is =
     if same_bool is level && not (same_bool was level) then
     Some (record { sensor = sensor; occupied = level }) else None
 
-abbrev pub onto : Option Report → List Report → List Report
+abbrev pub onto : Option SensorReport → List SensorReport → List SensorReport
 onto None reports = reports
 onto (Some report) reports = report ∷ reports
 
 -- what sensors report whose blocks change to this level, from block i on
 abbrev pub changes_from : (level : Bool) → (was is : List TrainState) → (i : ℕ) → List Block
-    → List Report
+    → List SensorReport
 changes_from level was is i [] = []
 changes_from level was is i (block ∷ blocks) =
     onto (change_of level block.sensor (is_occupied was i) (is_occupied is i))
     (changes_from level was is (i + 1) blocks)
 
 -- what they report as trains move: each block that becomes occupied, then each that becomes free
-abbrev pub changes : List Block → (was is : List TrainState) → List Report
+abbrev pub changes : List Block → (was is : List TrainState) → List SensorReport
 changes blocks was is = changes_from true was is 0 blocks ++ changes_from false was is 0 blocks
 
-abbrev pub level_of : Option ℕ → Bool → Option Report
+abbrev pub level_of : Option ℕ → Bool → Option SensorReport
 level_of None is = None
 level_of (Some sensor) is = Some (record { sensor = sensor; occupied = is })
 
-abbrev pub full_from : List TrainState → (i : ℕ) → List Block → List Report
+abbrev pub full_from : List TrainState → (i : ℕ) → List Block → List SensorReport
 full_from trains i [] = []
 full_from trains i (block ∷ blocks) =
     onto (level_of block.sensor (is_occupied trains i)) (full_from trains (i + 1) blocks)
 
 -- a full report: each sensor, as its block is
-abbrev pub full : List Block → List TrainState → List Report
+abbrev pub full : List Block → List TrainState → List SensorReport
 full blocks trains = full_from trains 0 blocks
 
 -- the level that an observer of these reports knows of a sensor: that of its last one
-abbrev pub level_after : List Report → (sensor : ℕ) → Bool → Bool
+abbrev pub level_after : List SensorReport → (sensor : ℕ) → Bool → Bool
 level_after [] sensor level = level
 level_after (report ∷ reports) sensor level =
     level_after reports sensor (if report.sensor == sensor then report.occupied else level)

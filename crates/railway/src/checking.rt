@@ -12,7 +12,7 @@ use crate::plan::{MAX_JOINTS, MAX_TURNOUTS, Plan};
 use crate::train::{Train, fits};
 use arrayvec::ArrayVec;
 use decoder_node::NodeSpec;
-use ln_sensor::LAST_SENSOR;
+use ln_ops::LAST_SENSOR;
 
 /// The most ends that a plan names.
 const MAX_ENDS: usize = 2 * MAX_JOINTS + 3 * MAX_TURNOUTS;

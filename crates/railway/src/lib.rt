@@ -15,7 +15,7 @@
 //! lies against it or is thrown under it, and stands until [`Railway::place`] puts it back. Two
 //! trains in a block are a [`Conflict`].
 //!
-//! The tests are in `railway_tests/src`: `test_plan.rt` and `test_railway.rt`.
+//! The tests are in `layout_tests/src/test_railway.rt`.
 #![tactic(auto)]
 
 mod block;
@@ -37,7 +37,7 @@ pub use conflict::{Conflict, Conflicts};
 pub use exit::Exit;
 pub use fault::{Part, PlaceFault, PlanFault};
 pub use joint::{Joint, Turnout, TurnoutState};
-pub use ln_sensor::{Report, is_interrogation};
+pub use ln_ops::{SensorReport, is_interrogation};
 pub use plan::{MAX_BLOCKS, MAX_JOINTS, MAX_TRAINS, MAX_TURNOUTS, Plan};
 pub use railway::Railway;
 pub use report::{MAX_REPORTS, Reports};

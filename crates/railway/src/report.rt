@@ -7,13 +7,13 @@ use crate::block::Block;
 use crate::plan::MAX_BLOCKS;
 use crate::train::TrainState;
 use arrayvec::ArrayVec;
-use ln_sensor::Report;
+use ln_ops::SensorReport;
 
 /// The most reports of one moment: two of each block.
 pub const MAX_REPORTS: usize = 2 * MAX_BLOCKS;
 
 /// The reports of one moment.
-pub type Reports = ArrayVec<Report, MAX_REPORTS>;
+pub type Reports = ArrayVec<SensorReport, MAX_REPORTS>;
 
 impl TrainState {
     /// Whether a part of the train is in a block.
@@ -64,11 +64,11 @@ fn add_changes(
     }
 }
 
-fn change_of(level: bool, sensor: Option<u16>, was: bool, is: bool) -> Option<Report>
+fn change_of(level: bool, sensor: Option<u16>, was: bool, is: bool) -> Option<SensorReport>
     ensures { result ≡ change_of level sensor was is }
 {
     match sensor {
-        Some(sensor) if is == level && was != level => Some(Report {
+        Some(sensor) if is == level && was != level => Some(SensorReport {
             sensor,
             occupied: level,
         }),
@@ -84,7 +84,7 @@ pub(crate) fn full(blocks: &[Block], trains: &[TrainState]) -> Reports
     let mut reports = ArrayVec::new();
     for (i, block) in blocks.iter().enumerate() {
         if let Some(sensor) = block.sensor {
-            reports.push(Report {
+            reports.push(SensorReport {
                 sensor,
                 occupied: is_occupied(trains, i),
             });

@@ -2,7 +2,7 @@ use Rattle.std.proofs.Common.{◌≡◌, List, true, map, ap, subst, sym, ◌∙
 use Rattle.std.proofs.lemmas.Bool.{and_from, and_parts}
 use Rattle.std.specs.List.{list_all}
 use Rattle.std.specs.Prelude.{IsTrue}
-use Rattle.ln_sensor.specs.declared.report.Report.{Report}
+use Rattle.ln_ops.specs.declared.sensor.SensorReport.{SensorReport}
 use Rattle.railway.specs.declared.block.Block.{Block}
 use Rattle.railway.specs.declared.train.TrainState.{TrainState}
 use Rattle.railway.specs.Blocks.{is_block}
@@ -57,5 +57,5 @@ returns-clause-sensors c =
     let old = c.self.inside.track in
     let parts = and_parts (is_sound old) (list_all (is_train old) c.self.inside.trains.items) c.self.invariant in
     let lengths = subst (λ (blocks : List Block). list_all is_block blocks ≡ true) (sym (same_blocks c)) (sound old parts.0).lengths in
-    subst (λ (reports : List Report). list_all is_report reports ≡ true) (sym c.changes-reports.ensures)
+    subst (λ (reports : List SensorReport). list_all is_report reports ≡ true) (sym c.changes-reports.ensures)
     (legal_changes c.as_slice-blocks.result.now c.as_slice-2.result.now c.as_slice-3.result.now lengths)

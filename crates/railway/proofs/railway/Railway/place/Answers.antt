@@ -1,7 +1,7 @@
 use Rattle.std.proofs.Common.{◌≡◌, List, None, true, ap, subst, sym, ◌∙◌}
 use Rattle.std.specs.List.{list_all, slice_index_or}
 use Rattle.std.specs.Prelude.{slice_set}
-use Rattle.ln_sensor.specs.declared.report.Report.{Report}
+use Rattle.ln_ops.specs.declared.sensor.SensorReport.{SensorReport}
 use Rattle.railway.specs.declared.block.Block.{Block}
 use Rattle.railway.specs.declared.train.TrainState.{TrainState}
 use Rattle.railway.specs.Blocks.{is_block}
@@ -28,5 +28,5 @@ pub returns-clause-sensors : goal.returns-clause-sensors
 returns-clause-sensors c =
     let network : Network = record { blocks = c.track.inside.blocks.items; joints = c.track.inside.joints.items; turnouts = c.track.inside.turnouts.items } in
     let lengths = subst (λ (blocks : List Block). list_all is_block blocks ≡ true) (sym c.as_slice.ensures.value) (sound network c.track.invariant).lengths in
-    subst (λ (reports : List Report). list_all is_report reports ≡ true) (sym c.changes-reports.ensures)
+    subst (λ (reports : List SensorReport). list_all is_report reports ≡ true) (sym c.changes-reports.ensures)
     (legal_changes c.as_slice.result.now c.as_slice-old.result.now c.as_slice-2.result.now lengths)

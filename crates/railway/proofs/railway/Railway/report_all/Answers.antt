@@ -1,6 +1,6 @@
 use Rattle.std.proofs.Common.{◌≡◌, List, true, subst, sym}
 use Rattle.std.specs.List.{list_all}
-use Rattle.ln_sensor.specs.declared.report.Report.{Report}
+use Rattle.ln_ops.specs.declared.sensor.SensorReport.{SensorReport}
 use Rattle.railway.specs.declared.block.Block.{Block}
 use Rattle.railway.specs.Blocks.{is_block}
 use Rattle.railway.specs.Network.{Network}
@@ -13,4 +13,4 @@ pub returns-clause-sensors : goal.returns-clause-sensors
 returns-clause-sensors c =
     let network : Network = record { blocks = c.track.inside.blocks.items; joints = c.track.inside.joints.items; turnouts = c.track.inside.turnouts.items } in
     let lengths = subst (λ (blocks : List Block). list_all is_block blocks ≡ true) (sym c.as_slice.ensures.value) (sound network c.track.invariant).lengths in
-    subst (λ (reports : List Report). list_all is_report reports ≡ true) (sym c.full.ensures) (legal_all c.as_slice.result.now c.as_slice-2.result.now lengths)
+    subst (λ (reports : List SensorReport). list_all is_report reports ≡ true) (sym c.full.ensures) (legal_all c.as_slice.result.now c.as_slice-2.result.now lengths)

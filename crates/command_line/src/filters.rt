@@ -1,0 +1,23 @@
+//! Programs that read a file or standard input, and write standard output.
+//!
+//! Such a program implements [`Filter`]: the texts of its command line, and what it does with an
+//! input. [`run_filter`] reads its arguments and runs it on the file that they name, or on
+//! standard input; `--help` and `--version` are answered on standard output.
+//!
+//! ```ignore
+//! fn main(rt: HostRuntime) -> ExitCode {
+//!     run_filter(&Explain, &rt)
+//! }
+//! ```
+
+mod announced;
+mod filter;
+mod opening;
+mod report;
+mod running;
+mod standard;
+mod terminal;
+
+pub use filter::Filter;
+pub use running::execute_words;
+pub use standard::run_filter;

@@ -1,0 +1,38 @@
+//! Opening the file that is to be read.
+ghost use Rattle.std.specs.Prelude.{◌≡◌, false, IfOk};
+ghost use Rattle.input_text.specs.TrackedReader.{read_failed};
+
+use crate::words::FileName;
+use input_text::TrackedReader;
+use std::fs;
+use std::fs::OpenFile;
+use std::io::ErrorKind;
+use std::rt::Files;
+
+/// Opens a file as an input.
+///
+/// # Errors
+///
+/// Why it cannot be opened: `IsADirectory` for a folder, which the system opens and does not read.
+pub(crate) fn open<R: Files>(rt: &R, name: &FileName) -> Result<TrackedReader<R::File>, ErrorKind>
+    ensures works { IfOk result (λ input. read_failed input ≡ false) }
+{
+    match fs::open(rt, name.as_str()) {
+        Ok(file) => {
+            if is_folder(&file) {
+                Err(ErrorKind::IsADirectory)
+            } else {
+                Ok(TrackedReader::new(file))
+            }
+        }
+        Err(error) => Err(error.kind()),
+    }
+}
+
+/// Whether an open file is a folder.
+fn is_folder<F: OpenFile>(file: &F) -> bool {
+    match file.metadata() {
+        Ok(about) => about.is_dir(),
+        Err(_) => false,
+    }
+}

@@ -1,0 +1,32 @@
+-- What the logs of a run hold, as contracts see it.
+use Rattle.std.specs.Prelude.{List, [], ◌∷◌, map, option_map}
+use Rattle.bus.specs.Observations.{Observation, Observed, Overflowed, Skipped}
+use Rattle.loconet_tcp.specs.declared.outcome.Outcome.TheVariants as outcome
+use Rattle.bus_server.specs.TransportEvents.{Polled, TransportEvent, Accepted, Received, PeerClosed, Written, ServerClosed, ReadBlocked, WriteBlocked, NonePending, Refused}
+use Rattle.layout_tests.specs.declared.test_bus_server.kept.Entry.{Entry}
+use Rattle.layout_tests.specs.declared.test_bus_server.kept.Entry.TheVariants as entry
+use Rattle.layout_tests.specs.declared.test_bus_server.kept.Seen.{Seen}
+use Rattle.layout_tests.specs.declared.test_bus_server.kept.Seen.TheVariants as seen
+
+-- one entry is one event, but a read one for each byte
+abbrev pub events_of_entry : Entry → List TransportEvent
+events_of_entry (entry.Polled longest) = Polled longest ∷ []
+events_of_entry (entry.Accepted client) = Accepted client ∷ []
+events_of_entry (entry.Received client bytes) = map (λ byte. Received client byte) bytes.items
+events_of_entry (entry.PeerClosed client) = PeerClosed client ∷ []
+events_of_entry (entry.Written client bytes) = Written client bytes.items ∷ []
+events_of_entry (entry.ServerClosed client) = ServerClosed client ∷ []
+events_of_entry (entry.ReadBlocked client) = ReadBlocked client ∷ []
+events_of_entry (entry.WriteBlocked client) = WriteBlocked client ∷ []
+events_of_entry entry.NonePending = NonePending ∷ []
+events_of_entry entry.Refused = Refused ∷ []
+
+abbrev pub observation_of : Seen → Observation
+observation_of seen.Nothing = Observed outcome.Nothing []
+observation_of (seen.Connected client) = Observed (outcome.Connected client) []
+observation_of (seen.Disconnected client) = Observed (outcome.Disconnected client) []
+observation_of (seen.Rejected client reason) = Observed (outcome.Rejected client reason) []
+observation_of (seen.Sent client message reply) = Observed (outcome.Sent client message.items (option_map (λ m. m.items) reply)) []
+observation_of (seen.TurnBegan packet) = Observed (outcome.TurnBegan (option_map (λ p. p.items) packet)) []
+observation_of (seen.Overflowed client) = Overflowed client
+observation_of (seen.Skipped micros) = Skipped micros

@@ -1,0 +1,194 @@
+//! A run with a script, and what its logs hold.
+
+use super::kept::{Entry, Seen};
+use super::memory::Input::Nothing;
+use super::memory::{FakeClock, Input, MemoryTransport, NoPages, Place, Recorder, ScriptEnded};
+use bus_server::{Losses, Server, Stop};
+use decoder_node::NodeList;
+use std::convert::Infallible;
+
+/// What is given to a run: see [`MemoryTransport`], [`FakeClock`] and [`Server`].
+#[derive(Clone, Copy)]
+pub(crate) struct Setup<'a> {
+    pub(crate) script: &'a [Input<'a>],
+    pub(crate) readings: &'a [u64],
+    pub(crate) blocked: Option<u8>,
+    pub(crate) turns: Option<u8>,
+    pub(crate) most: u64,
+}
+
+/// How a run ended, and the logs of its transport, its clock and its observer.
+#[derive(Drop)]
+pub(crate) struct Run {
+    pub(crate) ended: Result<(), Stop<ScriptEnded, ScriptEnded, Infallible, Infallible>>,
+    pub(crate) entries: Vec<Entry>,
+    pub(crate) readings: Vec<u64>,
+    pub(crate) observed: Vec<Seen>,
+}
+
+/// Runs a new server without decoders.
+pub(crate) fn run_server<'a, R: Place>(rt: &'a R, setup: &Setup<'a>) -> Run {
+    let mut server = Server::new(
+        rt.alloc(),
+        NodeList::new(),
+        setup.turns,
+        Losses::new(0, 0),
+    ).expect(rt, "memory");
+    let mut transport = MemoryTransport {
+        rt,
+        script: setup.script,
+        step: 0,
+        now: Nothing,
+        blocked: setup.blocked,
+        log: Vec::new(rt.alloc()),
+    };
+    let mut clock = FakeClock {
+        rt,
+        script: setup.readings,
+        log: Vec::new(rt.alloc()),
+    };
+    let mut observer = Recorder {
+        rt,
+        log: Vec::new(rt.alloc()),
+    };
+    let ended = server.run(
+        &mut transport,
+        &mut clock,
+        &mut observer,
+        &mut NoPages,
+        setup.most,
+    );
+    Run {
+        ended,
+        entries: transport.log,
+        readings: clock.log,
+        observed: observer.log,
+    }
+}
+
+/// All that was written to a client.
+pub(crate) fn text_to<R: Place>(rt: &R, entries: &[Entry], client: u8) -> Vec<u8> {
+    let mut text = Vec::new(rt.alloc());
+    for entry in entries {
+        if let Entry::Written(to, bytes) = entry {
+            if *to == client {
+                text.extend_from_slice(bytes.as_slice())
+                    .expect(rt, "memory");
+            }
+        }
+    }
+    text
+}
+
+/// The longest time of each wait.
+pub(crate) fn longest_times<R: Place>(rt: &R, entries: &[Entry]) -> Vec<Option<u32>> {
+    let mut longest_times = Vec::new(rt.alloc());
+    for entry in entries {
+        if let Entry::Polled(longest) = entry {
+            longest_times.push(*longest).expect(rt, "memory");
+        }
+    }
+    longest_times
+}
+
+/// What was done with each pending client: its index, or `None` where it was refused.
+pub(crate) fn accepted<R: Place>(rt: &R, entries: &[Entry]) -> Vec<Option<u8>> {
+    let mut accepted = Vec::new(rt.alloc());
+    for entry in entries {
+        match entry {
+            Entry::Accepted(client) => accepted.push(Some(*client)).expect(rt, "memory"),
+            Entry::Refused => accepted.push(None).expect(rt, "memory"),
+            _ => {}
+        }
+    }
+    accepted
+}
+
+/// The clients that the server closed.
+pub(crate) fn closed<R: Place>(rt: &R, entries: &[Entry]) -> Vec<u8> {
+    let mut closed = Vec::new(rt.alloc());
+    for entry in entries {
+        if let Entry::ServerClosed(client) = entry {
+            closed.push(*client).expect(rt, "memory");
+        }
+    }
+    closed
+}
+
+/// The clients whose queue has overflowed.
+pub(crate) fn overflows<R: Place>(rt: &R, observed: &[Seen]) -> Vec<u8> {
+    let mut overflows = Vec::new(rt.alloc());
+    for seen in observed {
+        if let Seen::Overflowed(client) = seen {
+            overflows.push(*client).expect(rt, "memory");
+        }
+    }
+    overflows
+}
+
+/// How many messages were sent before the first queue overflowed.
+pub(crate) fn messages_before_overflow(observed: &[Seen]) -> u64 {
+    let mut messages = 0u64;
+    for seen in observed {
+        match seen {
+            Seen::Sent(_, _, _) => messages = messages.saturating_add(1),
+            Seen::Overflowed(_) => return messages,
+            _ => {}
+        }
+    }
+    messages
+}
+
+/// Whether a client disconnects, and the observation before that is that its queue has overflowed.
+pub(crate) fn disconnects_by_overflow(observed: &[Seen], client: u8) -> bool {
+    let mut overflowed = false;
+    for seen in observed {
+        if *seen == Seen::Disconnected(client) {
+            return overflowed;
+        }
+        overflowed = *seen == Seen::Overflowed(client);
+    }
+    false
+}
+
+/// The times that were skipped.
+pub(crate) fn skips<R: Place>(rt: &R, observed: &[Seen]) -> Vec<u64> {
+    let mut skips = Vec::new(rt.alloc());
+    for seen in observed {
+        if let Seen::Skipped(micros) = seen {
+            skips.push(*micros).expect(rt, "memory");
+        }
+    }
+    skips
+}
+
+/// How many turns began.
+pub(crate) fn turns(observed: &[Seen]) -> u64 {
+    let mut turns = 0u64;
+    for seen in observed {
+        if let Seen::TurnBegan(_) = seen {
+            turns = turns.saturating_add(1);
+        }
+    }
+    turns
+}
+
+/// How many messages client 0 sent, each without a reply.
+pub(crate) fn messages(observed: &[Seen]) -> u64 {
+    let mut messages = 0u64;
+    for seen in observed {
+        if let Seen::Sent(0, _, None) = seen {
+            messages = messages.saturating_add(1);
+        }
+    }
+    messages
+}
+
+/// A text, followed by `line`, `times` times.
+pub(crate) fn repeated<R: Place>(rt: &R, text: &[u8], line: &[u8], times: u32) -> Vec<u8> {
+    let mut all = text.to_vec(rt.alloc()).expect(rt, "memory");
+    for _time in 0..times {
+        all.extend_from_slice(line).expect(rt, "memory");
+    }
+    all
+}
