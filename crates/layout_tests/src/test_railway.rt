@@ -2,13 +2,14 @@
 
 mod layout;
 mod plan;
+mod text;
 
-use layout::{EXPRESS, block, decoders, end_a, end_b, layout, oval, say, say_missed};
 use decoder_cv::CvSet;
 use decoder_node::NodeSpec;
+use layout::{EXPRESS, block, decoders, end_a, end_b, layout, oval, say, say_missed};
 use layout_core::World;
 use railway::{
-    Conflict, End, Exit, Joint, PlaceFault, Plan, Position, Railway, SensorReport, Reports, Train,
+    Conflict, End, Exit, Joint, PlaceFault, Plan, Position, Railway, Reports, SensorReport, Train,
     TrainState,
 };
 use std::test::Fail;

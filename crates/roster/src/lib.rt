@@ -17,3 +17,4 @@ mod version;
 pub use fault::{RosterFault, Why};
 pub use reading::read;
 pub use roster::Roster;
+pub use table::{knows_only, value_at};

@@ -27,15 +27,15 @@ fn keys_are(table: &Table, known: &[&str]) -> bool
     table.keys().all(|key| is_one_of(known, key.as_str()))
 }
 
-/// Whether each key is one of these.
-pub(crate) fn knows_only(table: &Table, known: &[&str]) -> bool
+/// Whether each key of a table is one of these.
+pub fn knows_only(table: &Table, known: &[&str]) -> bool
     ensures { result ≡ knows_only (map (λ word. word.now) known.now) (table_view table.now) }
 {
     keys_are(table, known)
 }
 
-/// The value at a key.
-pub(crate) fn value_at<'a>(table: &'a Table, key: &str) -> Option<&'a Value>
+/// The value at a key of a table.
+pub fn value_at<'a>(table: &'a Table, key: &str) -> Option<&'a Value>
     ensures { option_map (λ value. view value.now) result
         ≡ get_member key.now (table_view table.now) }
 {

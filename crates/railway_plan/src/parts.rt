@@ -1,0 +1,204 @@
+//! The tables of a plan's text.
+ghost use Rattle.std.specs.Prelude.{◌≡◌, ◌≤◌, Ok, Err, MatchResult, length, map};
+ghost use Rattle.std.specs.List.{list_all};
+ghost use Rattle.toml.specs.View.{items_view, table_view, view};
+ghost use Rattle.roster.specs.Entry.{is_name_byte, name_of};
+ghost use Rattle.railway_plan.specs.Format.{block_at, block_in, decoder_at, end_at, end_of, facing_at, is_block_name, joint_in, joint_of, name_in, part_of, table_of, train_in, turnout_in};
+ghost use Rattle.railway_plan.specs.Entries.{block_entry, names_of};
+
+use crate::fault::Why;
+use crate::key::Key;
+use crate::names::{block_end, block_index, decoder_index};
+use crate::table::{number_at, point, sensor, text_at, value_at};
+use railway::{Block, BlockEnd, End, Joint, LONGEST_NAME, Name, Position, Train, Turnout};
+use roster::{Roster, knows_only};
+use toml::{Table, Value};
+
+/// Returns the block that a table says.
+pub(crate) fn block(value: &Value) -> Result<Block, Why>
+    ensures { MatchResult result
+        (λ block. part_of block_in (view value.now) ≡ Ok (block_entry block))
+        (λ why. part_of block_in (view value.now) ≡ Err why) }
+{
+    let table = table_of(value)?;
+    if !knows_only(table, &["name", "length", "sensor", "a", "b"]) {
+        return Err(Why::UnknownKey);
+    }
+    Ok(Block {
+        name: name(table)?,
+        length: number_at(table, Key::Length)?,
+        sensor: sensor(value_at(table, Key::Sensor))?,
+        point_a: point(Key::A, value_at(table, Key::A))?,
+        point_b: point(Key::B, value_at(table, Key::B))?,
+    })
+}
+
+/// Returns the table that a member of an array is.
+fn table_of(value: &Value) -> Result<&Table, Why>
+    ensures { MatchResult result (λ table. table_of (view value.now) ≡ Ok (table_view table.now))
+        (λ why. table_of (view value.now) ≡ Err why) }
+{
+    match value.as_table() {
+        Some(table) => Ok(table),
+        None => Err(Why::NotTable),
+    }
+}
+
+/// Returns the name of a block.
+fn name(table: &Table) -> Result<Name, Why>
+    ensures { MatchResult result (λ name. name_in (table_view table.now) ≡ Ok name.bytes)
+        (λ why. name_in (table_view table.now) ≡ Err why) }
+{
+    let text = text_at(table, Key::Name)?;
+    if !is_block_name(text) {
+        return Err(Why::BadKey(Key::Name));
+    }
+    match Name::from(text) {
+        Ok(name) => Ok(name),
+        Err(_) => Err(Why::BadKey(Key::Name)),
+    }
+}
+
+fn is_block_name(name: &str) -> bool
+    ensures { result ≡ is_block_name name.now }
+{
+    matches!(name.len(), 1..=LONGEST_NAME) && are_name_bytes(name.as_bytes())
+}
+
+fn are_name_bytes(bytes: &[u8]) -> bool
+    ensures { result ≡ list_all is_name_byte bytes.now }
+{
+    bytes.iter().all(|byte| is_name_byte(*byte))
+}
+
+fn is_name_byte(byte: u8) -> bool
+    ensures { result ≡ is_name_byte byte }
+{
+    byte.is_ascii_alphanumeric() || byte == b'-' || byte == b'_'
+}
+
+/// Returns the joint that a table says, between ends of these blocks.
+pub(crate) fn joint(blocks: &[Block], value: &Value) -> Result<Joint, Why>
+    requires { length blocks.now ≤ 64 }
+    ensures { result ≡ part_of (joint_in (names_of blocks.now)) (view value.now) }
+{
+    let table = table_of(value)?;
+    if !knows_only(table, &["ends"]) {
+        return Err(Why::UnknownKey);
+    }
+    match value_at(table, Key::Ends) {
+        Some(value) => match value.as_array() {
+            Some(ends) => joint_of(blocks, ends.as_slice()),
+            None => Err(Why::BadKey(Key::Ends)),
+        },
+        None => Err(Why::BadKey(Key::Ends)),
+    }
+}
+
+fn joint_of(blocks: &[Block], ends: &[Value]) -> Result<Joint, Why>
+    requires { length blocks.now ≤ 64 }
+    ensures { result ≡ joint_of (names_of blocks.now) (items_view ends.now) }
+{
+    match ends {
+        [one, two] => match (one.as_str(), two.as_str()) {
+            (Some(one), Some(two)) => Ok(Joint {
+                one: end_of(blocks, one)?,
+                two: end_of(blocks, two)?,
+            }),
+            _ => Err(Why::BadKey(Key::Ends)),
+        },
+        _ => Err(Why::BadKey(Key::Ends)),
+    }
+}
+
+/// Returns the end that is spelled so.
+fn end_of(blocks: &[Block], text: &str) -> Result<BlockEnd, Why>
+    requires { length blocks.now ≤ 64 }
+    ensures { result ≡ end_of (names_of blocks.now) text.now }
+{
+    match block_end(blocks, text) {
+        Some(end) => Ok(end),
+        None => Err(Why::UnknownEnd),
+    }
+}
+
+/// Returns the end at a key.
+fn end_at(blocks: &[Block], table: &Table, key: Key) -> Result<BlockEnd, Why>
+    requires { length blocks.now ≤ 64 }
+    ensures { result ≡ end_at (names_of blocks.now) key (table_view table.now) }
+{
+    end_of(blocks, text_at(table, key)?)
+}
+
+/// Returns the turnout that a table says, between ends of these blocks.
+pub(crate) fn turnout(blocks: &[Block], value: &Value) -> Result<Turnout, Why>
+    requires { length blocks.now ≤ 64 }
+    ensures { result ≡ part_of (turnout_in (names_of blocks.now)) (view value.now) }
+{
+    let table = table_of(value)?;
+    if !knows_only(table, &["switch", "common", "closed", "thrown"]) {
+        return Err(Why::UnknownKey);
+    }
+    Ok(Turnout {
+        switch: number_at(table, Key::Switch)? as u16,
+        common: end_at(blocks, table, Key::Common)?,
+        closed: end_at(blocks, table, Key::Closed)?,
+        thrown: end_at(blocks, table, Key::Thrown)?,
+    })
+}
+
+/// Returns the train that a table says, in one of these blocks.
+pub(crate) fn train(roster: &Roster, blocks: &[Block], value: &Value) -> Result<Train, Why>
+    requires { length blocks.now ≤ 64 }
+    ensures { result
+        ≡ part_of (train_in (map name_of roster.now) (names_of blocks.now)) (view value.now) }
+{
+    let table = table_of(value)?;
+    if !knows_only(
+        table,
+        &["decoder", "block", "front", "facing", "length", "speed"],
+    ) {
+        return Err(Why::UnknownKey);
+    }
+    let decoder = decoder_at(roster, table)?;
+    let position = Position {
+        block: block_at(blocks, table)?,
+        at: number_at(table, Key::Front)?,
+        facing: facing_at(table)?,
+    };
+    Ok(Train {
+        decoder,
+        length: number_at(table, Key::Length)?,
+        top: number_at(table, Key::Speed)? as u16,
+        position,
+    })
+}
+
+fn decoder_at(roster: &Roster, table: &Table) -> Result<u8, Why>
+    ensures { result ≡ decoder_at (map name_of roster.now) (table_view table.now) }
+{
+    match decoder_index(roster, text_at(table, Key::Decoder)?) {
+        Some(index) => Ok(index),
+        None => Err(Why::UnknownDecoder),
+    }
+}
+
+fn block_at(blocks: &[Block], table: &Table) -> Result<u8, Why>
+    requires { length blocks.now ≤ 64 }
+    ensures { result ≡ block_at (names_of blocks.now) (table_view table.now) }
+{
+    match block_index(blocks, text_at(table, Key::Block)?) {
+        Some(index) => Ok(index),
+        None => Err(Why::UnknownBlock),
+    }
+}
+
+fn facing_at(table: &Table) -> Result<End, Why>
+    ensures { result ≡ facing_at (table_view table.now) }
+{
+    match text_at(table, Key::Facing)? {
+        "a" => Ok(End::A),
+        "b" => Ok(End::B),
+        _ => Err(Why::BadKey(Key::Facing)),
+    }
+}

@@ -1,0 +1,254 @@
+//! Reading a plan.
+ghost use Rattle.std.specs.Prelude.{◌≡◌, ◌≢◌, ◌≤◌, [], Ok, Err, Some, None, IfOk, IfErr, IsOk, MatchResult, length, map};
+ghost use Rattle.toml.specs.View.{items_view, table_view};
+ghost use Rattle.roster.specs.Entry.{name_of};
+ghost use Rattle.roster.specs.Toml.{table_in};
+ghost use Rattle.railway_plan.specs.declared.fault.Section.TheVariants.{Whole as WholeSection, Block as BlockSection, Joint as JointSection, Turnout as TurnoutSection, Train as TrainSection};
+ghost use Rattle.railway_plan.specs.declared.fault.Why.TheVariants.{NoMemory, NotToml};
+ghost use Rattle.railway_plan.specs.Format.{block_in, in_section, items_at, joint_in, parts_after, plan_in, plan_of, plan_with, train_in, turnout_in, version_in};
+ghost use Rattle.railway_plan.specs.Entries.{block_entry, names_of, plan_entries};
+
+use crate::fault::{PlanTextFault, Section, Why};
+use crate::key::Key;
+use crate::parts::{block, joint, train, turnout};
+use crate::table::{array, number_at, value_at};
+use arrayvec::ArrayVec;
+use railway::{
+    Block, Joint, MAX_BLOCKS, MAX_JOINTS, MAX_TRAINS, MAX_TURNOUTS, Plan, Train, Turnout,
+};
+use roster::{Roster, knows_only};
+use std::alloc::Global;
+use std::str;
+use toml::{Table, Value};
+
+/// Reads a track plan, a text in TOML of any length, for the decoders of a roster.
+///
+/// ```toml
+/// version = 1
+///
+/// [[block]]
+/// name = "main"
+/// length = 2400
+/// sensor = 1
+///
+/// [[joint]]
+/// ends = ["main.a", "main.b"]
+///
+/// [[train]]
+/// decoder = "shunter"
+/// block = "main"
+/// front = 600
+/// facing = "b"
+/// length = 200
+/// speed = 300
+/// ```
+///
+/// Lengths are in millimetres, `speed` is that of the last speed step in millimetres a second. An
+/// end is the name of a block with `.a` or `.b`. A `[[turnout]]` has the number of its `switch`, 1
+/// to 2040, and the ends `common`, `closed` and `thrown`. A block may have points `a = [x, y]` and
+/// `b`, where its ends are drawn.
+///
+/// # Errors
+///
+/// The first fault: of the whole, then of blocks, joints, turnouts and trains, each in order.
+/// `NoMemory` if out of memory. Whether the parts fit together is checked by `Railway::new`.
+#[tactic(auto, unfolding(crate::specs::Format::plan_in))]
+pub fn read(alloc: Global, text: &[u8], roster: &Roster) -> Result<Plan, PlanTextFault>
+    // The plan is what the text says.
+    ensures ok { IfOk result (λ plan. plan_in (map name_of roster.now) text.now ≡ Ok (plan_entries plan)) }
+    // The fault is the first of the text, unless memory ran out.
+    ensures fault { IfErr result
+        (λ fault. fault.why ≢ NoMemory → plan_in (map name_of roster.now) text.now ≡ Err fault) }
+{
+    match read_toml(alloc, text) {
+        Ok(table) => read_table(&table, roster),
+        Err(why) => Err(of_whole(why)),
+    }
+}
+
+/// Returns a fault of the whole.
+fn of_whole(why: Why) -> PlanTextFault
+    ensures { result ≡ record { section = WholeSection; why = why } }
+{
+    fault(Section::Whole, why)
+}
+
+fn fault(section: Section, why: Why) -> PlanTextFault
+    ensures { result ≡ record { section = section; why = why } }
+{
+    PlanTextFault { section, why }
+}
+
+/// Returns the table of a text, or `NotToml` or `NoMemory`.
+fn read_toml(alloc: Global, text: &[u8]) -> Result<Table, Why>
+    ensures ok { IfOk result (λ table. table_in text.now ≡ Some (table_view table)) }
+    ensures refused { IfErr result
+        (λ why. why ≢ NoMemory → (why ≡ NotToml) × (table_in text.now ≡ None)) }
+{
+    let text = match str::from_utf8(text) {
+        Ok(text) => text,
+        Err(_) => return Err(Why::NotToml),
+    };
+    match toml::table_from_str(alloc, text) {
+        Ok(table) => Ok(table),
+        Err(error) if error.is_memory() => Err(Why::NoMemory),
+        Err(_) => Err(Why::NotToml),
+    }
+}
+
+/// Returns the plan of a text's table.
+fn read_table(table: &Table, roster: &Roster) -> Result<Plan, PlanTextFault>
+    ensures { MatchResult result
+        (λ plan. plan_of (map name_of roster.now) (table_view table.now) ≡ Ok (plan_entries plan))
+        (λ fault. plan_of (map name_of roster.now) (table_view table.now) ≡ Err fault) }
+{
+    read_version(table)?;
+    let blocks = members(table, Key::Block, MAX_BLOCKS)?;
+    let joints = members(table, Key::Joint, MAX_JOINTS)?;
+    let turnouts = members(table, Key::Turnout, MAX_TURNOUTS)?;
+    let trains = members(table, Key::Train, MAX_TRAINS)?;
+    read_members(roster, blocks, joints, turnouts, trains)
+}
+
+/// Checks the keys of the whole, and its version.
+fn read_version(table: &Table) -> Result<(), PlanTextFault>
+    ensures { MatchResult result
+        (λ _. IsOk (in_section WholeSection (version_in (table_view table.now))))
+        (λ fault. in_section WholeSection (version_in (table_view table.now)) ≡ Err fault) }
+{
+    if !knows_only(table, &["version", "block", "joint", "turnout", "train"]) {
+        return Err(of_whole(Why::UnknownKey));
+    }
+    match number_at(table, Key::Version) {
+        Ok(_) => Ok(()),
+        Err(why) => Err(of_whole(why)),
+    }
+}
+
+/// Returns the members of the array at a key of the whole, at most this many.
+#[tactic(auto, using(crate::proofs::Members::items_len_view))]
+fn members(table: &Table, key: Key, most: usize) -> Result<&[Value], PlanTextFault>
+    ensures members { MatchResult result
+        (λ values. in_section WholeSection (items_at most key (table_view table.now))
+        ≡ Ok (items_view values.now))
+        (λ fault. in_section WholeSection (items_at most key (table_view table.now))
+        ≡ Err fault) }
+    ensures few { IfOk result (λ values. length values.now ≤ most) }
+{
+    match array(key, value_at(table, key)) {
+        Ok(values) if values.len() <= most => Ok(values),
+        Ok(_) => Err(of_whole(Why::TooMany(key))),
+        Err(why) => Err(of_whole(why)),
+    }
+}
+
+/// Returns the plan of the members of its arrays.
+fn read_members(
+    roster: &Roster,
+    blocks: &[Value],
+    joints: &[Value],
+    turnouts: &[Value],
+    trains: &[Value],
+) -> Result<Plan, PlanTextFault>
+    requires blocks { length blocks.now ≤ 64 }
+    requires joints { length joints.now ≤ 128 }
+    requires turnouts { length turnouts.now ≤ 64 }
+    requires trains { length trains.now ≤ 64 }
+    ensures { MatchResult result
+        (λ plan. plan_with (map name_of roster.now) (items_view blocks.now) (items_view joints.now)
+        (items_view turnouts.now) (items_view trains.now) ≡ Ok (plan_entries plan))
+        (λ fault. plan_with (map name_of roster.now) (items_view blocks.now)
+        (items_view joints.now) (items_view turnouts.now) (items_view trains.now) ≡ Err fault) }
+{
+    let blocks = read_blocks(blocks)?;
+    let joints = read_joints(blocks.as_slice(), joints)?;
+    let turnouts = read_turnouts(blocks.as_slice(), turnouts)?;
+    let trains = read_trains(roster, blocks.as_slice(), trains)?;
+    Ok(Plan {
+        blocks,
+        joints,
+        turnouts,
+        trains,
+    })
+}
+
+fn read_blocks(values: &[Value]) -> Result<ArrayVec<Block, MAX_BLOCKS>, PlanTextFault>
+    requires few { length values.now ≤ 64 }
+    ensures { MatchResult result
+        (λ parts. parts_after block_in BlockSection [] (items_view values.now)
+        ≡ Ok (map block_entry parts.items))
+        (λ fault. parts_after block_in BlockSection [] (items_view values.now) ≡ Err fault) }
+{
+    let mut parts = ArrayVec::new();
+    for (i, value) in values.iter().enumerate() {
+        match block(value) {
+            Ok(part) => parts.push(part),
+            Err(why) => return Err(fault(Section::Block(i + 1), why)),
+        }
+    }
+    Ok(parts)
+}
+
+fn read_joints(
+    blocks: &[Block],
+    values: &[Value],
+) -> Result<ArrayVec<Joint, MAX_JOINTS>, PlanTextFault>
+    requires few { length values.now ≤ 128 }
+    requires blocks { length blocks.now ≤ 64 }
+    ensures { MatchResult result
+        (λ parts. parts_after (joint_in (names_of blocks.now)) JointSection [] (items_view values.now)
+        ≡ Ok parts.items)
+        (λ fault. parts_after (joint_in (names_of blocks.now)) JointSection [] (items_view values.now) ≡ Err fault) }
+{
+    let mut parts = ArrayVec::new();
+    for (i, value) in values.iter().enumerate() {
+        match joint(blocks, value) {
+            Ok(part) => parts.push(part),
+            Err(why) => return Err(fault(Section::Joint(i + 1), why)),
+        }
+    }
+    Ok(parts)
+}
+
+fn read_turnouts(
+    blocks: &[Block],
+    values: &[Value],
+) -> Result<ArrayVec<Turnout, MAX_TURNOUTS>, PlanTextFault>
+    requires few { length values.now ≤ 64 }
+    requires blocks { length blocks.now ≤ 64 }
+    ensures { MatchResult result
+        (λ parts. parts_after (turnout_in (names_of blocks.now)) TurnoutSection [] (items_view values.now)
+        ≡ Ok parts.items)
+        (λ fault. parts_after (turnout_in (names_of blocks.now)) TurnoutSection [] (items_view values.now) ≡ Err fault) }
+{
+    let mut parts = ArrayVec::new();
+    for (i, value) in values.iter().enumerate() {
+        match turnout(blocks, value) {
+            Ok(part) => parts.push(part),
+            Err(why) => return Err(fault(Section::Turnout(i + 1), why)),
+        }
+    }
+    Ok(parts)
+}
+
+fn read_trains(
+    roster: &Roster,
+    blocks: &[Block],
+    values: &[Value],
+) -> Result<ArrayVec<Train, MAX_TRAINS>, PlanTextFault>
+    requires few { length values.now ≤ 64 }
+    requires blocks { length blocks.now ≤ 64 }
+    ensures { MatchResult result
+        (λ parts. parts_after (train_in (map name_of roster.now) (names_of blocks.now)) TrainSection [] (items_view values.now)
+        ≡ Ok parts.items)
+        (λ fault. parts_after (train_in (map name_of roster.now) (names_of blocks.now)) TrainSection [] (items_view values.now) ≡ Err fault) }
+{
+    let mut parts = ArrayVec::new();
+    for (i, value) in values.iter().enumerate() {
+        match train(roster, blocks, value) {
+            Ok(part) => parts.push(part),
+            Err(why) => return Err(fault(Section::Train(i + 1), why)),
+        }
+    }
+    Ok(parts)
+}
