@@ -126,6 +126,12 @@ impl Msg {
     }
 }
 
+/// A body with its check byte is a whole message: a law without code.
+pub fn sealed_is_whole()
+    ensures { (body : List ℕ) → ((i : ℕ) → slice_index body i < 256) → IsTrue (is_body body)
+        → IsWhole (body ++ check_of body ∷ []) }
+{}
+
 /// How many bytes a message has that begins with these two.
 pub(crate) fn message_len(opcode: u8, second: u8) -> Option<usize>
     ensures { result ≡ message_len opcode second }
