@@ -4,8 +4,7 @@ use Rattle.std.specs.List.{AllByRecursion, list_all}
 use Rattle.std.proofs.lemmas.Bool.{and_parts, lt-ltb, ltb-true, leb-true}
 use Rattle.std.proofs.lemmas.Nat.{pow-add}
 use Rattle.std.proofs.Math.Pow.{pow_mono}
-use Rattle.ln_frame.specs.Message.{are_data, check_of, has_form, IsWhole}
-use Rattle.ln_frame.proofs.Checks.{sealed-whole}
+use Rattle.ln_frame.specs.Message.{are_data, check_of, is_body, IsWhole}
 use Rattle.ln_ops.specs.Message.{op_of}
 use Rattle.station_core.specs.Carried.{can_carry, carried_by, carrying, carrying_body, dhi_of, high_bits, reps_of}
 
@@ -112,10 +111,14 @@ get-data (x ∷ xs) h (suc i) = get-data xs (and_parts (nat_lt x 128) (are_data 
 abbrev body_of : (r d x1 x2 x3 x4 x5 : ℕ) → List ℕ
 body_of r d x1 x2 x3 x4 x5 = 0xED ∷ 0x0B ∷ 0x7F ∷ r ∷ d ∷ x1 ∷ x2 ∷ x3 ∷ x4 ∷ x5 ∷ []
 
-closed : (r d x1 x2 x3 x4 x5 : ℕ) → AreSent r d x1 x2 x3 x4 x5 → IsWhole (body_of r d x1 x2 x3 x4 x5 ++ check_of (body_of r d x1 x2 x3 x4 x5) ∷ [])
-closed r d x1 x2 x3 x4 x5 s = sealed-whole (body_of r d x1 x2 x3 x4 x5) 0 below form
+-- the law of `ln_frame`
+abbrev SealedIsWhole : Type 0
+SealedIsWhole = (body : List ℕ) → ((i : ℕ) → get_or body i 0 < 256) → is_body body ≡ true → IsWhole (body ++ check_of body ∷ [])
+
+closed : SealedIsWhole → (r d x1 x2 x3 x4 x5 : ℕ) → AreSent r d x1 x2 x3 x4 x5 → IsWhole (body_of r d x1 x2 x3 x4 x5 ++ check_of (body_of r d x1 x2 x3 x4 x5) ∷ [])
+closed law r d x1 x2 x3 x4 x5 s = law (body_of r d x1 x2 x3 x4 x5) below form
   where
-    form : has_form (body_of r d x1 x2 x3 x4 x5 ++ 0 ∷ []) ≡ true
+    form : is_body (body_of r d x1 x2 x3 x4 x5) ≡ true
     form = data-sent r d x1 x2 x3 x4 x5 s (0 ∷ []) refl
 
     below : (i : ℕ) → get_or (body_of r d x1 x2 x3 x4 x5) i 0 < 256
@@ -146,14 +149,14 @@ dhi-below repeats bytes h =
 reps-below : (repeats : ℕ) (bytes : List ℕ) → CanCarry repeats bytes → reps_of (length bytes) repeats < 128
 reps-below repeats bytes h = omega (arith, h.few, h.few_repeats)
 
-whole : (repeats : ℕ) (bytes : List ℕ) → CanCarry repeats bytes → IsWhole (carrying repeats bytes)
-whole repeats [] h = absurd (let some = h.some in omega arith)
-whole repeats (a ∷ []) h = closed (reps_of 1 repeats) (dhi_of (a ∷ [])) (a % 128) 0 0 0 0 (record { reps = reps-below repeats _ h; dhi = dhi-below repeats _ h; im1 = seven a; im2 = zeros; im3 = zeros; im4 = zeros; im5 = zeros })
-whole repeats (a ∷ b ∷ []) h = closed (reps_of 2 repeats) (dhi_of (a ∷ b ∷ [])) (a % 128) (b % 128) 0 0 0 (record { reps = reps-below repeats _ h; dhi = dhi-below repeats _ h; im1 = seven a; im2 = seven b; im3 = zeros; im4 = zeros; im5 = zeros })
-whole repeats (a ∷ b ∷ c ∷ []) h = closed (reps_of 3 repeats) (dhi_of (a ∷ b ∷ c ∷ [])) (a % 128) (b % 128) (c % 128) 0 0 (record { reps = reps-below repeats _ h; dhi = dhi-below repeats _ h; im1 = seven a; im2 = seven b; im3 = seven c; im4 = zeros; im5 = zeros })
-whole repeats (a ∷ b ∷ c ∷ d ∷ []) h = closed (reps_of 4 repeats) (dhi_of (a ∷ b ∷ c ∷ d ∷ [])) (a % 128) (b % 128) (c % 128) (d % 128) 0 (record { reps = reps-below repeats _ h; dhi = dhi-below repeats _ h; im1 = seven a; im2 = seven b; im3 = seven c; im4 = seven d; im5 = zeros })
-whole repeats (a ∷ b ∷ c ∷ d ∷ e ∷ []) h = closed (reps_of 5 repeats) (dhi_of (a ∷ b ∷ c ∷ d ∷ e ∷ [])) (a % 128) (b % 128) (c % 128) (d % 128) (e % 128) (record { reps = reps-below repeats _ h; dhi = dhi-below repeats _ h; im1 = seven a; im2 = seven b; im3 = seven c; im4 = seven d; im5 = seven e })
-whole repeats (a ∷ b ∷ c ∷ d ∷ e ∷ f ∷ rest) h = absurd (let many = h.few in omega arith)
+whole : SealedIsWhole → (repeats : ℕ) (bytes : List ℕ) → CanCarry repeats bytes → IsWhole (carrying repeats bytes)
+whole law repeats [] h = absurd (let some = h.some in omega arith)
+whole law repeats (a ∷ []) h = closed law (reps_of 1 repeats) (dhi_of (a ∷ [])) (a % 128) 0 0 0 0 (record { reps = reps-below repeats _ h; dhi = dhi-below repeats _ h; im1 = seven a; im2 = zeros; im3 = zeros; im4 = zeros; im5 = zeros })
+whole law repeats (a ∷ b ∷ []) h = closed law (reps_of 2 repeats) (dhi_of (a ∷ b ∷ [])) (a % 128) (b % 128) 0 0 0 (record { reps = reps-below repeats _ h; dhi = dhi-below repeats _ h; im1 = seven a; im2 = seven b; im3 = zeros; im4 = zeros; im5 = zeros })
+whole law repeats (a ∷ b ∷ c ∷ []) h = closed law (reps_of 3 repeats) (dhi_of (a ∷ b ∷ c ∷ [])) (a % 128) (b % 128) (c % 128) 0 0 (record { reps = reps-below repeats _ h; dhi = dhi-below repeats _ h; im1 = seven a; im2 = seven b; im3 = seven c; im4 = zeros; im5 = zeros })
+whole law repeats (a ∷ b ∷ c ∷ d ∷ []) h = closed law (reps_of 4 repeats) (dhi_of (a ∷ b ∷ c ∷ d ∷ [])) (a % 128) (b % 128) (c % 128) (d % 128) 0 (record { reps = reps-below repeats _ h; dhi = dhi-below repeats _ h; im1 = seven a; im2 = seven b; im3 = seven c; im4 = seven d; im5 = zeros })
+whole law repeats (a ∷ b ∷ c ∷ d ∷ e ∷ []) h = closed law (reps_of 5 repeats) (dhi_of (a ∷ b ∷ c ∷ d ∷ e ∷ [])) (a % 128) (b % 128) (c % 128) (d % 128) (e % 128) (record { reps = reps-below repeats _ h; dhi = dhi-below repeats _ h; im1 = seven a; im2 = seven b; im3 = seven c; im4 = seven d; im5 = seven e })
+whole law repeats (a ∷ b ∷ c ∷ d ∷ e ∷ f ∷ rest) h = absurd (let many = h.few in omega arith)
 
-pub whole-carrying : (repeats : ℕ) (bytes : List ℕ) → can_carry repeats bytes ≡ true → IsWhole (carrying repeats bytes)
-whole-carrying repeats bytes h = whole repeats bytes (can repeats bytes h)
+pub whole-carrying : SealedIsWhole → (repeats : ℕ) (bytes : List ℕ) → can_carry repeats bytes ≡ true → IsWhole (carrying repeats bytes)
+whole-carrying law repeats bytes h = whole law repeats bytes (can repeats bytes h)

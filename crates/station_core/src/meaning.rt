@@ -73,7 +73,9 @@ pub fn packets_are_carried()
         → can_carry repeats bytes ≡ true
         → answer powered (op_of (carrying repeats bytes)) waiting
         ≡ Some (more_reply (more_asked powered.desk bytes)) }
-{}
+{
+    ln_frame::sealed_is_whole();
+}
 
 /// Off ends by power on alone.
 pub fn off_ends_by_power_on()

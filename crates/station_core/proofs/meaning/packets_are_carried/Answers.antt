@@ -6,7 +6,7 @@ use Rattle.station_core.proofs.meaning.packets_are_carried.Goals as goal
 
 pub returns : goal.returns
 returns c = record {
-  whole = whole-carrying;
+  whole = whole-carrying c.sealed_is_whole.ensures;
   read = read-back;
   after = λ repeats bytes desk can. ap (λ (xs : List ℕ). with_more desk (more_asked desk xs)) (read-back repeats bytes can);
   answer = λ repeats bytes powered waiting can. ap (λ (xs : List ℕ). Some (more_reply (more_asked powered.desk xs))) (read-back repeats bytes can);
