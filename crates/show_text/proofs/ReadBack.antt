@@ -24,8 +24,7 @@ use Rattle.show_text.specs.Hex.{hex_of, is_space, one_byte, pieces_of}
 use Rattle.show_text.specs.Lines.{hex_words}
 use Rattle.show_text.specs.Script.{◌>>=◌, at_line, below, bytes_of, command_of, commands_of, count_of, is_count, line_commands, missed_of, nodes_of, or_fault, script_of, set_with, some_nodes, with_node}
 use Rattle.show_text.specs.Sequence.{followed_by}
-use Rattle.ascii_words.specs.Words.{digit_of, is_blank, is_word, pair_of, words_of}
-use Rattle.ascii_words.proofs.Pairs.{pair-back}
+use Rattle.ascii_words.specs.Words.{both, digit_of, is_blank, is_word, pair_of, words_of}
 use Rattle.show_text.specs.Words.{decimal_of}
 use Rattle.show_text.specs.Written.{can_be_asked, command_text, missed_text, named_below, number_words, script_text}
 use Rattle.show_text.proofs.Cuts.{parts_after}
@@ -180,6 +179,13 @@ two b = hex_char (b / 16) ∷ hex_char (b % 16) ∷ []
 digit-back : (d : ℕ) → d < 16 → digit_of (hex_char d) ≡ Some d
 digit-back d h = grind (arith, nat_tests)
 
+pair-back : (b : ℕ) → b < 256 → pair_of (two b) ≡ Some b
+pair-back b h =
+    let high : b / 16 < 16 = omega arith in
+    let low : b % 16 < 16 = omega arith in
+    let whole : 16 * (b / 16) + b % 16 ≡ b = omega arith in
+    ap₂ both (digit-back (b / 16) high) (digit-back (b % 16) low) ∙ ap Some whole
+
 hex-mark : (d : ℕ) → d < 16 → is_mark (hex_char d) ≡ true
 hex-mark d h = grind (arith, nat_tests)
 
@@ -215,7 +221,7 @@ unfolding pieces_of
 pieces-back at [] h = refl
 pieces-back at (b ∷ bytes) h =
     let k = each b bytes h in
-    ap₂ (λ (o : Option ℕ) r. followed_by (one_byte at o) r) (pair-back hex_char digit-back b k.0) (pieces-back (at + 2 + 1) bytes k.1)
+    ap₂ (λ (o : Option ℕ) r. followed_by (one_byte at o) r) (pair-back b k.0) (pieces-back (at + 2 + 1) bytes k.1)
 
 first_piece : (bytes : List ℕ) → AreBytes bytes → pieces_of 0 ([] ∷ map two bytes) ≡ Ok bytes
 unfolding pieces_of
@@ -380,7 +386,7 @@ byte-reads count nodes line byte h low small =
     record {
       shown = line_shown (command_text nodes (Byte line byte)) (codes "line") (decimal line ∷ two byte ∷ []) text;
       says = ap (command_of count nodes) (line_words (command_text nodes (Byte line byte)) (codes "line") (decimal line ∷ two byte ∷ []) text)
-          ∙ byte_by count line byte (decimal line) (two byte) (below-back count line BadLine low fits) (pair-back hex_char digit-back byte small);
+          ∙ byte_by count line byte (decimal line) (two byte) (below-back count line BadLine low fits) (pair-back byte small);
     }
 
 show-reads : (count nodes : ℕ) → Reads count nodes (codes "show") Show
