@@ -1,9 +1,10 @@
 //! Laws of the lines received and sent. They have no code: a call gives the law to its caller's
 //! proof.
-ghost use Rattle.std.specs.Prelude.{◌≡◌, ℕ, ◌<◌, List, [], ◌++◌, Some, slice_index, codes};
+ghost use Rattle.std.specs.Prelude.{◌≡◌, ℕ, ◌<◌, List, [], ◌∷◌, ◌++◌, Some, slice_index, codes};
+ghost use Rattle.ascii_words.specs.Words.{words_of};
 ghost use Rattle.ln_frame.specs.Message.{IsWhole};
 ghost use Rattle.loconet_tcp.specs.declared.request.Request.TheVariants.{Send};
-ghost use Rattle.loconet_tcp.specs.Requests.{request_of};
+ghost use Rattle.loconet_tcp.specs.Requests.{bytes_of, leading_bytes, request_of};
 ghost use Rattle.loconet_tcp.specs.Reading.{requests_of, requests_along};
 ghost use Rattle.loconet_tcp.specs.ClientLines.{hex_words};
 
@@ -16,4 +17,13 @@ pub fn any_cut()
 pub fn received_is_sendable()
     ensures { (message : List ℕ) → IsWhole message → ((i : ℕ) → slice_index message i < 256)
         → request_of (codes "SEND" ++ hex_words message) ≡ Some (Send message) }
+{}
+
+/// Bytes as `RECEIVE` writes them are read back, alone and before other words.
+pub fn written_bytes_are_read()
+    ensures alone { (bytes : List ℕ) → ((i : ℕ) → slice_index bytes i < 256)
+        → bytes_of (words_of (hex_words bytes)) ≡ Some bytes }
+    ensures before { (bytes text : List ℕ) → ((i : ℕ) → slice_index bytes i < 256)
+        → leading_bytes (words_of (hex_words bytes ++ 32 ∷ text))
+        ≡ bytes ++ leading_bytes (words_of text) }
 {}
