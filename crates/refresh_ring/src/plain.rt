@@ -1,6 +1,6 @@
 //! A ring of truth values.
-ghost use Rattle.std.specs.Prelude.{◌≡◌, false, replicate};
-ghost use Rattle.refresh_ring.specs.Places.{slot_count};
+ghost use Rattle.std.specs.Prelude.{◌≡◌, ◌+◌, ◌<◌, ◌≤◌, ℕ, MatchOption, false, replicate};
+ghost use Rattle.refresh_ring.specs.Places.{IsRefreshed, last_place, slot_count};
 
 use crate::place::{LAST_PLACE, SLOTS};
 use crate::ring::Ring;
@@ -37,12 +37,24 @@ impl Ring for PlainRing {
     }
 
     fn next(&self, cursor: u16) -> Option<u16> {
-        for place in cursor + 1..LAST_PLACE + 1 {
-            if self.slots[(place as usize - 1) % SLOTS as usize] {
-                return Some(place);
-            }
+        match self.first_of(cursor + 1, LAST_PLACE + 1) {
+            Some(place) => Some(place),
+            None => self.first_of(1, cursor + 1),
         }
-        for place in 1..cursor + 1 {
+    }
+}
+
+impl PlainRing {
+    /// Returns the least refreshed place from `first` on and below `end`.
+    fn first_of(&self, first: u16, end: u16) -> Option<u16>
+        requires first { 1 ≤ first }
+        requires end { end ≤ last_place + 1 }
+        ensures { MatchOption result
+            ((q : ℕ) → first ≤ q → q < end → ¬ IsRefreshed self.now.slots q)
+            (λ p. IsRefreshed self.now.slots p × (first ≤ p) × (p < end)
+            × ((q : ℕ) → first ≤ q → q < p → ¬ IsRefreshed self.now.slots q)) }
+    {
+        for place in first..end {
             if self.slots[(place as usize - 1) % SLOTS as usize] {
                 return Some(place);
             }
