@@ -167,6 +167,9 @@ fn read_four(opcode: u8, first: u8, second: u8) -> Op
     ensures op { result ≡ four_of opcode first second }
     ensures data { IsOfData result }
 {
+    let number = switch_number(first, second);
+    let closed = is_closed(second);
+    let on = is_on(second);
     match opcode {
         OPC_LOCO_SPD => Op::Speed {
             slot: first,
@@ -180,16 +183,8 @@ fn read_four(opcode: u8, first: u8, second: u8) -> Op
             slot: first,
             snd: second,
         },
-        OPC_SW_REQ => Op::SwReq {
-            number: switch_number(first, second),
-            closed: is_closed(second),
-            on: is_on(second),
-        },
-        OPC_SW_ACK => Op::SwAck {
-            number: switch_number(first, second),
-            closed: is_closed(second),
-            on: is_on(second),
-        },
+        OPC_SW_REQ => Op::SwReq { number, closed, on },
+        OPC_SW_ACK => Op::SwAck { number, closed, on },
         OPC_LONG_ACK => Op::LongAck {
             opc: first,
             ack: second,
