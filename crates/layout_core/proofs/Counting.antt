@@ -1,12 +1,12 @@
 -- The numbers of reads, bytes, replies and turns.
-use Rattle.std.proofs.Common.{◌≡◌, ℕ, ◌+◌, ◌*◌, ◌^◌, ◌<◌, ◌≤◌, List, [], ◌∷◌, ◌++◌, Option, length, length-append, take, arith}
+use Rattle.std.proofs.Common.{◌≡◌, ℕ, ◌+◌, ◌*◌, ◌^◌, ◌<◌, ◌≤◌, List, [], ◌∷◌, ◌++◌, Option, length, length-append, replicate, take, arith}
 use Rattle.std.proofs.lemmas.List.{length-replicate, length-take-le}
 use Rattle.station_core.specs.declared.call.Step.{Step}
 use Rattle.station_core.specs.declared.call.Step.TheVariants.{Quiet, Reply, Packet, Off}
 use Rattle.station_core.specs.Seen.{Seen}
 use Rattle.layout_core.specs.declared.engine.Counts.{Counts}
 use Rattle.layout_core.specs.declared.event.Event.{Event}
-use Rattle.layout_core.specs.declared.event.Event.TheVariants.{Turn}
+use Rattle.layout_core.specs.declared.event.Event.TheVariants.{Byte, Turn}
 use Rattle.layout_core.specs.declared.world.World.{World}
 use Rattle.layout_core.specs.Counts.{HasRoom}
 use Rattle.layout_core.specs.Played.{after_event, answer_to, answers_to}
@@ -56,11 +56,13 @@ byte_fits line turns i bytes fits below =
     let some : length (take i bytes) ≡ i = length-take-le i bytes (omega (arith, below)) in
     omega (arith, served_length line turns (take i bytes) fits, some)
 
--- and one more turn after it
-pub turn_fits : (line turn turns i byte : ℕ) (bytes : List ℕ) → turns < 256 → turn < turns → i < length bytes
-    → length (served_events line turns (take i bytes) ++ byte_events line turn byte) + 1 ≤ 256 * length bytes
-turn_fits line turn turns i byte bytes fits more below =
-    omega (arith, length-append (served_events line turns (take i bytes)) (byte_events line turn byte), byte_length line turn byte, byte_fits line turns i bytes fits below)
+-- and the turns after it
+pub turns_fit : (line turns i byte : ℕ) (bytes : List ℕ) → turns < 256 → i < length bytes → length (served_events line turns (take i bytes) ++ Byte line byte ∷ []) + turns ≤ 256 * length bytes
+turns_fit line turns i byte bytes fits below = omega (arith, length-append (served_events line turns (take i bytes)) (Byte line byte ∷ []), byte_fits line turns i bytes fits below)
+
+-- one more turn of some
+pub turn_fits : (turn turns : ℕ) → turn < turns → length (replicate turn (Turn 0)) + 1 ≤ turns
+turn_fits turn turns more = omega (arith, length-replicate turn (Turn 0), more)
 
 -- the bytes of a number of reads, and those of one more
 pub chunk_fits : (made bytes chunk : ℕ) → made < 4294967296 → bytes ≤ 64 * made → chunk ≤ 64 → 0 + (256 * bytes + 256 * chunk) < 2 ^ 64

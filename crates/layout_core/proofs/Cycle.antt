@@ -106,7 +106,7 @@ after_is seen (Byte line byte ∷ events) = after_is (after_event seen (Byte lin
 after_is seen (Turn missed ∷ events) = after_is (after_event seen (Turn missed)) events
 after_is seen (Noise node half ∷ events) = after_is seen events
 
-pub calls-append : (events later : List Event) → calls_in (events ++ later) ≡ calls_in events ++ calls_in later
+calls-append : (events later : List Event) → calls_in (events ++ later) ≡ calls_in events ++ calls_in later
 calls-append [] later = refl
 calls-append (event ∷ events) later =
     ap (λ (calls : List Call). calls_of event ++ calls) (calls-append events later) ∙ sym (append_assoc (calls_of event) (calls_in events) (calls_in later))

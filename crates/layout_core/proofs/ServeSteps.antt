@@ -1,6 +1,6 @@
 -- Events that are served one after another add up.
 use Rattle.std.proofs.Common.{zero, suc, ◌*◌, replicate, Option, Some, None, ◌≡◌, ℕ, ◌+◌, ◌<◌, ◌≤◌, List, [], ◌∷◌, ◌++◌, length, length-append, take, get_or, refl, ap, ap₂, sym, subst, ◌∙◌, append_assoc, arith}
-use Rattle.std.proofs.lemmas.List.{append-nil, replicate_more, take_all, take_more}
+use Rattle.std.proofs.lemmas.List.{append-nil, take_all, take_more}
 use Rattle.std.proofs.KnownBytes.{Appends-nil, Appends-trans, Consumes-kept, Consumes-nil, Consumes-trans}
 use Rattle.std.specs.Io.KnownBytes.{Appends, Consumes, Keeps}
 use Rattle.station_core.specs.declared.call.Step.{Step}
@@ -145,20 +145,20 @@ pub all_served : (line turns i : ℕ) (bytes : List ℕ) → length bytes ≤ i 
 all_served line turns i bytes past old new serves =
     subst (λ (bs : List ℕ). ServesEvents line (served_events line turns bs) old new) (take_all i bytes past) serves
 
--- one more turn after the last byte
-pub turn_more : (front : List Event) (line turns byte : ℕ) → front ++ byte_events line (turns + 1) byte ≡ (front ++ byte_events line turns byte) ++ Turn 0 ∷ []
-turn_more front line turns byte =
-    ap (λ (events : List Event). front ++ Byte line byte ∷ events) (sym (replicate_more turns (Turn 0)))
-    ∙ sym (append_assoc front (byte_events line turns byte) (Turn 0 ∷ []))
-
 -- the byte and all of its turns
-pub all_turned : (line turn turns i : ℕ) (bytes : List ℕ) → turn ≤ turns → turns ≤ turn → i < length bytes → (old new : Moment)
-    → ServesEvents line (served_events line turns (take i bytes) ++ byte_events line turn (get_or bytes i 0)) old new → ServesEvents line (served_events line turns (take (i + 1) bytes)) old new
-all_turned line turn turns i bytes most least below old new serves =
-    let all : turn ≡ turns = omega arith in
+pub byte_served : (line turns i : ℕ) (bytes : List ℕ) → i < length bytes → (old mid turning new : Moment) → ServesEvents line (served_events line turns (take i bytes)) old mid → ServesEvents line (Byte line (get_or bytes i 0) ∷ []) mid turning
+    → ServesEvents line (replicate turns (Turn 0)) turning new → ServesEvents line (served_events line turns (take (i + 1) bytes)) old new
+byte_served line turns i bytes below old mid turning new before byte after =
     let front : List Event = served_events line turns (take i bytes) in
-    subst (λ (events : List Event). ServesEvents line events old new)
-    (ap (λ (n : ℕ). front ++ byte_events line n (get_or bytes i 0)) all ∙ sym (served_more line turns i bytes below)) serves
+    let heard : List Event = Byte line (get_or bytes i 0) ∷ [] in
+    serves_then line (served_events line turns (take (i + 1) bytes)) (front ++ heard) (replicate turns (Turn 0)) old turning new
+    (served_more line turns i bytes below ∙ sym (append_assoc front heard (replicate turns (Turn 0)))) (serves_more line front heard old mid turning before byte) after
+
+-- as many turns as there are to be
+pub all_turned : (line turn turns : ℕ) → turn ≤ turns → turns ≤ turn → (old new : Moment) → ServesEvents line (replicate turn (Turn 0)) old new → ServesEvents line (replicate turns (Turn 0)) old new
+all_turned line turn turns most least old new serves =
+    let all : turn ≡ turns = omega arith in
+    subst (λ (n : ℕ). ServesEvents line (replicate n (Turn 0)) old new) all serves
 
 -- these bytes were read so far, and they were served
 abbrev pub IsServedSoFar : (line turns reads count : ℕ) → (input input' : Input) → (old new : Moment) → Type 0

@@ -84,14 +84,14 @@ stops_then fault line all events now later old mid new parts first stop =
     ∙ sym (append_assoc events before (last ∷ (behind ++ later))) in
     ((events ++ before) ++ last ∷ [], (events ++ before, behind ++ later, last, cut, refl, stops_at_then fault line events before last old mid new first stop.1.5))
 
--- a turn, and those after it
-byte_parts : (line turns i byte : ℕ) → i < turns → byte_events line turns byte ≡ byte_events line i byte ++ ((Turn 0 ∷ []) ++ replicate (turns - i - 1) (Turn 0))
-byte_parts line turns i byte below =
-    let count : turns ≡ i + (1 + (turns - i - 1)) = omega (arith, below) in
-    let one : (Turn 0 ∷ []) ++ replicate (turns - i - 1) (Turn 0) ≡ replicate (1 + (turns - i - 1)) (Turn 0) = replicate-append-replicate 1 (turns - i - 1) (Turn 0) in
-    ap (λ (n : ℕ). Byte line byte ∷ replicate n (Turn 0)) count
-    ∙ ap (λ (events : List Event). Byte line byte ∷ events) (sym (replicate-append-replicate i (1 + (turns - i - 1)) (Turn 0)))
-    ∙ ap (λ (events : List Event). Byte line byte ∷ (replicate i (Turn 0) ++ events)) (sym one)
+-- some turns, one more, and those after it
+pub turn_parts : (turns turn : ℕ) → turn < turns → replicate turns (Turn 0) ≡ replicate turn (Turn 0) ++ ((Turn 0 ∷ []) ++ replicate (turns - turn - 1) (Turn 0))
+turn_parts turns turn below =
+    let count : turns ≡ turn + (1 + (turns - turn - 1)) = omega (arith, below) in
+    let one : (Turn 0 ∷ []) ++ replicate (turns - turn - 1) (Turn 0) ≡ replicate (1 + (turns - turn - 1)) (Turn 0) = replicate-append-replicate 1 (turns - turn - 1) (Turn 0) in
+    ap (λ (n : ℕ). replicate n (Turn 0)) count
+    ∙ sym (replicate-append-replicate turn (1 + (turns - turn - 1)) (Turn 0))
+    ∙ ap (λ (events : List Event). replicate turn (Turn 0) ++ events) (sym one)
 
 -- a fault that stops at an event leaves those before it and it
 pub stops_leave : (fault : ServeFault) (line : ℕ) (events : List Event) (old new : Moment) (stop : StopsWithin fault line events old new) → HoldsAfterFault fault line events stop.0 old new
@@ -152,17 +152,12 @@ served_parts line turns i bytes below =
     ap (served_events line turns) (sym (take-append-drop i bytes) ∙ ap (λ (bs : List ℕ). take i bytes ++ bs) (drop_more bytes i 0 below))
     ∙ served-append line turns (take i bytes) (get_or bytes i 0 ∷ drop (i + 1) bytes)
 
-pub turn_parts : (line turns turn i : ℕ) (bytes : List ℕ) → turn < turns → i < length bytes → served_events line turns bytes
-    ≡ (served_events line turns (take i bytes) ++ byte_events line turn (get_or bytes i 0)) ++ ((Turn 0 ∷ []) ++ (replicate (turns - turn - 1) (Turn 0) ++ served_events line turns (drop (i + 1) bytes)))
-turn_parts line turns turn i bytes more below =
-    let front : List Event = served_events line turns (take i bytes) in
-    let byte : List Event = byte_events line turn (get_or bytes i 0) in
-    let left : List Event = (Turn 0 ∷ []) ++ replicate (turns - turn - 1) (Turn 0) in
-    let rest : List Event = served_events line turns (drop (i + 1) bytes) in
+-- its turns, after it and before the bytes after it
+pub turns_parts : (line turns i : ℕ) (bytes : List ℕ) → i < length bytes → served_events line turns bytes
+    ≡ (served_events line turns (take i bytes) ++ Byte line (get_or bytes i 0) ∷ []) ++ (replicate turns (Turn 0) ++ served_events line turns (drop (i + 1) bytes))
+turns_parts line turns i bytes below =
     served_parts line turns i bytes below
-    ∙ ap (λ (events : List Event). front ++ (events ++ rest)) (byte_parts line turns turn (get_or bytes i 0) more)
-    ∙ ap (λ (events : List Event). front ++ events) (append_assoc byte left rest)
-    ∙ sym (append_assoc front byte (left ++ rest))
+    ∙ sym (append_assoc (served_events line turns (take i bytes)) (Byte line (get_or bytes i 0) ∷ []) (replicate turns (Turn 0) ++ served_events line turns (drop (i + 1) bytes)))
 
 -- an event whose answer is not written whole
 pub stops_at_event : (fault : ServeFault) (line : ℕ) (event : Event) (step : Step) (old new : Moment) → new.world.station ≡ after_event old.world.station event

@@ -1,5 +1,5 @@
 //! Serving a connection byte by byte.
-ghost use Rattle.std.specs.Prelude.{◌≡◌, ◌+◌, ◌*◌, ◌<◌, ◌≤◌, true, false, [], ◌∷◌, length, IfOk, IfErr, OnOk, IsErrOf, IsTrue};
+ghost use Rattle.std.specs.Prelude.{◌≡◌, ◌+◌, ◌*◌, ◌<◌, ◌≤◌, true, false, [], ◌∷◌, length, replicate, IfOk, IfErr, OnOk, IsErrOf, IsTrue};
 ghost use Rattle.std.specs.Io.KnownBytes.{Appends, IsAtEnd};
 ghost use Rattle.layout_core.specs.Played.{is_event};
 ghost use Rattle.layout_core.specs.Counts.{HasRoom};
@@ -166,9 +166,32 @@ fn serve_bytes<K: Sink, T: Sink>(
             trace,
             counts,
         )?;
-        for _turn in 0..turns {
-            serve_event(world, Event::Turn { missed: 0 }, line, sink, trace, counts)?;
-        }
+        serve_turns(world, line, turns, sink, trace, counts)?;
+    }
+    Ok(())
+}
+
+/// Serves turns, which no decoder misses.
+fn serve_turns<K: Sink, T: Sink>(
+    world: &mut World,
+    line: u8,
+    turns: u8,
+    sink: &mut K,
+    trace: &mut T,
+    counts: &mut Counts,
+) -> Result<(), ServeFault>
+    requires sink_works { K.failed sink.old ≡ false }
+    requires trace_works { T.failed trace.old ≡ false }
+    requires room { HasRoom turns counts.old }
+    ensures { ServesOrStops result line (replicate turns (Event.Turn 0))
+        (moment_of world.old (K.held sink.old) (T.held trace.old) counts.old.replies
+        counts.old.turns)
+        (moment_of world.new (K.held sink.new) (T.held trace.new) counts.new.replies
+        counts.new.turns)
+        (K.failed sink.new) (T.failed trace.new) }
+{
+    for _turn in 0..turns {
+        serve_event(world, Event::Turn { missed: 0 }, line, sink, trace, counts)?;
     }
     Ok(())
 }
