@@ -9,22 +9,30 @@ use Rattle.roster.specs.declared.fault.RosterFault.{RosterFault}
 use Rattle.roster.specs.Entry.{Entry}
 use Rattle.roster.specs.Format.{roster_in}
 
--- all that the input had, no more than 65,536 bytes, was read
-abbrev pub ReadsFile : (old new : Option (List ℕ)) → (text : List ℕ) → Type 0
-ReadsFile old new text = Consumes old new text × IsAtEnd new × (length text ≤ 65536)
+-- all that the input had, at most this many bytes, was read
+abbrev pub ReadsFile : (most : ℕ) → (old new : Option (List ℕ)) → (text : List ℕ) → Type 0
+ReadsFile most old new text = Consumes old new text × IsAtEnd new × (length text ≤ most)
+
+-- Why the bytes of the input, a file of this name, are not returned: a read of it failed, memory
+-- ran out, or it is too long.
+abbrev pub FailsFile : (most : ℕ) → (file : Text) → (old new : Option (List ℕ)) → RunFault → Type 0
+FailsFile most file old new fault =
+    (fault ≡ Unreadable file) ⊎ (fault ≡ NoMemory) ⊎ ((fault ≡ TooLong file) × ((text : List ℕ) × Consumes old new text × (most < length text)))
+
+-- the longest roster, in bytes
+abbrev pub longest_roster : ℕ
+longest_roster = 65536
 
 -- the input is this roster
 abbrev pub ReadsRoster : (old new : Option (List ℕ)) → List Entry → Type 0
-ReadsRoster old new entries = (text : List ℕ) × ReadsFile old new text × (roster_in text ≡ Ok entries)
+ReadsRoster old new entries = (text : List ℕ) × ReadsFile longest_roster old new text × (roster_in text ≡ Ok entries)
 
--- Why the input, a file of this name, is not a roster: a read of it failed, memory ran out, it is
--- too long, or its text has this fault, the first.
+-- Why the input, a file of this name, is not a roster: it is not read whole, or its text has this
+-- fault, the first.
 abbrev pub FailsRoster : (file : Text) → (old new : Option (List ℕ)) → RunFault → Type 0
 FailsRoster file old new fault =
-    (fault ≡ Unreadable file)
-    ⊎ (fault ≡ NoMemory)
-    ⊎ ((fault ≡ TooLong file) × ((text : List ℕ) × Consumes old new text × (65536 < length text)))
-    ⊎ ((text : List ℕ) × (bad : RosterFault) × ReadsFile old new text × (roster_in text ≡ Err bad) × (fault ≡ of_roster bad))
+    FailsFile longest_roster file old new fault
+    ⊎ ((text : List ℕ) × (bad : RosterFault) × ReadsFile longest_roster old new text × (roster_in text ≡ Err bad) × (fault ≡ of_roster bad))
 
 -- None without a file. The contents of a file are not known, only that there is a text that is this
 -- roster.

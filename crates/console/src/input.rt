@@ -1,11 +1,13 @@
 //! Reading files.
-ghost use Rattle.std.specs.Prelude.{◌≡◌, ◌<◌, ◌≤◌, ◌+◌, ◌^◌, false, length, IfOk};
-ghost use Rattle.console.specs.Fault.{of_file};
+ghost use Rattle.std.specs.Prelude.{◌≡◌, ◌<◌, ◌≤◌, ◌+◌, ◌^◌, None, false, length, IfErr, IfOk};
+ghost use Rattle.console.specs.Fault.{ended_by, is_unread_file, of_file};
+ghost use Rattle.console.specs.Files.{FailsFile, ReadsFile};
 ghost use Rattle.input_text.specs.TrackedReader.{read_failed};
 
 use crate::fault::RunFault;
 use command_line::FileName;
-use input_text::{ReadFault, TrackedReader, read_limited};
+use input_text::{Input, ReadFault, TrackedReader, read_limited};
+use std::alloc::Global;
 use std::fs;
 use std::io::ErrorKind;
 use std::rt::Files;
@@ -30,26 +32,44 @@ pub(crate) fn open<R: Files>(rt: &R, file: &FileName) -> Result<TrackedReader<R:
     }
 }
 
-/// Returns the bytes of a file of at most `most` bytes, below 2^32 - 1. Of a longer file at most
-/// one byte more is read.
-///
-/// # Errors
-///
-/// `Unreadable` if the file cannot be opened or a read fails; `TooLong`; `NoMemory` if out of
-/// memory.
+/// Returns the bytes of a file of at most `most` bytes, below 2^32 - 1. The faults are those of
+/// [`whole_from`]; `Unreadable` also if the file cannot be opened.
 pub fn read_whole<R: Files + AllocGlobal>(
     rt: &R,
     file: FileName,
     most: usize,
 ) -> Result<Vec<u8>, RunFault>
     requires { most + 1 < 2 ^ 32 }
-    ensures { IfOk result (λ v. length v.items ≤ most) }
+    ensures most { IfOk result (λ v. length v.items ≤ most) }
+    ensures fault { IfErr result (FailsFile most file None None) }
 {
-    let read = match open(rt, &file) {
-        Ok(mut input) => read_limited(rt.alloc(), &mut input, most + 1),
-        Err(fault) => Err(fault),
+    let mut input = match open(rt, &file) {
+        Ok(input) => input,
+        Err(fault) => return Err(not_read(fault, file)),
     };
-    match read {
+    whole_from(rt.alloc(), file, &mut input, most)
+}
+
+/// Returns the bytes of an input of at most `most` bytes, below 2^32 - 1, which is the file of this
+/// name. Of a longer one at most one byte more is read.
+///
+/// # Errors
+///
+/// `Unreadable` if a read fails; `TooLong`; `NoMemory` if out of memory.
+pub fn whole_from<I: Input>(
+    alloc: Global,
+    file: FileName,
+    input: &mut I,
+    most: usize,
+) -> Result<Vec<u8>, RunFault>
+    requires most { most + 1 < 2 ^ 32 }
+    requires works { I.failed input.old ≡ false }
+    ensures read { IfOk result
+        (λ v. ReadsFile most (I.left input.old) (I.left input.new) v.items) }
+    ensures fault { IfErr result (FailsFile most file (I.left input.old) (I.left input.new)) }
+    ensures failed { I.failed input.new ≡ ended_by is_unread_file result }
+{
+    match read_limited(alloc, input, most + 1) {
         Ok(bytes) if bytes.len() <= most => Ok(bytes),
         Ok(_) => Err(RunFault::TooLong(file)),
         Err(fault) => Err(not_read(fault, file)),

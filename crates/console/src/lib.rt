@@ -25,7 +25,7 @@ mod roster_file;
 pub use buffered::Buffered;
 pub use fault::RunFault;
 pub use flushing::flush_after;
-pub use input::read_whole;
+pub use input::{read_whole, whole_from};
 pub use monitoring::{monitor, monitor_from};
 pub use output::{WriteError, print, print_ended, print_to};
 pub use reporting::{report, report_as};

@@ -4,9 +4,9 @@ ghost use Rattle.console.specs.Fault.{ended_by, is_unread_file};
 ghost use Rattle.console.specs.Files.{FailsRoster, HasNoRoster, IsRosterOf, ReadsRoster};
 
 use crate::fault::RunFault;
-use crate::input::{not_read, open};
+use crate::input::{not_read, open, whole_from};
 use command_line::FileName;
-use input_text::{Input, read_limited};
+use input_text::Input;
 use roster::Roster;
 use std::alloc::Global;
 use std::rt::Files;
@@ -50,12 +50,6 @@ pub fn roster_from<I: Input>(
     ensures fault { IfErr result (FailsRoster file (I.left input.old) (I.left input.new)) }
     ensures failed { I.failed input.new ≡ ended_by is_unread_file result }
 {
-    let text = match read_limited(alloc, input, LONGEST_ROSTER + 1) {
-        Ok(text) => text,
-        Err(fault) => return Err(not_read(fault, file)),
-    };
-    if text.len() > LONGEST_ROSTER {
-        return Err(RunFault::TooLong(file));
-    }
+    let text = whole_from(alloc, file, input, LONGEST_ROSTER)?;
     Ok(roster::read(alloc, text.as_slice())?)
 }
