@@ -14,16 +14,35 @@ use Rattle.layout_core.specs.declared.event.Event.{Event}
 use Rattle.layout_core.specs.declared.event.Event.TheVariants.{Turn}
 use Rattle.layout_core.specs.declared.node.Node.{Node}
 use Rattle.layout_core.specs.declared.world.World.{World}
-use Rattle.layout_core.specs.Events.{calls_in}
+use Rattle.layout_core.specs.Events.{calls_in, calls_of}
 use Rattle.layout_core.specs.Played.{after_event, after_events, answer_to, answers_to}
 use Rattle.layout_core.specs.Served.{line_of_answer, traced_from, turns_in, turns_of_answer}
 use Rattle.layout_core.specs.World.{AfterEvent, HaveHeard}
-use Rattle.layout_core.proofs.Cycle.{calls-append}
-use Rattle.layout_core.proofs.ServeSteps.{answers-append, state-append, traced-append}
 use Rattle.roster.specs.Entry.{Entry}
 use Rattle.show_text.specs.declared.command.Command.{Command}
 use Rattle.station.specs.Replayed.{HasDone, command_text, commands_text, events_in, events_of, scene_after, turns_among}
 use Rattle.std.proofs.KnownBytes.{Appends-nil, Appends-trans}
+
+calls-append : (events later : List Event) → calls_in (events ++ later) ≡ calls_in events ++ calls_in later
+calls-append [] later = refl
+calls-append (event ∷ events) later =
+    ap (λ (calls : List Call). calls_of event ++ calls) (calls-append events later) ∙ sym (append_assoc (calls_of event) (calls_in events) (calls_in later))
+
+state-append : (seen : Seen) (events later : List Event) → after_events seen (events ++ later) ≡ after_events (after_events seen events) later
+state-append seen [] later = refl
+state-append seen (event ∷ events) later = state-append (after_event seen event) events later
+
+answers-append : (seen : Seen) (events later : List Event) → answers_to seen (events ++ later) ≡ answers_to seen events ++ answers_to (after_events seen events) later
+answers-append seen [] later = refl
+answers-append seen (event ∷ events) later = ap (λ (steps : List Step). answer_to seen event ∷ steps) (answers-append (after_event seen event) events later)
+
+traced-append : (line turn : ℕ) (steps more : List Step) → traced_from line turn (steps ++ more) ≡ traced_from line turn steps ++ traced_from line (turn + turns_in steps) more
+traced-append line turn [] more = ap (λ (t : ℕ). traced_from line t more) (omega arith)
+traced-append line turn (step ∷ steps) more =
+    let later : turn + turns_of_answer step + turns_in steps ≡ turn + turns_in (step ∷ steps) = omega arith in
+    ap (λ (bs : List ℕ). line_of_answer line turn step ++ bs) (traced-append line (turn + turns_of_answer step) steps more)
+    ∙ sym (append_assoc (line_of_answer line turn step) (traced_from line (turn + turns_of_answer step) steps) (traced_from line (turn + turns_of_answer step + turns_in steps) more))
+    ∙ ap (λ (t : ℕ). traced_from line turn (step ∷ steps) ++ traced_from line t more) later
 
 turn_calls-append : (calls later : List Call) → calls_of_turns (calls ++ later) ≡ calls_of_turns calls + calls_of_turns later
 turn_calls-append [] later = omega arith
