@@ -4,3 +4,4 @@ mod Copying
 mod Pieces
 mod Messages
 mod LogLines
+mod Printed

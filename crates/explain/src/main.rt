@@ -20,7 +20,7 @@ pub use explain::Explain;
 pub use explainer::Explainer;
 pub use fault::ExplainFault;
 pub use hex::hex_text;
-pub use laws::messages_are_explained;
+pub use laws::{messages_are_explained, printed_lines_are_explained};
 use std::process::ExitCode;
 pub use streams::execute;
 
