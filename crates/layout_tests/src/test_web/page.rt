@@ -140,6 +140,31 @@ fn the_longest_message_has_512_bytes(rt: HostRuntime) -> Result<(), Fail> {
     Ok(())
 }
 
+/// A text message in two fragments of these lengths, each 126 to 512.
+fn fragments(rt: &HostRuntime, first: u16, second: u16) -> Result<Vec<u8>, Fail> {
+    let mut frames = Vec::new(rt.alloc());
+    for (head, count) in [(0x01, first), (0x80, second)] {
+        let [high, low] = count.to_be_bytes();
+        frames.extend_from_slice(&[head, 0xfe, high, low, 0, 0, 0, 0])?;
+        let text = [b'x'; 512];
+        frames.extend_from_slice(text.get(..usize::from(count)).unwrap_or(&[]))?;
+    }
+    Ok(frames)
+}
+
+#[test]
+fn a_longer_message_in_fragments_ends_the_page(rt: HostRuntime) -> Result<(), Fail> {
+    for (first, second, read, closed) in [(256, 256, 513, false), (256, 257, 0, true)] {
+        let frames = fragments(&rt, first, second)?;
+        let stream = Memory::new(rt.alloc(), frames.as_slice())?;
+        let mut page = Page::new(rt.alloc(), stream, &[])?;
+        let (text, is_closed) = read_all(&rt, &mut page)?;
+        assert_eq!(rt; text.len(), read);
+        assert_eq!(rt; is_closed, closed);
+    }
+    Ok(())
+}
+
 /// The bytes written to a page, in two pieces divided at every point, and the bytes sent to it.
 const WRITTEN: [(&[u8], &[u8]); 7] = [
     (b"", b""),
