@@ -8,8 +8,9 @@ use test_support::{Broken, Spaces, Stuck, Uneven};
 
 #[test]
 fn standard_input_cannot_be_read(rt: HostRuntime) {
-    let rows: [(ErrorKind, u8, &[u8]); 2] = [
+    let rows: [(ErrorKind, u8, &[u8]); 3] = [
         (ErrorKind::Other, 2, b"station: cannot read -\n"),
+        (ErrorKind::WouldBlock, 2, b"station: cannot read -\n"),
         (ErrorKind::OutOfMemory, 6, b"station: no memory\n"),
     ];
     for (kind, wanted, told) in rows {
