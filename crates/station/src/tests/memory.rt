@@ -22,6 +22,16 @@ const SHOWN: &[u8] = b"node shunter short 3 stop forward F 0000000000000
 node yard module 1 outputs 00000000
 ";
 
+const HEX: &[u8] = b"83 7C BF 01 02 03 04 05 06 07 08 09 0A 0B 0C 0D 0E";
+
+/// The bytes of `HEX`.
+const BYTES: [u8; 17] = [
+    0x83, 0x7C, 0xBF, 1, 2, 3, 4, 5, 6, 7, 8, 9, 10, 11, 12, 13, 14,
+];
+
+/// `show`, nine times.
+const SCRIPT: &[u8] = b"show\nshow\nshow\nshow\nshow\nshow\nshow\nshow\nshow";
+
 /// A call that is run with little memory.
 #[derive(Clone, Copy)]
 enum Work<'a> {
@@ -104,22 +114,11 @@ fn answer(rt: &HostRuntime, work: Work<'_>, pages: &mut Pages) -> Option<bool> {
             Ok(roster) => Some(roster.len() == 2),
             Err(fault) => other_than(fault.why == roster::Why::NoMemory),
         },
-        Work::Hex => match read_hex(alloc, b"83 7C BF 01 02 03 04 05 06 07 08 09 0A 0B 0C 0D 0E") {
-            Ok(bytes) => Some(
-                bytes.as_slice()
-                    == [
-                        0x83, 0x7C, 0xBF, 1, 2, 3, 4, 5, 6, 7, 8, 9, 10, 11, 12, 13, 14,
-                    ]
-                    .as_slice(),
-            ),
+        Work::Hex => match read_hex(alloc, HEX) {
+            Ok(bytes) => Some(bytes.as_slice() == BYTES.as_slice()),
             Err(fault) => other_than(fault.why == HexWhy::NoMemory),
         },
-        Work::Script => match read_script(
-            alloc,
-            b"show\nshow\nshow\nshow\nshow\nshow\nshow\nshow\nshow",
-            1,
-            0,
-        ) {
+        Work::Script => match read_script(alloc, SCRIPT, 1, 0) {
             Ok(commands) => Some(commands.as_slice() == [Command::Show; 9].as_slice()),
             Err(fault) => other_than(fault.why == show_text::Why::NoMemory),
         },
