@@ -4,6 +4,7 @@ import time
 
 from server_checks.common import (
     LAYOUT,
+    POWER_OFF,
     POWER_ON,
     SHUNTER,
     SLOT_1_IDLE,
@@ -99,6 +100,51 @@ def other_turns():
             found = turns_of(server.printed())
             same("the first packet", found[0], 2 * turns + 1)
             same("the stops", found[-turns:], list(range(3 * turns + 1, 4 * turns + 1)))
+
+
+# What a client of a running locomotive writes, what it receives, and how many turns have passed then. Without power turns
+# are counted, and no packets are printed.
+TURN_REQUESTS = [
+    ("TURNS 16", ["TURNS OK"], 16),
+    ("TURNS 0", ["TURNS ERROR no number from 1 to 10000"], 16),
+    ("TURNS 10001", ["TURNS ERROR no number from 1 to 10000"], 16),
+    ("turns 9", [], 16),
+    ("TURNS 5", ["TURNS OK"], 21),
+    (f"SEND {POWER_OFF}", [*receive(POWER_OFF), "SENT OK"], 21),
+    ("TURNS 10000", ["TURNS OK"], 10_021),
+    (f"SEND {POWER_ON}", [*receive(POWER_ON), "SENT OK"], 10_021),
+    ("TURNS 4", ["TURNS OK"], 10_025),
+]
+
+
+def requested_turns():
+    """TURNS n runs n turns in its place among the messages, is answered to its client alone, and refused in real time"""
+    mark = "msg 81 7E other"
+    with serve(*LAYOUT, "--turns", "0", "--track") as server, Client(server) as client, Client(server) as other:
+        client.take(3)
+        client.send(0xA0, 1, 0x40)
+        other.lines_until("RECEIVE A0 01 40 1E")
+        for text, answers, _ in TURN_REQUESTS:
+            client.write([text, "SEND 81 7E"])
+            same(text, client.lines_until("SENT OK")[: len(answers)], answers)
+            if text.startswith("SEND"):
+                client.lines_until("SENT OK")
+            heard = [line for line in answers if line.startswith("RECEIVE")] + receive("81 7E")
+            same(f"{text}, the other client", [other.line() for _ in heard], heard)
+        holds("each message is printed", server.until(lambda: server.printed().count(mark) == len(TURN_REQUESTS)))
+        lines = "\n".join(server.printed()).split(mark)
+        before = 0
+        for (text, _, passed), part in zip(TURN_REQUESTS, lines):
+            found = turns_of(part.splitlines())
+            holds(f"{text}: turns {found} after {before}, to {passed}", all(before < turn <= passed for turn in found))
+            is_run = passed > before and "10000" not in text
+            holds(f"{text}: packets are printed", bool(found) == is_run)
+            before = passed
+        # A locomotive has settled after a full refresh cycle.
+        holds("it runs after 16 turns", SHUNTER.format("step 63 of 128") in lines[0].splitlines())
+    with serve(*LAYOUT, "--track") as server, Client(server) as client:
+        client.write(["TURNS 10000", "TURNS x"])
+        same("in real time", [client.line(), client.line()], ["TURNS ERROR real time"] * 2)
 
 
 def no_roster():

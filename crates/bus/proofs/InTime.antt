@@ -4,12 +4,12 @@ use Rattle.std.specs.List.{list_all}
 use Rattle.std.proofs.lemmas.Bool.{and_parts, and_from}
 use Rattle.std.proofs.lemmas.List.Elements.{All-append, All-cons, All-nil}
 use Rattle.loconet_tcp.specs.declared.request.Request.{Request}
-use Rattle.loconet_tcp.specs.declared.request.Request.TheVariants.{Send, Invalid}
+use Rattle.loconet_tcp.specs.declared.request.Request.TheVariants.{Send, Invalid, Turns}
 use Rattle.slot_table.specs.Entry.{Entry}
 use Rattle.station_core.specs.ThrottleView.{ThrottleView, known_after_all}
 use Rattle.station_core.specs.Moments.{slots_refreshed, turns_in}
 use Rattle.station_core.specs.Moved.{packet_of_turn}
-use Rattle.station_core.specs.Seen.{Seen, known_of}
+use Rattle.station_core.specs.Seen.{known_of}
 use Rattle.layout_core.specs.declared.event.Event.{Event as LayoutEvent}
 use Rattle.layout_core.specs.declared.event.Event.TheVariants.{Byte as LayoutByte, Turn as LayoutTurn, Noise as LayoutNoise}
 use Rattle.layout_core.specs.declared.node.Node.{Node}
@@ -43,6 +43,7 @@ asked_quiet : (i client : ℕ) (request : Option Request) → NoNoise i (request
 asked_quiet i client None = tt
 asked_quiet i client (Some (Invalid reason)) = tt
 asked_quiet i client (Some (Send message)) = bytes_quiet i client message
+asked_quiet i client (Some (Turns count)) = tt
 
 passing_quiet : (i missed : ℕ) (ends : Bool) → NoNoise i (if ends then turn_of missed else [])
 passing_quiet i missed true = tt
@@ -72,10 +73,11 @@ bytes_turns : (line : ℕ) (bytes : List ℕ) → turns_in (calls_in (bytes_on l
 bytes_turns line [] = refl
 bytes_turns line (byte ∷ bytes) = omega (arith, bytes_turns line bytes)
 
-asked_turns : (station : Seen) (client : ℕ) (request : Option Request) → turns_in (calls_in (request_events client request)) ≡ length (durations_in (outcome_of_request station client request))
-asked_turns station client None = refl
-asked_turns station client (Some (Invalid reason)) = refl
-asked_turns station client (Some (Send message)) = bytes_turns client message
+asked_turns : (bus : BusState) (client : ℕ) (request : Option Request) → turns_in (calls_in (request_events client request)) ≡ length (durations_in (outcome_of_request bus client request))
+asked_turns bus client None = refl
+asked_turns bus client (Some (Invalid reason)) = refl
+asked_turns bus client (Some (Send message)) = bytes_turns client message
+asked_turns bus client (Some (Turns count)) = refl
 
 passing_turns : (missed : ℕ) (packet : Option (List ℕ)) (ends : Bool) → turns_in (calls_in (if ends then turn_of missed else [])) ≡ length (durations_in (if ends then TurnBegan packet else Nothing))
 passing_turns missed packet true = refl
@@ -84,7 +86,7 @@ passing_turns missed packet false = refl
 event_turns : (bus : BusState) (event : Event) → turns_in (calls_in (layout_event bus event)) ≡ length (durations_in (outcome_of bus event))
 event_turns bus (Connects client) = refl
 event_turns bus (Disconnects client) = refl
-event_turns bus (Receives client byte) = asked_turns bus.station client (request_at (client_of bus client) byte)
+event_turns bus (Receives client byte) = asked_turns bus client (request_at (client_of bus client) byte)
 event_turns bus (Elapses micros missed) = passing_turns missed (packet_of_turn bus.station) (nat_le bus.remaining micros)
 event_turns bus (Turn missed) = refl
 
@@ -105,10 +107,11 @@ turns_told (event ∷ events) bus =
 abbrev IsShort : ℕ → Type 0
 IsShort turn = turn ≤ 10740
 
-asked_short : (station : Seen) (client : ℕ) (request : Option Request) → All IsShort (durations_in (outcome_of_request station client request))
-asked_short station client None = All-nil IsShort
-asked_short station client (Some (Invalid reason)) = All-nil IsShort
-asked_short station client (Some (Send message)) = All-nil IsShort
+asked_short : (bus : BusState) (client : ℕ) (request : Option Request) → All IsShort (durations_in (outcome_of_request bus client request))
+asked_short bus client None = All-nil IsShort
+asked_short bus client (Some (Invalid reason)) = All-nil IsShort
+asked_short bus client (Some (Send message)) = All-nil IsShort
+asked_short bus client (Some (Turns count)) = All-nil IsShort
 
 turn_short : TurnsAreBounded → (bus : BusState) → All IsShort (durations_in (TurnBegan (packet_of_turn bus.station)))
 turn_short laws bus = All-cons IsShort (duration (packet_of_turn bus.station)) [] (laws.longest bus.station) (All-nil IsShort)
@@ -120,7 +123,7 @@ passing_short laws bus false = All-nil IsShort
 event_short : TurnsAreBounded → (bus : BusState) (event : Event) → All IsShort (durations_in (outcome_of bus event))
 event_short laws bus (Connects client) = All-nil IsShort
 event_short laws bus (Disconnects client) = All-nil IsShort
-event_short laws bus (Receives client byte) = asked_short bus.station client (request_at (client_of bus client) byte)
+event_short laws bus (Receives client byte) = asked_short bus client (request_at (client_of bus client) byte)
 event_short laws bus (Elapses micros missed) = passing_short laws bus (nat_le bus.remaining micros)
 event_short laws bus (Turn missed) = turn_short laws bus
 

@@ -6,9 +6,8 @@ use Rattle.std.specs.Option.{option_to_list}
 use Rattle.std.proofs.lemmas.Bool.{and_parts, cases_Bool, eqb-true, eqb-false, ltb-true}
 use Rattle.std.proofs.lemmas.List.{length-set, get_or-set_same, get_or-set_other}
 use Rattle.loconet_tcp.specs.declared.request.Request.{Request}
-use Rattle.loconet_tcp.specs.declared.request.Request.TheVariants.{Send, Invalid}
+use Rattle.loconet_tcp.specs.declared.request.Request.TheVariants.{Send, Invalid, Turns}
 use Rattle.loconet_tcp.specs.Reading.{request_of_byte, requests_along, requests_of, kept_after}
-use Rattle.station_core.specs.Seen.{Seen}
 use Rattle.station_core.specs.Moved.{packet_of_turn}
 use Rattle.bus.specs.declared.event.Event.{Event}
 use Rattle.bus.specs.declared.event.Event.TheVariants.{Connects, Receives, Disconnects, Elapses, Turn}
@@ -33,20 +32,23 @@ place clients c i kept within = elim (cases_Bool (c == i)) [
 
 -- ---- the effect of a request on a line
 
-on_own : (station : Seen) (c i : ℕ) (request : Option Request) → (c == i) ≡ true → message_on i (outcome_of_request station c request) ≡ messages_to_send (option_to_list request)
-on_own station c i None e = refl
-on_own station c i (Some (Invalid reason)) e = refl
-on_own station c i (Some (Send message)) e = rw e refl
+on_own : (bus : BusState) (c i : ℕ) (request : Option Request) → (c == i) ≡ true → message_on i (outcome_of_request bus c request) ≡ messages_to_send (option_to_list request)
+on_own bus c i None e = refl
+on_own bus c i (Some (Invalid reason)) e = refl
+on_own bus c i (Some (Send message)) e = rw e refl
+on_own bus c i (Some (Turns count)) e = refl
 
-on_other : (station : Seen) (c i : ℕ) (request : Option Request) → (c == i) ≡ false → message_on i (outcome_of_request station c request) ≡ []
-on_other station c i None e = refl
-on_other station c i (Some (Invalid reason)) e = refl
-on_other station c i (Some (Send message)) e = rw e refl
+on_other : (bus : BusState) (c i : ℕ) (request : Option Request) → (c == i) ≡ false → message_on i (outcome_of_request bus c request) ≡ []
+on_other bus c i None e = refl
+on_other bus c i (Some (Invalid reason)) e = refl
+on_other bus c i (Some (Send message)) e = rw e refl
+on_other bus c i (Some (Turns count)) e = refl
 
 sends-more : (request : Option Request) (requests : List Request) → messages_to_send (option_to_list request ++ requests) ≡ messages_to_send (option_to_list request) ++ messages_to_send requests
 sends-more None requests = refl
 sends-more (Some (Invalid reason)) requests = refl
 sends-more (Some (Send message)) requests = refl
+sends-more (Some (Turns count)) requests = refl
 
 -- ---- time puts nothing on a line, and changes no client
 
@@ -87,13 +89,13 @@ own (Receives c byte ∷ events) bus i legal eight =
     let later = own events (after_event bus (Receives c byte)) i p.1 (length-set bus.clients c (pending_text_at kept byte) ∙ eight) in
     elim (cases_Bool (c == i)) [
       | inl e ↦
-          ap₂ (λ (these those : List (List ℕ)). these ++ those) (on_own bus.station c i (request_at kept byte) e)
+          ap₂ (λ (these those : List (List ℕ)). these ++ those) (on_own bus c i (request_at kept byte) e)
           (later ∙ ap (λ (k : Option (List ℕ)). messages_to_send (own_requests i k events)) (place-same bus.clients c i (pending_text_at kept byte) within e))
           ∙ sym (sends-more (request_at kept byte) (own_requests i (pending_text_at kept byte) events))
           ∙ ap (λ (k : ℕ). messages_to_send (option_to_list (request_at (client_of bus k) byte) ++ own_requests i (pending_text_at (client_of bus k) byte) events)) (eqb-true c i e)
           ∙ ap messages_to_send (sym (own-same i c byte (client_of bus i) events e))
       | inr e ↦
-          ap₂ (λ (these those : List (List ℕ)). these ++ those) (on_other bus.station c i (request_at kept byte) e)
+          ap₂ (λ (these those : List (List ℕ)). these ++ those) (on_other bus c i (request_at kept byte) e)
           (later ∙ ap (λ (k : Option (List ℕ)). messages_to_send (own_requests i k events)) (place-other bus.clients c i (pending_text_at kept byte) e))
           ∙ ap messages_to_send (sym (own-other i c byte (client_of bus i) events e))
     ]

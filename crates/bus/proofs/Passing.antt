@@ -4,9 +4,8 @@ use Rattle.std.specs.Prelude.{IsTrue}
 use Rattle.std.specs.List.{list_all, slice_index_or}
 use Rattle.std.proofs.lemmas.Bool.{and_parts, leb-true, leb-false}
 use Rattle.loconet_tcp.specs.declared.request.Request.{Request}
-use Rattle.loconet_tcp.specs.declared.request.Request.TheVariants.{Send, Invalid}
+use Rattle.loconet_tcp.specs.declared.request.Request.TheVariants.{Send, Invalid, Turns}
 use Rattle.station_core.specs.Moved.{packet_of_turn}
-use Rattle.station_core.specs.Seen.{Seen}
 use Rattle.bus.specs.declared.event.Event.{Event}
 use Rattle.bus.specs.declared.event.Event.TheVariants.{Connects, Receives, Disconnects, Elapses, Turn}
 use Rattle.loconet_tcp.specs.declared.outcome.Outcome.TheVariants.{Nothing, TurnBegan}
@@ -35,10 +34,11 @@ one_legal event legal = rw legal refl
 
 -- One event.
 
-asked_lasting : (station : Seen) (client : ℕ) (request : Option Request) → durations_in (outcome_of_request station client request) ≡ []
-asked_lasting station client None = refl
-asked_lasting station client (Some (Invalid reason)) = refl
-asked_lasting station client (Some (Send message)) = refl
+asked_lasting : (bus : BusState) (client : ℕ) (request : Option Request) → durations_in (outcome_of_request bus client request) ≡ []
+asked_lasting bus client None = refl
+asked_lasting bus client (Some (Invalid reason)) = refl
+asked_lasting bus client (Some (Send message)) = refl
+asked_lasting bus client (Some (Turns count)) = refl
 
 no_time : (remaining : ℕ) (turns : List ℕ) → 0 < remaining → turns ≡ [] → IsTimeAccount remaining 0 turns remaining
 no_time remaining turns some none = subst (λ (t : List ℕ). IsTimeAccount remaining 0 t remaining) (sym none) (nothing remaining some)
@@ -55,7 +55,7 @@ passed_by : TurnsAreBounded → (bus : BusState) (event : Event) → IsInvariant
     → IsTimeAccount bus.remaining (micros_of bus event) (durations_in (outcome_of bus event)) (after_event bus event).remaining
 passed_by laws bus (Connects client) h legal = nothing bus.remaining h.under_way
 passed_by laws bus (Disconnects client) h legal = nothing bus.remaining h.under_way
-passed_by laws bus (Receives client byte) h legal = no_time bus.remaining _ h.under_way (asked_lasting bus.station client (request_at (client_of bus client) byte))
+passed_by laws bus (Receives client byte) h legal = no_time bus.remaining _ h.under_way (asked_lasting bus client (request_at (client_of bus client) byte))
 passed_by laws bus (Turn missed) h legal = turn_passed laws bus bus.remaining (omega arith) (omega arith)
 passed_by laws bus (Elapses micros missed) h legal = micros_passed laws bus micros (nat_le bus.remaining micros) refl (leb-true micros 5796 legal) h.under_way
 

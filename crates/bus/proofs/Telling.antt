@@ -1,15 +1,16 @@
 -- The text of each client since it connected.
 use Rattle.std.proofs.Common.{◌≡◌, ℕ, Bool, true, false, List, [], ◌∷◌, ◌++◌, Option, Some, None, refl, ap, ap₂, sym, ◌∙◌, if◌then◌else◌, ◌&&◌, ◌||◌, not, append-nil, eq-eqb}
-use Rattle.std.specs.Prelude.{◌==◌}
+use Rattle.std.specs.Prelude.{◌==◌, Result}
 use Rattle.std.specs.List.{flat_map}
 use Rattle.std.specs.Option.{option_to_list}
 use Rattle.std.proofs.lemmas.Bool.{and_parts}
 use Rattle.std.proofs.lemmas.Grind.{flat_map-append}
 use Rattle.std.proofs.lemmas.List.Folds.{list_all-append}
 use Rattle.loconet_tcp.specs.declared.request.Reason.{Reason}
-use Rattle.loconet_tcp.specs.ClientLines.{receive_text, sent_error_text, sent_ok_text, version_text}
+use Rattle.loconet_tcp.specs.declared.request.TurnsError.{TurnsError}
+use Rattle.loconet_tcp.specs.ClientLines.{receive_text, sent_error_text, sent_ok_text, turns_text, version_text}
 use Rattle.loconet_tcp.specs.declared.outcome.Outcome.{Outcome}
-use Rattle.loconet_tcp.specs.declared.outcome.Outcome.TheVariants.{Nothing, Connected, Disconnected, Rejected, Sent, TurnBegan}
+use Rattle.loconet_tcp.specs.declared.outcome.Outcome.TheVariants.{Nothing, Connected, Disconnected, Rejected, Sent, TurnBegan, TurnsRequested}
 use Rattle.loconet_tcp.specs.Texts.{messages_in, reply_text, text_for}
 use Rattle.bus.specs.Since.{makes_request, text_since, is_connecting, is_disconnecting, requests_nothing, is_nonempty, has_connected, changes_connection, since_connected, stays_connected, traffic}
 
@@ -128,6 +129,10 @@ reply_heard : (reply : Option (List ℕ)) → reply_text reply ≡ flat_map rece
 reply_heard None = refl
 reply_heard (Some reply) = sym (append-nil (receive_text reply))
 
+no_answer : (own : Bool) (turns : Result ℕ TurnsError) → not own ≡ true → (if own then turns_text turns else []) ≡ []
+no_answer true turns q = cc
+no_answer false turns q = refl
+
 no_ok : (own : Bool) (message : List ℕ) (reply : Option (List ℕ)) → not own ≡ true
     → (receive_text message ++ (if own then sent_ok_text else []) ++ reply_text reply) ≡ flat_map receive_text (message ∷ option_to_list reply)
 no_ok true message reply q = cc
@@ -140,6 +145,7 @@ listens i (Disconnected client) m q = refl
 listens i (Rejected client reason) m q = no_error (client == i) reason q
 listens i (Sent client message reply) m q = no_ok (client == i) message reply q
 listens i (TurnBegan packet) m q = refl
+listens i (TurnsRequested client turns) m q = no_answer (client == i) turns q
 
 pub bystander : (i : ℕ) (outcomes : List Outcome) → stays_connected i outcomes ≡ true → requests_nothing i outcomes ≡ true → flat_map (text_for i) outcomes ≡ flat_map receive_text (traffic outcomes)
 bystander i [] stay quiet = refl

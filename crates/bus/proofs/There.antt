@@ -5,8 +5,7 @@ use Rattle.std.specs.List.{list_all, slice_index_or}
 use Rattle.std.proofs.lemmas.Bool.{and_parts, cases_lt, ltb-true, eqb-true}
 use Rattle.std.proofs.lemmas.List.{length-set, get_or-replicate, get_or_past}
 use Rattle.loconet_tcp.specs.declared.request.Request.{Request}
-use Rattle.loconet_tcp.specs.declared.request.Request.TheVariants.{Send, Invalid}
-use Rattle.station_core.specs.Seen.{Seen}
+use Rattle.loconet_tcp.specs.declared.request.Request.TheVariants.{Send, Invalid, Turns}
 use Rattle.station_core.specs.Moved.{packet_of_turn}
 use Rattle.bus.specs.declared.event.Event.{Event}
 use Rattle.bus.specs.declared.event.Event.TheVariants.{Connects, Receives, Disconnects, Elapses, Turn}
@@ -48,10 +47,11 @@ hears_place : (own : Bool) (read kept : Option (List ℕ)) → is_some read ≡ 
 hears_place true read kept e = e
 hears_place false read kept e = refl
 
-asked_stays : (i c : ℕ) (station : Seen) (request : Option Request) → changes_connection i (outcome_of_request station c request) ≡ false
-asked_stays i c station None = refl
-asked_stays i c station (Some (Invalid reason)) = refl
-asked_stays i c station (Some (Send message)) = refl
+asked_stays : (i c : ℕ) (bus : BusState) (request : Option Request) → changes_connection i (outcome_of_request bus c request) ≡ false
+asked_stays i c bus None = refl
+asked_stays i c bus (Some (Invalid reason)) = refl
+asked_stays i c bus (Some (Send message)) = refl
+asked_stays i c bus (Some (Turns count)) = refl
 
 time_stays : (i : ℕ) (ends : Bool) (packet : Option (List ℕ)) → changes_connection i (if ends then TurnBegan packet else Nothing) ≡ false
 time_stays i true packet = refl
@@ -77,7 +77,7 @@ next_there bus (Disconnects c) i legal eight =
     ap is_some (place bus.clients c i None (omega (arith, ltb-true c 8 legal, eight))) ∙ leaves_place (c == i) (client_of bus i)
 next_there bus (Receives c byte) i legal eight =
     unmoved i (outcome_of bus (Receives c byte)) (is_some (client_of bus i)) (is_some (client_of (after_event bus (Receives c byte)) i))
-    (asked_stays i c bus.station (request_at (client_of bus c) byte))
+    (asked_stays i c bus (request_at (client_of bus c) byte))
     (own_reads bus c i byte (omega (arith, ltb-true c 8 legal, eight)))
 next_there bus (Elapses micros missed) i legal eight =
     let ends : Bool = nat_le bus.remaining micros in
@@ -109,10 +109,10 @@ still_there (event ∷ events) bus i legal eight =
 
 -- on a new bus every connected client has connected
 
-nobody : (i : ℕ) → is_some (client_of first_bus i) ≡ false
-nobody i = elim (cases_lt i 8) [
+nobody : (stepped : Bool) (i : ℕ) → is_some (client_of (first_bus stepped) i) ≡ false
+nobody stepped i = elim (cases_lt i 8) [
   | inl below ↦ ap is_some (get_or-replicate 8 i None None below)
-  | inr past ↦ ap is_some (get_or_past first_bus.clients i None past)
+  | inr past ↦ ap is_some (get_or_past (first_bus stepped).clients i None past)
 ]
 
 no_more : (there stay : Bool) → (there || (stay && false)) ≡ there
@@ -120,8 +120,10 @@ no_more true stay = refl
 no_more false true = refl
 no_more false false = refl
 
-pub who_is_there : (events : List Event) (i : ℕ) → AreEvents events → is_some (client_of (after_events first_bus events) i) ≡ has_connected i (outcomes_of first_bus events)
-who_is_there events i legal =
-    still_there events first_bus i legal refl
-    ∙ ap (λ (b : Bool). has_connected i (outcomes_of first_bus events) || (stays_connected i (outcomes_of first_bus events) && b)) (nobody i)
-    ∙ no_more (has_connected i (outcomes_of first_bus events)) (stays_connected i (outcomes_of first_bus events))
+pub who_is_there : (stepped : Bool) (events : List Event) (i : ℕ) → AreEvents events
+    → is_some (client_of (after_events (first_bus stepped) events) i) ≡ has_connected i (outcomes_of (first_bus stepped) events)
+who_is_there stepped events i legal =
+    let outcomes : List Outcome = outcomes_of (first_bus stepped) events in
+    still_there events (first_bus stepped) i legal refl
+    ∙ ap (λ (b : Bool). has_connected i outcomes || (stays_connected i outcomes && b)) (nobody stepped i)
+    ∙ no_more (has_connected i outcomes) (stays_connected i outcomes)

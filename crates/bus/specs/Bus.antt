@@ -1,11 +1,13 @@
 -- The effect of an event on a bus, and its outcome.
-use Rattle.std.specs.Prelude.{ℕ, Bool, true, ◌+◌, ◌-◌, nat_lt, nat_le, if◌then◌else◌, IsTrue, List, [], ◌∷◌, replicate, Option, Some, None, option_map, slice_set}
+use Rattle.std.specs.Prelude.{ℕ, Bool, true, false, ◌+◌, ◌-◌, nat_lt, nat_le, if◌then◌else◌, IsTrue, List, [], ◌∷◌, replicate, Option, Some, None, Result, Ok, Err, option_map, slice_set}
 use Rattle.std.specs.List.{fold, list_all, slice_index_or}
 use Rattle.dcc_packet.specs.Sent.{idle_bytes}
 use Rattle.half_bits.specs.Halves.{duration_of}
 use Rattle.ln_ops.specs.Reply.{reply_bytes}
 use Rattle.loconet_tcp.specs.declared.request.Request.{Request}
-use Rattle.loconet_tcp.specs.declared.request.Request.TheVariants.{Send, Invalid}
+use Rattle.loconet_tcp.specs.declared.request.Request.TheVariants.{Send, Invalid, Turns}
+use Rattle.loconet_tcp.specs.declared.request.TurnsError.{TurnsError}
+use Rattle.loconet_tcp.specs.declared.request.TurnsError.TheVariants.{NoNumber, RealTime}
 use Rattle.loconet_tcp.specs.Reading.{request_of_byte, kept_after}
 use Rattle.station_core.specs.declared.call.Step.{Step}
 use Rattle.station_core.specs.declared.call.Step.TheVariants.{Reply}
@@ -14,14 +16,16 @@ use Rattle.station_core.specs.Seen.{Seen, first_seen}
 use Rattle.bus.specs.declared.event.Event.{Event}
 use Rattle.bus.specs.declared.event.Event.TheVariants.{Connects, Receives, Disconnects, Elapses, Turn}
 use Rattle.loconet_tcp.specs.declared.outcome.Outcome.{Outcome}
-use Rattle.loconet_tcp.specs.declared.outcome.Outcome.TheVariants.{Nothing, Connected, Disconnected, Rejected, Sent, TurnBegan}
+use Rattle.loconet_tcp.specs.declared.outcome.Outcome.TheVariants.{Nothing, Connected, Disconnected, Rejected, Sent, TurnBegan, TurnsRequested}
 
 -- the part of a bus that clients and time change: the station, the bytes kept of each client's
--- text, or None for no client, and the microseconds left of the current turn
+-- text, or None for no client, and the microseconds left of the current turn; and whether clients
+-- may request turns
 pub record BusState : Type 0 where
   pub station : Seen
   pub clients : List (Option (List ℕ))
   pub remaining : ℕ
+  pub stepped : Bool
 
 -- the most clients: each has a line of the station
 abbrev pub client_count : ℕ
@@ -43,8 +47,8 @@ abbrev pub AreEvents : List Event → Type 0
 AreEvents events = IsTrue (list_all is_event events)
 
 -- a new bus: no client is connected, and the track is as in a turn without power
-abbrev pub first_bus : BusState
-first_bus = record { station = first_seen 8; clients = replicate 8 None; remaining = 5796 }
+abbrev pub first_bus : (stepped : Bool) → BusState
+first_bus stepped = record { station = first_seen 8; clients = replicate 8 None; remaining = 5796; stepped = stepped }
 
 -- the bytes kept of a client's text so far
 abbrev pub client_of : BusState → ℕ → Option (List ℕ)
@@ -60,11 +64,13 @@ abbrev pub pending_text_at : Option (List ℕ) → ℕ → Option (List ℕ)
 pending_text_at None byte = None
 pending_text_at (Some kept) byte = Some (kept_after kept byte)
 
--- A message that is sent is carried out whole; a rejected request has no effect.
+-- A message that is sent is carried out whole; a rejected request has no effect. The turns
+-- requested are events of their own.
 abbrev pub station_after : Seen → Option Request → Seen
 station_after station None = station
 station_after station (Some (Invalid reason)) = station
 station_after station (Some (Send message)) = after_message station (Some message)
+station_after station (Some (Turns count)) = station
 
 -- the message of the station's reply
 abbrev pub message_in : Step → Option (List ℕ)
@@ -75,10 +81,17 @@ message_in other = None
 abbrev pub reply_to : Seen → List ℕ → Option (List ℕ)
 reply_to station message = option_map reply_bytes (answer_to_message station (Some message))
 
-abbrev pub outcome_of_request : Seen → (client : ℕ) → Option Request → Outcome
-outcome_of_request station client None = Nothing
-outcome_of_request station client (Some (Invalid reason)) = Rejected client reason
-outcome_of_request station client (Some (Send message)) = Sent client message (reply_to station message)
+-- the number of turns that are run on request, or why none are
+abbrev pub granted : (stepped : Bool) → Option ℕ → Result ℕ TurnsError
+granted false count = Err RealTime
+granted true None = Err NoNumber
+granted true (Some count) = Ok count
+
+abbrev pub outcome_of_request : BusState → (client : ℕ) → Option Request → Outcome
+outcome_of_request bus client None = Nothing
+outcome_of_request bus client (Some (Invalid reason)) = Rejected client reason
+outcome_of_request bus client (Some (Send message)) = Sent client message (reply_to bus.station message)
+outcome_of_request bus client (Some (Turns count)) = TurnsRequested client (granted bus.stepped count)
 
 -- the duration of a turn: that of its packet, and without power that of an idle packet
 abbrev pub duration : Option (List ℕ) → ℕ
@@ -104,7 +117,7 @@ after_event bus (Turn missed) = after_turn_boundary bus bus.remaining
 abbrev pub outcome_of : BusState → Event → Outcome
 outcome_of bus (Connects client) = Connected client
 outcome_of bus (Disconnects client) = Disconnected client
-outcome_of bus (Receives client byte) = outcome_of_request bus.station client (request_at (client_of bus client) byte)
+outcome_of bus (Receives client byte) = outcome_of_request bus client (request_at (client_of bus client) byte)
 outcome_of bus (Elapses micros missed) = if nat_le bus.remaining micros then TurnBegan (packet_of_turn bus.station) else Nothing
 outcome_of bus (Turn missed) = TurnBegan (packet_of_turn bus.station)
 

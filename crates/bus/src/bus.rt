@@ -1,11 +1,12 @@
 //! The bus.
 ghost use Rattle.std.specs.Prelude.{◌≡◌, ◌<◌, ◌≤◌, ◌+◌, [], IfErr, IfOk, IsTrue, is_some, length, map, replicate};
+ghost use Rattle.bus.specs.Bus.{granted};
 
 use crate::event::Event;
 use crate::sending::send;
 use crate::turning::{SHORTEST_TURN, duration, turn};
 use layout_core::{NodeList, World};
-use loconet_tcp::{Outcome, Request, RequestReader};
+use loconet_tcp::{Outcome, Request, RequestReader, TurnsError};
 use station_core::{MAX_LINES, StationFault};
 use std::alloc::Global;
 
@@ -22,6 +23,8 @@ pub struct Bus {
     pub(crate) clients: [Option<RequestReader>; MAX_CLIENTS],
     /// The microseconds left of the current turn.
     pub(crate) remaining: u32,
+    /// Clients may request turns.
+    pub(crate) is_stepped: bool,
     ghost client_count: { length clients ≡ 8 },
     ghost idle: { world.station.lines ≡ replicate 8 [] },
     ghost under_way: { 0 < remaining },
@@ -40,9 +43,11 @@ impl Bus {
 
     /// Creates a layout of eight lines with these decoders, without clients.
     ///
+    /// `is_stepped`: clients may request turns; otherwise these are refused.
+    ///
     /// Fails with `NoMemory` if out of memory, and never with `BadLines`.
-    pub fn new(alloc: Global, nodes: NodeList) -> Result<Bus, StationFault>
-        ensures new { IfOk result (λ bus. bus_state bus ≡ first_bus) }
+    pub fn new(alloc: Global, nodes: NodeList, is_stepped: bool) -> Result<Bus, StationFault>
+        ensures new { IfOk result (λ bus. bus_state bus ≡ first_bus is_stepped) }
         ensures nodes { IfOk result (λ bus. bus.world.nodes ≡ map node_of nodes.items) }
         ensures specs { IfOk result (λ bus. map spec_of bus.world.nodes ≡ nodes.items) }
         ensures memory { IfErr result (λ e. e ≡ StationFault.NoMemory) }
@@ -52,6 +57,7 @@ impl Bus {
             world,
             clients: [None, None, None, None, None, None, None, None],
             remaining: SHORTEST_TURN,
+            is_stepped,
         })
     }
 
@@ -138,6 +144,10 @@ impl Bus {
                     reply,
                 }
             }
+            Some(Request::Turns(count)) => Outcome::TurnsRequested {
+                client,
+                turns: granted(self.is_stepped, count),
+            },
         }
     }
 
@@ -173,5 +183,18 @@ impl Bus {
         let packet = turn(&mut self.world, missed);
         self.remaining = self.remaining + duration(packet.as_ref()) - micros;
         Outcome::TurnBegan { packet }
+    }
+}
+
+/// Returns the number of turns that are run on request, or why none are.
+fn granted(is_stepped: bool, count: Option<u16>) -> Result<u16, TurnsError>
+    ensures { result ≡ granted is_stepped count }
+{
+    if !is_stepped {
+        return Err(TurnsError::RealTime);
+    }
+    match count {
+        Some(count) => Ok(count),
+        None => Err(TurnsError::NoNumber),
     }
 }

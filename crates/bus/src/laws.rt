@@ -1,6 +1,6 @@
 //! The laws of a bus and of its lists of events. Each is a function without code that ensures it: a
 //! call gives the law to a proof.
-ghost use Rattle.std.specs.Prelude.{◌≡◌, List, ◌++◌, IsTrue, ℕ, ◌+◌, ◌*◌, ◌≤◌, ◌<◌, if◌then◌else◌, All, [], ◌∷◌, Option, None, IsFalse, is_some, length, slice_index, true};
+ghost use Rattle.std.specs.Prelude.{◌≡◌, List, ◌++◌, IsTrue, ℕ, ◌+◌, ◌*◌, ◌≤◌, ◌<◌, if◌then◌else◌, All, [], ◌∷◌, Bool, Option, None, IsFalse, is_some, length, slice_index, true};
 ghost use Rattle.std.specs.List.{flat_map, list_all};
 ghost use Rattle.layout_core.specs.declared.node.Node.{Node};
 ghost use Rattle.layout_core.specs.World.{HaveHeard};
@@ -130,9 +130,9 @@ pub fn text_since_connecting()
         → IsFalse (changes_connection i outcome)
         → has_connected i (outcomes ++ outcome ∷ []) ≡ has_connected i outcomes }
     // The connected clients are those that the bus holds a reader for.
-    ensures there { (i : ℕ) (events : List Event) → AreEvents events
-        → has_connected i (outcomes_of first_bus events)
-        ≡ is_some (client_of (after_events first_bus events) i) }
+    ensures there { (stepped : Bool) (i : ℕ) (events : List Event) → AreEvents events
+        → has_connected i (outcomes_of (first_bus stepped) events)
+        ≡ is_some (client_of (after_events (first_bus stepped) events) i) }
     // A client that makes no request receives all messages of the bus, in order, and nothing else.
     ensures bystander { (i : ℕ) (outcomes : List Outcome) → IsTrue (stays_connected i outcomes)
         → IsTrue (requests_nothing i outcomes) →

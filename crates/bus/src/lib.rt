@@ -6,7 +6,7 @@
 //! outcome.
 //!
 //! ```ignore
-//! let mut bus = Bus::new(alloc, nodes)?;
+//! let mut bus = Bus::new(alloc, nodes, false)?;
 //! let outcome = bus.step(Event::Receives { client: 0, byte });
 //! outcome.push_text_for(0, &mut text);
 //! ```

@@ -13,7 +13,7 @@ use Rattle.roster.specs.Entry.{Entry}
 use Rattle.show_text.specs.Lines.{track_text}
 use Rattle.show_text.specs.Messages.{message_text}
 use Rattle.loconet_tcp.specs.declared.outcome.Outcome.{Outcome}
-use Rattle.loconet_tcp.specs.declared.outcome.Outcome.TheVariants.{Nothing, Connected, Disconnected, Rejected, Sent, TurnBegan}
+use Rattle.loconet_tcp.specs.declared.outcome.Outcome.TheVariants.{Nothing, Connected, Disconnected, Rejected, Sent, TurnBegan, TurnsRequested}
 use Rattle.loconet_tcp.specs.Texts.{messages_in}
 
 -- The state of a printer: the turns, the clients that have disconnected, and the state of each
@@ -78,6 +78,7 @@ lines_of track entries before Nothing decoder_states = []
 lines_of track entries before (Connected client) decoder_states = client_line client (codes " joins") ∷ []
 lines_of track entries before (Disconnected client) decoder_states = client_line client (codes " leaves") ∷ []
 lines_of track entries before (Rejected client reason) decoder_states = []
+lines_of track entries before (TurnsRequested client turns) decoder_states = []
 lines_of track entries before (Sent client message reply) decoder_states =
     if is_slot_read message reply then [] else map message_text (messages_in (Sent client message reply))
 lines_of track entries before (TurnBegan packet) decoder_states = packet_lines track (saturating_successor before.turns) packet ++ changed_lines entries before.decoder_states decoder_states

@@ -134,7 +134,7 @@ impl<'a> Printer<'a> {
         ensures verbosity { self.new.verbosity ≡ self.old.verbosity }
     {
         match outcome {
-            Outcome::Nothing | Outcome::Rejected { .. } => {}
+            Outcome::Nothing | Outcome::Rejected { .. } | Outcome::TurnsRequested { .. } => {}
             Outcome::Connected { client } => print_client(&mut self.log, *client, " joins"),
             Outcome::Disconnected { client } => print_client(&mut self.log, *client, " leaves"),
             Outcome::Sent { message, reply, .. } => print_sent(&mut self.log, message, reply),

@@ -1,6 +1,6 @@
 -- A client that keeps up stays connected.
 use Rattle.std.proofs.Common.{◌≡◌, ℕ, zero, suc, ◌+◌, ◌*◌, ◌<◌, ◌≤◌, ◌⊎◌, inl, inr, Bool, true, false, if◌then◌else◌, nat_le, List, [], ◌∷◌, ◌++◌, length, Option, Some, None, refl, ap, ap₂, sym, subst, ◌∙◌, arith, eqb-true, ne_eqb}
-use Rattle.std.specs.Prelude.{◌==◌, ◌&&◌, ◌||◌, codes, is_some, nat_lt, not, slice_set}
+use Rattle.std.specs.Prelude.{◌==◌, ◌&&◌, ◌||◌, Err, Ok, Result, codes, is_some, nat_lt, not, slice_set}
 use Rattle.std.specs.List.{before_first, list_all, list_any, position_or_len, slice_index_or}
 use Rattle.std.specs.Option.{option_map}
 use Rattle.std.proofs.lemmas.Bool.{and_parts, cases_eq, le-leb}
@@ -13,19 +13,21 @@ use Rattle.ln_frame.specs.Message.{IsWhole, are_data, has_form, is_len, is_whole
 use Rattle.ln_ops.specs.Reply.{reply_bytes}
 use Rattle.ln_ops.specs.declared.reply.Reply.{Reply}
 use Rattle.ln_ops.specs.declared.reply.Reply.TheVariants.{LongAck, SlotData}
-use Rattle.loconet_tcp.specs.ClientLines.{hex_words, line_end, receive_text, sent_error_text, sent_ok_text, version_text}
-use Rattle.loconet_tcp.specs.Requests.{bytes_of, is_send, parse_send, request_of}
+use Rattle.loconet_tcp.specs.ClientLines.{hex_words, line_end, receive_text, sent_error_text, sent_ok_text, turns_text, version_text}
+use Rattle.loconet_tcp.specs.Requests.{bytes_of, is_send, is_turns, parse_send, request_of, turns_of}
 use Rattle.loconet_tcp.specs.Text.{is_end}
 use Rattle.loconet_tcp.specs.Texts.{reply_text, text_for}
 use Rattle.loconet_tcp.specs.declared.outcome.Outcome.{Outcome}
-use Rattle.loconet_tcp.specs.declared.outcome.Outcome.TheVariants.{Connected, Nothing, Rejected, Sent, TurnBegan}
+use Rattle.loconet_tcp.specs.declared.outcome.Outcome.TheVariants.{Connected, Nothing, Rejected, Sent, TurnBegan, TurnsRequested}
 use Rattle.loconet_tcp.specs.declared.request.Reason.{Reason}
 use Rattle.loconet_tcp.specs.declared.request.Reason.TheVariants.{NoMessage, NotHex, TooLong, WrongCheck}
+use Rattle.loconet_tcp.specs.declared.request.TurnsError.{TurnsError}
+use Rattle.loconet_tcp.specs.declared.request.TurnsError.TheVariants.{NoNumber, RealTime}
+use Rattle.std.specs.Str.{bytes_eq}
 use Rattle.loconet_tcp.specs.declared.request.Request.{Request}
-use Rattle.loconet_tcp.specs.declared.request.Request.TheVariants.{Invalid, Send}
+use Rattle.loconet_tcp.specs.declared.request.Request.TheVariants.{Invalid, Send, Turns}
 use Rattle.std.specs.List.{after_first}
-use Rattle.station_core.specs.Seen.{Seen}
-use Rattle.bus.specs.Bus.{BusState, after_event, client_of, outcome_of, outcome_of_request, pending_text_at, reply_to, request_at}
+use Rattle.bus.specs.Bus.{BusState, after_event, client_of, granted, outcome_of, outcome_of_request, pending_text_at, reply_to, request_at}
 use Rattle.bus.specs.Course.{is_time}
 use Rattle.bus.specs.Observations.{Observation}
 use Rattle.bus.specs.declared.event.Event.{Event}
@@ -56,17 +58,24 @@ most_whole (op ∷ s ∷ m) w =
     let form = and_parts (has_form (op ∷ s ∷ m)) _ w in
     most_bytes op s (length (op ∷ s ∷ m)) (and_parts (is_len (message_len op s) (length (op ∷ s ∷ m))) (are_data (s ∷ m)) form.0).0
 
--- the line of a request begins with SEND, and what is sent is a whole message
+-- the line of a request begins with SEND or TURNS, and what is sent is a whole message
 abbrev IsFromLine : List ℕ → Option Request → Type 0
 IsFromLine kept None = Unit {0}
 IsFromLine kept (Some (Invalid reason)) = 4 ≤ length kept
 IsFromLine kept (Some (Send message)) = (4 ≤ length kept) × IsWhole message
+IsFromLine kept (Some (Turns count)) = 4 ≤ length kept
+
+first_bytes : (line word : List ℕ) → bytes_eq (before_first is_blank line) word ≡ true → length word ≤ length line
+first_bytes line word h =
+    let same : before_first is_blank line ≡ word = (bytes_eq-Decides (before_first is_blank line) word).0 h in
+    let size : length (before_first is_blank line) ≡ length word = ap length same in
+    omega (arith, size, length-take (position_or_len is_blank line) line)
 
 four_bytes : (line : List ℕ) → is_send line ≡ true → 4 ≤ length line
-four_bytes line h =
-    let same : before_first is_blank line ≡ codes "SEND" = (bytes_eq-Decides (before_first is_blank line) (codes "SEND")).0 h in
-    let size : length (before_first is_blank line) ≡ 4 = ap length same in
-    omega (arith, size, length-take (position_or_len is_blank line) line)
+four_bytes line h = first_bytes line (codes "SEND") h
+
+five_bytes : (line : List ℕ) → is_turns line ≡ true → 4 ≤ length line
+five_bytes line h = omega (arith, first_bytes line (codes "TURNS") h)
 
 whole_by : (line : List ℕ) (whole form : Bool) (bytes : List ℕ) → 4 ≤ length line → is_whole bytes ≡ whole
     → IsFromLine line (Some (if whole then Send bytes else if form then Invalid WrongCheck else Invalid NoMessage))
@@ -78,15 +87,16 @@ whole_sends : (line : List ℕ) (bytes : Option (List ℕ)) → 4 ≤ length lin
 whole_sends line None four = four
 whole_sends line (Some bytes) four = whole_by line (is_whole bytes) (has_form bytes) bytes four refl
 
-from_line : (line : List ℕ) (sends long : Bool) (bytes : Option (List ℕ)) → is_send line ≡ sends
-    → IsFromLine line (if sends then Some (if long then Invalid TooLong else parse_send bytes) else None)
-from_line line false long bytes e = tt
-from_line line true true bytes e = four_bytes line e
-from_line line true false bytes e = whole_sends line bytes (four_bytes line e)
+from_line : (line : List ℕ) (sends turns long : Bool) (bytes : Option (List ℕ)) (count : Option ℕ) → is_send line ≡ sends → is_turns line ≡ turns
+    → IsFromLine line (if sends then Some (if long then Invalid TooLong else parse_send bytes) else if turns then Some (Turns count) else None)
+from_line line false true long bytes count e f = five_bytes line f
+from_line line false false long bytes count e f = tt
+from_line line true turns true bytes count e f = four_bytes line e
+from_line line true turns false bytes count e f = whole_sends line bytes (four_bytes line e)
 
 at_end : (kept : List ℕ) (ends : Bool) → IsFromLine kept (if ends then request_of kept else None)
 at_end kept false = tt
-at_end kept true = from_line kept (is_send kept) (nat_lt 400 (length kept)) (bytes_of (words_of (after_first is_blank kept))) refl
+at_end kept true = from_line kept (is_send kept) (is_turns kept) (nat_lt 400 (length kept)) (bytes_of (words_of (after_first is_blank kept))) (turns_of (after_first is_blank kept)) refl refl
 
 request_line : (kept : Option (List ℕ)) (byte : ℕ) → IsFromLine (queued kept) (request_at kept byte)
 request_line None byte = tt
@@ -117,14 +127,21 @@ error_most true NotHex = omega arith
 error_most true NoMessage = omega arith
 error_most true WrongCheck = omega arith
 
+turns_most : (asker : Bool) (turns : Result ℕ TurnsError) → length (if asker then turns_text turns else []) ≤ 789
+turns_most false turns = omega arith
+turns_most true (Ok count) = omega arith
+turns_most true (Err RealTime) = omega arith
+turns_most true (Err NoNumber) = omega arith
+
 three_most : (a b c : List ℕ) → length a ≤ 390 → length b ≤ 9 → length c ≤ 390 → length (a ++ b ++ c) ≤ 789
 three_most a b c h k l = omega (arith, h, k, l, length-append (a ++ b) c, length-append a b)
 
-request_most : (station : Seen) (client i : ℕ) (kept : List ℕ) (request : Option Request) → IsFromLine kept request → length (text_for i (outcome_of_request station client request)) ≤ 789
-request_most station client i kept None h = omega arith
-request_most station client i kept (Some (Invalid reason)) h = error_most (client == i) reason
-request_most station client i kept (Some (Send message)) h =
-    three_most (receive_text message) (if client == i then sent_ok_text else []) (reply_text (reply_to station message)) (receive_most message h.1) (ok_most (client == i)) (reply_most _)
+request_most : (bus : BusState) (client i : ℕ) (kept : List ℕ) (request : Option Request) → IsFromLine kept request → length (text_for i (outcome_of_request bus client request)) ≤ 789
+request_most bus client i kept None h = omega arith
+request_most bus client i kept (Some (Invalid reason)) h = error_most (client == i) reason
+request_most bus client i kept (Some (Turns count)) h = turns_most (client == i) (granted bus.stepped count)
+request_most bus client i kept (Some (Send message)) h =
+    three_most (receive_text message) (if client == i then sent_ok_text else []) (reply_text (reply_to bus.station message)) (receive_most message h.1) (ok_most (client == i)) (reply_most _)
 
 -- A client has at most this much text in its queue, which has not overflowed.
 
@@ -194,19 +211,21 @@ connected_still clients reader client byte = elim (cases_eq client reader) [
   | inr differs ↦ ap is_some (get_or-set_other clients reader client (pending_text_at (slice_index_or clients reader None) byte) None differs)
 ]
 
-request_within : (client reader n m : ℕ) (station : Seen) (request : Option Request) (old new : ServerState) → new.queues ≡ queues_after (outcome_of_request station reader request) old.queues
-    → is_connected new client ≡ is_connected old client → n + length (text_for client (outcome_of_request station reader request)) ≤ m → m ≤ 65536 → Within client n old → Within client m new
-request_within client reader n m station None old new queues connected most room h =
+request_within : (client reader n m : ℕ) (bus : BusState) (request : Option Request) (old new : ServerState) → new.queues ≡ queues_after (outcome_of_request bus reader request) old.queues
+    → is_connected new client ≡ is_connected old client → n + length (text_for client (outcome_of_request bus reader request)) ≤ m → m ≤ 65536 → Within client n old → Within client m new
+request_within client reader n m bus None old new queues connected most room h =
     within_more client n m new (omega (arith, most)) (same_within client n old new queues connected h)
-request_within client reader n m station (Some (Invalid reason)) old new queues connected most room h =
+request_within client reader n m bus (Some (Invalid reason)) old new queues connected most room h =
     enqueues_within client n m (Rejected reader reason) old new queues connected most room h
-request_within client reader n m station (Some (Send message)) old new queues connected most room h =
-    enqueues_within client n m (Sent reader message (reply_to station message)) old new queues connected most room h
+request_within client reader n m bus (Some (Send message)) old new queues connected most room h =
+    enqueues_within client n m (Sent reader message (reply_to bus.station message)) old new queues connected most room h
+request_within client reader n m bus (Some (Turns count)) old new queues connected most room h =
+    enqueues_within client n m (TurnsRequested reader (granted bus.stepped count)) old new queues connected most room h
 
 receives_within : (client reader byte n m : ℕ) (observed : Observation) (old new : ServerState) → RunsEvent (Receives reader byte) observed old new
     → n + length (text_for client (outcome_of old.bus (Receives reader byte))) ≤ m → m ≤ 65536 → Within client n old → Within client m new
 receives_within client reader byte n m observed old new runs most room h =
-    request_within client reader n m old.bus.station (request_at (client_of old.bus reader) byte) old new runs.queues
+    request_within client reader n m old.bus (request_at (client_of old.bus reader) byte) old new runs.queues
     (ap (λ (bus : BusState). is_some (slice_index_or bus.clients client None)) runs.bus ∙ connected_still old.bus.clients reader client byte) most room h
 
 -- Time elapses.
@@ -297,6 +316,7 @@ opened connected queue bytes is = is_open connected (is_some queue) (ap is_some 
 is_four : (kept : List ℕ) (asked : Request) → IsFromLine kept (Some asked) → 4 ≤ length kept
 is_four kept (Invalid reason) h = h
 is_four kept (Send message) h = h.0
+is_four kept (Turns count) h = h
 
 -- A client connects or disconnects.
 
@@ -385,7 +405,7 @@ paced_by : (client reader byte n p bytes : ℕ) (request : Option Request) (obse
     → RunsEvent (Receives reader byte) observed old mid → RunsEvents turns mid new → list_all is_time (events_of turns) ≡ true
     → request_at (client_of old.bus reader) byte ≡ request → bytes < 400 → 5 * n + 789 * p ≤ 7101 + 789 * bytes → Paced client reader n p old → HasRoom client reader (bytes + 1) new
 paced_by client reader byte n p bytes None observed turns old mid new runs after time asks within_bytes spent h =
-    let text : length (text_for client (outcome_of old.bus (Receives reader byte))) ≡ 0 = ap (λ (r : Option Request). length (text_for client (outcome_of_request old.bus.station reader r))) asks in
+    let text : length (text_for client (outcome_of old.bus (Receives reader byte))) ≡ 0 = ap (λ (r : Option Request). length (text_for client (outcome_of_request old.bus reader r))) asks in
     let one = receives_within client reader byte n n observed old mid runs (omega (arith, text)) (omega (arith, spent, within_bytes)) h.0 in
     let all = times_within client n turns mid new time after one in
     let kept = kept_then reader byte observed old mid new runs all.1 in
@@ -404,7 +424,7 @@ paced_by client reader byte n p bytes None observed turns old mid new runs after
     )
 paced_by client reader byte n p bytes (Some asked) observed turns old mid new runs after time asks within_bytes spent h =
     let line = request_line (client_of old.bus reader) byte in
-    let text : length (text_for client (outcome_of old.bus (Receives reader byte))) ≤ 789 = request_most old.bus.station reader client (queued (client_of old.bus reader)) (request_at (client_of old.bus reader) byte) line in
+    let text : length (text_for client (outcome_of old.bus (Receives reader byte))) ≤ 789 = request_most old.bus reader client (queued (client_of old.bus reader)) (request_at (client_of old.bus reader) byte) line in
     let four : 4 ≤ length (queued (client_of old.bus reader)) = is_four (queued (client_of old.bus reader)) asked (subst (IsFromLine (queued (client_of old.bus reader))) asks line) in
     let paid : 4 ≤ p = elim h.1 [
       | inl few ↦ omega (arith, few, four)

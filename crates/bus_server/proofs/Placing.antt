@@ -6,23 +6,23 @@ use Rattle.std.proofs.lemmas.Bool.{and_from}
 use Rattle.std.proofs.lemmas.Bool.Decides.{nat_tests}
 use Rattle.std.proofs.lemmas.List.{length-append, length-drop, length-set}
 use Rattle.loconet_tcp.specs.declared.request.Request.{Request}
-use Rattle.loconet_tcp.specs.declared.request.Request.TheVariants.{Send, Invalid}
+use Rattle.loconet_tcp.specs.declared.request.Request.TheVariants.{Send, Invalid, Turns}
 use Rattle.station_core.specs.Moved.{packet_of_turn}
-use Rattle.station_core.specs.Seen.{Seen}
 use Rattle.bus.specs.declared.event.Event.{Event}
 use Rattle.bus.specs.declared.event.Event.TheVariants.{Connects, Receives, Disconnects, Elapses, Turn}
 use Rattle.loconet_tcp.specs.declared.outcome.Outcome.{Outcome}
-use Rattle.loconet_tcp.specs.declared.outcome.Outcome.TheVariants.{Nothing, Connected, Disconnected, Rejected, Sent, TurnBegan}
+use Rattle.loconet_tcp.specs.declared.outcome.Outcome.TheVariants.{Nothing, Connected, Disconnected, Rejected, Sent, TurnBegan, TurnsRequested}
 use Rattle.bus.specs.Bus.{BusState, request_at, client_of, is_event, outcome_of_request, outcome_of}
 use Rattle.loconet_tcp.specs.Texts.{text_for}
 use Rattle.bus_server.specs.Queues.{is_within_capacity, enqueued, queued}
 use Rattle.bus_server.specs.ClientQueues.{SendQueues, names_client, enqueued_from, queues_after}
 use Rattle.bus_server.proofs.Keeping.{room_set}
 
-asked_placed : (station : Seen) (client : ℕ) (request : Option Request) → is_event (Connects client) ≡ true → names_client (outcome_of_request station client request) ≡ true
-asked_placed station client None below = refl
-asked_placed station client (Some (Invalid reason)) below = below
-asked_placed station client (Some (Send message)) below = below
+asked_placed : (bus : BusState) (client : ℕ) (request : Option Request) → is_event (Connects client) ≡ true → names_client (outcome_of_request bus client request) ≡ true
+asked_placed bus client None below = refl
+asked_placed bus client (Some (Invalid reason)) below = below
+asked_placed bus client (Some (Send message)) below = below
+asked_placed bus client (Some (Turns count)) below = below
 
 passing_placed : (packet : Option (List ℕ)) (ends : Bool) → names_client (if ends then TurnBegan packet else Nothing) ≡ true
 passing_placed packet true = refl
@@ -31,7 +31,7 @@ passing_placed packet false = refl
 pub placed_by : (bus : BusState) (event : Event) → is_event event ≡ true → names_client (outcome_of bus event) ≡ true
 placed_by bus (Connects client) legal = legal
 placed_by bus (Disconnects client) legal = legal
-placed_by bus (Receives client byte) legal = asked_placed bus.station client (request_at (client_of bus client) byte) legal
+placed_by bus (Receives client byte) legal = asked_placed bus client (request_at (client_of bus client) byte) legal
 placed_by bus (Elapses micros missed) legal = passing_placed (packet_of_turn bus.station) (nat_le bus.remaining micros)
 placed_by bus (Turn missed) legal = refl
 
@@ -46,6 +46,7 @@ length-after (Disconnected client) queues = length-set queues client None
 length-after (Connected client) queues = length-outcome 0 (Connected client) (slice_set queues client (Some [])) ∙ length-set queues client (Some [])
 length-after (Rejected client reason) queues = length-outcome 0 (Rejected client reason) queues
 length-after (Sent client message reply) queues = length-outcome 0 (Sent client message reply) queues
+length-after (TurnsRequested client turns) queues = length-outcome 0 (TurnsRequested client turns) queues
 
 -- What waits has room.
 
@@ -69,6 +70,7 @@ within_capacity-after (Disconnected client) queues within_capacity = room_set qu
 within_capacity-after (Connected client) queues within_capacity = within_capacity-outcome 0 (Connected client) (slice_set queues client (Some []))
 within_capacity-after (Rejected client reason) queues within_capacity = within_capacity-outcome 0 (Rejected client reason) queues
 within_capacity-after (Sent client message reply) queues within_capacity = within_capacity-outcome 0 (Sent client message reply) queues
+within_capacity-after (TurnsRequested client turns) queues within_capacity = within_capacity-outcome 0 (TurnsRequested client turns) queues
 
 pub within_capacity-dropped : (count : ℕ) (send_queue : Option (List ℕ)) → is_within_capacity send_queue ≡ true → is_within_capacity (Some (drop count (queued send_queue))) ≡ true
 within_capacity-dropped count send_queue within_capacity = let less : length (drop count (queued send_queue)) ≡ length (queued send_queue) - count = length-drop count (queued send_queue) in grind (arith, nat_tests, less, within_capacity)

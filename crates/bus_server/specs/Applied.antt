@@ -1,5 +1,5 @@
 -- The effect of transport events, and of time, on a server.
-use Rattle.std.specs.Prelude.{ℕ, zero, suc, ◌≡◌, ◌<◌, Bool, true, false, if◌then◌else◌, ◌&&◌, nat_le, not, is_some, length, List, [], ◌∷◌, ◌++◌, map, replicate, MatchBool, Option, Some, None, slice_set}
+use Rattle.std.specs.Prelude.{ℕ, zero, suc, ◌≡◌, ◌<◌, Bool, true, false, if◌then◌else◌, ◌&&◌, nat_le, not, is_some, length, List, [], ◌∷◌, ◌++◌, map, replicate, MatchBool, Option, Some, None, Ok, slice_set}
 use Rattle.decoder_node.specs.declared.node.NodeSpec.{NodeSpec}
 use Rattle.std.specs.List.{flat_map, list_all, slice_index_or}
 use Rattle.layout_core.specs.declared.node.Node.{Node}
@@ -10,7 +10,7 @@ use Rattle.bus_server.specs.Draws.{IsDraw}
 use Rattle.bus.specs.declared.event.Event.{Event}
 use Rattle.bus.specs.declared.event.Event.TheVariants.{Receives, Connects, Disconnects, Elapses, Turn}
 use Rattle.loconet_tcp.specs.declared.outcome.Outcome.{Outcome}
-use Rattle.loconet_tcp.specs.declared.outcome.Outcome.TheVariants.{Sent}
+use Rattle.loconet_tcp.specs.declared.outcome.Outcome.TheVariants.{Sent, TurnsRequested}
 use Rattle.bus.specs.Bus.{BusState, after_event, client_of, first_bus, is_event, outcome_of}
 use Rattle.bus.specs.Course.{is_time, micros_in}
 use Rattle.bus.specs.Layout.{layout_event}
@@ -32,7 +32,7 @@ pub record ServerState : Type 0 where
 
 -- a new server: new decoders, and no clients
 abbrev pub initial_state : List NodeSpec → Option ℕ → Losses → ServerState
-initial_state nodes turns losses = record { bus = first_bus; nodes = map node_of nodes; queues = replicate 8 None; losses = losses; turns = turns; disconnected = 0; has_backlog = false }
+initial_state nodes turns losses = record { bus = first_bus (is_some turns); nodes = map node_of nodes; queues = replicate 8 None; losses = losses; turns = turns; disconnected = 0; has_backlog = false }
 
 -- what the decoders miss of a turn is drawn as it begins; if none begins, nothing is drawn
 abbrev pub IsDrawn : Event → BusState → (nodes : ℕ) → (old new : Losses) → Type 0
@@ -74,9 +74,11 @@ abbrev pub RunsFor : (micros : ℕ) → List LoggedEvent → ServerState → Ser
 RunsFor micros applied old new =
     (list_all is_time (events_of applied) ≡ true) × (micros_in old.bus (events_of applied) ≡ micros) × RunsEvents applied old new
 
--- how many turns follow an outcome: those after a message, if turns follow messages
+-- how many turns follow an outcome, if turns follow messages: those after a message, or those
+-- requested
 abbrev pub turns_after : Option ℕ → Outcome → ℕ
 turns_after (Some turns) (Sent client message reply) = turns
+turns_after (Some turns) (TurnsRequested client (Ok count)) = count
 turns_after turns other = 0
 
 -- a number of turns

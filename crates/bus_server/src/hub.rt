@@ -57,7 +57,7 @@ impl Hub {
         ensures hub { IfOk result (λ hub. state_of hub ≡ initial_state nodes.items turns losses) }
         ensures specs { IfOk result (λ hub. map spec_of hub.bus.world.nodes ≡ nodes.items) }
     {
-        let bus = match Bus::new(alloc, nodes) {
+        let bus = match Bus::new(alloc, nodes, turns.is_some()) {
             Ok(bus) => bus,
             Err(_) => return Err(AllocError),
         };
@@ -221,7 +221,9 @@ fn enqueue(queues: &mut SendQueues, outcome: &Outcome)
             queues[usize::from(*client)].open();
             enqueue_all(queues, outcome);
         }
-        Outcome::Rejected { .. } | Outcome::Sent { .. } => enqueue_all(queues, outcome),
+        Outcome::Rejected { .. } | Outcome::Sent { .. } | Outcome::TurnsRequested { .. } => {
+            enqueue_all(queues, outcome)
+        }
     }
 }
 

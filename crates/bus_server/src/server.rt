@@ -36,7 +36,7 @@ pub struct Server {
 impl Server {
     /// A new layout with these decoders and no clients. It takes all its memory here.
     ///
-    /// `turns`: how many turns of the track follow each message; with `None`, turns follow time.
+    /// `turns`: how many turns of the track follow each message, and clients may request turns; with `None`, turns follow time.
     ///
     /// # Errors
     ///
@@ -367,7 +367,7 @@ impl Server {
     }
 
     /// Runs `turns` turns.
-    fn run_turns<P: Observer>(&mut self, turns: u8, observer: &mut P) -> Result<(), P::Fault>
+    fn run_turns<P: Observer>(&mut self, turns: u16, observer: &mut P) -> Result<(), P::Fault>
         requires observes { ObservesLayout (P.decoder_specs observer.old) self.old.hub }
         ensures observes { ObservesLayout (P.decoder_specs observer.new) self.new.hub }
         ensures happened { OnOk result
@@ -387,12 +387,19 @@ impl Server {
     }
 }
 
-/// How many turns follow an outcome: those after a message, if turns follow messages.
-fn turns_after(turns: Option<u8>, outcome: &Outcome) -> u8
+/// How many turns follow an outcome, if turns follow messages: those after a message, or those requested.
+fn turns_after(turns: Option<u8>, outcome: &Outcome) -> u16
     ensures { result ≡ turns_after turns outcome.now }
 {
-    match (outcome, turns) {
-        (Outcome::Sent { .. }, Some(turns)) => turns,
+    let Some(after_message) = turns else {
+        return 0;
+    };
+    match outcome {
+        Outcome::Sent { .. } => u16::from(after_message),
+        Outcome::TurnsRequested {
+            turns: Ok(count),
+            ..
+        } => *count,
         _ => 0,
     }
 }

@@ -34,8 +34,26 @@ const INVALID: [(&[u8], Reason); 10] = [
     (b"SEND 83,7C\n", Reason::NotHex),
 ];
 
+// Lines that request turns, each with their number.
+const TURNS: [(&[u8], Option<u16>); 12] = [
+    (b"TURNS 1\r\n", Some(1)),
+    (b"TURNS\t16\n", Some(16)),
+    (b"TURNS 10000\n", Some(10_000)),
+    (b"TURNS 0000001\n", Some(1)),
+    (b"TURNS 0\n", None),
+    (b"TURNS 10001\n", None),
+    (b"TURNS 65537\n", None),
+    (b"TURNS -1\n", None),
+    (b"TURNS 1 1\n", None),
+    (b"TURNS  1\n", None),
+    (b"TURNS 1F\n", None),
+    (b"TURNS\n", None),
+];
+
 // Texts without a request. The line of the last has not ended.
-const IDLE: [&[u8]; 8] = [
+const IDLE: [&[u8]; 10] = [
+    b"TURNS1\n",
+    b"turns 1\n",
     b"SENDX 83 7C\n",
     b"SEND83 7C\n",
     b"send 83 7C\n",
@@ -75,6 +93,13 @@ fn reads_lines(rt: HostRuntime) -> Result<(), Fail> {
             "{text:?}"
         );
     }
+    for (text, count) in TURNS {
+        assert_eq!(rt;
+            request_in(&rt, &mut RequestReader::default(), text),
+            Some(Request::Turns(count)),
+            "{text:?}"
+        );
+    }
     for text in IDLE {
         assert_eq!(rt;
             request_in(&rt, &mut RequestReader::default(), text),
@@ -110,7 +135,13 @@ fn refuses_long_lines(rt: HostRuntime) -> Result<(), Fail> {
             "{blanks}"
         );
     }
-    // A long line that does not begin with `SEND`.
+    // A long line that requests turns.
+    assert_eq!(rt; request_in(&rt, &mut reader, b"TURNS "), None);
+    for _ in 0..500 {
+        assert_eq!(rt; reader.push(b'1'), None);
+    }
+    assert_eq!(rt; reader.push(b'\n'), Some(Request::Turns(None)));
+    // A long line that begins with neither word.
     for _ in 0..500 {
         assert_eq!(rt; reader.push(b'S'), None);
     }
@@ -134,8 +165,11 @@ fn writes_exact_lines(rt: HostRuntime) -> Result<(), Fail> {
     push_sent_error(&mut text, Reason::NotHex);
     push_sent_error(&mut text, Reason::NoMessage);
     push_sent_error(&mut text, Reason::WrongCheck);
+    push_turns(&mut text, &Ok(1));
+    push_turns(&mut text, &Err(TurnsError::RealTime));
+    push_turns(&mut text, &Err(TurnsError::NoNumber));
     let wanted =
-        b"VERSION lbserver station\r\nERROR no place\r\nSENT OK\r\nSENT ERROR line too long\r\nSENT ERROR no pairs of hexadecimal digits\r\nSENT ERROR no whole message\r\nSENT ERROR wrong check byte\r\n";
+        b"VERSION lbserver station\r\nERROR no place\r\nSENT OK\r\nSENT ERROR line too long\r\nSENT ERROR no pairs of hexadecimal digits\r\nSENT ERROR no whole message\r\nSENT ERROR wrong check byte\r\nTURNS OK\r\nTURNS ERROR real time\r\nTURNS ERROR no number from 1 to 10000\r\n";
     assert_eq!(rt; text.as_slice(), wanted.as_slice());
     Ok(())
 }

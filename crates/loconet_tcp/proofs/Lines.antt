@@ -1,17 +1,21 @@
 -- How one more byte changes the requests of a text.
-use Rattle.std.proofs.Common.{◌≡◌, ℕ, ◌+◌, ◌<◌, ◌≤◌, Bool, true, false, List, [], ◌∷◌, ◌++◌, suc, length, take, Option, Some, None, refl, ap, ap₂, sym, ◌∙◌, inl, inr, arith, if◌then◌else◌, nat_eq, ◌&&◌, not, length-append}
+use Rattle.std.proofs.Common.{◌≡◌, ℕ, ◌+◌, ◌<◌, ◌≤◌, Bool, true, false, List, [], ◌∷◌, ◌++◌, suc, length, take, Option, Some, None, refl, ap, ap₂, sym, ◌∙◌, inl, inr, arith, if◌then◌else◌, nat_eq, nat_le, ◌&&◌, not, length-append}
 use Rattle.std.specs.Prelude.{codes}
 use Rattle.std.specs.Str.{bytes_eq}
-use Rattle.std.specs.List.{before_first, after_first, position_or_len}
+use Rattle.std.specs.Char.{is_ascii_digit}
+use Rattle.std.specs.Str.Parse.{digits_value}
+use Rattle.std.specs.List.{before_first, after_first, list_all, position_or_len}
 use Rattle.std.specs.Option.{option_to_list}
-use Rattle.std.proofs.lemmas.Bool.{and_parts, not-true, lt-ltb, le-ltb, cases_lt, cases_Bool}
-use Rattle.std.proofs.lemmas.List.{append-nil, append_assoc}
+use Rattle.std.proofs.lemmas.Bool.{and_parts, not-true, lt-leb, lt-ltb, le-ltb, cases_lt, cases_Bool}
+use Rattle.std.proofs.lemmas.List.{append-nil, append_assoc, length-drop, length-take}
+use Rattle.std.proofs.lemmas.Slice.Eq.{bytes_eq-Decides}
 use Rattle.loconet_tcp.specs.declared.request.Request.{Request}
-use Rattle.loconet_tcp.specs.declared.request.Request.TheVariants.{Invalid}
+use Rattle.loconet_tcp.specs.declared.request.Request.TheVariants.{Invalid, Turns}
 use Rattle.loconet_tcp.specs.declared.request.Reason.TheVariants.{TooLong}
 use Rattle.loconet_tcp.specs.Text.{is_end, is_open, onto_line, lines_of}
 use Rattle.ascii_words.specs.Words.{words_of, is_blank}
-use Rattle.loconet_tcp.specs.Requests.{request_of, parse_send, bytes_of, is_send}
+use Rattle.loconet_tcp.specs.Requests.{request_of, parse_send, bytes_of, in_range, is_send, is_turns, turns_of}
+use Rattle.show_text.specs.Words.{decimal_of}
 use Rattle.loconet_tcp.specs.Reading.{requests_in, requests_of, request_of_byte, kept_after, requests_along}
 
 -- bytes before the first line; nothing if there is no line
@@ -68,18 +72,41 @@ first-front (x ∷ xs) ys (w ∷ word) h =
     ∙ goes_on (is_blank x) x w (before_first is_blank (xs ++ ys)) (before_first is_blank xs) word (first-front xs ys word (omega arith))
     ∙ sym (ap (λ (line : List ℕ). bytes_eq line (w ∷ word)) (before-cons x xs))
 
--- the request of a line, by whether it is a `SEND` line and whether it is too long
-abbrev asked_when : Bool → Bool → Request → Option Request
-asked_when send long request = if send then Some (if long then Invalid TooLong else request) else None
+-- the request of a line, by whether it is a `SEND` or a `TURNS` line and whether it is too long
+abbrev asked_when : Bool → Bool → Bool → Request → Option ℕ → Option Request
+asked_when send turns long request count = if send then Some (if long then Invalid TooLong else request) else if turns then Some (Turns count) else None
 
-request-too_long : (line : List ℕ) → 400 < length line → request_of line ≡ asked_when (is_send line) true (Invalid TooLong)
+-- the text after the first blank of a long line writes no number
+no_number : (some few digits : Bool) (n : ℕ) → few ≡ false → (if some && few && digits then Some n else None) ≡ None
+no_number true true digits n e = cc
+no_number true false digits n e = refl
+no_number false few digits n e = refl
+
+seven_digits : (text : List ℕ) → 7 < length text → decimal_of text ≡ None
+seven_digits text h = no_number (nat_le 1 (length text)) (nat_le (length text) 7) (list_all is_ascii_digit text) (digits_value 10 text) (lt-leb (length text) 7 h)
+
+turns-too_long : (line : List ℕ) → 400 < length line → is_turns line ≡ true → turns_of (after_first is_blank line) ≡ None
+turns-too_long line h is =
+    let same : before_first is_blank line ≡ codes "TURNS" = (bytes_eq-Decides (before_first is_blank line) (codes "TURNS")).0 is in
+    let size : length (before_first is_blank line) ≡ 5 = ap length same in
+    let long : 7 < length (after_first is_blank line) =
+    omega (arith, size, h, length-take (position_or_len is_blank line) line, length-drop (position_or_len is_blank line + 1) line) in
+    ap in_range (seven_digits (after_first is_blank line) long)
+
+request-turns : (line : List ℕ) (turns : Bool) → 400 < length line → is_turns line ≡ turns
+    → (if turns then Some (Turns (turns_of (after_first is_blank line))) else None) ≡ (if turns then Some (Turns None) else None)
+request-turns line true h is = ap (λ (count : Option ℕ). Some (Turns count)) (turns-too_long line h is)
+request-turns line false h is = refl
+
+request-too_long : (line : List ℕ) → 400 < length line → request_of line ≡ asked_when (is_send line) (is_turns line) true (Invalid TooLong) None
 request-too_long line h =
-    ap (λ (long : Bool). asked_when (is_send line) long (parse_send (bytes_of (words_of (after_first is_blank line))))) (lt-ltb 400 (length line) h)
+    ap (λ (long : Bool). asked_when (is_send line) (is_turns line) long (parse_send (bytes_of (words_of (after_first is_blank line)))) (turns_of (after_first is_blank line))) (lt-ltb 400 (length line) h)
+    ∙ ap (λ (other : Option Request). if is_send line then Some (Invalid TooLong) else other) (request-turns line (is_turns line) h refl)
 
 request-long : (xs ys : List ℕ) → length xs ≡ 401 → request_of (xs ++ ys) ≡ request_of xs
 request-long xs ys h =
     request-too_long (xs ++ ys) (omega (arith, length-append xs ys))
-    ∙ ap (λ (send : Bool). asked_when send true (Invalid TooLong)) (first-front xs ys (codes "SEND") (omega arith))
+    ∙ ap₂ (λ (send turns : Bool). asked_when send turns true (Invalid TooLong) None) (first-front xs ys (codes "SEND") (omega arith)) (first-front xs ys (codes "TURNS") (omega arith))
     ∙ sym (request-too_long xs (omega arith))
 
 -- The effect of each kind of byte.

@@ -1,9 +1,11 @@
--- The lines sent to a client, in LocoNet over TCP. The words after SENT ERROR, VERSION and ERROR
--- are this project's own.
-use Rattle.std.specs.Prelude.{ℕ, ◌+◌, ◌/◌, ◌%◌, if◌then◌else◌, List, [], ◌∷◌, ◌++◌, codes}
+-- The lines sent to a client, in LocoNet over TCP. The words after SENT ERROR, VERSION and ERROR,
+-- and the lines that begin with TURNS, are this project's own.
+use Rattle.std.specs.Prelude.{ℕ, ◌/◌, ◌%◌, List, [], ◌∷◌, ◌++◌, codes, Result, Ok, Err}
 use Rattle.std.specs.List.{flat_map}
 use Rattle.ascii_words.specs.Words.{hex_char}
 use Rattle.loconet_tcp.specs.declared.request.Reason.{Reason}
+use Rattle.loconet_tcp.specs.declared.request.TurnsError.{TurnsError}
+use Rattle.loconet_tcp.specs.declared.request.TurnsError.TheVariants.{RealTime, NoNumber}
 use Rattle.loconet_tcp.specs.declared.request.Reason.TheVariants.{TooLong, NotHex, NoMessage, WrongCheck}
 
 -- a space and two digits
@@ -34,6 +36,15 @@ reason_text WrongCheck = codes "wrong check byte"
 -- the message was not sent, for this reason
 abbrev pub sent_error_text : Reason → List ℕ
 sent_error_text reason = codes "SENT ERROR " ++ reason_text reason ++ line_end
+
+abbrev pub turns_error_text : TurnsError → List ℕ
+turns_error_text RealTime = codes "real time"
+turns_error_text NoNumber = codes "no number from 1 to 10000"
+
+-- the turns requested by the client have passed, or have not, for this reason
+abbrev pub turns_text : Result ℕ TurnsError → List ℕ
+turns_text (Ok count) = codes "TURNS OK" ++ line_end
+turns_text (Err error) = codes "TURNS ERROR " ++ turns_error_text error ++ line_end
 
 -- the name of the server
 abbrev pub version_text : List ℕ

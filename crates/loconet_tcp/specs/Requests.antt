@@ -1,14 +1,15 @@
 -- The request of a client's line, in LocoNet over TCP. The protocol leaves open the longest line,
 -- the case of the digits, the tab as a blank and the replies to invalid lines: these are rules of
--- this project.
-use Rattle.std.specs.Prelude.{ℕ, Bool, if◌then◌else◌, nat_lt, List, [], ◌∷◌, length, Option, Some, None, codes}
+-- this project. So is the word TURNS, which other servers pass over.
+use Rattle.std.specs.Prelude.{ℕ, Bool, ◌&&◌, if◌then◌else◌, nat_le, nat_lt, List, [], ◌∷◌, length, Option, Some, None, codes}
 use Rattle.std.specs.List.{list_all, before_first, after_first}
 use Rattle.std.specs.Option.{is_some}
 use Rattle.std.specs.Str.{bytes_eq}
 use Rattle.ascii_words.specs.Words.{is_blank, words_of, pair_of}
 use Rattle.ln_frame.specs.Message.{has_form, is_whole}
 use Rattle.loconet_tcp.specs.declared.request.Request.{Request}
-use Rattle.loconet_tcp.specs.declared.request.Request.TheVariants.{Send, Invalid}
+use Rattle.loconet_tcp.specs.declared.request.Request.TheVariants.{Send, Invalid, Turns}
+use Rattle.show_text.specs.Words.{decimal_of}
 use Rattle.loconet_tcp.specs.declared.request.Reason.TheVariants.{TooLong, NotHex, NoMessage, WrongCheck}
 
 -- a pair of hexadecimal digits
@@ -41,9 +42,24 @@ parse_send (Some bytes) =
 abbrev pub is_send : List ℕ → Bool
 is_send line = bytes_eq (before_first is_blank line) (codes "SEND")
 
+-- it is TURNS
+abbrev pub is_turns : List ℕ → Bool
+is_turns line = bytes_eq (before_first is_blank line) (codes "TURNS")
+
+-- a number of turns that can be requested
+abbrev pub in_range : Option ℕ → Option ℕ
+in_range None = None
+in_range (Some count) = if nat_le 1 count && nat_le count 10000 then Some count else None
+
+-- the number of turns that a text writes in decimal digits
+abbrev pub turns_of : List ℕ → Option ℕ
+turns_of text = in_range (decimal_of text)
+
 -- A line that begins with the word SEND requests to send the bytes of the words after it, if the
--- line has at most 400 characters. Every other line makes no request.
+-- line has at most 400 characters. One that begins with TURNS and a blank requests the number of
+-- turns that the rest of the line writes (own). Every other line makes no request.
 abbrev pub request_of : List ℕ → Option Request
 request_of line =
     if is_send line then Some (if nat_lt 400 (length line) then Invalid TooLong
-    else parse_send (bytes_of (words_of (after_first is_blank line)))) else None
+    else parse_send (bytes_of (words_of (after_first is_blank line))))
+    else if is_turns line then Some (Turns (turns_of (after_first is_blank line))) else None

@@ -1,9 +1,9 @@
 //! The lines sent to a client. Each ends with a carriage return and a line feed.
-ghost use Rattle.std.specs.Prelude.{◌≡◌, ◌+◌, ◌*◌, ◌<◌, ◌≤◌, ◌++◌, length};
+ghost use Rattle.std.specs.Prelude.{◌≡◌, ◌+◌, ◌*◌, ◌<◌, ◌≤◌, ◌++◌, length, Err};
 ghost use Rattle.arrayvec.specs.ArrayVec.{array_vec_len};
-ghost use Rattle.loconet_tcp.specs.ClientLines.{hex_word, hex_words, line_end, receive_text, sent_ok_text, reason_text, sent_error_text, version_text, server_full_text};
+ghost use Rattle.loconet_tcp.specs.ClientLines.{hex_word, hex_words, line_end, receive_text, sent_ok_text, reason_text, sent_error_text, turns_error_text, turns_text, version_text, server_full_text};
 
-use crate::request::Reason;
+use crate::request::{Reason, TurnsError};
 use arrayvec::ArrayVec;
 use ascii_words::hex_char;
 use ln_frame::Msg;
@@ -45,6 +45,30 @@ pub fn push_sent_error(text: &mut Text, reason: Reason)
     push_all(text, b"\r\n");
 }
 
+/// Appends `TURNS OK`: the turns requested by the client have passed; or `TURNS ERROR` and the
+/// reason in plain words: none has. At most 43 bytes in all.
+pub fn push_turns(text: &mut Text, turns: &Result<u16, TurnsError>)
+    requires { array_vec_len text.old + 43 ≤ 800 }
+    ensures text { text.new.items ≡ text.old.items ++ turns_text turns.now }
+    ensures most { array_vec_len text.new ≤ array_vec_len text.old + 43 }
+{
+    match turns {
+        Ok(_) => push_all(text, b"TURNS OK\r\n"),
+        Err(error) => push_turns_error(text, *error),
+    }
+}
+
+/// Appends `TURNS ERROR` and the reason.
+fn push_turns_error(text: &mut Text, error: TurnsError)
+    requires { array_vec_len text.old + 43 ≤ 800 }
+    ensures text { text.new.items ≡ text.old.items ++ turns_text (Err error) }
+    ensures most { array_vec_len text.new ≤ array_vec_len text.old + 43 }
+{
+    push_all(text, b"TURNS ERROR ");
+    push_all(text, words_of_turns(error));
+    push_all(text, b"\r\n");
+}
+
 /// Appends the greeting of a client: `VERSION` and the name of the server.
 pub fn push_version(text: &mut Text)
     requires { array_vec_len text.old + 26 ≤ 800 }
@@ -73,6 +97,17 @@ fn words_of(reason: Reason) -> &'static [u8]
         Reason::NotHex => b"no pairs of hexadecimal digits",
         Reason::NoMessage => b"no whole message",
         Reason::WrongCheck => b"wrong check byte",
+    }
+}
+
+/// The reason in plain words, at most 29 bytes.
+fn words_of_turns(error: TurnsError) -> &'static [u8]
+    ensures words { result.now ≡ turns_error_text error }
+    ensures most { length result.now ≤ 29 }
+{
+    match error {
+        TurnsError::RealTime => b"real time",
+        TurnsError::NoNumber => b"no number from 1 to 10000",
     }
 }
 

@@ -9,6 +9,7 @@
 //!     match reader.push(*byte) {
 //!         Some(Request::Send(message)) => { /* send it */ }
 //!         Some(Request::Invalid(reason)) => push_sent_error(&mut text, reason),
+//!         Some(Request::Turns(count)) => { /* run them */ }
 //!         None => {}
 //!     }
 //! }
@@ -25,10 +26,10 @@ mod reader;
 mod request;
 
 pub use client_lines::{
-    Text, push_receive, push_sent_error, push_sent_ok, push_server_full, push_version,
+    Text, push_receive, push_sent_error, push_sent_ok, push_server_full, push_turns, push_version,
 };
 pub use laws::{any_cut, received_is_sendable};
 pub use outcome::Outcome;
 pub use parsing::{Bytes, LONGEST_KEPT, LONGEST_LINE, bytes_of, leading_bytes};
 pub use reader::RequestReader;
-pub use request::{Reason, Request};
+pub use request::{Reason, Request, TurnsError};

@@ -3,8 +3,10 @@ ghost use Rattle.std.specs.Prelude.{◌≡◌, ◌+◌, ◌≤◌, ◌++◌};
 ghost use Rattle.arrayvec.specs.ArrayVec.{array_vec_len};
 ghost use Rattle.loconet_tcp.specs.Texts.{text_for};
 
-use crate::client_lines::{Text, push_receive, push_sent_error, push_sent_ok, push_version};
-use crate::request::Reason;
+use crate::client_lines::{
+    Text, push_receive, push_sent_error, push_sent_ok, push_turns, push_version,
+};
+use crate::request::{Reason, TurnsError};
 use dcc_packet::Packet;
 use ln_frame::Msg;
 
@@ -33,6 +35,12 @@ pub enum Outcome {
         message: Msg,
         reply: Option<Msg>,
     },
+    /// A client requested this number of turns, which follow, or was refused; it alone receives
+    /// the answer.
+    TurnsRequested {
+        client: u8,
+        turns: Result<u16, TurnsError>,
+    },
     /// A turn began and sent this packet, or none while the track power is off. Clients receive
     /// nothing.
     TurnBegan {
@@ -55,6 +63,10 @@ impl Outcome {
                 client: asker,
                 reason,
             } if *asker == client => push_sent_error(text, *reason),
+            Outcome::TurnsRequested {
+                client: asker,
+                turns,
+            } if *asker == client => push_turns(text, turns),
             Outcome::Sent {
                 client: sender,
                 message,

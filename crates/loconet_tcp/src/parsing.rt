@@ -1,12 +1,13 @@
 //! Parsing a line.
 ghost use Rattle.std.specs.Prelude.{◌≡◌, ◌≤◌, length, None, Some, MatchOption};
 ghost use Rattle.ascii_words.specs.Words.{words_of};
-ghost use Rattle.loconet_tcp.specs.Requests.{are_pairs, bytes_of, leading_bytes, parse_send, request_of};
+ghost use Rattle.loconet_tcp.specs.Requests.{are_pairs, bytes_of, leading_bytes, parse_send, request_of, turns_of};
 
 use crate::request::{Reason, Request};
 use arrayvec::ArrayVec;
 use ascii_words::{cut_piece, hex_pair};
 use ln_frame::Msg;
+use show_text::decimal;
 
 /// The most characters of a valid `SEND` line.
 pub const LONGEST_LINE: usize = 400;
@@ -14,6 +15,9 @@ pub const LONGEST_LINE: usize = 400;
 /// The most bytes that are kept of a line: one more than a valid line may have, so that a longer
 /// line is detected.
 pub const LONGEST_KEPT: usize = LONGEST_LINE + 1;
+
+/// The most turns that a client can request at once: a minute of track time or more.
+const MOST_TURNS: u32 = 10_000;
 
 /// The bytes written by the words of a text of at most 400 characters, two characters for each
 /// byte: at most 200.
@@ -24,6 +28,9 @@ pub(crate) fn parse_line(line: &[u8]) -> Option<Request>
     ensures { result ≡ request_of line.now }
 {
     let (first, rest) = cut_piece(line);
+    if first == b"TURNS".as_slice() {
+        return Some(Request::Turns(turns_of(rest)));
+    }
     if first != b"SEND".as_slice() {
         return None;
     }
@@ -31,6 +38,16 @@ pub(crate) fn parse_line(line: &[u8]) -> Option<Request>
         return Some(Request::Invalid(Reason::TooLong));
     }
     Some(parse_send(rest))
+}
+
+/// Returns the number of turns that a text writes in decimal digits, 1 to 10,000.
+fn turns_of(text: &[u8]) -> Option<u16>
+    ensures { result ≡ turns_of text.now }
+{
+    match decimal(text) {
+        Some(count) if 1 <= count && count <= MOST_TURNS => Some(count as u16),
+        _ => None,
+    }
 }
 
 /// Returns the request of the words after `SEND`.

@@ -2,13 +2,15 @@
 
 use ln_frame::Msg;
 
-/// The request of a line that begins with the word `SEND`.
+/// The request of a line that begins with the word `SEND` or `TURNS`.
 #[derive(Debug, Drop, PartialEq, Eq)]
 pub enum Request {
     /// Send this message.
     Send(Msg),
     /// The line is invalid for this reason; nothing is sent.
     Invalid(Reason),
+    /// Run this number of turns; `None` if the line has no number from 1 to 10,000.
+    Turns(Option<u16>),
 }
 
 /// Why nothing is sent. The first reason that applies is reported.
@@ -22,4 +24,13 @@ pub enum Reason {
     NoMessage,
     /// The bytes have the form of a message, but the check byte is wrong.
     WrongCheck,
+}
+
+/// Why no turns are run on request. The first reason that applies is reported.
+#[derive(Clone, Copy, Debug, PartialEq, Eq)]
+pub enum TurnsError {
+    /// The track runs in real time.
+    RealTime,
+    /// The line has no number from 1 to 10,000.
+    NoNumber,
 }

@@ -1,5 +1,5 @@
 //! What the logs of a run hold.
-use loconet_tcp::Reason;
+use loconet_tcp::{Reason, TurnsError};
 
 /// One call of a transport, and what it returned: what `TransportEvent` is in contracts, but a read is one entry.
 #[derive(Debug, Drop, PartialEq, Eq)]
@@ -24,6 +24,7 @@ pub enum Seen {
     Disconnected(u8),
     Rejected(u8, Reason),
     Sent(u8, Vec<u8>, Option<Vec<u8>>),
+    TurnsRequested(u8, Result<u16, TurnsError>),
     TurnBegan(Option<Vec<u8>>),
     Overflowed(u8),
     Skipped(u64),

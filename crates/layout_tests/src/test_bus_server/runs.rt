@@ -139,6 +139,57 @@ fn waits_for_messages(rt: HostRuntime) {
     assert_eq!(rt; turns(run.observed.as_slice()), 1);
 }
 
+/// What the first of two clients requests, with what follows: the turns that pass, its answers, and the messages.
+const REQUESTS: [(&[u8], Option<u8>, u64, &[u8]); 5] = [
+    (b"TURNS 5\n", Some(2), 5, b"TURNS OK\r\n"),
+    (
+        b"TURNS 1\nTURNS 9\n",
+        Some(0),
+        10,
+        b"TURNS OK\r\nTURNS OK\r\n",
+    ),
+    (
+        b"TURNS 3\nSEND 83 7C\n",
+        Some(2),
+        5,
+        b"TURNS OK\r\nRECEIVE 83 7C\r\nSENT OK\r\n",
+    ),
+    (
+        b"TURNS 0\n",
+        Some(2),
+        0,
+        b"TURNS ERROR no number from 1 to 10000\r\n",
+    ),
+    (b"TURNS 5\n", None, 0, b"TURNS ERROR real time\r\n"),
+];
+
+/// Turns on request: the client that requests them is answered, and nobody else.
+#[test]
+fn requested_turns(rt: HostRuntime) {
+    for (text, after_message, count, answers) in REQUESTS {
+        let script = [Connects, Connects, Sends(0, text), Nothing];
+        let setup = Setup {
+            script: &script,
+            readings: &[0; 4],
+            blocked: None,
+            turns: after_message,
+            most: 2,
+        };
+        let run = run_server(&rt, &setup);
+        assert_eq!(rt; run.ended, Err(Stop::Transport(ScriptEnded)));
+        assert_eq!(rt; turns(run.observed.as_slice()), count, "{text:?}");
+        let lines = repeated(&rt, VERSION, answers, 1);
+        assert_eq!(rt; text_to(&rt, run.entries.as_slice(), 0), lines);
+        let heard: &[u8] = if messages(run.observed.as_slice()) > 0 {
+            b"RECEIVE 83 7C\r\n"
+        } else {
+            b""
+        };
+        let lines = repeated(&rt, VERSION, heard, 1);
+        assert_eq!(rt; text_to(&rt, run.entries.as_slice(), 1), lines);
+    }
+}
+
 /// Nine clients connect, and a tenth after one of the eight has closed.
 const NINE_CLIENTS: [Input<'static>; 11] = [
     Connects,
