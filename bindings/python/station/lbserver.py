@@ -22,7 +22,7 @@ import time
 from collections.abc import Callable
 from typing import Any, TypeVar, Union
 
-from .decoders import HasNodes, Roster, State, read_node_line, read_roster, roster_text
+from .decoders import HasNodes, Roster, State, in_range, read_node_line, read_roster, roster_text
 from .errors import ClosedError, StationError
 from .messages import Reply, checked_message, has_reply, message_hex, reply_of
 from .throttle import Throttle
@@ -34,6 +34,9 @@ TOP = pathlib.Path(__file__).resolve().parents[3]
 NETWORK_STATUS = 4
 ATTEMPTS = 10
 POLL_SECONDS = 0.005
+
+# The most turns that a client requests at once.
+MOST_TURNS = 10_000
 
 Condition = Union[str, "re.Pattern[str]", Callable[[], Any]]
 SomeClient = TypeVar("SomeClient", bound="Client")
@@ -130,6 +133,23 @@ class Client(Throttle):
         if replies is None:
             return self._refusal()
         return None
+
+    def turns(self, count: int) -> None:
+        """Has the track run so many turns now, and waits for them. The server runs with `--turns`, which may be 0."""
+        left = in_range(count, 0, 1 << 32, "turns")
+        while left > 0:
+            some = min(left, MOST_TURNS)
+            self._run_turns(some)
+            left -= some
+
+    def _run_turns(self, count: int) -> None:
+        if self.lines.closed:
+            raise ClosedError("the client is closed")
+        self.stream.sendall(f"TURNS {count}\r\n".encode("ascii"))
+        while not (line := self.line()).startswith("TURNS "):
+            pass
+        if line != "TURNS OK":
+            raise StationError(line)
 
     def _refusal(self) -> Reply | None:
         """The reply to the message that was sent last, if the next line is one."""
@@ -230,11 +250,18 @@ class Server(Throttle, HasNodes):
 
     def send(self, *body: int) -> Reply | None:
         """Sends a message by the server's own client. Returns the reply, or None if there is none."""
+        return self._own_client().send(*body)
+
+    def turns(self, count: int) -> None:
+        """Has the track run so many turns now, and waits for them. The server runs with `--turns`, which may be 0."""
+        self._own_client().turns(count)
+
+    def _own_client(self) -> Client:
         if not self.is_running():
             raise ClosedError(f"the server is not running. {self._fault_text()}")
         if self._client is None:
             self._client = self.client()
-        return self._client.send(*body)
+        return self._client
 
     def printed(self) -> list[str]:
         """All whole lines of the log so far."""

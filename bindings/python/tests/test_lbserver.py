@@ -166,6 +166,23 @@ class TestClient(unittest.TestCase):
                     client.power_on()
             self.assertEqual(received, ["SEND B0 04 10 5B", "SEND BB 01 00 45", "SEND 83 7C", ""])
 
+    def test_turns(self):
+        with scripted(
+            ["VERSION x"], ["RECEIVE 83 7C", "TURNS OK"], ["TURNS OK"], ["TURNS OK"], ["TURNS ERROR real time"]
+        ) as (port, received):
+            with Client("127.0.0.1", port) as client:
+                client.turns(16)
+                client.turns(0)
+                client.turns(10_001)
+                with self.assertRaisesRegex(StationError, "real time"):
+                    client.turns(1)
+                for count in (-1, 1.5, True):
+                    with self.assertRaisesRegex(ValueError, "turns is"):
+                        client.turns(count)
+            with self.assertRaises(ClosedError):
+                client.turns(1)
+        self.assertEqual(received, ["TURNS 16", "TURNS 10000", "TURNS 1", "TURNS 1", ""])
+
     def test_rejected_and_closed(self):
         with scripted(["ERROR no place"]) as (port, _):
             with self.assertRaisesRegex(ConnectionError, "rejected: ERROR no place"):
@@ -210,6 +227,20 @@ class TestServer(unittest.TestCase):
                 server.wait_for(lambda: server.nodes["yard"] == Outputs(0))
                 with self.assertRaisesRegex(StationError, "no accessory"):
                     server.outputs("shunter")
+
+    def test_turns(self):
+        with Server("--turns", "0", roster=ROSTER) as server:
+            loco = server.loco(3)
+            server.power_on()
+            loco.take()
+            loco.speed(63)
+            server.wait_for(re.compile("msg A0 01 40 1E"))
+            self.assertEqual(server.nodes, {})
+            server.turns(16)
+            server.wait_for_node("shunter", step=63)
+        with Server(roster=ROSTER) as server:
+            with self.assertRaisesRegex(StationError, "TURNS ERROR real time"):
+                server.turns(1)
 
     def test_waits_end(self):
         with Server(roster=ROSTER) as server:
