@@ -27,8 +27,8 @@
 /* The version of this header. A program made for one with the same major number and the same or a smaller minor
  * number may be compiled with it. */
 #define STATION_VERSION_MAJOR 1
-#define STATION_VERSION_MINOR 0
-#define STATION_VERSION "1.0"
+#define STATION_VERSION_MINOR 1
+#define STATION_VERSION "1.1"
 
 #ifdef __cplusplus
 extern "C" {
@@ -92,6 +92,25 @@ uint8_t station_new(station_layout *layout, uint8_t lines, const station_decoder
  * STATION_BAD_DECODERS, and sets `*node` to the decoder at fault, from 1, or to 0 for the whole.
  * Owed: `text` points to `size` bytes, and a layout that was made is ended once, by station_free. */
 uint8_t station_read(station_layout *layout, uint8_t lines, const uint8_t *text, size_t size, uint8_t *node);
+
+/* The faults of a roster, by the numbers that `station` prints: the text is not TOML or not UTF-8; a key or a type is
+ * wrong; more than 64 decoders; a name; the value of a configuration variable; a module; no decoder; a list of
+ * configuration variables. */
+enum {
+    STATION_NOT_TOML = 1,
+    STATION_BAD_SHAPE = 2,
+    STATION_TOO_MANY = 3,
+    STATION_BAD_NAME = 4,
+    STATION_BAD_CV = 5,
+    STATION_BAD_MODULE = 6,
+    STATION_EMPTY = 7,
+    STATION_BAD_CV_LIST = 9
+};
+
+/* Finds the first fault of a roster. Returns STATION_MADE if it has none; STATION_BAD_DECODERS if it has one, and sets
+ * `*fault` to it, and `*node` to the decoder at fault, from 1, or to 0 for the whole; or STATION_NO_MEMORY.
+ * Owed: `text` points to `size` bytes. */
+uint8_t station_check(const uint8_t *text, size_t size, uint8_t *fault, uint8_t *node);
 
 /* Ends a layout, if there is one. Afterwards there is none.
  * Owed: nothing but the above. */

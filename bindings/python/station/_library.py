@@ -84,6 +84,7 @@ def load(path: str | os.PathLike[str] | None = None) -> Any:
     shapes: dict[str, tuple[list[Any], Any]] = {
         "new": ([layout, c_uint8, POINTER(Decoder), c_size_t], c_uint8),
         "read": ([layout, c_uint8, POINTER(c_uint8), c_size_t, POINTER(c_uint8)], c_uint8),
+        "check": ([POINTER(c_uint8), c_size_t, POINTER(c_uint8), POINTER(c_uint8)], c_uint8),
         "free": ([layout], None),
         "byte": ([layout, c_uint8, c_uint8, POINTER(Answer)], c_bool),
         "turn": ([layout, c_uint64, POINTER(Answer)], c_bool),

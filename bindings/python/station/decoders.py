@@ -206,14 +206,30 @@ def _decoder_of(node: Mapping[str, Any]) -> Decoder:
     return LocoDecoder(cvs[1], cvs.get(17, 192), cvs.get(18, 0), cvs[29], node["name"])
 
 
-def roster_fault(text: str, number: int) -> RosterError:
-    """The error for a roster that the library refused at a decoder, from 1, or 0 for the whole.
+# The faults of a roster, by the numbers that `station` prints.
+_FAULTS = {
+    1: "not TOML",
+    2: "a key is missing or unknown, or a value is of a wrong type",
+    3: f"more than {MOST_DECODERS} decoders",
+    4: "its name is not 1 to 16 letters, digits, - or _, or an earlier decoder has it",
+    5: "a variable is not 0 to 255, or they make no locomotive decoder",
+    6: "its module is not 1 to 510",
+    7: "no decoder",
+    9: "a variable is not 1 to 1024 or is there twice, or 1 or 29 is missing",
+}
 
-    The library does not say why. What is read here only explains the refusal.
-    """
+
+def roster_fault(text: str, decoder: int, number: int) -> RosterError:
+    """The error for a roster with the fault of this number, at a decoder, from 1, or 0 for the whole."""
+    error = _explained_fault(text, decoder, _FAULTS.get(number, "it is invalid"))
+    error.number = number
+    return error
+
+
+def _explained_fault(text: str, number: int, unknown: str) -> RosterError:
+    """The fault at a decoder, as far as it is found here in more words than `unknown`."""
     import tomllib
 
-    unknown = "it is invalid; `station replay --roster FILE` prints the number of the fault"
     try:
         roster = tomllib.loads(text)
     except tomllib.TOMLDecodeError as error:

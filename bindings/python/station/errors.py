@@ -19,8 +19,10 @@ class RosterError(StationError, ValueError):
     """A decoder or a roster that is invalid.
 
     `decoder` is the number of the decoder, from 1, or None for the whole; `name` is its name, if it has one; `reason`
-    says what is wrong.
+    says what is wrong. `number` is that of a roster's fault, as `station` prints it.
     """
+
+    number: int | None = None
 
     def __init__(self, reason: str, decoder: int | None = None, name: str | None = None) -> None:
         where = (

@@ -102,10 +102,17 @@ class Station(Throttle, HasNodes):
             byref(self._layout), self.lines, _library.array_of(c_uint8, data), len(data), byref(node)
         )
         if status == _library.BAD_DECODERS:
-            raise roster_fault(text, node.value)
+            raise roster_fault(text, node.value, self._fault_number(data))
         self._check(status)
         self._is_open = True
         return named(decoders_in(text))
+
+    def _fault_number(self, data: bytes) -> int:
+        """The number of the first fault of a roster."""
+        number, node = c_uint8(), c_uint8()
+        text = _library.array_of(c_uint8, data)
+        self._check_memory(self._library.station_check(text, len(data), byref(number), byref(node)))
+        return number.value
 
     def _make(self, decoders: list[Decoder]) -> dict[str, Decoder]:
         if len(decoders) > MOST_DECODERS:
@@ -130,9 +137,12 @@ class Station(Throttle, HasNodes):
                 raise RosterError(decoder.fault() or "it is invalid", number, decoder.name)
         raise RosterError("it is invalid")
 
-    def _check(self, status: int) -> None:
+    def _check_memory(self, status: int) -> None:
         if status == _library.NO_MEMORY:
             raise MemoryError("no memory for a layout")
+
+    def _check(self, status: int) -> None:
+        self._check_memory(status)
         if status:
             raise StationError(f"no layout was made: status {status}")
 

@@ -110,30 +110,31 @@ class TestLayouts(Test):
 
     def test_roster_faults(self):
         text = LAYOUT.read_text()
-        for roster, number, reason in (
-            ("version = 3\n", None, "version is 3"),
-            ("node = []\n", None, "version is None"),
-            ("version = 2\nnodes = 1\n", None, "unknown key nodes"),
-            ("version = 2\nnode = 1\n", None, "station replay"),
-            ("version = 2\n", None, "no decoder"),
-            ("version = \n", None, "line 1"),
-            (text.replace("[1, 3]", "[1, 128]"), 1, "shunter: CV1 is 128"),
-            (text.replace("module = 1", "module = 511"), 2, "yard: module is 511"),
-            (text.replace("module = 1", "module = 70000"), 2, "a module is 70000"),
-            (text.replace("module = 1", ""), 2, "yard: module is missing"),
-            (text.replace('"yard"', '"shunter"'), 2, "an earlier decoder"),
-            (text.replace('"yard"', '"no name"'), 2, "name is 'no name'"),
-            (text.replace('"accessory"', '"signal"'), 2, "kind is 'signal'"),
-            (text.replace("[1, 3]", "[1, 3], [1, 3]"), 1, "shunter: CV1 is there twice"),
-            (text.replace("[3, 10]", "[1025, 10]"), 1, "shunter: CV1025 is none"),
-            (text.replace("[29, 2]", "[30, 2]"), 1, "shunter: CV29 is missing"),
-            (text.replace("[29, 2]", "[29, 256]"), 1, "shunter: cv29 is 256"),
-            (text.replace("[29, 2]", "[29, true]"), 1, "shunter: cv29 is True"),
-            (text.replace("[29, 2]", "29"), 1, "station replay"),
-            (text.replace("version = 2", "version = 1"), 1, "station replay"),
-            (roster_text([LocoDecoder(3, cv29=2, name=f"n{i}") for i in range(65)]), None, "65 decoders"),
+        for roster, decoder, reason, number in (
+            ("version = 3\n", None, "version is 3", 2),
+            ("node = []\n", None, "version is None", 2),
+            ("version = 2\nnodes = 1\n", None, "unknown key nodes", 2),
+            ("version = 2\nnode = 1\n", None, "of a wrong type", 2),
+            ("version = 2\n", None, "no decoder", 7),
+            ("version = \n", None, "line 1", 1),
+            (text.replace("[1, 3]", "[1, 128]"), 1, "shunter: CV1 is 128", 5),
+            (text.replace("module = 1", "module = 511"), 2, "yard: module is 511", 6),
+            (text.replace("module = 1", "module = 70000"), 2, "a module is 70000", 6),
+            (text.replace("module = 1", ""), 2, "yard: module is missing", 2),
+            (text.replace('"yard"', '"shunter"'), 2, "an earlier decoder", 4),
+            (text.replace('"yard"', '"no name"'), 2, "name is 'no name'", 4),
+            (text.replace('"accessory"', '"signal"'), 2, "kind is 'signal'", 2),
+            (text.replace("[1, 3]", "[1, 3], [1, 3]"), 1, "shunter: CV1 is there twice", 9),
+            (text.replace("[3, 10]", "[1025, 10]"), 1, "shunter: CV1025 is none", 9),
+            (text.replace("[29, 2]", "[30, 2]"), 1, "shunter: CV29 is missing", 9),
+            (text.replace("[29, 2]", "[29, 256]"), 1, "shunter: cv29 is 256", 5),
+            (text.replace("[29, 2]", "[29, true]"), 1, "shunter: cv29 is True", 2),
+            (text.replace("[29, 2]", "29"), 1, "of a wrong type", 2),
+            (text.replace("version = 2", "version = 1"), 1, "missing or unknown", 2),
+            (roster_text([LocoDecoder(3, cv29=2, name=f"n{i}") for i in range(65)]), None, "65 decoders", 3),
         ):
-            self.assertEqual(self.fails(RosterError, reason, Station, roster).decoder, number, roster)
+            error = self.fails(RosterError, reason, Station, roster)
+            self.assertEqual((error.decoder, error.number), (decoder, number), roster)
 
     def test_addresses(self):
         for address, steps, place, mode in (

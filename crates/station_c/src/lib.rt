@@ -17,6 +17,7 @@ ghost use Rattle.roster.specs.Format.{roster_in};
 ghost use Rattle.station_c.specs.Answer.{answered};
 ghost use Rattle.station_c.specs.Decoder.{nodes_of as decoders_of};
 ghost use Rattle.station_c.specs.Event.{event_of, is_one};
+ghost use Rattle.station_c.specs.Fault.{IsFault, verdict};
 ghost use Rattle.station_c.specs.Layout.{IsFaultyNode, IsNew, IsStatus, IsUnchanged, lines_of, nodes_of, refusal, specs_in, station_of};
 ghost use Rattle.station_c.specs.Motion.{driven};
 
@@ -117,6 +118,28 @@ pub extern "C" fn station_read(
         Ok(roster) => make(alloc, layout, lines, roster.nodes()),
         Err(fault) if fault.why == Why::NoMemory => NO_MEMORY,
         Err(fault) => {
+            *node = fault.node;
+            BAD_DECODERS
+        }
+    }
+}
+
+/// Finds the first fault of a roster, if it has one.
+///
+/// Returns 0 if it has none, 2 if it has one, and 3 if out of memory. `number` is set to the number
+/// of the fault, as `station` prints it, and `node` to the decoder at fault, counted from 1, or to
+/// 0 for the whole roster; both are unchanged unless there is a fault.
+#[unsafe(no_mangle)]
+pub extern "C" fn station_check(alloc: Global, text: &[u8], number: &mut u8, node: &mut u8) -> u8
+    ensures status { (result ≡ verdict (roster_in text.now)) ⊎ (result ≡ 3) }
+    ensures fault { result ≡ 2 → IsFault (roster_in text.now) number.new node.new }
+    ensures no_fault { result ≢ 2 → (number.new ≡ number.old) × (node.new ≡ node.old) }
+{
+    match roster::read(alloc, text) {
+        Ok(_) => MADE,
+        Err(fault) if fault.why == Why::NoMemory => NO_MEMORY,
+        Err(fault) => {
+            *number = fault.why as u8;
             *node = fault.node;
             BAD_DECODERS
         }

@@ -1,8 +1,8 @@
 //! The exports, called as C calls them. Bytes are worked out by hand from the two standards.
 
 use crate::{
-    Answer, Decoder, EventFields, Layout, Motion, station_byte, station_free, station_new,
-    station_outputs, station_read, station_run, station_running, station_turn,
+    Answer, Decoder, EventFields, Layout, Motion, station_byte, station_check, station_free,
+    station_new, station_outputs, station_read, station_run, station_running, station_turn,
 };
 use std::alloc::Global;
 use std::mem::size_of;
@@ -277,6 +277,37 @@ fn is_made(
 fn is_read(alloc: Global, layout: &mut Layout, lines: u8, text: &[u8], status: u8, at: u8) -> bool {
     let mut node = 7;
     station_read(alloc, layout, lines, text, &mut node) == status && node == at
+}
+
+/// Rosters, each with its status, the number of its fault and the decoder at fault.
+const CHECKED: [(&[u8], u8, u8, u8); 5] = [
+    (ROSTER, 0, 7, 7),
+    (b"version = ", 2, 1, 0),
+    (b"version = 2\n", 2, 7, 0),
+    (
+        b"version = 2\n[[node]]\nname = \"yard\"\nkind = \"accessory\"\nmodule = 511\n",
+        2,
+        6,
+        1,
+    ),
+    (
+        b"version = 2\n[[node]]\nname = \"a\"\nkind = \"loco\"\ncvs = [[1, 3], [1, 3]]\n",
+        2,
+        9,
+        1,
+    ),
+];
+
+#[test]
+fn tells_the_fault_of_a_roster(rt: HostRuntime) {
+    for (text, status, wanted, at) in CHECKED {
+        let (mut number, mut node) = (7, 7);
+        assert_eq!(rt;
+            station_check(rt.alloc(), text, &mut number, &mut node),
+            status
+        );
+        assert_eq!(rt; (number, node), (wanted, at));
+    }
 }
 
 #[test]
