@@ -1,4 +1,6 @@
+pub mod Details
 pub mod Entry
+pub mod FaultWords
 pub mod Format
 pub mod Pairs
 pub mod Steps

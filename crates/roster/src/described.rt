@@ -1,6 +1,7 @@
 //! What the table of a node says of its decoder.
 ghost use Rattle.std.specs.Prelude.{◌≡◌};
 ghost use Rattle.toml.specs.View.{table_view};
+ghost use Rattle.roster.specs.Details.{cv_fault_of, fault_in, settings_of_four};
 ghost use Rattle.roster.specs.Format.{accessory_in, byte_of, decoder_of, described_as, loco_in_keys, loco_in_list, variables_in};
 ghost use Rattle.roster.specs.declared.described.Described.TheVariants.{Loco};
 
@@ -9,7 +10,7 @@ use crate::fault::Why;
 use crate::pairs::Pairs;
 use crate::table::{integer_at, integer_or, knows_only, value_at};
 use crate::version::Version;
-use decoder_cv::CvSet;
+use decoder_cv::{CvFault, CvSet};
 use decoder_node::NodeSpec;
 use toml::Table;
 
@@ -61,6 +62,22 @@ impl<'a> Described<'a> {
             } => loco_of_four(cv1, cv17, cv18, cv29),
             Described::Listed { pairs } => pairs.decoder(),
             Described::Accessory { module } => accessory(module),
+        }
+    }
+
+    /// What is wrong with the variables, if they are bytes.
+    pub(crate) fn cv_fault(&self) -> Option<CvFault>
+        ensures { result ≡ cv_fault_of self.now }
+    {
+        match self {
+            Described::Loco {
+                cv1,
+                cv17,
+                cv18,
+                cv29,
+            } => fault_of_four(*cv1, *cv17, *cv18, *cv29),
+            Described::Listed { pairs } => pairs.cv_fault(),
+            Described::Accessory { .. } => None,
         }
     }
 }
@@ -129,6 +146,16 @@ fn loco_of_four(cv1: i64, cv17: i64, cv18: i64, cv29: i64) -> Result<NodeSpec, W
     match (byte(cv1), byte(cv17), byte(cv18), byte(cv29)) {
         (Ok(cv1), Ok(cv17), Ok(cv18), Ok(cv29)) => loco(CvSet::new(cv1, cv17, cv18, cv29)),
         _ => Err(Why::BadCv),
+    }
+}
+
+/// What is wrong with these values of the four variables, if they are bytes.
+fn fault_of_four(cv1: i64, cv17: i64, cv18: i64, cv29: i64) -> Option<CvFault>
+    ensures { result ≡ fault_in (settings_of_four cv1 cv17 cv18 cv29) }
+{
+    match (byte(cv1), byte(cv17), byte(cv18), byte(cv29)) {
+        (Ok(cv1), Ok(cv17), Ok(cv18), Ok(cv29)) => CvSet::new(cv1, cv17, cv18, cv29).err(),
+        _ => None,
     }
 }
 

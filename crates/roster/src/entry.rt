@@ -18,7 +18,7 @@ use toml::Value;
 const LONGEST_NAME: usize = 16;
 
 /// The name of a decoder.
-type Name = ArrayString<LONGEST_NAME>;
+pub(crate) type Name = ArrayString<LONGEST_NAME>;
 
 /// The name of a decoder, and what it is.
 ///
@@ -79,7 +79,7 @@ impl Entry {
 }
 
 /// The name of the next entry, or `BadName`.
-fn read_name(earlier: &[Entry], name: &str) -> Result<Name, Why>
+pub(crate) fn read_name(earlier: &[Entry], name: &str) -> Result<Name, Why>
     ensures answer { MatchResult result (λ text. name_after earlier.now name.now ≡ Ok text.bytes)
         (λ why. name_after earlier.now name.now ≡ Err why) }
     ensures free { IfOk result (λ text. IsTrue (is_free earlier.now text.bytes)) }

@@ -1,4 +1,6 @@
 //! Why a roster is refused.
+ghost use Rattle.std.specs.Prelude.{◌≡◌, ◌≤◌, length};
+ghost use Rattle.roster.specs.FaultWords.{words_of};
 
 /// Why a roster is refused, by the number that `station` reports, unless memory ran out.
 #[derive(Clone, Copy, Debug, PartialEq, Eq)]
@@ -24,6 +26,29 @@ pub enum Why {
     /// The variables of a locomotive in version 2 are no legal list: a number is outside 1 to 1024
     /// or appears twice, or 1 or 29 is missing.
     BadCvList = 9,
+}
+
+impl Why {
+    /// Returns what is wrong, in words.
+    #[tactic(auto, unfolding(crate::specs::FaultWords::words_of))]
+    pub fn words(self) -> &'static str
+        ensures text { result.now ≡ words_of self }
+        ensures len { length result.now ≤ 90 }
+    {
+        match self {
+            Why::NotToml => "the text is not TOML, or not UTF-8",
+            Why::BadShape => "a key is missing or unknown, or a value has another type",
+            Why::TooMany => "more than 64 nodes",
+            Why::BadName => "a name is not 1 to 16 letters, digits, - or _, or another node has it",
+            Why::BadCv => {
+                "a configuration variable is not 0 to 255, or the values make no locomotive decoder"
+            }
+            Why::BadModule => "a module is not 1 to 510",
+            Why::Empty => "no node",
+            Why::NoMemory => "no memory",
+            Why::BadCvList => "cvs has a number outside 1 to 1024, or one twice, or lacks 1 or 29",
+        }
+    }
 }
 
 /// The first fault of a roster, and its node: nodes count from 1, and 0 is the whole.

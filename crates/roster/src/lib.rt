@@ -5,8 +5,10 @@
 
 mod decoder;
 mod described;
+mod details;
 mod entry;
 mod fault;
+mod locating;
 mod pair;
 mod pairs;
 mod reading;
@@ -14,7 +16,9 @@ mod roster;
 mod table;
 mod version;
 
+pub use details::FaultDetails;
 pub use fault::{RosterFault, Why};
+pub use locating::fault_details;
 pub use reading::read;
 pub use roster::Roster;
 pub use table::{knows_only, value_at};

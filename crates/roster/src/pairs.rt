@@ -1,7 +1,9 @@
 //! The configuration variables of a locomotive in a roster of version 2.
-ghost use Rattle.std.specs.Prelude.{◌≡◌, [], true, is_some, map, option_map};
+ghost use Rattle.std.specs.Prelude.{◌≡◌, [], true, is_some, map, option_and_then, option_map};
 ghost use Rattle.std.specs.List.{list_all};
 ghost use Rattle.std.specs.Option.{unwrap_or};
+ghost use Rattle.std.specs.Result.{result_err};
+ghost use Rattle.decoder_cv.specs.Listed.{listed};
 ghost use Rattle.toml.specs.View.{items_view, view};
 ghost use Rattle.roster.specs.Format.{loco_listed};
 ghost use Rattle.roster.specs.Pairs.{cv_pairs_after, cvs_of, has_byte, pair_of, pairs_in, pairs_of};
@@ -10,7 +12,7 @@ use crate::decoder::loco;
 use crate::fault::Why;
 use crate::pair::Pair;
 use arrayvec::ArrayVec;
-use decoder_cv::{CvPair, CvSet};
+use decoder_cv::{CvFault, CvPair, CvSet};
 use decoder_node::NodeSpec;
 use std::marker::Model;
 use toml::Value;
@@ -77,6 +79,17 @@ impl<'a> Pairs<'a> {
                 decoder_cv::laws::long_lists_are_refused();
                 Err(Why::BadCvList)
             }
+        }
+    }
+
+    /// What is wrong with the variables, if their numbers and values fit.
+    pub(crate) fn cv_fault(&self) -> Option<CvFault>
+        ensures { result
+            ≡ option_and_then (λ taken. result_err (listed taken)) (cv_pairs_after [] self.now) }
+    {
+        match cv_pairs(self.values) {
+            Some(pairs) => CvSet::of_list(pairs.as_slice()).err(),
+            None => None,
         }
     }
 }

@@ -97,7 +97,7 @@ fn read_table(table: &Table) -> Result<Roster, RosterFault>
 }
 
 /// The version of the format, or `BadShape` of the top level.
-fn read_version(table: &Table) -> Result<Version, Why>
+pub(crate) fn read_version(table: &Table) -> Result<Version, Why>
     ensures answer { result ≡ version_in (table_view table.now) }
     ensures memory { IfErr result (λ why. why ≢ NoMemory) }
 {
