@@ -1,23 +1,21 @@
--- The words for the fault lines of `station` and `lbserver`, by kind and number (own).
-use Rattle.std.specs.Prelude.{ℕ, ◌||◌, Bool, if◌then◌else◌, List, [], codes}
+-- The words for the fault lines of `station`, by kind and number (own).
+use Rattle.std.specs.Prelude.{ℕ, Bool, if◌then◌else◌, List, [], codes}
 use Rattle.std.specs.List.{before_first, after_first}
 use Rattle.std.specs.Str.{bytes_eq}
 use Rattle.ascii_words.specs.Words.{is_blank}
-
--- the faults of values
-unfoldable pub value_fault : (number : List ℕ) → List ℕ
-value_fault number =
-    if bytes_eq number (codes "5") then codes "a configuration variable is not 0 to 255, or the values make no locomotive decoder" else
-    if bytes_eq number (codes "6") then codes "a module is not 1 to 510" else
-    if bytes_eq number (codes "7") then codes "no node" else
-    if bytes_eq number (codes "9") then codes "cvs has a number outside 1 to 1024, or one twice, or lacks 1 or 29" else []
+use Rattle.roster.specs.declared.fault.Why.TheVariants.{NotToml, BadShape, TooMany, BadName, BadCv, BadModule, Empty, BadCvList}
+use Rattle.roster.specs.FaultWords.{words_of}
 
 unfoldable pub roster_fault : (number : List ℕ) → List ℕ
 roster_fault number =
-    if bytes_eq number (codes "1") then codes "the text is not TOML, or not UTF-8" else
-    if bytes_eq number (codes "2") then codes "a key is missing or unknown, or a value has another type" else
-    if bytes_eq number (codes "3") then codes "more than 64 nodes" else
-    if bytes_eq number (codes "4") then codes "a name is not 1 to 16 letters, digits, - or _, or another node has it" else value_fault number
+    if bytes_eq number (codes "1") then words_of NotToml else
+    if bytes_eq number (codes "2") then words_of BadShape else
+    if bytes_eq number (codes "3") then words_of TooMany else
+    if bytes_eq number (codes "4") then words_of BadName else
+    if bytes_eq number (codes "5") then words_of BadCv else
+    if bytes_eq number (codes "6") then words_of BadModule else
+    if bytes_eq number (codes "7") then words_of Empty else
+    if bytes_eq number (codes "9") then words_of BadCvList else []
 
 unfoldable pub script_fault : (number : List ℕ) → List ℕ
 script_fault number =
@@ -54,9 +52,8 @@ first_word text = before_first is_blank text
 abbrev pub behind_word : List ℕ → List ℕ
 behind_word text = after_first is_blank text
 
--- `station:` or `lbserver:`
 abbrev pub names_program : List ℕ → Bool
-names_program word = bytes_eq word (codes "station:") || bytes_eq word (codes "lbserver:")
+names_program word = bytes_eq word (codes "station:")
 
 -- the words for a line after the program's name: a kind, `fault` and a number
 unfoldable pub fault_in : List ℕ → List ℕ

@@ -1,25 +1,9 @@
-//! The words for the fault lines of `station` and `lbserver`.
+//! The words for the fault lines of `station`.
 ghost use Rattle.std.specs.Prelude.{◌≡◌, ◌≤◌, length};
-ghost use Rattle.explain.specs.FaultLines.{fault_in, fault_words, hex_fault, names_program, roster_fault, script_fault, serve_fault, value_fault};
+ghost use Rattle.explain.specs.FaultLines.{fault_in, fault_words, hex_fault, names_program, roster_fault, script_fault, serve_fault};
 
 use ascii_words::cut_piece;
-
-/// Returns the fault of this number of the values of a roster.
-#[tactic(auto, unfolding(crate::specs::FaultLines::value_fault))]
-fn value_fault(number: &[u8]) -> &'static str
-    ensures text { result.now ≡ value_fault number.now }
-    ensures len { length result.now ≤ 90 }
-{
-    match number {
-        [b'5'] => {
-            "a configuration variable is not 0 to 255, or the values make no locomotive decoder"
-        }
-        [b'6'] => "a module is not 1 to 510",
-        [b'7'] => "no node",
-        [b'9'] => "cvs has a number outside 1 to 1024, or one twice, or lacks 1 or 29",
-        _ => "",
-    }
-}
+use roster::Why;
 
 /// Returns the fault of this number of a roster.
 #[tactic(auto, unfolding(crate::specs::FaultLines::roster_fault))]
@@ -28,11 +12,15 @@ fn roster_fault(number: &[u8]) -> &'static str
     ensures len { length result.now ≤ 90 }
 {
     match number {
-        [b'1'] => "the text is not TOML, or not UTF-8",
-        [b'2'] => "a key is missing or unknown, or a value has another type",
-        [b'3'] => "more than 64 nodes",
-        [b'4'] => "a name is not 1 to 16 letters, digits, - or _, or another node has it",
-        _ => value_fault(number),
+        [b'1'] => Why::NotToml.words(),
+        [b'2'] => Why::BadShape.words(),
+        [b'3'] => Why::TooMany.words(),
+        [b'4'] => Why::BadName.words(),
+        [b'5'] => Why::BadCv.words(),
+        [b'6'] => Why::BadModule.words(),
+        [b'7'] => Why::Empty.words(),
+        [b'9'] => Why::BadCvList.words(),
+        _ => "",
     }
 }
 
@@ -100,11 +88,11 @@ fn fault_words(kind: &[u8], number: &[u8]) -> &'static str
     }
 }
 
-/// Whether a word begins the fault lines of a program.
+/// Whether a word begins the fault lines of `station`.
 pub(crate) fn names_program(word: &[u8]) -> bool
     ensures { result ≡ names_program word.now }
 {
-    word == b"station:".as_slice() || word == b"lbserver:".as_slice()
+    word == b"station:".as_slice()
 }
 
 /// Returns the words for a fault line, given after the program's name: a kind, `fault` and a number.
