@@ -93,12 +93,42 @@ def statuses():
             ([*page, "nowhere.html"], 2, "lbserver: cannot read nowhere.html\n"),
             ([*page, long.name], 2, f"lbserver: {long.name} is too long\n"),
             (["--port", port, "--roster", "nowhere.toml"], 2, "lbserver: cannot read nowhere.toml\n"),
-            (["--port", port, "--roster", "README.md"], 3, "lbserver: roster fault 1 at node 0\n"),
+            (["--port", port, "--roster", "README.md"], 3, "lbserver: README.md, line 3: the text is not TOML, or not UTF-8\n"),
             (["--port", str(server.port)], 4, f"lbserver: cannot listen on 127.0.0.1:{server.port}: the port is in use\n"),
             (["--port", port, "--page", str(server.port)], 4, f"lbserver: cannot listen on 127.0.0.1:{server.port}: the port is in use\n"),
             (["--port", port, "--address", "192.0.2.1"], 4, f"lbserver: cannot listen on 192.0.2.1:{port}: the machine has no such address\n"),
         ):
             same(f"{words}", run(*words), (status, "", faults))
+
+
+# Nodes of rosters, by version, and the line on standard error after the name of the file.
+YARD = '[[node]]\nname = "yard"\nkind = "accessory"\nmodule = 1\n'
+SHUNTER = '[[node]]\nname = "shunter"\nkind = "loco"\n'
+ROSTERS = [
+    (1, YARD + "[[node]]\nname = \"shunter\n", ", line 7: the text is not TOML, or not UTF-8"),
+    (1, 'nodes = []\n', ": a key is missing or unknown, or a value has another type"),
+    (1, "", ": no node"),
+    (1, 65 * YARD, ": more than 64 nodes"),
+    (1, "[[node]]\n", ", node 1: a key is missing or unknown, or a value has another type"),
+    (1, YARD.replace("yard", "y d"), ", node 1: a name is not 1 to 16 letters, digits, - or _, or another node has it"),
+    (1, 2 * YARD, ", node 2 (yard): a name is not 1 to 16 letters, digits, - or _, or another node has it"),
+    (1, YARD.replace("= 1", "= 511"), ", node 1 (yard): a module is not 1 to 510"),
+    (1, YARD + SHUNTER + "cv1 = 0\ncv29 = 2\n", ", node 2 (shunter): CV1 must be 1 to 127"),
+    (1, SHUNTER + "cv1 = 3\ncv29 = 34\ncv17 = 191\n", ", node 1 (shunter): CV17 must be 192 to 231, since bit 5 of CV29 is 1"),
+    (1, SHUNTER + "cv1 = 3\ncv29 = 256\n", ", node 1 (shunter): the value of a variable must be 0 to 255"),
+    (2, SHUNTER + "cvs = [[1, 128], [29, 2]]\n", ", node 1 (shunter): CV1 must be 1 to 127"),
+    (2, SHUNTER + "cvs = [[1, 3], [29, 128]]\n", ", node 1 (shunter): bit 7 of CV29 must be 0"),
+    (2, SHUNTER + "cvs = [[1, 3]]\n", ", node 1 (shunter): cvs has a number outside 1 to 1024, or one twice, or lacks 1 or 29"),
+]
+
+
+def rosters():
+    """the fault of a roster is said in words, with its line or its node"""
+    for version, nodes, line in ROSTERS:
+        with tempfile.NamedTemporaryFile() as file:
+            file.write(f"version = {version}\n{nodes}".encode())
+            file.flush()
+            same(f"{nodes[:200]!r}", run("--port", "0", "--roster", file.name), (3, "", f"lbserver: {file.name}{line}\n"))
 
 
 def default_port():

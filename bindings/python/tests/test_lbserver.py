@@ -321,7 +321,7 @@ class TestServer(unittest.TestCase):
     def test_options_that_are_wrong(self):
         with self.assertRaisesRegex(ConnectionError, "status 1"), Server("--lose", "100"):
             pass
-        with self.assertRaisesRegex(ConnectionError, "roster fault 5 at node 1"), Server(roster=[LocoDecoder(0)]):
+        with self.assertRaisesRegex(ConnectionError, "node 1 .*: CV1 must be 1 to 127"), Server(roster=[LocoDecoder(0)]):
             pass
 
 

@@ -29,4 +29,4 @@ pub use input::{read_whole, whole_from};
 pub use monitoring::{monitor, monitor_from};
 pub use output::{WriteError, print, print_ended, print_to};
 pub use reporting::{report, report_as};
-pub use roster_file::{read_roster, roster_from};
+pub use roster_file::{LONGEST_ROSTER, read_roster, roster_from};

@@ -12,7 +12,7 @@ use std::alloc::Global;
 use std::rt::Files;
 
 /// The longest roster, in bytes.
-const LONGEST_ROSTER: usize = 65_536;
+pub const LONGEST_ROSTER: usize = 65_536;
 
 /// Returns the roster of this file, if a file is given. A file of more than 65,536 bytes is
 /// rejected once one byte beyond them is read.

@@ -10,11 +10,12 @@ ghost use Rattle.lbserver.specs.Execution.{IsNewServer, RunsWords, ServesOrder, 
 use crate::answering::answer;
 use crate::clients::Clients;
 use crate::fault::ServerFault;
+use crate::roster_file::read_roster;
 use crate::standard_output::StandardOutput;
 use bus_log::{LogQueue, Printer, Verbosity, decoders, print_listening, write_queued};
 use bus_server::{Losses, Server, Stop};
 use command_line::{FileName, ServerOrder, server_order};
-use console::{RunFault, read_roster, read_whole};
+use console::{RunFault, read_whole};
 use roster::Roster;
 use sockets::{Sockets, Stopwatch, Ticking};
 use std::io::Write;

@@ -5,21 +5,26 @@ ghost use Rattle.console.specs.Fault.{of_order};
 ghost use Rattle.lbserver.specs.declared.fault.ServerFault.TheVariants.{Output, Run};
 ghost use Rattle.lbserver.specs.Execution.{is_output};
 
-use command_line::OrderFault;
+use crate::roster_line::{NAME, write_roster_fault};
+use command_line::{FileName, OrderFault};
 use console::{RunFault, WriteError, report_as};
+use roster::{FaultDetails, RosterFault};
 use std::alloc::AllocError;
 use std::io;
 use std::io::{ErrorKind, Write};
 use std::net::SocketAddr;
-
-/// The name of the program in its fault lines.
-pub(crate) const NAME: &'static str = "lbserver";
 
 /// Why a run ends with a status other than 0.
 #[derive(Debug, Drop)]
 pub(crate) enum ServerFault {
     /// Status 4: nothing can listen on this address and port.
     Listen { address: SocketAddr, why: ErrorKind },
+    /// Status 3: the text of this file has this fault, the first.
+    Roster {
+        file: FileName,
+        fault: RosterFault,
+        details: FaultDetails,
+    },
     /// Status 4: standard output could not be written.
     Output,
     /// A fault that other programs have too.
@@ -51,6 +56,14 @@ impl ServerFault {
                 let reason = reason_of(*why);
                 let _ = writeln!(faults, "{NAME}: cannot listen on {address}: {reason}");
                 4
+            }
+            ServerFault::Roster {
+                file,
+                fault,
+                details,
+            } => {
+                let _ = write_roster_fault(file.as_str(), fault, details, faults);
+                3
             }
         }
     }

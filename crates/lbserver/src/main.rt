@@ -5,12 +5,14 @@ mod answering;
 mod clients;
 mod executing;
 mod fault;
+mod roster_file;
+mod roster_line;
 mod standard_output;
 
 use command_line::{not_utf8_server_text, read_words, texts};
 use console::{RunFault, report_as};
 use executing::execute;
-use fault::NAME;
+use roster_line::NAME;
 use standard_output::StandardOutput;
 use std::io;
 use std::process::ExitCode;
