@@ -46,18 +46,28 @@ def clients():
 
 def addresses():
     """--address: where it can be reached, for clients and for browsers; 127.0.0.1 without it"""
-    for words, shown, reached in (
-        ((), "127.0.0.1", {"127.0.0.1"}),
-        (("--address", "0.0.0.0"), "0.0.0.0", {"127.0.0.1", "127.0.0.2"}),
-        (("--address", "127.0.0.2"), "127.0.0.2", {"127.0.0.2"}),
+    for words, shown, page, reached in (
+        ((), "127.0.0.1", "127.0.0.1", {"127.0.0.1"}),
+        (("--address", "0.0.0.0"), "0.0.0.0", outward_address(), {"127.0.0.1", "127.0.0.2", outward_address()}),
+        (("--address", "127.0.0.2"), "127.0.0.2", "127.0.0.2", {"127.0.0.2"}),
     ):
         with serve(*words, "--turns", "1", page=True) as server:
-            lines = [f"listening {shown}:{server.port}", f"page http://{shown}:{server.page_port}/"]
+            lines = [f"listening {shown}:{server.port}", f"page http://{page}:{server.page_port}/"]
             holds("page ..", server.until_printed(lines[1]))
             same("printed", server.printed()[:2], lines)
             for port in (server.port, server.page_port):
-                for host in ("127.0.0.1", "127.0.0.2"):
+                for host in {"127.0.0.1", "127.0.0.2", page}:
                     same(f"{words}: {host} is reached", is_reached(server, host, port), host in reached)
+
+
+def outward_address():
+    """The address of this machine on its default route; 0.0.0.0 without one."""
+    with socket.socket(socket.AF_INET, socket.SOCK_DGRAM) as probe:
+        try:
+            probe.connect(("198.51.100.1", 9))
+        except OSError:
+            return "0.0.0.0"
+        return probe.getsockname()[0]
 
 
 def is_reached(server, host, port):

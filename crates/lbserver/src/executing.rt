@@ -10,6 +10,7 @@ ghost use Rattle.lbserver.specs.Execution.{IsNewServer, RunsWords, ServesOrder, 
 use crate::answering::answer;
 use crate::clients::Clients;
 use crate::fault::ServerFault;
+use crate::reach::reachable;
 use crate::roster_file::read_roster;
 use crate::standard_output::StandardOutput;
 use bus_log::{LogQueue, Printer, Verbosity, decoders, print_listening, write_queued};
@@ -174,7 +175,7 @@ fn with_log<O: Write>(
     ensures failed { output.new.failed ≡ ended_by_output result }
 {
     let mut log = LogQueue::new(rt.alloc())?;
-    report_addresses(&clients.sockets, &mut log)?;
+    report_addresses(rt, &clients.sockets, &mut log)?;
     write_queued(&mut log, output, Duration::ZERO)?;
     let verbosity = Verbosity::of(order.track, order.quiet);
     let mut printer = Printer::new(log, roster, verbosity, server.world());
@@ -215,12 +216,20 @@ fn read_page(rt: &HostRuntime, file: Option<FileName>) -> Result<Vec<u8>, Server
     Ok(read_whole(rt, file, LONGEST_PAGE)?)
 }
 
-/// Reports the bound addresses and ports.
-fn report_addresses(sockets: &Sockets, log: &mut LogQueue) -> Result<(), ServerFault>
+/// Reports the bound addresses and ports: of the page, one that other machines reach.
+fn report_addresses(
+    rt: &HostRuntime,
+    sockets: &Sockets,
+    log: &mut LogQueue,
+) -> Result<(), ServerFault>
     ensures { ended_by_output result ≡ false }
 {
     let Ok((bus, page)) = sockets.addresses() else {
         return Err(ServerFault::Run(RunFault::Network));
+    };
+    let page = match page {
+        Some(page) => Some(reachable(rt, page)),
+        None => None,
     };
     match print_listening(log, bus, page) {
         Ok(()) => Ok(()),

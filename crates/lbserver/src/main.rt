@@ -5,6 +5,7 @@ mod answering;
 mod clients;
 mod executing;
 mod fault;
+mod reach;
 mod roster_file;
 mod roster_line;
 mod standard_output;
