@@ -18,7 +18,10 @@ use std::net::SocketAddr;
 #[derive(Debug, Drop)]
 pub(crate) enum ServerFault {
     /// Status 4: nothing can listen on this address and port.
-    Listen { address: SocketAddr, why: ErrorKind },
+    Listen {
+        address: SocketAddr,
+        why: ErrorKind,
+    },
     /// Status 3: the text of this file has this fault, the first.
     Roster {
         file: FileName,

@@ -55,7 +55,8 @@ use toml::{Table, Value};
 #[tactic(auto, unfolding(crate::specs::Format::plan_in))]
 pub fn read(alloc: Global, text: &[u8], roster: &Roster) -> Result<Plan, PlanTextFault>
     // The plan is what the text says.
-    ensures ok { IfOk result (λ plan. plan_in (map name_of roster.now) text.now ≡ Ok (plan_entries plan)) }
+    ensures ok { IfOk result
+        (λ plan. plan_in (map name_of roster.now) text.now ≡ Ok (plan_entries plan)) }
     // The fault is the first of the text, unless memory ran out.
     ensures fault { IfErr result
         (λ fault. fault.why ≢ NoMemory → plan_in (map name_of roster.now) text.now ≡ Err fault) }
