@@ -11,7 +11,7 @@ import sys
 
 
 def message(*body):
-    """The bytes of a LocoNet message, its check byte behind them."""
+    """The bytes of a LocoNet message, with its check byte."""
     check = 0xFF
     for byte in body:
         check ^= byte

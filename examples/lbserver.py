@@ -1,5 +1,5 @@
 #!/usr/bin/env python3
-"""A client of `lbserver`: takes locomotive 3, turns the power on and drives it, and prints all that it hears.
+"""A client of `lbserver`: takes locomotive 3, turns the power on and drives it, and prints all that it receives.
 
 Start the station first:  ./lbserver --roster examples/layout.toml
 then:                     examples/lbserver.py 127.0.0.1 1234
@@ -28,7 +28,7 @@ class Client:
         return line.split()
 
     def send(self, *body):
-        """Sends a message, its check byte behind it, and waits until it is sent."""
+        """Sends a message with its check byte, and waits until it is sent."""
         check = 0xFF
         for byte in body:
             check ^= byte
@@ -40,7 +40,7 @@ class Client:
             raise ValueError(" ".join(line))
 
     def ask(self, *body):
-        """Sends a message, and answers the bytes of the slot data (E7) or of the acknowledge (B4) that come back."""
+        """Sends a message, and returns the bytes of its reply: slot data (E7) or an acknowledge (B4)."""
         self.send(*body)
         while (line := self.hear())[:1] != ["RECEIVE"] or line[1:2] not in (["E7"], ["B4"]):
             pass
@@ -63,7 +63,7 @@ def drive(client, address):
     client.ask(0xBA, slot, slot)  # OPC_MOVE_SLOTS, a null move: the slot is in use now
     client.send(0xA1, slot, 0x10)  # OPC_LOCO_DIRF: forward, F0 on
     client.send(0xA0, slot, 0x40)  # OPC_LOCO_SPD: step 63 of 126
-    # The slot stays in use, so the station goes on driving the locomotive as asked.
+    # The slot stays in use, so the station continues to drive the locomotive as asked.
 
 
 def main(words):

@@ -64,7 +64,7 @@ class Server(lbserver.Server):
     def processor_seconds(self):
         """How long processors have worked for it."""
         text = pathlib.Path(f"/proc/{self.process.pid}/stat").read_text()
-        # Behind the name in brackets stand the state and ten more fields, then the ticks of user and system.
+        # After the name in brackets come the state and ten more fields, then the ticks of user and system.
         fields = text.rpartition(")")[2].split()
         return (int(fields[11]) + int(fields[12])) / os.sysconf("SC_CLK_TCK")
 
@@ -92,7 +92,7 @@ class Client(lbserver.Client):
         self.stream.sendall("".join(f"{line}\r\n" for line in text).encode("ascii"))
 
     def request(self, *body):
-        """Sends a message, and returns the line behind SENT: the reply, for a message that has one."""
+        """Sends a message, and returns the line after SENT: the reply, for a message that has one."""
         self.send(*body)
         return self.line()
 
@@ -132,7 +132,7 @@ class Page:
     def handshake(self, host):
         """Upgrades the connection. Returns the head of the response."""
         self.stream.sendall(upgrade_request(host, f"http://{host}", self.KEY))
-        # Not a byte of the frames behind it.
+        # Not a byte of the frames after it.
         with self.stream.makefile("rb", buffering=0) as stream:
             head = read_head(stream)
         if not head.startswith("HTTP/1.1 101 "):

@@ -25,7 +25,7 @@ from serving import Client, Page, free_port, message_hex
 
 
 def clients():
-    """--clients 2: it goes on after one has left, pages are clients, and it ends with status 0 behind the second"""
+    """--clients 2: it continues after one has left, pages are clients, and it ends with status 0 after the second"""
     port = free_port()
     same("--clients 0", run("--clients", "0", "--port", str(port)), (0, f"listening 127.0.0.1:{port}\n", ""))
     for pace in (("--turns", "1"), ()):
@@ -35,10 +35,10 @@ def clients():
                     client.send(0x83)
                 printed_after(server, "client 2 leaves")
                 time.sleep(0.2)
-                same("status behind one client", server.process.poll(), None)
+                same("status after one client", server.process.poll(), None)
                 page.write(send(POWER_OFF))
                 same("the page", page.lines_until("SENT OK"), receive(POWER_ON, POWER_OFF) + ["SENT OK"])
-            same("status behind two", server.process.wait(20), 0)
+            same("status after two", server.process.wait(20), 0)
             wanted = ["client 1 joins", "client 2 joins", "msg 83 7C power on", "client 2 leaves"]
             wanted += ["msg 82 7D power off", "client 1 leaves"]
             same("printed", server.printed()[2:], wanted)
@@ -110,7 +110,7 @@ def all_hear_the_same():
             lines = []
             while sum(line.startswith("RECEIVE ") for line in lines) < 800 or lines.count("SENT OK") < 200:
                 lines.append(one.line())
-            # Its own message has SENT OK right behind it, and no other has.
+            # Its own message has SENT OK right after it, and no other has.
             own = [i for i, line in enumerate(lines) if line.startswith(f"RECEIVE A0 {1 + number:02X} ")]
             same("SENT OK", [i for i, line in enumerate(lines) if line == "SENT OK"], [i + 1 for i in own])
             found.append([line for line in lines if line.startswith("RECEIVE ")])

@@ -88,7 +88,7 @@ def slot_data(slot, trk=6):
 
 
 def printed_after(server, last):
-    """All lines that it has printed once it has printed this one, behind the first, which says where it listens."""
+    """All lines that it has printed once it has printed this one, after the first, which says where it listens."""
     holds(f"{last!r} is printed", server.until_printed(last))
     return server.printed()[1:]
 
@@ -100,10 +100,10 @@ def turns_of(lines):
 
 @contextlib.contextmanager
 def stopped(server, seconds):
-    """Holds the server up for so long, and goes on."""
+    """Stops the server for a time, then lets it continue."""
     server.process.send_signal(signal.SIGSTOP)
     stat = pathlib.Path(f"/proc/{server.process.pid}/stat")
-    holds("the server stands still", server.until(lambda: stat.read_text().rpartition(")")[2].split()[0] == "T"))
+    holds("the server is stopped", server.until(lambda: stat.read_text().rpartition(")")[2].split()[0] == "T"))
     try:
         yield
         time.sleep(seconds)

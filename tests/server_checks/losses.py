@@ -20,7 +20,7 @@ def drive_with_losses(file, *words):
 
 
 def received(lines):
-    """Of the first packet with each speed, which decoders received it: those whose lines stand right behind it."""
+    """Of the first packet with each speed, which decoders received it: those whose lines follow it at once."""
     found = []
     for speed in SPEEDS:
         packet = f" 03 3F {0x80 + speed:02X} "

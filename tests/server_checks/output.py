@@ -24,7 +24,7 @@ from server_checks.queues import read_beside
 from serving import Client, Page, message, message_hex
 
 
-# A message without meaning to the station, which is sent behind all others.
+# A message without meaning to the station, which is sent after all others.
 LAST = "msg 80 7F other"
 
 
@@ -102,7 +102,7 @@ def long_output():
         last = 221 * 255
         is_there = server.until(lambda: server.printed()[-1].startswith(f"track {last} "))
         holds(f"it ends at {server.printed()[-1]!r}", is_there)
-        # Behind the second message each turn has a broadcast stop.
+        # After the second message each turn has a broadcast stop.
         same("turns", turns_of(server.printed()), list(range(256, last + 1)))
         holds("more than a megabyte", server.log.stat().st_size > 1 << 20)
 

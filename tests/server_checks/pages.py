@@ -130,7 +130,7 @@ def requests():
 
 
 def names():
-    """a browser that names another host is told of --host, and by that name the page loads and connects"""
+    """a browser that names another host receives the word --host, and by that name the page loads and connects"""
     with serve("--turns", "1", "--host", "layout.example", "--host", "Station", page=True) as server:
         for name in ("layout.example", f"station:{server.page_port}", "STATION", f"127.0.0.1:{server.page_port}"):
             head, body = response_to(server, get("/", f"Host: {name}"))
@@ -178,11 +178,11 @@ def pages():
         frames = b"".join(client_frame(Page.TEXT, text.encode()) for text in send(POWER_ON, SPEED_63))
         with Client(server) as client, server.connect(port=server.page_port) as other:
             other.sendall(upgrade_request(own, f"http://{own}", Page.KEY) + frames)
-            same("behind a handshake", [client.line() for _ in range(2)], receive(POWER_ON, SPEED_63))
+            same("after a handshake", [client.line() for _ in range(2)], receive(POWER_ON, SPEED_63))
 
 
 def messages_in_pieces():
-    """a page's message is carried out once it is whole: in fragments, behind pings, and in several writes"""
+    """a page's message is carried out once it is whole: in fragments, after pings, and in several writes"""
     with serve(*LAYOUT, "--turns", "20", page=True) as server, Page(server) as page:
         page.write(send(TAKE_3, POWER_ON, USE_1))
         page.lines_until(TAKEN[-1])
@@ -201,11 +201,11 @@ def messages_in_pieces():
             time.sleep(0.03)
         wanted = wanted_of(STOP, STOPPED)
         same("in several writes", [page.line() for _ in wanted], wanted)
-        # Behind pings in the same write.
+        # After pings in the same write.
         pings = b"".join(client_frame(Page.PING, bytes([i])) for i in range(20))
         page.stream.sendall(pings + client_frame(Page.TEXT, text) + pings + client_frame(Page.TEXT, b"SEND 81 7E"))
         lines = [line for line in page.lines_until("RECEIVE 81 7E") if not line.startswith("NODE ")]
-        same("behind pings", lines, [*receive(SPEED_63), "SENT OK", *receive("81 7E")])
+        same("after pings", lines, [*receive(SPEED_63), "SENT OK", *receive("81 7E")])
         # Another client wakes the server between the writes.
         page.write(send(STOP))
         page.lines_until(f"NODE {STOPPED}")
@@ -235,7 +235,7 @@ def pages_leave():
                 page.stream.sendall(frame)
                 if is_answered is not None:
                     same("the close", page.frame(), (Page.CLOSE, True, is_answered))
-                    same("behind the close", page.bytes.read(), b"")
+                    same("after the close", page.bytes.read(), b"")
                 holds("it has left", server.until(lambda: server.printed().count("client 1 leaves") == count))
         same("printed", server.printed()[2:], 5 * ["client 1 joins", "client 1 leaves"])
 

@@ -79,7 +79,7 @@ def never_reads():
         with Client(server) as first, server.connect() as non_reader:
             printed_after(server, "client 2 joins")
             with Client(server) as sender, Client(server) as other:
-                # The server closes a client behind a free index.
+                # The server closes a client at an index after a free one.
                 first.close()
                 printed_after(server, "client 1 leaves")
                 batches = 0
@@ -148,7 +148,7 @@ def reads_late():
         # Less than the 20 seconds after which the server wakes to ping a page.
         with Page(server, seconds=10, room=4096) as late:
             late.lines_until("NODE node yard module 1 outputs 00000000")
-            # What a page's WebSocket keeps, and then what waits behind that.
+            # What a page's WebSocket keeps, and then what is queued after that.
             sent = fill(sender, late.stream, server.page_port, 2)
             same("what it receives", [late.line() for _ in range(2 * sent)], sent * text)
             sent = fill(sender, late.stream, server.page_port, 6)

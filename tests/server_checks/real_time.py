@@ -70,8 +70,8 @@ def real_time():
 
 
 def check_turns(lines):
-    """Each decoder changes within the turns of a cycle behind the message that asks for it. One turn may be under way,
-    and one idle packet, which is not printed, stands between two to the locomotive."""
+    """Each decoder changes within the turns of a cycle after the message that asks for it. One turn may be under way,
+    and one idle packet, which is not printed, is sent between two to the locomotive."""
     asked = turn = 0
     for line in lines:
         if line.startswith("track "):

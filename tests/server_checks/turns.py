@@ -22,7 +22,7 @@ from server_checks.common import (
 )
 from serving import Client, Page
 
-# A run with three turns behind each message, by docs/SENDING.md and docs/DCC.md: what is sent, what its client receives, and
+# A run with three turns after each message, by docs/SENDING.md and docs/DCC.md: what is sent, what its client receives, and
 # what is printed. A turn without power and one of an idle packet are counted, and not printed.
 REPLY_1 = f"msg {SLOT_1_IDLE} slot-data slot 1 stat 35 address 3 spd 0 dirf 0 trk 6 ss2 0 snd 0 ids 0 0"
 REPLY_2 = f"msg {SLOT_1_IN_USE} slot-data slot 1 stat 51 address 3 spd 0 dirf 0 trk 7 ss2 0 snd 0 ids 0 0"
@@ -32,11 +32,11 @@ THREE_TURNS = [
     (POWER_ON, [], ["msg 83 7C power on"]),
     # The four places of the slot wait. After one of them comes the ring, which waits for a turn to the same address.
     (USE_1, [SLOT_1_IN_USE], ["msg BA 01 01 45 move 1 1", REPLY_2, "track 7 03 3F 80 BC", "track 9 03 3F 80 BC"]),
-    # The speed waits behind groups one, two and three.
+    # The speed is queued after groups one, two and three.
     (SPEED_63, [], ["msg A0 01 40 1E speed slot 1 spd 64", "track 11 03 80 83"]),
     # Switch 0 is thrown: output 0 of module 1.
     ("B0 00 10 5F", [], ["msg B0 00 10 5F switch 0 thrown on", "track 13 03 80 83", "track 15 03 B0 B3"]),
-    # Reverse, F0 on: the speed keeps its place before the switch, and group one waits behind it.
+    # Reverse, F0 on: the speed keeps its place before the switch, and group one is queued after it.
     ("A1 01 30 6F", [], ["msg A1 01 30 6F dirf slot 1 dirf 48", "track 17 03 B0 B3"]),
     (POWER_ON, [], ["msg 83 7C power on", "track 19 03 A0 A3", "track 21 03 A0 A3"]),
     (
@@ -61,13 +61,13 @@ THREE_TURNS = [
 
 
 def run_three_turns(pause, *words):
-    """Plays the run, with a pause between its messages. Returns the lines that were printed behind the first."""
+    """Plays the run, with a pause between its messages. Returns the lines that were printed after the first."""
     with serve(*LAYOUT, "--turns", "3", "--clients", "1", *words) as server:
         with Client(server) as client:
             for text, replies, _ in THREE_TURNS:
                 client.write(send(text))
                 for line in [*receive(text), "SENT OK", *receive(*replies)]:
-                    same(f"behind {text}", client.line(), line)
+                    same(f"after {text}", client.line(), line)
                 time.sleep(pause)
         same("status", server.process.wait(20), 0)
         same("standard error", server.faults.read_text(), "")
@@ -84,7 +84,7 @@ def three_turns():
 
 
 def other_turns():
-    """--turns 0 brings no turn, and --turns 255 brings 255 behind each message"""
+    """--turns 0 runs no turn, and --turns 255 runs 255 after each message"""
     for turns in (0, 255):
         with serve("--turns", str(turns), "--track") as server, Client(server) as client:
             client.send(0x83)
@@ -95,7 +95,7 @@ def other_turns():
             if turns == 0:
                 same("packets", turns_of(server.printed()), [])
                 continue
-            # The slot is refreshed behind the third message, and behind the fourth each turn has a broadcast stop.
+            # The slot is refreshed after the third message, and after the fourth each turn has a broadcast stop.
             holds("the last", server.until(lambda: turns_of(server.printed())[-1:] == [4 * turns]))
             found = turns_of(server.printed())
             same("the first packet", found[0], 2 * turns + 1)
