@@ -1,5 +1,5 @@
 //! An upgraded page, as a stream of lines.
-ghost use Rattle.std.specs.Prelude.{◌≡◌, ◌≢◌, ◌<◌, ◌≤◌, ◌∷◌, ◌++◌, ◌⊎◌, [], Err, IfErr, IfOk, List, None, Ok, OnOk, Some, IfSome, length, take, true, false, ℕ};
+ghost use Rattle.std.specs.Prelude.{◌≡◌, ◌≢◌, ◌<◌, ◌≤◌, ◌∷◌, ◌++◌, ◌⊎◌, [], Err, IfErr, IfOk, IsUtf8, List, None, Ok, OnOk, Some, IfSome, length, take, true, false, ℕ};
 ghost use Rattle.std.specs.IoError.{error_kind};
 ghost use Rattle.tungstenite.specs.declared.error.Error.TheVariants.{Io, WriteBufferFull};
 ghost use Rattle.tungstenite.specs.Failure.{IsIo};
@@ -195,6 +195,9 @@ impl<S: Read + Write + Drop> Page<S> {
         ensures full { IfErr result
             (λ e. error_kind e ≡ ErrorKind.WouldBlock → (self.new.unfinished ≡ self.old.unfinished)
             × Flushed (λ s. S.contents s.stream) self.old.socket self.new.socket) }
+        // A line that is not UTF-8 never becomes a message, so it is not to be written again.
+        ensures utf8 { IfErr result (λ e. error_kind e ≡ ErrorKind.WouldBlock
+            → IsUtf8 (without_return self.old.unfinished)) }
     {
         self.flush_queued()?;
         let taken = self.take(bytes)?;
@@ -299,6 +302,8 @@ impl<S: Read + Write + Drop> Page<S> {
             self.new.socket) }
         ensures full { IfErr result (λ e. error_kind e ≡ ErrorKind.WouldBlock
             → (self.new.unfinished ≡ self.old.unfinished) × (self.new.socket ≡ self.old.socket)) }
+        ensures utf8 { IfErr result (λ e. error_kind e ≡ ErrorKind.WouldBlock
+            → IsUtf8 (without_return self.old.unfinished)) }
     {
         for (taken, byte) in bytes.iter().enumerate() {
             if *byte != b'\n' {
@@ -317,13 +322,15 @@ impl<S: Read + Write + Drop> Page<S> {
     }
 
     /// Queues the line that ends now. Fails with `WouldBlock` if the send queue is full; the line
-    /// is not taken then.
+    /// is not taken then. Fails otherwise if the line is not UTF-8.
     fn queue_line(&mut self) -> io::Result<()>
         ensures held { OnOk result (self.new.unfinished ≡ []) }
         ensures sent { OnOk result (Queues (λ s. S.contents s.stream)
             (without_return self.old.unfinished) self.old.socket self.new.socket) }
         ensures full { IfErr result (λ e. error_kind e ≡ ErrorKind.WouldBlock
             → (self.new.unfinished ≡ self.old.unfinished) × (self.new.socket ≡ self.old.socket)) }
+        ensures utf8 { IfErr result (λ e. error_kind e ≡ ErrorKind.WouldBlock
+            → IsUtf8 (without_return self.old.unfinished)) }
     {
         let Ok(line) = str::from_utf8(self.unfinished.line()) else {
             return Err(io::Error::from(ErrorKind::BrokenPipe));

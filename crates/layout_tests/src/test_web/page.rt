@@ -140,10 +140,11 @@ fn the_longest_message_has_512_bytes(rt: HostRuntime) -> Result<(), Fail> {
     Ok(())
 }
 
-/// A text message in two fragments of these lengths, each 126 to 512.
-fn fragments(rt: &HostRuntime, first: u16, second: u16) -> Result<Vec<u8>, Fail> {
+/// A text message in two fragments of these lengths, each 126 to 512. The second is the last if its
+/// head is 80, and not if it is 0.
+fn fragments(rt: &HostRuntime, first: u16, head: u8, second: u16) -> Result<Vec<u8>, Fail> {
     let mut frames = Vec::new(rt.alloc());
-    for (head, count) in [(0x01, first), (0x80, second)] {
+    for (head, count) in [(0x01, first), (head, second)] {
         let [high, low] = count.to_be_bytes();
         frames.extend_from_slice(&[head, 0xfe, high, low, 0, 0, 0, 0])?;
         let text = [b'x'; 512];
@@ -154,8 +155,14 @@ fn fragments(rt: &HostRuntime, first: u16, second: u16) -> Result<Vec<u8>, Fail>
 
 #[test]
 fn a_longer_message_in_fragments_ends_the_page(rt: HostRuntime) -> Result<(), Fail> {
-    for (first, second, read, closed) in [(256, 256, 513, false), (256, 257, 0, true)] {
-        let frames = fragments(&rt, first, second)?;
+    // Before its last fragment too, or one without end would take all memory.
+    for (head, second, read, closed) in [
+        (0x80, 256, 513, false),
+        (0x80, 257, 0, true),
+        (0x00, 256, 0, false),
+        (0x00, 257, 0, true),
+    ] {
+        let frames = fragments(&rt, 256, head, second)?;
         let stream = Memory::new(rt.alloc(), frames.as_slice())?;
         let mut page = Page::new(rt.alloc(), stream, &[])?;
         let (text, is_closed) = read_all(&rt, &mut page)?;

@@ -1,4 +1,6 @@
 use Rattle.std.proofs.Common.{rules, refl, arith, ◌∙◌, subst}
+use Rattle.std.specs.Str.{IsUtf8}
+use Rattle.web.specs.Messages.{without_return}
 use Rattle.web.specs.Sending.{QueuesAll}
 use Rattle.web.proofs.Sending.{end-held, end-tells, nothing-sent, step-held, step-messages, tells-nothing}
 use Rattle.web.proofs.page.Page.take.Goals as goal
@@ -35,4 +37,13 @@ returns-in-Err-2-clause-full g c = λ full. elim c.if-taken-gt0.branch [
       (omega (arith, w.if-taken-gt0)) c.loop-taken.invariant.held c.loop-taken.invariant.sent in
       let kept = c.in-Err.ensures.full full in
       (kept.0 ∙ none.0, kept.1 ∙ none.1)
+]
+
+pub returns-in-Err-2-clause-utf8 : goal.returns-in-Err-2-clause-utf8
+returns-in-Err-2-clause-utf8 g c = λ full. elim c.if-taken-gt0.branch [
+  | then-taken-gt0+else-eq w ↦ search rules
+  | else-taken-gt0 w ↦
+      let none = nothing-sent _ c.args.self.now.unfinished c.loop-taken.self.unfinished c.args.bytes.now c.loop-taken.taken c.args.self.now.socket c.loop-taken.self.socket
+      (omega (arith, w.if-taken-gt0)) c.loop-taken.invariant.held c.loop-taken.invariant.sent in
+      subst (λ held. IsUtf8 (without_return held)) none.0 (c.in-Err.ensures.utf8 full)
 ]
