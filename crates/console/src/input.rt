@@ -41,6 +41,9 @@ pub fn read_whole<R: Files + AllocGlobal>(
 ) -> Result<Vec<u8>, RunFault>
     requires { most + 1 < 2 ^ 32 }
     ensures most { IfOk result (λ v. length v.items ≤ most) }
+    // All that some file has, to its end.
+    ensures read { IfOk result (λ v. (old : R.File) × (new : R.File)
+        × ReadsFile most (R.File.remaining old) (R.File.remaining new) v.items) }
     ensures fault { IfErr result (FailsFile most file None None) }
 {
     let mut input = match open(rt, &file) {
