@@ -6,6 +6,7 @@
 
 use super::examples::LAYOUT;
 use crate::{OrderFault, execute, order};
+use command_line::{no_text, read_words};
 use decoder_node::NodeList;
 use input_text::{TrackedReader, TrackedWriter};
 use layout_core::World;
@@ -16,7 +17,7 @@ use std::alloc::Global;
 use std::net::TcpListener;
 use std::test::Fail;
 use std::{fs, mem};
-use test_support::Scarcity;
+use test_support::{Given, Scarcity};
 
 const SHOWN: &[u8] = b"node shunter short 3 stop forward F 0000000000000
 node yard module 1 outputs 00000000
@@ -41,6 +42,7 @@ enum Work<'a> {
     Roster,
     Hex,
     Script,
+    Words(&'a [&'a [u8]]),
     Order(&'a [&'a str]),
     Run(Run<'a>),
 }
@@ -122,11 +124,21 @@ fn answer(rt: &HostRuntime, work: Work<'_>, pages: &mut Pages) -> Option<bool> {
             Ok(commands) => Some(commands.as_slice() == [Command::Show; 9].as_slice()),
             Err(fault) => other_than(fault.why == show_text::Why::NoMemory),
         },
+        Work::Words(words) => are_read(alloc, words),
         Work::Order(words) => match order(alloc, words) {
             Ok(_) => Some(true),
             Err(fault) => other_than(matches!(fault, OrderFault::NoMemory)),
         },
         Work::Run(run) => run.answer(rt, pages),
+    }
+}
+
+/// Whether these arguments, the program's name and one more, are read. `None` if memory ran out.
+fn are_read(alloc: Global, words: &[&[u8]]) -> Option<bool> {
+    let given = Given { words };
+    match read_words(alloc, &given, |alloc| no_text(alloc)) {
+        Ok(words) => Some(words.len() == 1),
+        Err(fault) => other_than(matches!(fault, OrderFault::NoMemory)),
     }
 }
 
@@ -190,6 +202,16 @@ fn texts_that_are_read(rt: HostRuntime) -> Result<(), Fail> {
         assert!(rt; grows_or_says_so(&rt, work)?);
     }
     assert!(rt; grows_or_says_so(&rt, Work::Roster)?);
+    Ok(())
+}
+
+/// The word is longer than the text for a wrong one, for which there is memory at some of the calls.
+#[test]
+fn words_that_the_system_gives(rt: HostRuntime) -> Result<(), Fail> {
+    let mut word = Vec::with_capacity(rt.alloc(), 65_536)?;
+    word.extend_from_slice([b'x'; 65_536].as_slice())?;
+    let words = [b"station".as_slice(), word.as_slice()];
+    assert!(rt; grows_or_says_so(&rt, Work::Words(words.as_slice()))?);
     Ok(())
 }
 
