@@ -154,6 +154,23 @@ static void print_sizes(void) {
     FIELD(station_motion, steps), FIELD(station_motion, forward);
 }
 
+/* What is wrong with a roster. */
+static const char *fault_of(const char *roster, size_t size) {
+    uint8_t fault = 0, node = 0;
+    station_check((const uint8_t *)roster, size, &fault, &node);
+    switch (fault) {
+    case STATION_NOT_TOML: return "the text is not TOML, or not UTF-8";
+    case STATION_BAD_SHAPE: return "a key is missing or unknown, or a value has another type";
+    case STATION_TOO_MANY: return "there are more than 64 decoders";
+    case STATION_BAD_NAME: return "the name is not valid, or an earlier decoder has it";
+    case STATION_BAD_CV: return "a variable has no valid value";
+    case STATION_BAD_MODULE: return "the module is not 1 to 510";
+    case STATION_EMPTY: return "there is no decoder";
+    case STATION_BAD_CV_LIST: return "the list of variables is not valid";
+    default: return "out of memory";
+    }
+}
+
 int main(int argc, char **argv) {
     if (argc == 2 && strcmp(argv[1], "sizes") == 0) {
         print_sizes();
@@ -169,6 +186,10 @@ int main(int argc, char **argv) {
     uint8_t node = 0;
     uint8_t lines = (uint8_t)atoi(argv[3]);
     uint8_t status = station_read(&layout, lines, (const uint8_t *)roster, size, &node);
+    if (status == STATION_BAD_DECODERS) {
+        fprintf(stderr, "play: decoder %u: %s\n", node, fault_of(roster, size));
+        return 2;
+    }
     if (status != STATION_MADE) {
         fprintf(stderr, "play: no layout: status %u at decoder %u\n", status, node);
         return 2;
