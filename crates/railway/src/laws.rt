@@ -34,8 +34,11 @@ pub fn trains_are_in_two_blocks()
         → IsTrue (occupies place.block train) }
 {}
 
-/// However a time is cut in which the decoders do the same, it has the same result.
+/// However a time is cut in which the decoders do the same, it has the same result. What holds of
+/// every railway holds after it.
 pub fn time_adds_up()
+    ensures kept { (railway : RailwayState) (nodes : List Node) (micros : ℕ)
+        → IsTrue (is_railway railway) → IsTrue (is_railway (elapsed railway micros nodes)) }
     ensures adds { (railway : RailwayState) (nodes : List Node) (these those : ℕ)
         → IsTrue (is_railway railway)
         → elapsed (elapsed railway these nodes) those nodes
