@@ -4,7 +4,7 @@ use Rattle.std.specs.Prelude.{ℕ, ◌==◌, if◌then◌else◌, List, [], ◌�
 use Rattle.std.specs.Option.{option_to_list}
 use Rattle.loconet_tcp.specs.ClientLines.{receive_text, sent_error_text, sent_ok_text, turns_text, version_text}
 use Rattle.loconet_tcp.specs.declared.outcome.Outcome.{Outcome}
-use Rattle.loconet_tcp.specs.declared.outcome.Outcome.TheVariants.{Connected, Rejected, Sent, TurnsRequested}
+use Rattle.loconet_tcp.specs.declared.outcome.Outcome.TheVariants.{Connected, Rejected, Reported, Sent, TurnsRequested}
 
 -- a reply was seen on LocoNet, if there is one
 abbrev pub reply_text : Option (List ℕ) → List ℕ
@@ -12,16 +12,18 @@ reply_text None = []
 reply_text (Some reply) = receive_text reply
 
 -- The lines that one client receives of an event. All clients receive the message, its sender too;
--- then the sender receives SENT OK; then all receive the reply. That turns have passed is told to
--- the client alone that requested them.
+-- then the sender receives SENT OK; then all receive the reply. All receive the report of a sensor.
+-- That turns have passed is told to the client alone that requested them.
 abbrev pub text_for : (client : ℕ) → Outcome → List ℕ
 text_for i (Connected client) = if client == i then version_text else []
 text_for i (Rejected client reason) = if client == i then sent_error_text reason else []
 text_for i (Sent client message reply) = receive_text message ++ (if client == i then sent_ok_text else []) ++ reply_text reply
+text_for i (Reported message) = receive_text message
 text_for i (TurnsRequested client turns) = if client == i then turns_text turns else []
 text_for i other = []
 
--- the messages seen on LocoNet: each message sent, and its reply
+-- the messages seen on LocoNet: each message sent, its reply, and each report of a sensor
 abbrev pub messages_in : Outcome → List (List ℕ)
 messages_in (Sent client message reply) = message ∷ option_to_list reply
+messages_in (Reported message) = message ∷ []
 messages_in other = []

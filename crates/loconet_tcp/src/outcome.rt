@@ -35,6 +35,10 @@ pub enum Outcome {
         message: Msg,
         reply: Option<Msg>,
     },
+    /// A sensor reported. All clients receive the message.
+    Reported {
+        message: Msg,
+    },
     /// A client requested this number of turns, which follow, or was refused; it alone receives
     /// the answer.
     TurnsRequested {
@@ -80,6 +84,7 @@ impl Outcome {
                     push_receive(text, reply);
                 }
             }
+            Outcome::Reported { message } => push_receive(text, message),
             _ => {}
         }
     }
