@@ -15,7 +15,7 @@ use Rattle.station_core.specs.Seen.{Seen}
 use Rattle.layout_core.specs.declared.event.Event.{Event as LayoutEvent}
 use Rattle.layout_core.specs.Played.{after_events as played}
 use Rattle.bus.specs.declared.event.Event.{Event}
-use Rattle.bus.specs.declared.event.Event.TheVariants.{Connects, Receives, Disconnects, Elapses, Turn}
+use Rattle.bus.specs.declared.event.Event.TheVariants.{Connects, Receives, Disconnects, Reports, Elapses, Turn}
 use Rattle.bus.specs.Below.{StationMoves, TurnsAreBounded}
 use Rattle.bus.specs.Bus.{BusState, after_event, request_at, client_of, is_event, pending_text_at, station_after, after_turn_boundary}
 use Rattle.bus.specs.Invariant.{IsInvariant}
@@ -102,6 +102,7 @@ keeps laws bus (Disconnects client) h legal = kept_clients bus bus.station clien
 keeps laws bus (Receives client byte) h legal =
     let request : Option Request = request_at (client_of bus client) byte in
     kept_clients bus (station_after bus.station request) client (pending_text_at (client_of bus client) byte) h (asked_lines bus.station request)
+keeps laws bus (Reports sensor occupied) h legal = h
 keeps laws bus (Turn missed) h legal = kept_turned laws bus bus.remaining h (omega arith) (omega arith)
 keeps laws bus (Elapses micros missed) h legal = elim (cases_lt micros bus.remaining) [
   | inl less ↦ subst IsInvariant (sym (passes_on bus micros missed less)) (kept_waiting bus micros h less)
@@ -122,6 +123,7 @@ plays laws bus (Connects client) h legal = refl
 plays laws bus (Disconnects client) h legal = refl
 plays laws bus (Receives client byte) h legal =
     asked_station laws bus.station client (request_at (client_of bus client) byte) h.idle (ltb-true client 8 legal) (whole_ask (client_of bus client) byte)
+plays laws bus (Reports sensor occupied) h legal = refl
 plays laws bus (Turn missed) h legal = laws.turn bus.station
 plays laws bus (Elapses micros missed) h legal = elim (cases_lt micros bus.remaining) [
   | inl less ↦ ap (λ (events : List LayoutEvent). played bus.station events) (waits_for bus micros missed less) ∙ sym (ap (λ (b : BusState). b.station) (passes_on bus micros missed less))

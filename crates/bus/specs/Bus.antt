@@ -4,6 +4,7 @@ use Rattle.std.specs.List.{fold, list_all, slice_index_or}
 use Rattle.dcc_packet.specs.Sent.{idle_bytes}
 use Rattle.half_bits.specs.Halves.{duration_of}
 use Rattle.ln_ops.specs.Reply.{reply_bytes}
+use Rattle.ln_ops.specs.Sensor.{is_sensor, report_bytes}
 use Rattle.loconet_tcp.specs.declared.request.Request.{Request}
 use Rattle.loconet_tcp.specs.declared.request.Request.TheVariants.{Send, Invalid, Turns}
 use Rattle.loconet_tcp.specs.declared.request.TurnsError.{TurnsError}
@@ -14,9 +15,9 @@ use Rattle.station_core.specs.declared.call.Step.TheVariants.{Reply}
 use Rattle.station_core.specs.Moved.{after_message, answer_to_message, after_turn, packet_of_turn}
 use Rattle.station_core.specs.Seen.{Seen, first_seen}
 use Rattle.bus.specs.declared.event.Event.{Event}
-use Rattle.bus.specs.declared.event.Event.TheVariants.{Connects, Receives, Disconnects, Elapses, Turn}
+use Rattle.bus.specs.declared.event.Event.TheVariants.{Connects, Receives, Disconnects, Reports, Elapses, Turn}
 use Rattle.loconet_tcp.specs.declared.outcome.Outcome.{Outcome}
-use Rattle.loconet_tcp.specs.declared.outcome.Outcome.TheVariants.{Nothing, Connected, Disconnected, Rejected, Sent, TurnBegan, TurnsRequested}
+use Rattle.loconet_tcp.specs.declared.outcome.Outcome.TheVariants.{Nothing, Connected, Disconnected, Rejected, Reported, Sent, TurnBegan, TurnsRequested}
 
 -- the part of a bus that clients and time change: the station, the bytes kept of each client's
 -- text, or None for no client, and the microseconds left of the current turn; and whether clients
@@ -35,11 +36,12 @@ client_count = 8
 abbrev pub shortest : ℕ
 shortest = 5796
 
--- an event of one of the eight clients, or of a short time
+-- an event of one of the eight clients, of a sensor, or of a short time
 abbrev pub is_event : Event → Bool
 is_event (Connects client) = nat_lt client 8
 is_event (Receives client byte) = nat_lt client 8
 is_event (Disconnects client) = nat_lt client 8
+is_event (Reports sensor occupied) = is_sensor sensor
 is_event (Elapses micros missed) = nat_le micros 5796
 is_event (Turn missed) = true
 
@@ -102,7 +104,7 @@ duration (Some packet) = duration_of packet
 abbrev pub after_turn_boundary : BusState → (micros : ℕ) → BusState
 after_turn_boundary bus micros = record bus { station = after_turn bus.station; remaining = bus.remaining + duration (packet_of_turn bus.station) - micros }
 
--- the effect of an event on a bus
+-- the effect of an event on a bus; a report has none
 abbrev pub after_event : BusState → Event → BusState
 after_event bus (Connects client) = record bus { clients = slice_set bus.clients client (Some []) }
 after_event bus (Disconnects client) = record bus { clients = slice_set bus.clients client None }
@@ -110,6 +112,7 @@ after_event bus (Receives client byte) = record bus {
   station = station_after bus.station (request_at (client_of bus client) byte);
   clients = slice_set bus.clients client (pending_text_at (client_of bus client) byte);
 }
+after_event bus (Reports sensor occupied) = bus
 after_event bus (Elapses micros missed) = if nat_le bus.remaining micros then after_turn_boundary bus micros else record bus { remaining = bus.remaining - micros }
 after_event bus (Turn missed) = after_turn_boundary bus bus.remaining
 
@@ -118,6 +121,7 @@ abbrev pub outcome_of : BusState → Event → Outcome
 outcome_of bus (Connects client) = Connected client
 outcome_of bus (Disconnects client) = Disconnected client
 outcome_of bus (Receives client byte) = outcome_of_request bus client (request_at (client_of bus client) byte)
+outcome_of bus (Reports sensor occupied) = Reported (report_bytes sensor occupied)
 outcome_of bus (Elapses micros missed) = if nat_le bus.remaining micros then TurnBegan (packet_of_turn bus.station) else Nothing
 outcome_of bus (Turn missed) = TurnBegan (packet_of_turn bus.station)
 

@@ -5,7 +5,7 @@ use Rattle.loconet_tcp.specs.declared.request.Request.TheVariants.{Send, Invalid
 use Rattle.layout_core.specs.declared.event.Event.{Event as LayoutEvent}
 use Rattle.layout_core.specs.declared.event.Event.TheVariants as layout
 use Rattle.bus.specs.declared.event.Event.{Event}
-use Rattle.bus.specs.declared.event.Event.TheVariants.{Connects, Receives, Disconnects, Elapses, Turn}
+use Rattle.bus.specs.declared.event.Event.TheVariants.{Connects, Receives, Disconnects, Reports, Elapses, Turn}
 use Rattle.bus.specs.Bus.{BusState, after_event, request_at, client_of}
 
 -- bytes received on a line
@@ -28,6 +28,7 @@ abbrev pub layout_event : BusState → Event → List LayoutEvent
 layout_event bus (Connects client) = []
 layout_event bus (Disconnects client) = []
 layout_event bus (Receives client byte) = request_events client (request_at (client_of bus client) byte)
+layout_event bus (Reports sensor occupied) = []
 layout_event bus (Elapses micros missed) = if nat_le bus.remaining micros then turn_of missed else []
 layout_event bus (Turn missed) = turn_of missed
 

@@ -6,6 +6,7 @@ use crate::event::Event;
 use crate::sending::send;
 use crate::turning::{SHORTEST_TURN, duration, turn};
 use layout_core::{NodeList, World};
+use ln_ops::SensorReport;
 use loconet_tcp::{Outcome, Request, RequestReader, TurnsError};
 use station_core::{MAX_LINES, StationFault};
 use std::alloc::Global;
@@ -105,6 +106,9 @@ impl Bus {
                 Outcome::Disconnected { client }
             }
             Event::Receives { client, byte } => self.receive(client, byte),
+            Event::Reports { sensor, occupied } => Outcome::Reported {
+                message: SensorReport { sensor, occupied }.message(),
+            },
             Event::Elapses { micros, missed } => self.elapse(micros, missed),
             Event::Turn { missed } => self.begin_turn(self.remaining, missed),
         }

@@ -9,6 +9,8 @@ pub enum Event {
     Receives { client: u8, byte: u8 },
     /// A client disconnects; an unfinished line is discarded.
     Disconnects { client: u8 },
+    /// A sensor, 1 to 4096, reports that its block is occupied or free.
+    Reports { sensor: u16, occupied: bool },
     /// `micros` microseconds of track time elapse, at most 5,796, so that at most one turn begins
     /// in them. Decoder i misses it if bit i of `missed` is set.
     Elapses { micros: u16, missed: u64 },
