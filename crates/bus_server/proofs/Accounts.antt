@@ -8,7 +8,7 @@ use Rattle.bus.specs.declared.event.Event.{Event}
 use Rattle.bus.specs.Bus.{outcome_of}
 use Rattle.bus.specs.Observations.{Observation}
 use Rattle.loconet_tcp.specs.declared.outcome.Outcome.{Outcome}
-use Rattle.loconet_tcp.specs.declared.outcome.Outcome.TheVariants.{Nothing, Connected, Disconnected, Rejected, Sent, TurnBegan, TurnsRequested}
+use Rattle.loconet_tcp.specs.declared.outcome.Outcome.TheVariants.{Nothing, Connected, Disconnected, Rejected, Reported, Sent, TurnBegan, TurnsRequested}
 use Rattle.loconet_tcp.specs.Texts.{text_for}
 use Rattle.bus_server.specs.Queues.{enqueued}
 use Rattle.bus_server.specs.TransportEvents.{Polled, ServerClosed, Accepted, WriteBlocked, PeerClosed, NonePending, TransportEvent, Written, ReadBlocked, Received, Refused}
@@ -65,6 +65,7 @@ front_told i account Nothing queues fits q h = fits q h ∙ sym (append-nil acco
 front_told i account (TurnBegan packet) queues fits q h = fits q h ∙ sym (append-nil account.text)
 front_told i account (Rejected client reason) queues fits q h = all_told i account (Rejected client reason) queues fits q h
 front_told i account (Sent client message reply) queues fits q h = all_told i account (Sent client message reply) queues fits q h
+front_told i account (Reported message) queues fits q h = all_told i account (Reported message) queues fits q h
 front_told i account (TurnsRequested client turns) queues fits q h = all_told i account (TurnsRequested client turns) queues fits q h
 front_told i account (Disconnected client) queues fits q h = elim (cases_eq i client) [
   | inl same ↦ no_some q (sym (subst (λ (n : ℕ). slice_index_or (slice_set queues client None) n None ≡ None) (sym same) (none_set queues client)) ∙ h)

@@ -1,12 +1,13 @@
 -- How a hub, its transport and its observer progress, one event after another.
-use Rattle.std.proofs.Common.{◌≡◌, ℕ, zero, suc, ◌+◌, ◌<◌, ◌≤◌, true, false, List, [], ◌∷◌, ◌++◌, length, take, drop, Option, Some, None, Result, Ok, Err, refl, ap, sym, subst, ◌∙◌, arith, append_assoc, append-nil}
+use Rattle.std.proofs.Common.{◌≡◌, ℕ, zero, suc, ◌+◌, ◌<◌, ◌≤◌, Bool, true, false, List, [], ◌∷◌, ◌++◌, length, take, drop, Option, Some, None, Result, Ok, Err, refl, ap, sym, subst, ◌∙◌, arith, append_assoc, append-nil}
 use Rattle.std.specs.Prelude.{◌==◌, is_some, not, OnOk}
 use Rattle.std.specs.List.{list_all}
 use Rattle.std.proofs.lemmas.Bool.{and_parts, and_from}
 use Rattle.std.proofs.lemmas.List.{length-take, map-append, take-append-drop, take-take}
 use Rattle.std.proofs.lemmas.List.Concat.{flat_map-append}
+use Rattle.std.proofs.lemmas.List.Folds.{list_all-append}
 use Rattle.bus.specs.declared.event.Event.{Event}
-use Rattle.bus.specs.declared.event.Event.TheVariants.{Connects, Receives, Disconnects, Elapses, Turn}
+use Rattle.bus.specs.declared.event.Event.TheVariants.{Connects, Receives, Disconnects, Reports, Elapses, Turn}
 use Rattle.bus.specs.Bus.{BusState, after_event}
 use Rattle.bus.specs.Course.{is_time, micros_in}
 use Rattle.bus.specs.Observations.{Observed, Observation}
@@ -18,6 +19,8 @@ use Rattle.bus_server.specs.Progress.{Progresses, ProgressesWithoutInput, Snapsh
 use Rattle.bus_server.specs.Rounds.{IsUnread, PreservesRound}
 use Rattle.bus_server.specs.Applied.{Handled, AreTurns, Applies, LoggedEvent, RunsEvent, RunsFor, RunsEvents, IsDrawn, AppliesAll, ServerState, events_of, overflow_notice, transport_events, observations_in, observations_of}
 use Rattle.bus_server.specs.Queues.{queued}
+use Rattle.bus_server.specs.Sensors.{is_report}
+use Rattle.bus_server.specs.Steps.{ObservesReports}
 use Rattle.bus_server.specs.TransportEvents.{TransportEvent}
 use Rattle.bus_server.proofs.Keeping.{keeps_more, keeps_same}
 
@@ -120,33 +123,105 @@ pub happened_more : (first second : List LoggedEvent) (old mid new : ServerState
 happened_more [] second old mid new same rest = subst (λ (s : ServerState). RunsEvents second s new) same rest
 happened_more (one ∷ first) second old mid new h rest = (h.0, h.1, happened_more first second h.0 mid new h.2 rest)
 
-pub happened_then : (event : Event) (observed : Observation) (first : List LoggedEvent) (old mid new : ServerState) → RunsEvents first old mid → RunsEvent event observed mid new → RunsEvents (first ++ record { event = event; observed = observed } ∷ []) old new
-happened_then event observed first old mid new h one = happened_more first (record { event = event; observed = observed } ∷ []) old mid new h (new, one, refl)
+-- an event, and then what sensors report
+pub happened_then : (event : Event) (observed : Observation) (first reports : List LoggedEvent) (old mid after new : ServerState) → RunsEvents first old mid → RunsEvent event observed mid after → RunsEvents reports after new
+    → RunsEvents (first ++ record { event = event; observed = observed } ∷ reports) old new
+happened_then event observed first reports old mid after new h one rest = happened_more first (record { event = event; observed = observed } ∷ reports) old mid new h (after, one, rest)
+
+pub same_turns : (applied : List LoggedEvent) (old new : ServerState) → RunsEvents applied old new → new.turns ≡ old.turns
+same_turns [] old new same = ap (λ (s : ServerState). s.turns) same
+same_turns (one ∷ more) old new h = same_turns more h.0 new h.2 ∙ h.1.turns
 
 -- an event of a client draws nothing
 pub none_drawn : (event : Event) (bus : BusState) (nodes : ℕ) (losses : Losses) → is_time event ≡ false → IsDrawn event bus nodes losses losses
 none_drawn (Connects client) bus nodes losses h = refl
 none_drawn (Receives client byte) bus nodes losses h = refl
 none_drawn (Disconnects client) bus nodes losses h = refl
+none_drawn (Reports sensor occupied) bus nodes losses h = refl
 none_drawn (Elapses micros missed) bus nodes losses h = cc
 none_drawn (Turn missed) bus nodes losses h = cc
 
+-- What sensors report is no turn, and takes no time.
+
+-- only sensors report
+abbrev pub AreReports : List Event → Type 0
+AreReports events = list_all is_report events ≡ true
+
+pub turns_none : (reports : List Event) → AreReports reports → AreTurns 0 reports
+turns_none [] are = tt
+turns_none (Reports sensor occupied ∷ reports) are = turns_none reports are
+turns_none (Connects client ∷ reports) are = cc
+turns_none (Receives client byte ∷ reports) are = cc
+turns_none (Disconnects client ∷ reports) are = cc
+turns_none (Elapses micros missed ∷ reports) are = cc
+turns_none (Turn missed ∷ reports) are = cc
+
+reports_before : (count : ℕ) (reports turns : List Event) → AreReports reports → AreTurns count turns → AreTurns count (reports ++ turns)
+reports_before count [] turns are h = h
+reports_before count (Reports sensor occupied ∷ reports) turns are h = reports_before count reports turns are h
+reports_before count (Connects client ∷ reports) turns are h = cc
+reports_before count (Receives client byte ∷ reports) turns are h = cc
+reports_before count (Disconnects client ∷ reports) turns are h = cc
+reports_before count (Elapses micros missed ∷ reports) turns are h = cc
+reports_before count (Turn missed ∷ reports) turns are h = cc
+
+reports_are_time : (reports : List Event) → AreReports reports → list_all is_time reports ≡ true
+reports_are_time [] are = refl
+reports_are_time (Reports sensor occupied ∷ reports) are = reports_are_time reports are
+reports_are_time (Connects client ∷ reports) are = cc
+reports_are_time (Receives client byte ∷ reports) are = cc
+reports_are_time (Disconnects client ∷ reports) are = cc
+reports_are_time (Elapses micros missed ∷ reports) are = cc
+reports_are_time (Turn missed ∷ reports) are = cc
+
+reports_take_none : (reports : List Event) (bus : BusState) → AreReports reports → micros_in bus reports ≡ 0
+reports_take_none [] bus are = refl
+reports_take_none (Reports sensor occupied ∷ reports) bus are = omega (arith, reports_take_none reports bus are)
+reports_take_none (Connects client ∷ reports) bus are = cc
+reports_take_none (Receives client byte ∷ reports) bus are = cc
+reports_take_none (Disconnects client ∷ reports) bus are = cc
+reports_take_none (Elapses micros missed ∷ reports) bus are = cc
+reports_take_none (Turn missed ∷ reports) bus are = cc
+
+pub reports_behind : (count : ℕ) (reports turns : List LoggedEvent) → AreReports (events_of reports) → AreTurns count (events_of turns) → AreTurns count (events_of (reports ++ turns))
+reports_behind count reports turns are h =
+    subst (λ (events : List Event). AreTurns count events) (sym (map-append (λ (one : LoggedEvent). one.event) reports turns)) (reports_before count (events_of reports) (events_of turns) are h)
+
+-- An outcome was observed, and then what sensors report.
+
+pub observes_first : (outcome : Outcome) (a b : Option (List Observation)) (old : ServerState) → Extends a b (Observed outcome old.nodes ∷ []) → ObservesReports outcome a b old old
+observes_first outcome a b old grows = ([], grows, refl, refl)
+
+pub observes_more : (outcome next : Outcome) (sensor : ℕ) (occupied : Bool) (a b c : Option (List Observation)) (old mid new : ServerState) → ObservesReports outcome a b old mid
+    → RunsEvent (Reports sensor occupied) (Observed next new.nodes) mid new → Extends b c (Observed next new.nodes ∷ []) → ObservesReports outcome a c old new
+observes_more outcome next sensor occupied a b c old mid new so_far one grows =
+    let last : LoggedEvent = record { event = Reports sensor occupied; observed = Observed next new.nodes } in (
+      so_far.0 ++ last ∷ [],
+      subst (λ (more : List Observation). Extends a c (Observed outcome old.nodes ∷ more)) (sym (map-append (λ (one : LoggedEvent). one.observed) so_far.0 (last ∷ [])))
+          (grows_more a b c (Observed outcome old.nodes ∷ observations_of so_far.0) (Observed next new.nodes ∷ []) so_far.1 grows),
+      ap (list_all is_report) (map-append (λ (one : LoggedEvent). one.event) so_far.0 (last ∷ [])) ∙ list_all-append is_report (events_of so_far.0) (Reports sensor occupied ∷ [])
+          ∙ and_from (list_all is_report (events_of so_far.0)) true so_far.2 refl,
+      happened_more so_far.0 (last ∷ []) old mid new so_far.3 (new, one, refl),
+    )
+
 -- Turns after a message.
 
-one_more : (count missed : ℕ) (turns : List Event) → AreTurns count turns → AreTurns (suc count) (turns ++ Turn missed ∷ [])
-one_more zero missed [] are = tt
-one_more zero missed (event ∷ turns) are = absurd are
-one_more (suc n) missed [] are = absurd are
-one_more (suc n) missed (Connects client ∷ turns) are = absurd are
-one_more (suc n) missed (Receives client byte ∷ turns) are = absurd are
-one_more (suc n) missed (Disconnects client ∷ turns) are = absurd are
-one_more (suc n) missed (Elapses micros disconnected ∷ turns) are = absurd are
-one_more (suc n) missed (Turn disconnected ∷ turns) are = one_more n missed turns are
+one_more : (count missed : ℕ) (turns reports : List Event) → AreTurns count turns → AreReports reports → AreTurns (suc count) (turns ++ Turn missed ∷ reports)
+one_more count missed (Reports sensor occupied ∷ turns) reports are only = one_more count missed turns reports are only
+one_more zero missed [] reports are only = turns_none reports only
+one_more (suc n) missed [] reports are only = absurd are
+one_more count missed (Connects client ∷ turns) reports are only = absurd are
+one_more count missed (Receives client byte ∷ turns) reports are only = absurd are
+one_more count missed (Disconnects client ∷ turns) reports are only = absurd are
+one_more count missed (Elapses micros disconnected ∷ turns) reports are only = absurd are
+one_more zero missed (Turn disconnected ∷ turns) reports are only = absurd are
+one_more (suc n) missed (Turn disconnected ∷ turns) reports are only = one_more n missed turns reports are only
 
-pub turns_more : (count missed : ℕ) (observed : Observation) (turns : List LoggedEvent) → AreTurns count (events_of turns) → AreTurns (count + 1) (events_of (turns ++ record { event = Turn missed; observed = observed } ∷ []))
-turns_more count missed observed turns are =
-    subst (λ (events : List Event). AreTurns (count + 1) events) (sym (map-append (λ (one : LoggedEvent). one.event) turns (record { event = Turn missed; observed = observed } ∷ [])))
-    (subst (λ (n : ℕ). AreTurns n (events_of turns ++ Turn missed ∷ [])) {x = suc count} {y = count + 1} (omega arith) (one_more count missed (events_of turns) are))
+pub turns_more : (count missed : ℕ) (observed : Observation) (turns reports : List LoggedEvent) → AreTurns count (events_of turns) → AreReports (events_of reports)
+    → AreTurns (count + 1) (events_of (turns ++ record { event = Turn missed; observed = observed } ∷ reports))
+turns_more count missed observed turns reports are only =
+    subst (λ (events : List Event). AreTurns (count + 1) events) (sym (map-append (λ (one : LoggedEvent). one.event) turns (record { event = Turn missed; observed = observed } ∷ reports)))
+    (subst (λ (n : ℕ). AreTurns n (events_of turns ++ Turn missed ∷ events_of reports)) {x = suc count} {y = count + 1} (omega arith) (one_more count missed (events_of turns) (events_of reports) are only))
 
 -- Small things.
 
@@ -171,25 +246,25 @@ piece_of (Some bytes) piece count front some within =
 
 -- Time that passes.
 
-micros_more : (micros missed : ℕ) (events : List Event) (bus : BusState) → micros_in bus (events ++ Elapses micros missed ∷ []) ≡ micros_in bus events + micros
-micros_more micros missed [] bus = omega arith
-micros_more micros missed (event ∷ events) bus = omega (arith, micros_more micros missed events (after_event bus event))
+micros_more : (micros missed : ℕ) (events reports : List Event) (bus : BusState) → AreReports reports → micros_in bus (events ++ Elapses micros missed ∷ reports) ≡ micros_in bus events + micros
+micros_more micros missed [] reports bus only = let none = reports_take_none reports (after_event bus (Elapses micros missed)) only in omega (arith, none)
+micros_more micros missed (event ∷ events) reports bus only = omega (arith, micros_more micros missed events reports (after_event bus event) only)
 
-time_more : (micros missed : ℕ) (events : List Event) → list_all is_time events ≡ true → list_all is_time (events ++ Elapses micros missed ∷ []) ≡ true
-time_more micros missed [] h = refl
-time_more micros missed (event ∷ events) h =
+time_more : (micros missed : ℕ) (events reports : List Event) → list_all is_time events ≡ true → AreReports reports → list_all is_time (events ++ Elapses micros missed ∷ reports) ≡ true
+time_more micros missed [] reports h only = reports_are_time reports only
+time_more micros missed (event ∷ events) reports h only =
     let p = and_parts (is_time event) (list_all is_time events) h in
-    and_from (is_time event) (list_all is_time (events ++ Elapses micros missed ∷ [])) p.0 (time_more micros missed events p.1)
+    and_from (is_time event) (list_all is_time (events ++ Elapses micros missed ∷ reports)) p.0 (time_more micros missed events reports p.1 only)
 
 pub no_time : (all : ServerState) → RunsFor 0 [] all all
 no_time all = (refl, refl, refl)
 
-pub more_time : (first micros missed : ℕ) (observed : Observation) (applied : List LoggedEvent) (old mid new : ServerState) → RunsFor first applied old mid → RunsEvent (Elapses micros missed) observed mid new
-    → RunsFor (first + micros) (applied ++ record { event = Elapses micros missed; observed = observed } ∷ []) old new
-more_time first micros missed observed applied old mid new so_far now =
-    let events : events_of (applied ++ record { event = Elapses micros missed; observed = observed } ∷ []) ≡ events_of applied ++ Elapses micros missed ∷ [] =
-    map-append (λ (one : LoggedEvent). one.event) applied (record { event = Elapses micros missed; observed = observed } ∷ []) in (
-      ap (list_all is_time) events ∙ time_more micros missed (events_of applied) so_far.0,
-      ap (micros_in old.bus) events ∙ micros_more micros missed (events_of applied) old.bus ∙ ap (λ (n : ℕ). n + micros) so_far.1,
-      happened_then (Elapses micros missed) observed applied old mid new so_far.2 now,
+pub more_time : (first micros missed : ℕ) (observed : Observation) (applied reports : List LoggedEvent) (old mid after new : ServerState) → RunsFor first applied old mid → RunsEvent (Elapses micros missed) observed mid after
+    → AreReports (events_of reports) → RunsEvents reports after new → RunsFor (first + micros) (applied ++ record { event = Elapses micros missed; observed = observed } ∷ reports) old new
+more_time first micros missed observed applied reports old mid after new so_far now only rest =
+    let events : events_of (applied ++ record { event = Elapses micros missed; observed = observed } ∷ reports) ≡ events_of applied ++ Elapses micros missed ∷ events_of reports =
+    map-append (λ (one : LoggedEvent). one.event) applied (record { event = Elapses micros missed; observed = observed } ∷ reports) in (
+      ap (list_all is_time) events ∙ time_more micros missed (events_of applied) (events_of reports) so_far.0 only,
+      ap (micros_in old.bus) events ∙ micros_more micros missed (events_of applied) (events_of reports) old.bus only ∙ ap (λ (n : ℕ). n + micros) so_far.1,
+      happened_then (Elapses micros missed) observed applied reports old mid after new so_far.2 now rest,
     )

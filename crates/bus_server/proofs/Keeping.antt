@@ -6,7 +6,7 @@ use Rattle.std.proofs.lemmas.Bool.{and_parts, and_from, cases_eq}
 use Rattle.std.proofs.lemmas.List.{get_or-set_same, get_or-set_other}
 use Rattle.std.proofs.lemmas.List.Folds.{list_any-append}
 use Rattle.bus.specs.declared.event.Event.{Event}
-use Rattle.bus.specs.declared.event.Event.TheVariants.{Connects, Disconnects}
+use Rattle.bus.specs.declared.event.Event.TheVariants.{Connects, Receives, Disconnects, Reports, Elapses, Turn}
 use Rattle.loconet_tcp.specs.declared.outcome.Outcome.{Outcome}
 use Rattle.loconet_tcp.specs.declared.outcome.Outcome.TheVariants.{Connected, Disconnected}
 use Rattle.bus.specs.Observations.{Observation}
@@ -155,17 +155,33 @@ left_is_not_late client observed old new happened =
     ap (λ (bus : BusState). is_some (slice_index_or bus.clients client None) && not (is_some (slice_index_or new.queues client None))) happened.bus
     ∙ ap (λ (w : Option (List ℕ)). is_some w && not (is_some (slice_index_or new.queues client None))) (none_set old.bus.clients client)
 
--- Only a message has turns after it.
+-- Only a message has turns after it. After an event that makes no sensor report, none reports.
 
-first_alone : (event : Event) (one : LoggedEvent) (behind : List LoggedEvent) (old new : ServerState) → one.event ≡ event → AreTurns 0 (events_of behind) → RunsEvents (one ∷ behind) old new → RunsEvent event one.observed old new
-first_alone event one [] old new same none h = subst (λ (e : Event). RunsEvent e one.observed old new) same (subst (λ (s : ServerState). RunsEvent one.event one.observed old s) (sym h.2) h.1)
-first_alone event one (other ∷ behind) old new same none h = absurd none
+no_cons : {A B : Type 0} (x : A) (xs : List A) → [] ≡ x ∷ xs → B
+no_cons x xs h = cc
 
-pub alone : (turns : Option ℕ) (event : Event) (outcome : Outcome) (applied : List LoggedEvent) (old new : ServerState) → turns_after turns outcome ≡ 0 → IsWithTurns event (turns_after turns outcome) (events_of applied) → RunsEvents applied old new
+nothing_due : (event : Event) (observed : Observation) (events : List Event) (old new : ServerState) → AreTurns 0 (event ∷ events) → old.due ≡ [] → RunsEvent event observed old new → ⊥
+nothing_due (Connects client) observed events old new are none h = are
+nothing_due (Receives client byte) observed events old new are none h = are
+nothing_due (Disconnects client) observed events old new are none h = are
+nothing_due (Elapses micros missed) observed events old new are none h = are
+nothing_due (Turn missed) observed events old new are none h = are
+nothing_due (Reports sensor occupied) observed events old new are none h = no_cons (record { sensor = sensor; occupied = occupied }) new.due (sym none ∙ h.due)
+
+-- the event makes no sensor report
+abbrev IsSilent : Event → ServerState → Type 0
+IsSilent event old = (observed : Observation) (new : ServerState) → RunsEvent event observed old new → new.due ≡ []
+
+first_alone : (event : Event) (one : LoggedEvent) (behind : List LoggedEvent) (old new : ServerState) → one.event ≡ event → IsSilent event old → AreTurns 0 (events_of behind) → RunsEvents (one ∷ behind) old new → RunsEvent event one.observed old new
+first_alone event one [] old new same silent none h = subst (λ (e : Event). RunsEvent e one.observed old new) same (subst (λ (s : ServerState). RunsEvent one.event one.observed old s) (sym h.2) h.1)
+first_alone event one (other ∷ behind) old new same silent none h =
+    absurd (nothing_due other.event other.observed (events_of behind) h.0 h.2.0 none (silent one.observed h.0 (subst (λ (e : Event). RunsEvent e one.observed old h.0) same h.1)) h.2.1)
+
+pub alone : (turns : Option ℕ) (event : Event) (outcome : Outcome) (applied : List LoggedEvent) (old new : ServerState) → turns_after turns outcome ≡ 0 → IsSilent event old → IsWithTurns event (turns_after turns outcome) (events_of applied) → RunsEvents applied old new
     → (observed : Observation) × RunsEvent event observed old new
-alone turns event outcome [] old new none are h = absurd are
-alone turns event outcome (one ∷ behind) old new none are h =
-    (one.observed, first_alone event one behind old new are.0 (subst (λ (n : ℕ). AreTurns n (events_of behind)) none are.1) h)
+alone turns event outcome [] old new none silent are h = absurd are
+alone turns event outcome (one ∷ behind) old new none silent are h =
+    (one.observed, first_alone event one behind old new are.0 silent (subst (λ (n : ℕ). AreTurns n (events_of behind)) none are.1) h)
 
 no_turns : (turns : Option ℕ) (client : ℕ) → turns_after turns (Disconnected client) ≡ 0
 no_turns None client = refl
@@ -176,10 +192,12 @@ none_joining None client = refl
 none_joining (Some turns) client = refl
 
 pub only_leaves : (client : ℕ) (applied : List LoggedEvent) (old new : ServerState) → RunsEventWithTurns (Disconnects client) applied old new → (observed : Observation) × RunsEvent (Disconnects client) observed old new
-only_leaves client applied old new brings = alone old.turns (Disconnects client) (Disconnected client) applied old new (no_turns old.turns client) brings.1 brings.2
+only_leaves client applied old new brings =
+    alone old.turns (Disconnects client) (Disconnected client) applied old new (no_turns old.turns client) (λ observed after h. h.due.1) brings.1 brings.2
 
 pub only_joins : (client : ℕ) (applied : List LoggedEvent) (old new : ServerState) → RunsEventWithTurns (Connects client) applied old new → (observed : Observation) × RunsEvent (Connects client) observed old new
-only_joins client applied old new brings = alone old.turns (Connects client) (Connected client) applied old new (none_joining old.turns client) brings.1 brings.2
+only_joins client applied old new brings =
+    alone old.turns (Connects client) (Connected client) applied old new (none_joining old.turns client) (λ observed after h. h.due.1) brings.1 brings.2
 
 -- A client joins.
 

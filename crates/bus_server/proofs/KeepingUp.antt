@@ -13,6 +13,8 @@ use Rattle.ln_frame.specs.Message.{IsWhole, are_data, has_form, is_len, is_whole
 use Rattle.ln_ops.specs.Reply.{reply_bytes}
 use Rattle.ln_ops.specs.declared.reply.Reply.{Reply}
 use Rattle.ln_ops.specs.declared.reply.Reply.TheVariants.{LongAck, SlotData}
+use Rattle.layout_core.specs.declared.node.Node.{Node}
+use Rattle.railway.specs.Railway.{RailwayState}
 use Rattle.loconet_tcp.specs.ClientLines.{hex_words, line_end, receive_text, sent_error_text, sent_ok_text, turns_text, version_text}
 use Rattle.loconet_tcp.specs.Requests.{bytes_of, is_send, is_turns, parse_send, request_of, turns_of}
 use Rattle.loconet_tcp.specs.Text.{is_end}
@@ -31,13 +33,14 @@ use Rattle.bus.specs.Bus.{BusState, after_event, client_of, granted, outcome_of,
 use Rattle.bus.specs.Course.{is_time}
 use Rattle.bus.specs.Observations.{Observation}
 use Rattle.bus.specs.declared.event.Event.{Event}
-use Rattle.bus.specs.declared.event.Event.TheVariants.{Connects, Disconnects, Elapses, Receives, Turn}
+use Rattle.bus.specs.declared.event.Event.TheVariants.{Connects, Disconnects, Elapses, Receives, Reports, Turn}
 use Rattle.bus_server.specs.Applied.{Applies, AppliesAll, AreTurns, Handled, LoggedEvent, RunsEvent, RunsEventWithTurns, RunsEvents, ServerState, events_of, has_overflowed, is_connected, transport_events, with_backlog, without_backlog}
 use Rattle.bus_server.specs.ClientQueues.{SendQueues, enqueued_all, enqueued_from, queues_after}
-use Rattle.bus_server.specs.KeepUp.{IsUpToDate, KeepsUp, is_blocked, is_closed}
+use Rattle.bus_server.specs.KeepUp.{IsUpToDate, IsWithoutRailway, KeepsUp, is_blocked, is_closed}
 use Rattle.bus_server.specs.Queues.{enqueued, queued}
 use Rattle.bus_server.specs.Rounds.{IsRound, IsUnread, ServesClient, ServesClients, is_read, is_reading, is_write_blocked}
 use Rattle.bus_server.specs.Runs.{Round, RunsByClock, RunsRounds, transport_log}
+use Rattle.bus_server.specs.Sensors.{asks_sensors, full_report, is_report, railway_after, reports_after}
 use Rattle.bus_server.specs.TransportEvents.{Accepted, NonePending, PeerClosed, Polled, ReadBlocked, Received, Refused, ServerClosed, TransportEvent, WriteBlocked, Written}
 use Rattle.bus_server.proofs.Going.{log-append}
 use Rattle.bus_server.proofs.Keeping.{joined_one, none_of_both, none_set, only_joins, only_leaves, left_is_not_late, put_keeps, row_before, row_behind, set_at, told_there}
@@ -143,13 +146,60 @@ request_most bus client i kept (Some (Turns count)) h = turns_most (client == i)
 request_most bus client i kept (Some (Send message)) h =
     three_most (receive_text message) (if client == i then sent_ok_text else []) (reply_text (reply_to bus.station message)) (receive_most message h.1) (ok_most (client == i)) (reply_most _)
 
--- A client has at most this much text in its queue, which has not overflowed.
+-- Without a railway no sensor reports.
+
+no_railway : (bus : BusState) (nodes : List Node) (event : Event) → railway_after bus nodes event None ≡ None
+no_railway bus nodes (Connects client) = refl
+no_railway bus nodes (Receives client byte) = refl
+no_railway bus nodes (Disconnects client) = refl
+no_railway bus nodes (Reports sensor occupied) = refl
+no_railway bus nodes (Elapses micros missed) = refl
+no_railway bus nodes (Turn missed) = refl
+
+none_asked : (asks : Bool) → (if asks then full_report None else []) ≡ []
+none_asked true = refl
+none_asked false = refl
+
+no_reports : (bus : BusState) (nodes : List Node) (event : Event) → reports_after bus nodes event None ≡ []
+no_reports bus nodes (Connects client) = refl
+no_reports bus nodes (Receives client byte) = none_asked (asks_sensors (outcome_of bus (Receives client byte)))
+no_reports bus nodes (Disconnects client) = refl
+no_reports bus nodes (Reports sensor occupied) = refl
+no_reports bus nodes (Elapses micros missed) = refl
+no_reports bus nodes (Turn missed) = refl
+
+no_cons : {A B : Type 0} (x : A) (xs : List A) → [] ≡ x ∷ xs → B
+no_cons x xs h = cc
+
+none_due : (event : Event) (observed : Observation) (old new : ServerState) → RunsEvent event observed old new → old.due ≡ [] → is_report event ≡ false
+none_due (Reports sensor occupied) observed old new runs none = no_cons (record { sensor = sensor; occupied = occupied }) new.due (sym none ∙ runs.due)
+none_due (Connects client) observed old new runs none = refl
+none_due (Receives client byte) observed old new runs none = refl
+none_due (Disconnects client) observed old new runs none = refl
+none_due (Elapses micros missed) observed old new runs none = refl
+none_due (Turn missed) observed old new runs none = refl
+
+made_due : (event : Event) (observed : Observation) (old new : ServerState) → RunsEvent event observed old new → old.due ≡ [] → new.due ≡ reports_after old.bus old.nodes event old.railway
+made_due (Reports sensor occupied) observed old new runs none = no_cons (record { sensor = sensor; occupied = occupied }) new.due (sym none ∙ runs.due)
+made_due (Connects client) observed old new runs none = runs.due.1
+made_due (Receives client byte) observed old new runs none = runs.due.1
+made_due (Disconnects client) observed old new runs none = runs.due.1
+made_due (Elapses micros missed) observed old new runs none = runs.due.1
+made_due (Turn missed) observed old new runs none = runs.due.1
+
+still_without : (event : Event) (observed : Observation) (old new : ServerState) → RunsEvent event observed old new → IsWithoutRailway old → IsWithoutRailway new
+still_without event observed old new runs h = (
+  runs.railway ∙ ap (λ (r : Option RailwayState). railway_after old.bus old.nodes event r) h.0 ∙ no_railway old.bus old.nodes event,
+  made_due event observed old new runs h.1 ∙ ap (λ (r : Option RailwayState). reports_after old.bus old.nodes event r) h.0 ∙ no_reports old.bus old.nodes event,
+)
+
+-- A client has at most this much text in its queue, which has not overflowed, and there is no railway.
 
 abbrev Within : (client n : ℕ) → ServerState → Type 0
-Within client n state = (client < length state.queues) × (length (queued (slice_index_or state.queues client None)) ≤ n) × (has_overflowed state client ≡ false)
+Within client n state = (client < length state.queues) × (length (queued (slice_index_or state.queues client None)) ≤ n) × (has_overflowed state client ≡ false) × IsWithoutRailway state
 
 within_more : (client n m : ℕ) (state : ServerState) → n ≤ m → Within client n state → Within client m state
-within_more client n m state more h = (h.0, omega (arith, more, h.1), h.2)
+within_more client n m state more h = (h.0, omega (arith, more, h.1), h.2, h.3)
 
 length-set_queue : {A : Type 0} (all : List A) (i : ℕ) (a : A) → length (slice_set all i a) ≡ length all
 length-set_queue [] i a = refl
@@ -172,9 +222,9 @@ enqueued_within text (Some bytes) n m has most room =
     enqueued_by (nat_le (length bytes + length text) 65536) text bytes m (le-leb (length bytes + length text) 65536 (omega (arith, has, most, room))) (omega (arith, has, most))
 
 -- Texts are enqueued for all.
-enqueues_within : (client n m : ℕ) (outcome : Outcome) (old new : ServerState) → new.queues ≡ enqueued_all outcome old.queues → is_connected new client ≡ is_connected old client
+enqueues_within : (client n m : ℕ) (outcome : Outcome) (old new : ServerState) → new.queues ≡ enqueued_all outcome old.queues → is_connected new client ≡ is_connected old client → IsWithoutRailway new
     → n + length (text_for client outcome) ≤ m → m ≤ 65536 → Within client n old → Within client m new
-enqueues_within client n m outcome old new queues connected most room h =
+enqueues_within client n m outcome old new queues connected without most room h =
     let queue = slice_index_or old.queues client None in
     let text = text_for client outcome in
     let does = enqueued_within text queue n m h.1 most room in (
@@ -182,14 +232,16 @@ enqueues_within client n m outcome old new queues connected most room h =
       subst (λ (all : SendQueues). length (queued (slice_index_or all client None)) ≤ m) (sym queues)
           (subst (λ (q : Option (List ℕ)). length (queued q) ≤ m) (sym (told_there outcome old.queues client)) does.0),
       ap₂ (λ (a b : Bool). a && not b) connected (ap (λ (all : SendQueues). is_some (slice_index_or all client None)) queues ∙ ap is_some (told_there outcome old.queues client) ∙ does.1) ∙ h.2,
+      without,
     )
 
 -- Nothing happens to the queues.
-same_within : (client n : ℕ) (old new : ServerState) → new.queues ≡ old.queues → is_connected new client ≡ is_connected old client → Within client n old → Within client n new
-same_within client n old new queues connected h = (
+same_within : (client n : ℕ) (old new : ServerState) → new.queues ≡ old.queues → is_connected new client ≡ is_connected old client → IsWithoutRailway new → Within client n old → Within client n new
+same_within client n old new queues connected without h = (
   subst (λ (all : SendQueues). client < length all) (sym queues) h.0,
   subst (λ (all : SendQueues). length (queued (slice_index_or all client None)) ≤ n) (sym queues) h.1,
   ap₂ (λ (a b : Bool). a && not b) connected (ap (λ (all : SendQueues). is_some (slice_index_or all client None)) queues) ∙ h.2,
+  without,
 )
 
 -- A byte is read.
@@ -212,21 +264,22 @@ connected_still clients reader client byte = elim (cases_eq client reader) [
 ]
 
 request_within : (client reader n m : ℕ) (bus : BusState) (request : Option Request) (old new : ServerState) → new.queues ≡ queues_after (outcome_of_request bus reader request) old.queues
-    → is_connected new client ≡ is_connected old client → n + length (text_for client (outcome_of_request bus reader request)) ≤ m → m ≤ 65536 → Within client n old → Within client m new
-request_within client reader n m bus None old new queues connected most room h =
-    within_more client n m new (omega (arith, most)) (same_within client n old new queues connected h)
-request_within client reader n m bus (Some (Invalid reason)) old new queues connected most room h =
-    enqueues_within client n m (Rejected reader reason) old new queues connected most room h
-request_within client reader n m bus (Some (Send message)) old new queues connected most room h =
-    enqueues_within client n m (Sent reader message (reply_to bus.station message)) old new queues connected most room h
-request_within client reader n m bus (Some (Turns count)) old new queues connected most room h =
-    enqueues_within client n m (TurnsRequested reader (granted bus.stepped count)) old new queues connected most room h
+    → is_connected new client ≡ is_connected old client → IsWithoutRailway new → n + length (text_for client (outcome_of_request bus reader request)) ≤ m → m ≤ 65536 → Within client n old → Within client m new
+request_within client reader n m bus None old new queues connected without most room h =
+    within_more client n m new (omega (arith, most)) (same_within client n old new queues connected without h)
+request_within client reader n m bus (Some (Invalid reason)) old new queues connected without most room h =
+    enqueues_within client n m (Rejected reader reason) old new queues connected without most room h
+request_within client reader n m bus (Some (Send message)) old new queues connected without most room h =
+    enqueues_within client n m (Sent reader message (reply_to bus.station message)) old new queues connected without most room h
+request_within client reader n m bus (Some (Turns count)) old new queues connected without most room h =
+    enqueues_within client n m (TurnsRequested reader (granted bus.stepped count)) old new queues connected without most room h
 
 receives_within : (client reader byte n m : ℕ) (observed : Observation) (old new : ServerState) → RunsEvent (Receives reader byte) observed old new
     → n + length (text_for client (outcome_of old.bus (Receives reader byte))) ≤ m → m ≤ 65536 → Within client n old → Within client m new
 receives_within client reader byte n m observed old new runs most room h =
     request_within client reader n m old.bus (request_at (client_of old.bus reader) byte) old new runs.queues
-    (ap (λ (bus : BusState). is_some (slice_index_or bus.clients client None)) runs.bus ∙ connected_still old.bus.clients reader client byte) most room h
+    (ap (λ (bus : BusState). is_some (slice_index_or bus.clients client None)) runs.bus ∙ connected_still old.bus.clients reader client byte)
+    (still_without (Receives reader byte) observed old new runs h.3) most room h
 
 -- Time elapses.
 
@@ -242,15 +295,17 @@ clients_in_time : (event : Event) (bus : BusState) → is_time event ≡ true �
 clients_in_time (Connects client) bus h = cc
 clients_in_time (Receives client byte) bus h = cc
 clients_in_time (Disconnects client) bus h = cc
+clients_in_time (Reports sensor occupied) bus h = refl
 clients_in_time (Turn missed) bus h = refl
 clients_in_time (Elapses micros missed) bus h = turn_clients (nat_le bus.remaining micros) _ _ refl
 
-queues_in_time : (event : Event) (bus : BusState) (queues : SendQueues) → is_time event ≡ true → queues_after (outcome_of bus event) queues ≡ queues
-queues_in_time (Connects client) bus queues h = cc
-queues_in_time (Receives client byte) bus queues h = cc
-queues_in_time (Disconnects client) bus queues h = cc
-queues_in_time (Turn missed) bus queues h = refl
-queues_in_time (Elapses micros missed) bus queues h = turn_queues (nat_le bus.remaining micros) _ queues
+queues_in_time : (event : Event) (bus : BusState) (queues : SendQueues) → is_time event ≡ true → is_report event ≡ false → queues_after (outcome_of bus event) queues ≡ queues
+queues_in_time (Connects client) bus queues h none = cc
+queues_in_time (Receives client byte) bus queues h none = cc
+queues_in_time (Disconnects client) bus queues h none = cc
+queues_in_time (Reports sensor occupied) bus queues h none = cc
+queues_in_time (Turn missed) bus queues h none = refl
+queues_in_time (Elapses micros missed) bus queues h none = turn_queues (nat_le bus.remaining micros) _ queues
 
 -- what is so of a client in time: its queue, and what is kept of each client's text
 abbrev InTime : (client n : ℕ) → (old new : ServerState) → Type 0
@@ -259,7 +314,8 @@ InTime client n old new = Within client n new × (new.bus.clients ≡ old.bus.cl
 time_within : (client n : ℕ) (event : Event) (observed : Observation) (old new : ServerState) → is_time event ≡ true → RunsEvent event observed old new → Within client n old → InTime client n old new
 time_within client n event observed old new time runs h =
     let clients : new.bus.clients ≡ old.bus.clients = ap (λ (bus : BusState). bus.clients) runs.bus ∙ clients_in_time event old.bus time in (
-      same_within client n old new (runs.queues ∙ queues_in_time event old.bus old.queues time) (ap (λ (all : List (Option (List ℕ))). is_some (slice_index_or all client None)) clients) h,
+      same_within client n old new (runs.queues ∙ queues_in_time event old.bus old.queues time (none_due event observed old new runs h.3.1))
+          (ap (λ (all : List (Option (List ℕ))). is_some (slice_index_or all client None)) clients) (still_without event observed old new runs h.3) h,
       clients,
     )
 
@@ -272,13 +328,14 @@ times_within client n (one ∷ more) old new time runs h =
     (rest.0, rest.1 ∙ first.1)
 
 turns_are_time : (count : ℕ) (events : List Event) → AreTurns count events → list_all is_time events ≡ true
+turns_are_time count (Reports sensor occupied ∷ events) are = turns_are_time count events are
 turns_are_time zero [] are = refl
-turns_are_time zero (event ∷ events) are = absurd are
 turns_are_time (suc n) [] are = absurd are
-turns_are_time (suc n) (Connects client ∷ events) are = absurd are
-turns_are_time (suc n) (Receives client byte ∷ events) are = absurd are
-turns_are_time (suc n) (Disconnects client ∷ events) are = absurd are
-turns_are_time (suc n) (Elapses micros missed ∷ events) are = absurd are
+turns_are_time count (Connects client ∷ events) are = absurd are
+turns_are_time count (Receives client byte ∷ events) are = absurd are
+turns_are_time count (Disconnects client ∷ events) are = absurd are
+turns_are_time count (Elapses micros missed ∷ events) are = absurd are
+turns_are_time zero (Turn missed ∷ events) are = absurd are
 turns_are_time (suc n) (Turn missed ∷ events) are = turns_are_time n events are
 
 -- an event of a client, before its turns
@@ -325,19 +382,20 @@ version_most true = omega arith
 version_most false = omega arith
 
 -- a client that connects has the version line in its queue, and no more
-joined_within : (client : ℕ) (observed : Observation) (old new : ServerState) → RunsEvent (Connects client) observed old new → client < length old.queues → Within client 26 new
-joined_within client observed old new runs there =
+joined_within : (client : ℕ) (observed : Observation) (old new : ServerState) → RunsEvent (Connects client) observed old new → client < length old.queues → IsWithoutRailway old → Within client 26 new
+joined_within client observed old new runs there without =
     let queues : new.queues ≡ enqueued_all (Connected client) (slice_set old.queues client (Some [])) = runs.queues in
     let queue : slice_index_or new.queues client None ≡ Some version_text = ap (λ (all : SendQueues). slice_index_or all client None) queues ∙ joined_one old.queues client there in (
       subst (λ (all : SendQueues). client < length all) (sym queues)
           (omega (arith, there, length-enqueued_from 0 (Connected client) (slice_set old.queues client (Some [])), length-set_queue old.queues client (Some []))),
       subst (λ (q : Option (List ℕ)). length (queued q) ≤ 26) (sym queue) (version_most true),
       opened (is_connected new client) (slice_index_or new.queues client None) version_text queue,
+      still_without (Connects client) observed old new runs without,
     )
 
 joins_within : (client other n : ℕ) (observed : Observation) (old new : ServerState) → 26 ≤ n → n ≤ 65536 → RunsEvent (Connects other) observed old new → Within client n old → Within client n new
 joins_within client other n observed old new least room runs h = elim (cases_eq client other) [
-  | inl same ↦ within_more client 26 n new least (joined_within client observed old new (subst (λ (i : ℕ). RunsEvent (Connects i) observed old new) (sym same) runs) h.0)
+  | inl same ↦ within_more client 26 n new least (joined_within client observed old new (subst (λ (i : ℕ). RunsEvent (Connects i) observed old new) (sym same) runs) h.0 h.3)
   | inr differs ↦
       let before = slice_set old.queues other (Some []) in
       let queue : slice_index_or before client None ≡ slice_index_or old.queues client None = get_or-set_other old.queues other client (Some []) None differs in
@@ -347,26 +405,28 @@ joins_within client other n observed old new least room runs h = elim (cases_eq 
         omega (arith, h.0, length-set_queue old.queues other (Some [])),
         subst (λ (q : Option (List ℕ)). length (queued q) ≤ n) (sym queue) h.1,
         ap (λ (q : Option (List ℕ)). is_connected old client && not (is_some q)) queue ∙ h.2,
+        h.3,
       ) in
       enqueues_within client n n (Connected other) opened new runs.queues
       (ap (λ (bus : BusState). is_some (slice_index_or bus.clients client None)) runs.bus ∙ ap is_some (get_or-set_other old.bus.clients other client (Some []) None differs))
-      (omega (arith, text)) room prepared
+      (still_without (Connects other) observed old new runs h.3) (omega (arith, text)) room prepared
 ]
 
 leaves_within : (client other n : ℕ) (observed : Observation) (old new : ServerState) → RunsEvent (Disconnects other) observed old new → Within client n old → Within client n new
 leaves_within client other n observed old new runs h =
     let queues : new.queues ≡ slice_set old.queues other None = runs.queues in
     let there : client < length new.queues = subst (λ (all : SendQueues). client < length all) (sym queues) (omega (arith, h.0, length-set_queue old.queues other None)) in
+    let without = still_without (Disconnects other) observed old new runs h.3 in
     elim (cases_eq client other) [
       | inl same ↦
           let leaves : RunsEvent (Disconnects client) observed old new = subst (λ (i : ℕ). RunsEvent (Disconnects i) observed old new) (sym same) runs in
           let queue : slice_index_or new.queues client None ≡ None = ap (λ (all : SendQueues). slice_index_or all client None) leaves.queues ∙ none_set old.queues client in
-          (there, subst (λ (q : Option (List ℕ)). length (queued q) ≤ n) (sym queue) (omega arith), left_is_not_late client observed old new leaves)
+          (there, subst (λ (q : Option (List ℕ)). length (queued q) ≤ n) (sym queue) (omega arith), left_is_not_late client observed old new leaves, without)
       | inr differs ↦
           let queue : slice_index_or new.queues client None ≡ slice_index_or old.queues client None = ap (λ (all : SendQueues). slice_index_or all client None) queues ∙ get_or-set_other old.queues other client None None differs in
           let kept : is_connected new client ≡ is_connected old client =
           ap (λ (bus : BusState). is_some (slice_index_or bus.clients client None)) runs.bus ∙ ap is_some (get_or-set_other old.bus.clients other client None None differs) in
-          (there, subst (λ (q : Option (List ℕ)). length (queued q) ≤ n) (sym queue) h.1, ap₂ (λ (a b : Bool). a && not b) kept (ap is_some queue) ∙ h.2)
+          (there, subst (λ (q : Option (List ℕ)). length (queued q) ≤ n) (sym queue) h.1, ap₂ (λ (a b : Bool). a && not b) kept (ap is_some queue) ∙ h.2, without)
     ]
 
 -- One client is read. Of the text that is kept of it, four bytes count: after p bytes at most p are kept, or p is at least 4.
@@ -506,7 +566,7 @@ written_within client other n bytes applied old new does h =
           subst (λ (q : Option (List ℕ)). length (queued q) ≤ n) (sym queue) (omega (arith, h.1, size, length-append bytes rest))
       | inr differs ↦ subst (λ (q : Option (List ℕ)). length (queued q) ≤ n) (sym (get_or-set_other old.queues other client (Some rest) None differs)) h.1
     ] in
-    subst (λ (s : ServerState). Within client n s) (sym set) (there, most, unfull)
+    subst (λ (s : ServerState). Within client n s) (sym set) (there, most, unfull, h.3)
 
 -- one event without reading: the text of a client grows at most to the version line, and it is not closed
 abbrev Unclosed : (client n : ℕ) → TransportEvent → ServerState → Type 0
@@ -552,7 +612,7 @@ is_accepting i other = false
 accepted_one : (client : ℕ) (log : TransportEvent) (applied : List LoggedEvent) (old new : ServerState) → Applies log applied old new → is_accepting client log ≡ true → Within client 65536 old → Within client 789 new
 accepted_one client (Accepted i) applied old new does is h =
     let joins = only_joins i applied (with_backlog old) new does in
-    within_more client 26 789 new (omega arith) (joined_within client joins.0 (with_backlog old) new (subst (λ (k : ℕ). RunsEvent (Connects k) joins.0 (with_backlog old) new) (eqb-true i client is) joins.1) h.0)
+    within_more client 26 789 new (omega arith) (joined_within client joins.0 (with_backlog old) new (subst (λ (k : ℕ). RunsEvent (Connects k) joins.0 (with_backlog old) new) (eqb-true i client is) joins.1) h.0 h.3)
 accepted_one client (Polled longest) applied old new does is h = cc
 accepted_one client (Received i byte) applied old new does is h = cc
 accepted_one client (PeerClosed i) applied old new does is h = cc
@@ -629,7 +689,7 @@ serve_keeps client reader handled old new among serve up h =
     let read = reads client reader 0 heard old serve.2 serve.4 serve.5.2 (omega (arith, serve.5.1)) start in
     let put = unread_all client 65536 written serve.2 new serve.6 serve.7 (omega arith) (omega arith) read.0 in
     let small : Within client 789 new = elim (serve.8 client among).0 [
-      | inl empty ↦ (put.0.0, subst (λ (bytes : List ℕ). length bytes ≤ 789) (sym empty) (omega arith), put.0.2)
+      | inl empty ↦ (put.0.0, subst (λ (bytes : List ℕ). length bytes ≤ 789) (sym empty) (omega arith), put.0.2, put.0.3)
       | inr (inl blocked) ↦ accepted_small client written serve.2 new serve.6 serve.7 (blocked_all client (transport_events written) blocked up_written.0) read.0
       | inr (inr four) ↦ absurd (up_written.1 four)
     ] in
@@ -673,7 +733,7 @@ rounds_keep client most (round ∷ rounds) old new among h up within =
     let rest = rounds_keep client most rounds h.1 new among h.3 (up_behind client first (transport_log rounds) up) timed in
     list_any-append (is_closed client) first (transport_log rounds) ∙ none_of_both (list_any (is_closed client) first) (list_any (is_closed client) (transport_log rounds)) served.1 rest
 
-pub stays_connected : (client most : ℕ) (rounds : List Round) (old new : ServerState) → client < 8 → length old.queues ≡ 8 → IsUpToDate client old → RunsRounds most rounds old new → KeepsUp client (transport_log rounds)
+pub stays_connected : (client most : ℕ) (rounds : List Round) (old new : ServerState) → IsWithoutRailway old → client < 8 → length old.queues ≡ 8 → IsUpToDate client old → RunsRounds most rounds old new → KeepsUp client (transport_log rounds)
     → list_any (is_closed client) (transport_log rounds) ≡ false
-stays_connected client most rounds old new among eight here runs up =
-    rounds_keep client most rounds old new among runs up (omega (arith, among, eight), subst (λ (bytes : List ℕ). length bytes ≤ 789) (sym here.0) (omega arith), here.1)
+stays_connected client most rounds old new without among eight here runs up =
+    rounds_keep client most rounds old new among runs up (omega (arith, among, eight), subst (λ (bytes : List ℕ). length bytes ≤ 789) (sym here.0) (omega arith), here.1, without)

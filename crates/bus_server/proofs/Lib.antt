@@ -3,10 +3,12 @@ pub mod Courses
 pub mod Going
 pub mod Keeping
 pub mod KeepingUp
+pub mod Knowing
 pub mod Missed
 pub mod Missing
 pub mod Placing
 pub mod Rounding
+pub mod Stepping
 pub mod Stopping
 pub mod Times
 pub mod WholeRuns

@@ -9,9 +9,9 @@ use Rattle.loconet_tcp.specs.declared.request.Request.{Request}
 use Rattle.loconet_tcp.specs.declared.request.Request.TheVariants.{Send, Invalid, Turns}
 use Rattle.station_core.specs.Moved.{packet_of_turn}
 use Rattle.bus.specs.declared.event.Event.{Event}
-use Rattle.bus.specs.declared.event.Event.TheVariants.{Connects, Receives, Disconnects, Elapses, Turn}
+use Rattle.bus.specs.declared.event.Event.TheVariants.{Connects, Receives, Disconnects, Reports, Elapses, Turn}
 use Rattle.loconet_tcp.specs.declared.outcome.Outcome.{Outcome}
-use Rattle.loconet_tcp.specs.declared.outcome.Outcome.TheVariants.{Nothing, Connected, Disconnected, Rejected, Sent, TurnBegan, TurnsRequested}
+use Rattle.loconet_tcp.specs.declared.outcome.Outcome.TheVariants.{Nothing, Connected, Disconnected, Rejected, Reported, Sent, TurnBegan, TurnsRequested}
 use Rattle.bus.specs.Bus.{BusState, request_at, client_of, is_event, outcome_of_request, outcome_of}
 use Rattle.loconet_tcp.specs.Texts.{text_for}
 use Rattle.bus_server.specs.Queues.{is_within_capacity, enqueued, queued}
@@ -33,6 +33,7 @@ placed_by bus (Connects client) legal = legal
 placed_by bus (Disconnects client) legal = legal
 placed_by bus (Receives client byte) legal = asked_placed bus client (request_at (client_of bus client) byte) legal
 placed_by bus (Elapses micros missed) legal = passing_placed (packet_of_turn bus.station) (nat_le bus.remaining micros)
+placed_by bus (Reports sensor occupied) legal = refl
 placed_by bus (Turn missed) legal = refl
 
 length-outcome : (place : ℕ) (outcome : Outcome) (queues : SendQueues) → length (enqueued_from place outcome queues) ≡ length queues
@@ -46,6 +47,7 @@ length-after (Disconnected client) queues = length-set queues client None
 length-after (Connected client) queues = length-outcome 0 (Connected client) (slice_set queues client (Some [])) ∙ length-set queues client (Some [])
 length-after (Rejected client reason) queues = length-outcome 0 (Rejected client reason) queues
 length-after (Sent client message reply) queues = length-outcome 0 (Sent client message reply) queues
+length-after (Reported message) queues = length-outcome 0 (Reported message) queues
 length-after (TurnsRequested client turns) queues = length-outcome 0 (TurnsRequested client turns) queues
 
 -- What waits has room.
@@ -70,6 +72,7 @@ within_capacity-after (Disconnected client) queues within_capacity = room_set qu
 within_capacity-after (Connected client) queues within_capacity = within_capacity-outcome 0 (Connected client) (slice_set queues client (Some []))
 within_capacity-after (Rejected client reason) queues within_capacity = within_capacity-outcome 0 (Rejected client reason) queues
 within_capacity-after (Sent client message reply) queues within_capacity = within_capacity-outcome 0 (Sent client message reply) queues
+within_capacity-after (Reported message) queues within_capacity = within_capacity-outcome 0 (Reported message) queues
 within_capacity-after (TurnsRequested client turns) queues within_capacity = within_capacity-outcome 0 (TurnsRequested client turns) queues
 
 pub within_capacity-dropped : (count : ℕ) (send_queue : Option (List ℕ)) → is_within_capacity send_queue ≡ true → is_within_capacity (Some (drop count (queued send_queue))) ≡ true

@@ -4,7 +4,7 @@ use Rattle.std.specs.Prelude.{min}
 use Rattle.std.specs.List.{flat_map}
 use Rattle.std.proofs.lemmas.List.{map-append}
 use Rattle.bus.specs.declared.event.Event.{Event}
-use Rattle.bus.specs.declared.event.Event.TheVariants.{Receives, Connects, Disconnects}
+use Rattle.bus.specs.declared.event.Event.TheVariants.{Receives, Connects, Disconnects, Reports, Elapses, Turn}
 use Rattle.bus.specs.Bus.{BusState, after_event, after_events, outcome_of}
 use Rattle.bus.specs.Course.{micros_in, micros_of}
 use Rattle.bus_server.specs.Runs.{RunsByClock, RunsRounds, Round, logged_in, readings_of, time_read}
@@ -47,10 +47,22 @@ took_cut m first second old new = subst (λ (events : List Event). Took m events
 
 -- Events of clients take none.
 
+-- without a turn only sensors report
+no_turn : (events : List Event) (bus : BusState) → AreTurns 0 events → micros_in bus events ≡ 0
+no_turn [] bus are = refl
+no_turn (Reports sensor occupied ∷ events) bus are = omega (arith, no_turn events bus are)
+no_turn (Connects client ∷ events) bus are = absurd are
+no_turn (Receives client byte ∷ events) bus are = absurd are
+no_turn (Disconnects client ∷ events) bus are = absurd are
+no_turn (Elapses micros missed ∷ events) bus are = absurd are
+no_turn (Turn missed ∷ events) bus are = absurd are
+
 one_alone : (event : Event) (turns : ℕ) (events : List Event) (bus : BusState) → turns ≡ 0 → micros_of bus event ≡ 0 → IsWithTurns event turns events → micros_in bus events ≡ 0
 one_alone event turns [] bus none takes are = absurd are
-one_alone event turns (first ∷ []) bus none takes are = ap (λ (e : Event). micros_of bus e + 0) are.0 ∙ ap (λ (n : ℕ). n + 0) takes
-one_alone event turns (first ∷ next ∷ rest) bus none takes are = absurd (subst (λ (n : ℕ). AreTurns n (next ∷ rest)) none are.1)
+one_alone event turns (first ∷ rest) bus none takes are =
+    let one : micros_of bus first ≡ 0 = ap (λ (e : Event). micros_of bus e) are.0 ∙ takes in
+    let others : micros_in (after_event bus first) rest ≡ 0 = no_turn rest (after_event bus first) (subst (λ (n : ℕ). AreTurns n rest) none are.1) in
+    omega (arith, one, others)
 
 none_behind : (turns : Option ℕ) (event : Event) (bus : BusState) → turns ≡ None → turns_after turns (outcome_of bus event) ≡ 0
 none_behind turns event bus none = ap (λ (t : Option ℕ). turns_after t (outcome_of bus event)) none

@@ -5,10 +5,12 @@ use Rattle.std.specs.List.{flat_map, list_all, slice_index_or}
 use Rattle.layout_core.specs.declared.node.Node.{Node}
 use Rattle.layout_core.specs.Nodes.{node_of}
 use Rattle.layout_core.specs.World.{HaveHeard}
+use Rattle.ln_ops.specs.declared.sensor.SensorReport.{SensorReport}
+use Rattle.railway.specs.Railway.{RailwayState}
 use Rattle.bus_server.specs.declared.losses.Losses.{Losses}
 use Rattle.bus_server.specs.Draws.{IsDraw}
 use Rattle.bus.specs.declared.event.Event.{Event}
-use Rattle.bus.specs.declared.event.Event.TheVariants.{Receives, Connects, Disconnects, Elapses, Turn}
+use Rattle.bus.specs.declared.event.Event.TheVariants.{Receives, Connects, Disconnects, Reports, Elapses, Turn}
 use Rattle.loconet_tcp.specs.declared.outcome.Outcome.{Outcome}
 use Rattle.loconet_tcp.specs.declared.outcome.Outcome.TheVariants.{Sent, TurnsRequested}
 use Rattle.bus.specs.Bus.{BusState, after_event, client_of, first_bus, is_event, outcome_of}
@@ -16,14 +18,19 @@ use Rattle.bus.specs.Course.{is_time, micros_in}
 use Rattle.bus.specs.Layout.{layout_event}
 use Rattle.bus.specs.Observations.{Observed, Observation, Overflowed}
 use Rattle.bus_server.specs.Counts.{disconnected_after}
+use Rattle.bus_server.specs.Sensors.{IsDue, IsWithinTurn, railway_after, reports_after}
 use Rattle.bus_server.specs.ClientQueues.{SendQueues, queues_after}
 use Rattle.bus_server.specs.TransportEvents.{Polled, ServerClosed, Accepted, PeerClosed, TransportEvent, Written, Received, Refused}
 
--- A server: its bus, the decoders, the queue of each client, the generator of losses, the turns that follow each message
--- (or None, where turns follow time), how many clients have disconnected, and whether there may be more input than was read.
+-- A server: its bus, the decoders, the railway beside them (or None) and what its sensors are still
+-- to report, the queue of each client, the generator of losses, the turns that follow each message
+-- (or None, where turns follow time), how many clients have disconnected, and whether there may be
+-- more input than was read.
 pub record ServerState : Type 0 where
   pub bus : BusState
   pub nodes : List Node
+  pub railway : Option RailwayState
+  pub due : List SensorReport
   pub queues : SendQueues
   pub losses : Losses
   pub turns : Option ℕ
@@ -31,8 +38,18 @@ pub record ServerState : Type 0 where
   pub has_backlog : Bool
 
 -- a new server: new decoders, and no clients
-abbrev pub initial_state : List NodeSpec → Option ℕ → Losses → ServerState
-initial_state nodes turns losses = record { bus = first_bus (is_some turns); nodes = map node_of nodes; queues = replicate 8 None; losses = losses; turns = turns; disconnected = 0; has_backlog = false }
+abbrev pub initial_state : List NodeSpec → Option RailwayState → Option ℕ → Losses → ServerState
+initial_state nodes railway turns losses = record {
+  bus = first_bus (is_some turns);
+  nodes = map node_of nodes;
+  railway = railway;
+  due = [];
+  queues = replicate 8 None;
+  losses = losses;
+  turns = turns;
+  disconnected = 0;
+  has_backlog = false;
+}
 
 -- what the decoders miss of a turn is drawn as it begins; if none begins, nothing is drawn
 abbrev pub IsDrawn : Event → BusState → (nodes : ℕ) → (old new : Losses) → Type 0
@@ -40,12 +57,15 @@ IsDrawn (Elapses micros missed) bus nodes old new = MatchBool (nat_le bus.remain
 IsDrawn (Turn missed) bus nodes old new = IsDraw nodes missed old new
 IsDrawn other bus nodes old new = new ≡ old
 
--- One event of the bus: the decoders heard what it is to the layout, the text of its outcome was enqueued, and the outcome
--- was observed with the decoders as they stand then.
+-- One event of the bus: the decoders heard what it is to the layout, trains ran in its time, the
+-- text of its outcome was enqueued, and the outcome was observed with the decoders as they stand then.
 pub record RunsEvent (event : Event) (observed : Observation) (old new : ServerState) : Type 0 where
   pub legal : is_event event ≡ true
   pub bus : new.bus ≡ after_event old.bus event
   pub nodes : HaveHeard old.bus.station (layout_event old.bus event) old.nodes new.nodes
+  pub piece : IsWithinTurn event old.bus
+  pub railway : new.railway ≡ railway_after old.bus old.nodes event old.railway
+  pub due : IsDue event (reports_after old.bus old.nodes event old.railway) old.due new.due
   pub queues : new.queues ≡ queues_after (outcome_of old.bus event) old.queues
   pub losses : IsDrawn event old.bus (length old.nodes) old.losses new.losses
   pub turns : new.turns ≡ old.turns
@@ -69,7 +89,8 @@ abbrev pub RunsEvents : List LoggedEvent → ServerState → ServerState → Typ
 RunsEvents [] old new = new ≡ old
 RunsEvents (one ∷ more) old new = (mid : ServerState) × RunsEvent one.event one.observed old mid × RunsEvents more mid new
 
--- the track runs for a number of microseconds, however they are divided, and nothing else happens
+-- The track runs for a number of microseconds, however they are divided, and sensors report;
+-- nothing else happens.
 abbrev pub RunsFor : (micros : ℕ) → List LoggedEvent → ServerState → ServerState → Type 0
 RunsFor micros applied old new =
     (list_all is_time (events_of applied) ≡ true) × (micros_in old.bus (events_of applied) ≡ micros) × RunsEvents applied old new
@@ -81,8 +102,9 @@ turns_after (Some turns) (Sent client message reply) = turns
 turns_after (Some turns) (TurnsRequested client (Ok count)) = count
 turns_after turns other = 0
 
--- a number of turns
+-- a number of turns, and what sensors report before, between and after them
 abbrev pub AreTurns : ℕ → List Event → Type 0
+AreTurns n (Reports sensor occupied ∷ events) = AreTurns n events
 AreTurns zero [] = Unit {0}
 AreTurns (suc n) (Turn missed ∷ events) = AreTurns n events
 AreTurns n other = ⊥
@@ -100,12 +122,13 @@ is_accepted state other = true
 abbrev pub has_overflowed : ServerState → (client : ℕ) → Bool
 has_overflowed state client = is_connected state client && not (is_some (slice_index_or state.queues client None))
 
--- this event, and a number of turns after it
+-- this event, and a number of turns after it, with what sensors report
 abbrev pub IsWithTurns : Event → ℕ → List Event → Type 0
 IsWithTurns event turns [] = ⊥
 IsWithTurns event turns (first ∷ behind) = (first ≡ event) × AreTurns turns behind
 
--- An event of a client is run, and after a message its turns; a client connects at a free index.
+-- An event of a client is run, and after a message its turns, with what sensors report; a client
+-- connects at a free index.
 abbrev pub RunsEventWithTurns : Event → List LoggedEvent → ServerState → ServerState → Type 0
 RunsEventWithTurns event applied old new =
     (is_accepted old event ≡ true) × IsWithTurns event (turns_after old.turns (outcome_of old.bus event)) (events_of applied) × RunsEvents applied old new

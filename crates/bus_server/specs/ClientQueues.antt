@@ -2,7 +2,7 @@
 use Rattle.std.specs.Prelude.{ℕ, ◌+◌, Bool, true, nat_lt, List, [], ◌∷◌, Option, Some, None, slice_set}
 use Rattle.bus_server.specs.Queues.{enqueued}
 use Rattle.loconet_tcp.specs.declared.outcome.Outcome.{Outcome}
-use Rattle.loconet_tcp.specs.declared.outcome.Outcome.TheVariants.{Nothing, Connected, Disconnected, Rejected, Sent, TurnBegan, TurnsRequested}
+use Rattle.loconet_tcp.specs.declared.outcome.Outcome.TheVariants.{Nothing, Connected, Disconnected, Rejected, Reported, Sent, TurnBegan, TurnsRequested}
 use Rattle.loconet_tcp.specs.Texts.{text_for}
 
 -- the queue of each client; None where it is closed
@@ -25,9 +25,10 @@ queues_after (Disconnected client) queues = slice_set queues client None
 queues_after (Connected client) queues = enqueued_all (Connected client) (slice_set queues client (Some []))
 queues_after (Rejected client reason) queues = enqueued_all (Rejected client reason) queues
 queues_after (Sent client message reply) queues = enqueued_all (Sent client message reply) queues
+queues_after (Reported message) queues = enqueued_all (Reported message) queues
 queues_after (TurnsRequested client turns) queues = enqueued_all (TurnsRequested client turns) queues
 
--- it names one of the eight clients
+-- a client that it names is one of the eight
 abbrev pub names_client : Outcome → Bool
 names_client Nothing = true
 names_client (TurnBegan packet) = true
@@ -35,4 +36,5 @@ names_client (Disconnected client) = nat_lt client 8
 names_client (Connected client) = nat_lt client 8
 names_client (Rejected client reason) = nat_lt client 8
 names_client (Sent client message reply) = nat_lt client 8
+names_client (Reported message) = true
 names_client (TurnsRequested client turns) = nat_lt client 8

@@ -1,5 +1,5 @@
 -- A client that keeps up is not disconnected by the server.
-use Rattle.std.specs.Prelude.{ℕ, ◌≡◌, ◌<◌, ◌==◌, Bool, false, List, length}
+use Rattle.std.specs.Prelude.{ℕ, ◌≡◌, ◌<◌, ◌==◌, Bool, false, List, [], length, None}
 use Rattle.std.specs.List.{list_any}
 use Rattle.bus_server.specs.Applied.{ServerState, has_overflowed}
 use Rattle.bus_server.specs.Rounds.{HasEmptyQueue, WritesInARow}
@@ -24,8 +24,15 @@ KeepsUp client log = (list_any (is_blocked client) log ≡ false) × (WritesInAR
 abbrev pub IsUpToDate : (client : ℕ) → ServerState → Type 0
 IsUpToDate client state = HasEmptyQueue client state × (has_overflowed state client ≡ false)
 
--- In a run that begins when nothing is queued for a client, the server does not close its connection if it keeps up, whatever
--- the other clients do.
+-- no railway is beside the bus, so that no sensor reports
+abbrev pub IsWithoutRailway : ServerState → Type 0
+IsWithoutRailway state = (state.railway ≡ None) × (state.due ≡ [])
+
+-- In a run of a server without a railway that begins when nothing is queued for a client, the
+-- server does not close its connection if it keeps up, whatever the other clients do. (With a
+-- railway, sensors report in any number.)
 abbrev pub StaysConnected : Type 0
-StaysConnected = (client most : ℕ) (rounds : List Round) (old new : ServerState) → client < 8 → length old.queues ≡ 8 → IsUpToDate client old → RunsRounds most rounds old new
-    → KeepsUp client (transport_log rounds) → list_any (is_closed client) (transport_log rounds) ≡ false
+StaysConnected = (client most : ℕ) (rounds : List Round) (old new : ServerState)
+    → IsWithoutRailway old → client < 8 → length old.queues ≡ 8 → IsUpToDate client old
+    → RunsRounds most rounds old new → KeepsUp client (transport_log rounds)
+    → list_any (is_closed client) (transport_log rounds) ≡ false

@@ -5,10 +5,13 @@ pub mod Drawn
 pub mod Draws
 pub mod Fronts
 pub mod KeepUp
+pub mod Known
 pub mod PageEvents
 pub mod Progress
 pub mod Queues
 pub mod Rounds
 pub mod Runs
+pub mod Sensors
+pub mod Steps
 pub mod Stops
 pub mod TransportEvents

@@ -13,11 +13,25 @@ use Rattle.bus_server.specs.declared.transport.IoOutcome.TheVariants.{Bytes, Clo
 use Rattle.bus_server.specs.TransportEvents.{WriteBlocked, PeerClosed, NonePending, TransportEvent, Written}
 
 abbrev pub state_of : Hub → ServerState
-state_of hub = record { bus = bus_state hub.bus; nodes = hub.bus.world.nodes; queues = hub.queues; losses = hub.losses; turns = hub.turns; disconnected = hub.disconnected; has_backlog = hub.has_backlog }
+state_of hub = record {
+  bus = bus_state hub.bus;
+  nodes = hub.bus.world.nodes;
+  railway = hub.sensors.railway;
+  due = hub.sensors.due.items;
+  queues = hub.queues;
+  losses = hub.losses;
+  turns = hub.turns;
+  disconnected = hub.disconnected;
+  has_backlog = hub.has_backlog;
+}
 
 -- the decoders of the layout are those of the observer
 abbrev pub ObservesLayout : (decoder_specs : List NodeSpec) → Hub → Type 0
 ObservesLayout decoder_specs hub = map spec_of hub.bus.world.nodes ≡ decoder_specs
+
+-- all that sensors were to report has been reported
+abbrev pub HasReported : Hub → Type 0
+HasReported hub = hub.sensors.due.items ≡ []
 
 -- one moment: the transport's log, the observer's, and the server
 pub record Snapshot : Type 0 where

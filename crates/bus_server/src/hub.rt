@@ -1,5 +1,5 @@
-//! The bus, with a send queue for each client.
-ghost use Rattle.std.specs.Prelude.{◌≡◌, ◌<◌, ◌≤◌, ◌&&◌, ◌∷◌, [], IfOk, IsTrue, is_some, length, not, slice_index_or, slice_set, drop, take, map, None, Some, true};
+//! The bus, with a railway beside it and a send queue for each client.
+ghost use Rattle.std.specs.Prelude.{◌≡◌, ◌<◌, ◌≤◌, ◌&&◌, ◌∷◌, [], Bool, IfNone, IfOk, IfSome, IsTrue, OnSome, is_some, length, not, slice_index_or, slice_set, drop, take, map, None, Some, true};
 ghost use Rattle.std.specs.List.{list_all};
 ghost use Rattle.bus_server.specs.Queues.{is_within_capacity, queued};
 ghost use Rattle.bus_server.specs.ClientQueues.{names_client, enqueued_all, queues_after};
@@ -7,16 +7,19 @@ ghost use Rattle.bus_server.specs.Counts.{disconnected_after};
 
 use crate::losses::Losses;
 use crate::send_queues::{SendQueues, empty_queues};
+use crate::sensors::Sensors;
 use crate::transport::{IoOutcome, Transport};
 use bus::{Bus, Event, Outcome};
 use layout_core::NodeList;
 use loconet_tcp::Text;
+use railway::Railway;
 use std::alloc::{AllocError, Global};
 
-/// The bus, with a send queue for each client.
+/// The bus, with a railway beside it and a send queue for each client.
 #[derive(Drop)]
 pub(crate) struct Hub {
     pub(crate) bus: Bus,
+    pub(crate) sensors: Sensors,
     pub(crate) queues: SendQueues,
     /// Draws the packets that decoders miss.
     pub(crate) losses: Losses,
@@ -34,16 +37,17 @@ impl Hub {
     ghost use Rattle.std.specs.Prelude.{ℕ};
     ghost use Rattle.layout_core.specs.Nodes.{node_of, spec_of};
     ghost use Rattle.bus_server.specs.Draws.{IsDraw};
-    ghost use Rattle.bus_server.specs.declared.losses.Losses.{Losses as LossesValue};
     ghost use Rattle.bus.specs.Bus.{client_of, is_event, outcome_of};
     ghost use Rattle.bus.specs.State.{bus_state};
     ghost use Rattle.bus.specs.Observations.{Observed};
-    ghost use Rattle.bus.specs.declared.event.Event.TheVariants.{Elapses, Turn};
+    ghost use Rattle.bus.specs.declared.event.Event.TheVariants.{Elapses, Reports, Turn};
     ghost use Rattle.bus_server.specs.Rounds.{backlog_after};
-    ghost use Rattle.bus_server.specs.Progress.{WritesFront, state_of};
+    ghost use Rattle.bus_server.specs.Progress.{HasReported, WritesFront, state_of};
+    ghost use Rattle.bus_server.specs.Steps.{RunsOnBus, with_trains_run};
     ghost use Rattle.bus_server.specs.Applied.{RunsEvent, IsDrawn, initial_state, has_overflowed};
 
-    /// A new layout with these decoders and no clients. It takes all its memory here.
+    /// A new layout with these decoders, a railway beside it or none, and no clients. It takes all
+    /// its memory here.
     ///
     /// # Errors
     ///
@@ -51,11 +55,14 @@ impl Hub {
     pub(crate) fn new(
         alloc: Global,
         nodes: NodeList,
+        railway: Option<Railway>,
         turns: Option<u8>,
         losses: Losses,
     ) -> Result<Hub, AllocError>
-        ensures hub { IfOk result (λ hub. state_of hub ≡ initial_state nodes.items turns losses) }
+        ensures hub { IfOk result
+            (λ hub. state_of hub ≡ initial_state nodes.items railway turns losses) }
         ensures specs { IfOk result (λ hub. map spec_of hub.bus.world.nodes ≡ nodes.items) }
+        ensures reported { IfOk result HasReported }
     {
         let bus = match Bus::new(alloc, nodes, turns.is_some()) {
             Ok(bus) => bus,
@@ -64,6 +71,7 @@ impl Hub {
         let queues = empty_queues(alloc)?;
         Ok(Hub {
             bus,
+            sensors: Sensors::new(railway),
             queues,
             losses,
             turns,
@@ -72,27 +80,28 @@ impl Hub {
         })
     }
 
-    /// Runs one event, and enqueues its text for each client. What decoders miss of it is drawn already.
+    /// Runs one event, and enqueues its text for each client. What decoders miss of it is drawn
+    /// already, and trains have run in its time.
     pub(crate) fn step(&mut self, event: Event) -> Outcome
         requires { IsTrue (is_event event) }
         ensures outcome { result ≡ outcome_of (bus_state self.old.bus) event }
         ensures specs { map spec_of self.new.bus.world.nodes
             ≡ map spec_of self.old.bus.world.nodes }
-        ensures happens { (before : LossesValue)
-            → IsDrawn event (bus_state self.old.bus) (length self.old.bus.world.nodes) before
-            self.old.losses
-            → RunsEvent event (Observed result self.new.bus.world.nodes)
-            (record (state_of self.old) { losses = before }) (state_of self.new) }
+        ensures runs { RunsOnBus event (Observed result self.new.bus.world.nodes)
+            (state_of self.old) (state_of self.new) }
     {
         let outcome = self.bus.step(event);
         enqueue(&mut self.queues, &outcome);
         self.disconnected = disconnected_after(&outcome, self.disconnected);
+        self.sensors.answer(&outcome);
         outcome
     }
 
-    /// Runs the track for `micros` microseconds.
+    /// Runs the track and the trains for `micros` microseconds, which the turn under way lasts.
     pub(crate) fn elapse(&mut self, micros: u16) -> Outcome
-        requires { micros ≤ 5796 }
+        requires short { micros ≤ 5796 }
+        requires piece { micros ≤ (bus_state self.old.bus).remaining }
+        requires reported { HasReported self.old }
         ensures specs { map spec_of self.new.bus.world.nodes
             ≡ map spec_of self.old.bus.world.nodes }
         ensures happens { (missed : ℕ)
@@ -100,11 +109,13 @@ impl Hub {
             (state_of self.old) (state_of self.new) }
     {
         let missed = self.draw_within(micros);
+        self.run_trains(u32::from(micros));
         self.step(Event::Elapses { micros, missed })
     }
 
-    /// Begins the next turn.
+    /// Runs the trains for the rest of the turn under way, and begins the next one.
     pub(crate) fn turn(&mut self) -> Outcome
+        requires reported { HasReported self.old }
         ensures specs { map spec_of self.new.bus.world.nodes
             ≡ map spec_of self.old.bus.world.nodes }
         ensures happens { (missed : ℕ)
@@ -112,7 +123,36 @@ impl Hub {
             (state_of self.new) }
     {
         let missed = self.draw();
+        let rest = self.bus.remaining();
+        self.run_trains(rest);
         self.step(Event::Turn { missed })
+    }
+
+    /// Reports what is due next. Returns `None`, and changes nothing, if nothing is.
+    pub(crate) fn report(&mut self) -> Option<Outcome>
+        ensures specs { map spec_of self.new.bus.world.nodes
+            ≡ map spec_of self.old.bus.world.nodes }
+        ensures none { IfNone result
+            (HasReported self.new × (state_of self.new ≡ state_of self.old)) }
+        ensures fewer { OnSome result
+            (length self.new.sensors.due.items < length self.old.sensors.due.items) }
+        ensures happens { IfSome result (λ outcome. (sensor : ℕ) × (occupied : Bool)
+            × RunsEvent (Reports sensor occupied) (Observed outcome self.new.bus.world.nodes)
+            (state_of self.old) (state_of self.new)) }
+    {
+        let report = self.sensors.next()?;
+        Some(self.step(Event::Reports {
+            sensor: report.sensor,
+            occupied: report.occupied,
+        }))
+    }
+
+    /// Runs the trains for `micros` microseconds, as the decoders do now.
+    fn run_trains(&mut self, micros: u32)
+        requires reported { HasReported self.old }
+        ensures { state_of self.new ≡ with_trains_run micros (state_of self.old) }
+    {
+        self.sensors.elapse(micros, self.bus.world());
     }
 
     /// Draws the decoders that miss the turn that begins within `micros` microseconds; draws nothing if none begins.
@@ -143,6 +183,7 @@ impl Hub {
         ensures state { state_of self.new ≡ backlog_after refused (state_of self.old) }
         ensures specs { map spec_of self.new.bus.world.nodes
             ≡ map spec_of self.old.bus.world.nodes }
+        ensures due { self.new.sensors.due.items ≡ self.old.sensors.due.items }
     {
         if refused > 0 {
             self.has_backlog = true;
@@ -155,6 +196,7 @@ impl Hub {
         ensures wrote { WritesFront client result (W.log transport.old) (W.log transport.new)
             (state_of self.old) (state_of self.new) }
         ensures bus { self.new.bus ≡ self.old.bus }
+        ensures due { self.new.sensors.due.items ≡ self.old.sensors.due.items }
     {
         let piece = front(&self.queues, client);
         if piece.is_empty() {
@@ -221,9 +263,10 @@ fn enqueue(queues: &mut SendQueues, outcome: &Outcome)
             queues[usize::from(*client)].open();
             enqueue_all(queues, outcome);
         }
-        Outcome::Rejected { .. } | Outcome::Sent { .. } | Outcome::TurnsRequested { .. } => {
-            enqueue_all(queues, outcome)
-        }
+        Outcome::Rejected { .. }
+        | Outcome::Sent { .. }
+        | Outcome::Reported { .. }
+        | Outcome::TurnsRequested { .. } => enqueue_all(queues, outcome),
     }
 }
 

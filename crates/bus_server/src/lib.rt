@@ -1,6 +1,7 @@
 //! The server of a bus: clients are accepted, read, written to and disconnected, round after round,
-//! while track time elapses. A [`Transport`] connects the clients, a [`TimeSource`] is the clock
-//! and a `bus::Observer` the log, so there are no sockets, no clock and no printing here.
+//! while track time elapses and trains run. A [`Transport`] connects the clients, a [`TimeSource`]
+//! is the clock and a `bus::Observer` the log, so there are no sockets, no clock and no printing
+//! here.
 //!
 //! [`Server::run`] is the loop. [`Losses`] draws the packets that decoders miss.
 //!
@@ -15,6 +16,7 @@ mod page_clients;
 mod running;
 mod send_queue;
 mod send_queues;
+mod sensors;
 mod server;
 mod time_source;
 mod transport;
@@ -23,6 +25,7 @@ pub use crate::losses::Losses;
 pub use after_round::AfterRound;
 pub use bus::MAX_CLIENTS;
 pub use page_clients::PageClients;
+pub use railway::Railway;
 pub use running::Stop;
 pub use server::Server;
 pub use time_source::TimeSource;

@@ -2,7 +2,7 @@
 ghost use Rattle.std.specs.Prelude.{◌≡◌, ◌<◌, ◌∷◌, [], ◌++◌, Bool, IfErr, List, None, OnErr, OnOk, min, ℕ};
 ghost use Rattle.std.specs.List.{flat_map};
 ghost use Rattle.bus.specs.Log.{Extends};
-ghost use Rattle.bus_server.specs.Progress.{ObservesLayout, state_of};
+ghost use Rattle.bus_server.specs.Progress.{HasReported, ObservesLayout, state_of};
 ghost use Rattle.bus_server.specs.Applied.{LoggedEvent, longest_wait, RunsFor, observations_of};
 ghost use Rattle.bus_server.specs.TransportEvents.{TransportEvent};
 ghost use Rattle.bus_server.specs.Runs.{RunsByClock, IsRun, Round, RunsLogged, RunSnapshot, skipped, run_snapshot};
@@ -46,7 +46,9 @@ impl Server {
         most: u64,
     ) -> Result<(), Stop<W::Fault, C::Fault, P::Fault, A::Fault>>
         requires observes { ObservesLayout (P.decoder_specs observer.old) self.old.hub }
+        requires reported { HasReported self.old.hub }
         ensures observes { ObservesLayout (P.decoder_specs observer.new) self.new.hub }
+        ensures reported { OnOk result (HasReported self.new.hub) }
         ensures run { OnOk result
             (IsRun most (run_snapshot (W.log transport.old) (C.readings clock.old)
             (P.observed observer.old) self.old.hub)
@@ -84,8 +86,10 @@ impl Server {
         most: u64,
     ) -> Result<(), Stop<W::Fault, C::Fault, P::Fault, A::Fault>>
         requires observes { ObservesLayout (P.decoder_specs observer.old) self.old.hub }
+        requires reported { HasReported self.old.hub }
         requires fewer { self.old.hub.disconnected < most }
         ensures observes { ObservesLayout (P.decoder_specs observer.new) self.new.hub }
+        ensures reported { OnOk result (HasReported self.new.hub) }
         ensures round { OnOk result
             ((round : Round)
             × RunsLogged most (round ∷ [])
@@ -137,7 +141,9 @@ impl Server {
         observer: &mut P,
     ) -> Result<(), Stop<W::Fault, C::Fault, P::Fault, A::Fault>>
         requires observes { ObservesLayout (P.decoder_specs observer.old) self.old.hub }
+        requires reported { HasReported self.old.hub }
         ensures observes { ObservesLayout (P.decoder_specs observer.new) self.new.hub }
+        ensures reported { OnOk result (HasReported self.new.hub) }
         ensures elapses { OnOk result
             ((readings : List ℕ) × (elapsing : List LoggedEvent)
             × Extends (C.readings clock.old) (C.readings clock.new) readings
@@ -171,7 +177,9 @@ impl Server {
     /// Runs the track for `micros` microseconds, a second at most, and reports the rest as skipped.
     fn run_capped<P: Observer>(&mut self, micros: u64, observer: &mut P) -> Result<(), P::Fault>
         requires observes { ObservesLayout (P.decoder_specs observer.old) self.old.hub }
+        requires reported { HasReported self.old.hub }
         ensures observes { ObservesLayout (P.decoder_specs observer.new) self.new.hub }
+        ensures reported { OnOk result (HasReported self.new.hub) }
         ensures log { OnOk result
             ((elapsing : List LoggedEvent)
             × Extends (P.observed observer.old) (P.observed observer.new)

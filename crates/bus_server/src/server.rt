@@ -8,7 +8,8 @@ ghost use Rattle.bus.specs.Course.{is_time};
 ghost use Rattle.bus.specs.State.{bus_state};
 ghost use Rattle.bus_server.specs.TransportEvents.{TransportEvent, Received};
 ghost use Rattle.bus_server.specs.Applied.{Handled, AreTurns, RunsEventWithTurns, RunsFor, RunsEvents, AppliesAll, events_of, is_accepted, initial_state, has_overflowed, transport_events, observations_in, turns_after};
-ghost use Rattle.bus_server.specs.Progress.{ProgressesBy, Progresses, ProgressesWithoutInput, Snapshot, AcceptsAt, IsObserved, ObservesLayout, snapshot, state_of};
+ghost use Rattle.bus_server.specs.Steps.{ObservesReports};
+ghost use Rattle.bus_server.specs.Progress.{HasReported, ProgressesBy, Progresses, ProgressesWithoutInput, Snapshot, AcceptsAt, IsObserved, ObservesLayout, snapshot, state_of};
 ghost use Rattle.bus_server.specs.Rounds.{AllWrittenTo, IsRead, IsRound, IsWrittenTo, AcceptsPending, refusals};
 ghost use Rattle.bus_server.specs.Stops.{BeginsEvent, BeginsTurns, RunsPart, Stops, StopsIn};
 
@@ -17,6 +18,7 @@ use crate::losses::Losses;
 use crate::transport::{IoOutcome, Transport};
 use bus::{Event, Observer, Outcome, SHORTEST_TURN};
 use layout_core::{NodeList, World};
+use railway::Railway;
 use std::alloc::{AllocError, Global};
 
 /// The most bytes that are read from a client before all clients are written to.
@@ -34,9 +36,11 @@ pub struct Server {
 }
 
 impl Server {
-    /// A new layout with these decoders and no clients. It takes all its memory here.
+    /// A new layout with these decoders, a railway beside it or none, and no clients. It takes all
+    /// its memory here.
     ///
-    /// `turns`: how many turns of the track follow each message, and clients may request turns; with `None`, turns follow time.
+    /// `turns`: how many turns of the track follow each message, and clients may request turns;
+    /// with `None`, turns follow time.
     ///
     /// # Errors
     ///
@@ -44,16 +48,18 @@ impl Server {
     pub fn new(
         alloc: Global,
         nodes: NodeList,
+        railway: Option<Railway>,
         turns: Option<u8>,
         losses: Losses,
     ) -> Result<Server, AllocError>
         ensures hub { IfOk result
-            (λ server. state_of server.hub ≡ initial_state nodes.items turns losses) }
+            (λ server. state_of server.hub ≡ initial_state nodes.items railway turns losses) }
         ensures specs { IfOk result
             (λ server. map spec_of server.hub.bus.world.nodes ≡ nodes.items) }
+        ensures reported { IfOk result (λ server. HasReported server.hub) }
     {
         Ok(Server {
-            hub: Hub::new(alloc, nodes, turns, losses)?,
+            hub: Hub::new(alloc, nodes, railway, turns, losses)?,
         })
     }
 
@@ -106,7 +112,9 @@ impl Server {
         observer: &mut P,
     ) -> Result<(), P::Fault>
         requires observes { ObservesLayout (P.decoder_specs observer.old) self.old.hub }
+        requires reported { HasReported self.old.hub }
         ensures observes { ObservesLayout (P.decoder_specs observer.new) self.new.hub }
+        ensures reported { OnOk result (HasReported self.new.hub) }
         ensures served { OnOk result
             (ProgressesBy IsRound
             (snapshot (W.log transport.old) (P.observed observer.old) self.old.hub)
@@ -130,7 +138,9 @@ impl Server {
         observer: &mut P,
     ) -> Result<(), P::Fault>
         requires observes { ObservesLayout (P.decoder_specs observer.old) self.old.hub }
+        requires reported { HasReported self.old.hub }
         ensures observes { ObservesLayout (P.decoder_specs observer.new) self.new.hub }
+        ensures reported { OnOk result (HasReported self.new.hub) }
         ensures served { OnOk result
             (ProgressesWithoutInput (λ more _. AcceptsPending more)
             (snapshot (W.log transport.old) (P.observed observer.old) self.old.hub)
@@ -158,7 +168,9 @@ impl Server {
     ) -> Result<bool, P::Fault>
         requires client { client < 8 }
         requires observes { ObservesLayout (P.decoder_specs observer.old) self.old.hub }
+        requires reported { HasReported self.old.hub }
         ensures observes { ObservesLayout (P.decoder_specs observer.new) self.new.hub }
+        ensures reported { OnOk result (HasReported self.new.hub) }
         ensures seats { IfOk result
             (λ is_taken.
             AcceptsAt client is_taken
@@ -189,7 +201,9 @@ impl Server {
     ) -> Result<(), P::Fault>
         requires client { client < 8 }
         requires observes { ObservesLayout (P.decoder_specs observer.old) self.old.hub }
+        requires reported { HasReported self.old.hub }
         ensures observes { ObservesLayout (P.decoder_specs observer.new) self.new.hub }
+        ensures reported { OnOk result (HasReported self.new.hub) }
         ensures served { OnOk result
             (ProgressesWithoutInput (λ _ all. has_overflowed all client ≡ false)
             (snapshot (W.log transport.old) (P.observed observer.old) self.old.hub)
@@ -215,7 +229,9 @@ impl Server {
     ) -> Result<(), P::Fault>
         requires client { client < 8 }
         requires observes { ObservesLayout (P.decoder_specs observer.old) self.old.hub }
+        requires reported { HasReported self.old.hub }
         ensures observes { ObservesLayout (P.decoder_specs observer.new) self.new.hub }
+        ensures reported { OnOk result (HasReported self.new.hub) }
         ensures served { OnOk result
             (Progresses (λ more _. IsRead client more)
             (snapshot (W.log transport.old) (P.observed observer.old) self.old.hub)
@@ -241,7 +257,9 @@ impl Server {
     ) -> Result<(), P::Fault>
         requires client { client < 8 }
         requires observes { ObservesLayout (P.decoder_specs observer.old) self.old.hub }
+        requires reported { HasReported self.old.hub }
         ensures observes { ObservesLayout (P.decoder_specs observer.new) self.new.hub }
+        ensures reported { OnOk result (HasReported self.new.hub) }
         ensures served { OnOk result
             ((handled : List Handled)
             × (transport_events handled ≡ map (λ byte. Received client byte) bytes.now)
@@ -273,7 +291,9 @@ impl Server {
         observer: &mut P,
     ) -> Result<(), P::Fault>
         requires observes { ObservesLayout (P.decoder_specs observer.old) self.old.hub }
+        requires reported { HasReported self.old.hub }
         ensures observes { ObservesLayout (P.decoder_specs observer.new) self.new.hub }
+        ensures reported { OnOk result (HasReported self.new.hub) }
         ensures served { OnOk result
             (ProgressesWithoutInput (AllWrittenTo 8)
             (snapshot (W.log transport.old) (P.observed observer.old) self.old.hub)
@@ -298,7 +318,9 @@ impl Server {
     ) -> Result<(), P::Fault>
         requires client { client < 8 }
         requires observes { ObservesLayout (P.decoder_specs observer.old) self.old.hub }
+        requires reported { HasReported self.old.hub }
         ensures observes { ObservesLayout (P.decoder_specs observer.new) self.new.hub }
+        ensures reported { OnOk result (HasReported self.new.hub) }
         ensures served { OnOk result
             (ProgressesWithoutInput (IsWrittenTo client)
             (snapshot (W.log transport.old) (P.observed observer.old) self.old.hub)
@@ -317,14 +339,17 @@ impl Server {
         Ok(())
     }
 
-    /// Runs the track for `micros` microseconds.
+    /// Runs the track for `micros` microseconds. No piece is longer than the turn under way, so
+    /// that trains run as the decoders do.
     ///
     /// # Errors
     ///
     /// That of the observer.
     pub fn run_for<P: Observer>(&mut self, micros: u32, observer: &mut P) -> Result<(), P::Fault>
         requires observes { ObservesLayout (P.decoder_specs observer.old) self.old.hub }
+        requires reported { HasReported self.old.hub }
         ensures observes { ObservesLayout (P.decoder_specs observer.new) self.new.hub }
+        ensures reported { OnOk result (HasReported self.new.hub) }
         ensures log { OnOk result
             (IsObserved (λ applied.
             RunsFor micros applied (state_of self.old.hub) (state_of self.new.hub))
@@ -336,21 +361,23 @@ impl Server {
     {
         let mut rest = micros;
         while rest > 0 {
-            let piece = rest.min(SHORTEST_TURN);
+            let piece = rest.min(SHORTEST_TURN).min(self.hub.bus.remaining());
             rest -= piece;
             let outcome = self.hub.elapse(piece as u16);
-            observer.observe(&outcome, self.hub.bus.world())?;
+            self.observe(&outcome, observer)?;
         }
         Ok(())
     }
 
-    /// Applies an event of a client, with the turns that follow it.
+    /// Applies an event of a client, with the turns that follow it and what sensors report.
     fn apply<P: Observer>(&mut self, event: Event, observer: &mut P) -> Result<(), P::Fault>
         requires event { IsTrue (is_event event) }
         requires clients { is_time event ≡ false }
         requires place { IsTrue (is_accepted (state_of self.old.hub) event) }
         requires observes { ObservesLayout (P.decoder_specs observer.old) self.old.hub }
+        requires reported { HasReported self.old.hub }
         ensures observes { ObservesLayout (P.decoder_specs observer.new) self.new.hub }
+        ensures reported { OnOk result (HasReported self.new.hub) }
         ensures happened { OnOk result
             (IsObserved (λ applied.
             RunsEventWithTurns event applied (state_of self.old.hub) (state_of self.new.hub))
@@ -361,7 +388,7 @@ impl Server {
             (P.observed observer.old) (P.observed observer.new)) }
     {
         let outcome = self.hub.step(event);
-        observer.observe(&outcome, self.hub.bus.world())?;
+        self.observe(&outcome, observer)?;
         let turns = turns_after(self.hub.turns, &outcome);
         self.run_turns(turns, observer)
     }
@@ -369,7 +396,9 @@ impl Server {
     /// Runs `turns` turns.
     fn run_turns<P: Observer>(&mut self, turns: u16, observer: &mut P) -> Result<(), P::Fault>
         requires observes { ObservesLayout (P.decoder_specs observer.old) self.old.hub }
+        requires reported { HasReported self.old.hub }
         ensures observes { ObservesLayout (P.decoder_specs observer.new) self.new.hub }
+        ensures reported { OnOk result (HasReported self.new.hub) }
         ensures happened { OnOk result
             (IsObserved (λ applied. AreTurns turns (events_of applied)
             × RunsEvents applied (state_of self.old.hub) (state_of self.new.hub))
@@ -381,7 +410,22 @@ impl Server {
     {
         for _turn in 0..turns {
             let outcome = self.hub.turn();
-            observer.observe(&outcome, self.hub.bus.world())?;
+            self.observe(&outcome, observer)?;
+        }
+        Ok(())
+    }
+
+    /// Observes an outcome, and then reports what is due and observes that.
+    fn observe<P: Observer>(&mut self, outcome: &Outcome, observer: &mut P) -> Result<(), P::Fault>
+        requires observes { ObservesLayout (P.decoder_specs observer.old) self.old.hub }
+        ensures observes { ObservesLayout (P.decoder_specs observer.new) self.new.hub }
+        ensures reported { OnOk result (HasReported self.new.hub) }
+        ensures log { ObservesReports outcome.now (P.observed observer.old)
+            (P.observed observer.new) (state_of self.old.hub) (state_of self.new.hub) }
+    {
+        observer.observe(outcome, self.hub.bus.world())?;
+        while let Some(report) = self.hub.report() {
+            observer.observe(&report, self.hub.bus.world())?;
         }
         Ok(())
     }

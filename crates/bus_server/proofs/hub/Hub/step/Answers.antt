@@ -1,4 +1,4 @@
-use Rattle.std.proofs.Common.{◌∙◌, ap, length, refl}
+use Rattle.std.proofs.Common.{◌∙◌, ap, if◌then◌else◌, length, refl}
 use Rattle.std.specs.List.{list_all}
 use Rattle.loconet_tcp.specs.declared.outcome.Outcome.{Outcome}
 use Rattle.bus.specs.State.{bus_state}
@@ -6,6 +6,7 @@ use Rattle.bus.specs.Observations.{Observed}
 use Rattle.bus_server.specs.Queues.{is_within_capacity}
 use Rattle.bus_server.specs.Counts.{disconnected_after}
 use Rattle.bus_server.specs.ClientQueues.{names_client, queues_after}
+use Rattle.bus_server.specs.Sensors.{asks_sensors, full_report}
 use Rattle.bus_server.proofs.Placing.{length-after, placed_by, within_capacity-after}
 use Rattle.bus_server.proofs.hub.Hub.step.Goals as goal
 
@@ -18,15 +19,18 @@ invariant_of-self c = record {
   within_capacity = ap (list_all is_within_capacity) c.enqueue.ensures ∙ within_capacity-after c.step-outcome.result c.args.self.now.queues c.args.self.now.within_capacity;
 }
 
-pub returns-clause-happens : goal.returns-clause-happens
-returns-clause-happens c before drawn =
+pub returns-clause-runs : goal.returns-clause-runs
+returns-clause-runs c =
     let outcome = c.step-outcome.ensures.outcome in
+    let sensors = c.args.self.now.sensors in
     record {
       legal = c.requires;
       bus = c.step-outcome.ensures.bus;
       nodes = c.step-outcome.ensures.nodes;
+      railway = c.answer.ensures.railway;
+      due = c.answer.ensures.due ∙ ap (λ (outcome : Outcome). if asks_sensors outcome then full_report sensors.railway else sensors.due.items) outcome;
       queues = c.enqueue.ensures ∙ ap (λ (outcome : Outcome). queues_after outcome c.args.self.now.queues) outcome;
-      losses = drawn;
+      losses = refl;
       turns = refl;
       has_backlog = refl;
       disconnected = c.disconnected_after-self.ensures ∙ ap (λ (outcome : Outcome). disconnected_after outcome c.args.self.now.disconnected) outcome;

@@ -11,7 +11,7 @@ use Rattle.bus_server.proofs.Stopping.{whatever_fails}
 use Rattle.bus_server.proofs.server.Server.receive_all.Goals as goal
 
 pub loop-byte-init : goal.loop-byte-init
-loop-byte-init g c = record { observes = c.requires.observes; served = ([], refl, grows_none (g.P.Observer.observed c.args.observer.now), refl) }
+loop-byte-init g c = record { observes = c.requires.observes; reported = c.requires.reported; served = ([], refl, grows_none (g.P.Observer.observed c.args.observer.now), refl) }
 
 pub loop-byte-preserved : goal.loop-byte-preserved
 loop-byte-preserved g c =
@@ -23,6 +23,7 @@ loop-byte-preserved g c =
     let rest = drop (c.loop-byte.byte-index + 1) c.args.bytes.now in
     record {
       observes = c.apply.ensures.observes;
+      reported = c.in_ok-apply.ensures.reported;
       served = (
         so_far.0 ++ one ∷ [],
         ap (λ (more : List TransportEvent). more ++ map says rest) (log-append so_far.0 (one ∷ [])) ∙ append_assoc (transport_events so_far.0) (says byte ∷ []) (map says rest)

@@ -10,6 +10,7 @@ use Rattle.bus_server.proofs.server.Server.round.Goals as goal
 pub loop-client-init : goal.loop-client-init
 loop-client-init g c = record {
   observes = c.requires.observes;
+  reported = c.requires.reported;
   served = ([], grows_none (g.W.Transport.log c.args.transport.now), grows_none (g.P.Observer.observed c.args.observer.now), (refl, refl));
 }
 
@@ -23,6 +24,7 @@ loop-client-preserved g c =
     let written = c.in_ok-write_all.ensures.served in
     record {
       observes = c.write_all.ensures.observes;
+      reported = c.in_ok-write_all.ensures.reported;
       served = (
         so_far.0 ++ (heard.0 ++ written.0),
         wire_more (log c.args.transport.now) (log first.transport) (log c.write_all.new.transport) so_far.0 (heard.0 ++ written.0) so_far.1

@@ -7,7 +7,7 @@ use Rattle.bus_server.specs.Stops.{IsStoppedRun, fails}
 use Rattle.bus_server.proofs.server.Server.run.Goals as goal
 
 pub loop-round-init : goal.loop-round-init
-loop-round-init g c = record { observes = c.requires.observes; after_round = refl; rounds = ([], refl, runs_none c.args.most (run_snapshot (g.W.Transport.log c.args.transport.now) (g.C.TimeSource.readings c.args.clock.now) (g.P.Observer.observed c.args.observer.now) c.args.self.now.hub)) }
+loop-round-init g c = record { observes = c.requires.observes; reported = c.requires.reported; after_round = refl; rounds = ([], refl, runs_none c.args.most (run_snapshot (g.W.Transport.log c.args.transport.now) (g.C.TimeSource.readings c.args.clock.now) (g.P.Observer.observed c.args.observer.now) c.args.self.now.hub)) }
 
 pub loop-round-preserved : goal.loop-round-preserved
 loop-round-preserved g c =
@@ -15,6 +15,7 @@ loop-round-preserved g c =
     let one = c.in_ok-run_round.ensures.round in
     record {
       observes = c.run_round.ensures.observes;
+      reported = c.in_ok-run_round.ensures.reported;
       after_round = c.in_ok-run_round.ensures.after_round ∙ c.loop-round.invariant.after_round;
       rounds = (
         so_far.0 ++ one.0 ∷ [],

@@ -1,15 +1,16 @@
-use Rattle.std.proofs.Common.{◌≡◌, ◌+◌, ◌∷◌, ◌++◌, [], ℕ, arith, rules, subst}
+use Rattle.std.proofs.Common.{◌≡◌, ◌+◌, ◌∷◌, ◌++◌, [], ℕ, arith, subst}
 use Rattle.bus.specs.declared.event.Event.TheVariants.{Elapses}
 use Rattle.bus.specs.Observations.{Observed, Observation}
 use Rattle.bus_server.specs.Progress.{IsObserved, state_of}
 use Rattle.bus_server.specs.Applied.{LoggedEvent, RunsFor}
-use Rattle.bus_server.proofs.Going.{grows_none, more_time, no_time, seen_world, shown_more}
+use Rattle.bus_server.proofs.Going.{grows_none, more_time, no_time, shown_more}
 use Rattle.bus_server.proofs.Stopping.{whatever_fails}
 use Rattle.bus_server.proofs.server.Server.run_for.Goals as goal
 
 pub loop-rest-init : goal.loop-rest-init
 loop-rest-init g c = record {
   observes = c.requires.observes;
+  reported = c.requires.reported;
   log = (0, omega arith, ([], grows_none (g.P.Observer.observed c.args.observer.now), no_time (state_of c.args.self.now.hub)));
 }
 
@@ -20,15 +21,18 @@ loop-rest-preserved g c =
     let happens = c.elapse-outcome.ensures.happens in
     let observed : Observation = Observed c.elapse-outcome.result c.elapse-outcome.new.self.bus.world.nodes in
     let one : LoggedEvent = record { event = Elapses piece happens.0; observed = observed } in
+    let reports = c.observe.ensures.log in
     record {
-      observes = search rules;
+      observes = c.observe.ensures.observes;
+      reported = c.in_ok-observe.ensures.reported;
       log = (
         so_far.0 + piece,
         omega (arith, so_far.1, c.min-piece.ensures),
         (
-          so_far.2.0 ++ one ∷ [],
-          shown_more (g.P.Observer.observed c.args.observer.now) (g.P.Observer.observed c.loop-rest.observer) (g.P.Observer.observed c.observe.new.self) so_far.2.0 (one ∷ []) so_far.2.1 (seen_world (g.P.Observer.observed c.loop-rest.observer) (g.P.Observer.observed c.observe.new.self) c.elapse-outcome.result c.world.result.now c.elapse-outcome.new.self.bus.world c.world.ensures c.observe.ensures.observed),
-          more_time so_far.0 piece happens.0 observed so_far.2.0 (state_of c.args.self.now.hub) (state_of c.loop-rest.self.hub) (state_of c.elapse-outcome.new.self) so_far.2.2 happens.1,
+          so_far.2.0 ++ one ∷ reports.0,
+          shown_more (g.P.Observer.observed c.args.observer.now) (g.P.Observer.observed c.loop-rest.observer) (g.P.Observer.observed c.observe.new.observer) so_far.2.0 (one ∷ reports.0) so_far.2.1 reports.1,
+          more_time so_far.0 piece happens.0 observed so_far.2.0 reports.0 (state_of c.args.self.now.hub) (state_of c.loop-rest.self.hub) (state_of c.elapse-outcome.new.self) (state_of c.observe.new.self.hub)
+              so_far.2.2 happens.1 reports.2 reports.3,
         ),
       );
     }
@@ -46,12 +50,14 @@ returns-in_err-observe-clause-stops g c =
     let happens = c.elapse-outcome.ensures.happens in
     let observed : Observation = Observed c.elapse-outcome.result c.elapse-outcome.new.self.bus.world.nodes in
     let one : LoggedEvent = record { event = Elapses piece happens.0; observed = observed } in
+    let reports = c.observe.ensures.log in
     whatever_fails c.from_residual.result (
-      so_far.2.0 ++ one ∷ [],
-      shown_more (g.P.Observer.observed c.args.observer.now) (g.P.Observer.observed c.loop-rest.observer) (g.P.Observer.observed c.observe.new.self) so_far.2.0 (one ∷ []) so_far.2.1 (seen_world (g.P.Observer.observed c.loop-rest.observer) (g.P.Observer.observed c.observe.new.self) c.elapse-outcome.result c.world.result.now c.elapse-outcome.new.self.bus.world c.world.ensures c.observe.ensures.observed),
+      so_far.2.0 ++ one ∷ reports.0,
+      shown_more (g.P.Observer.observed c.args.observer.now) (g.P.Observer.observed c.loop-rest.observer) (g.P.Observer.observed c.observe.new.observer) so_far.2.0 (one ∷ reports.0) so_far.2.1 reports.1,
       (
         so_far.0 + piece,
         omega (arith, so_far.1, c.min-piece.ensures),
-        more_time so_far.0 piece happens.0 observed so_far.2.0 (state_of c.args.self.now.hub) (state_of c.loop-rest.self.hub) (state_of c.elapse-outcome.new.self) so_far.2.2 happens.1,
+        more_time so_far.0 piece happens.0 observed so_far.2.0 reports.0 (state_of c.args.self.now.hub) (state_of c.loop-rest.self.hub) (state_of c.elapse-outcome.new.self) (state_of c.observe.new.self.hub)
+            so_far.2.2 happens.1 reports.2 reports.3,
       ),
     )

@@ -1,14 +1,14 @@
-use Rattle.std.proofs.Common.{[], ◌∷◌, ◌++◌, refl, rules, ◌+◌, arith}
+use Rattle.std.proofs.Common.{[], ◌∷◌, ◌++◌, refl, ◌+◌, arith}
 use Rattle.bus.specs.declared.event.Event.TheVariants.{Turn}
 use Rattle.bus.specs.Observations.{Observed, Observation}
 use Rattle.bus_server.specs.Progress.{state_of}
 use Rattle.bus_server.specs.Applied.{LoggedEvent}
-use Rattle.bus_server.proofs.Going.{grows_none, happened_then, seen_world, shown_more, turns_more}
+use Rattle.bus_server.proofs.Going.{grows_none, happened_then, shown_more, turns_more}
 use Rattle.bus_server.proofs.Stopping.{whatever_fails}
 use Rattle.bus_server.proofs.server.Server.run_turns.Goals as goal
 
 pub loop-turn-init : goal.loop-turn-init
-loop-turn-init g c = record { observes = c.requires.observes; happened = ([], grows_none (g.P.Observer.observed c.args.observer.now), (tt, refl)) }
+loop-turn-init g c = record { observes = c.requires.observes; reported = c.requires.reported; happened = ([], grows_none (g.P.Observer.observed c.args.observer.now), (tt, refl)) }
 
 pub loop-turn-preserved : goal.loop-turn-preserved
 loop-turn-preserved g c =
@@ -16,12 +16,18 @@ loop-turn-preserved g c =
     let missed = c.turn-outcome.ensures.happens.0 in
     let observed : Observation = Observed c.turn-outcome.result c.turn-outcome.new.self.bus.world.nodes in
     let one : LoggedEvent = record { event = Turn missed; observed = observed } in
+    let reports = c.observe.ensures.log in
     record {
-      observes = search rules;
+      observes = c.observe.ensures.observes;
+      reported = c.in_ok-observe.ensures.reported;
       happened = (
-        so_far.0 ++ one ∷ [],
-        shown_more (g.P.Observer.observed c.args.observer.now) (g.P.Observer.observed c.loop-turn.observer) (g.P.Observer.observed c.observe.new.self) so_far.0 (one ∷ []) so_far.1 (seen_world (g.P.Observer.observed c.loop-turn.observer) (g.P.Observer.observed c.observe.new.self) c.turn-outcome.result c.world.result.now c.turn-outcome.new.self.bus.world c.world.ensures c.observe.ensures.observed),
-        (turns_more c.loop-turn._turn missed observed so_far.0 so_far.2.0, happened_then (Turn missed) observed so_far.0 (state_of c.args.self.now.hub) (state_of c.loop-turn.self.hub) (state_of c.turn-outcome.new.self) so_far.2.1 c.turn-outcome.ensures.happens.1),
+        so_far.0 ++ one ∷ reports.0,
+        shown_more (g.P.Observer.observed c.args.observer.now) (g.P.Observer.observed c.loop-turn.observer) (g.P.Observer.observed c.observe.new.observer) so_far.0 (one ∷ reports.0) so_far.1 reports.1,
+        (
+          turns_more c.loop-turn._turn missed observed so_far.0 reports.0 so_far.2.0 reports.2,
+          happened_then (Turn missed) observed so_far.0 reports.0 (state_of c.args.self.now.hub) (state_of c.loop-turn.self.hub) (state_of c.turn-outcome.new.self) (state_of c.observe.new.self.hub)
+              so_far.2.1 c.turn-outcome.ensures.happens.1 reports.3,
+        ),
       );
     }
 
@@ -31,13 +37,15 @@ returns-in_err-observe-clause-stops g c =
     let missed = c.turn-outcome.ensures.happens.0 in
     let observed : Observation = Observed c.turn-outcome.result c.turn-outcome.new.self.bus.world.nodes in
     let one : LoggedEvent = record { event = Turn missed; observed = observed } in
+    let reports = c.observe.ensures.log in
     whatever_fails c.from_residual.result (
-      so_far.0 ++ one ∷ [],
-      shown_more (g.P.Observer.observed c.args.observer.now) (g.P.Observer.observed c.loop-turn.observer) (g.P.Observer.observed c.observe.new.self) so_far.0 (one ∷ []) so_far.1 (seen_world (g.P.Observer.observed c.loop-turn.observer) (g.P.Observer.observed c.observe.new.self) c.turn-outcome.result c.world.result.now c.turn-outcome.new.self.bus.world c.world.ensures c.observe.ensures.observed),
+      so_far.0 ++ one ∷ reports.0,
+      shown_more (g.P.Observer.observed c.args.observer.now) (g.P.Observer.observed c.loop-turn.observer) (g.P.Observer.observed c.observe.new.observer) so_far.0 (one ∷ reports.0) so_far.1 reports.1,
       (
         c.loop-turn._turn + 1,
         omega (arith, c.loop-turn-test.true),
-        turns_more c.loop-turn._turn missed observed so_far.0 so_far.2.0,
-        happened_then (Turn missed) observed so_far.0 (state_of c.args.self.now.hub) (state_of c.loop-turn.self.hub) (state_of c.turn-outcome.new.self) so_far.2.1 c.turn-outcome.ensures.happens.1,
+        turns_more c.loop-turn._turn missed observed so_far.0 reports.0 so_far.2.0 reports.2,
+        happened_then (Turn missed) observed so_far.0 reports.0 (state_of c.args.self.now.hub) (state_of c.loop-turn.self.hub) (state_of c.turn-outcome.new.self) (state_of c.observe.new.self.hub)
+            so_far.2.1 c.turn-outcome.ensures.happens.1 reports.3,
       ),
     )

@@ -8,7 +8,7 @@ use Rattle.bus_server.proofs.Stopping.{stops_behind, whatever_fails}
 use Rattle.bus_server.proofs.server.Server.write_all.Goals as goal
 
 pub loop-client-init : goal.loop-client-init
-loop-client-init g c = record { observes = c.requires.observes; served = calm_nowhere (AllWrittenTo 0) (snapshot (g.W.Transport.log c.args.transport.now) (g.P.Observer.observed c.args.observer.now) c.args.self.now.hub) (λ client within. absurd (omega (arith, within))) }
+loop-client-init g c = record { observes = c.requires.observes; reported = c.requires.reported; served = calm_nowhere (AllWrittenTo 0) (snapshot (g.W.Transport.log c.args.transport.now) (g.P.Observer.observed c.args.observer.now) c.args.self.now.hub) (λ client within. absurd (omega (arith, within))) }
 
 pub loop-client-preserved : goal.loop-client-preserved
 loop-client-preserved g c =
@@ -18,6 +18,7 @@ loop-client-preserved g c =
     let after_round = snapshot (g.W.Transport.log c.write.new.transport) (g.P.Observer.observed c.write.new.observer) c.write.new.self.hub in
     record {
       observes = c.disconnect.ensures.observes;
+      reported = c.in_ok-disconnect.ensures.reported;
       served =
           calm_then (AllAndOne first.client) (λ _ all. has_overflowed all first.client ≡ false) (AllWrittenTo (first.client + 1)) start after_round (snapshot (g.W.Transport.log c.disconnect.new.transport) (g.P.Observer.observed c.disconnect.new.observer) c.disconnect.new.self.hub)
           (λ these those kept done overflowed. one_on_time first.client these those (state_of c.write.new.self.hub) (state_of c.disconnect.new.self.hub) kept done overflowed)

@@ -1,0 +1,180 @@
+-- What a client knows of a sensor by the reports on the bus.
+use Rattle.std.proofs.Common.{◌≡◌, ℕ, ◌<◌, Bool, true, false, if◌then◌else◌, List, [], ◌∷◌, ◌++◌, length, Option, Some, None, refl, ap, sym, subst, ◌∙◌, append-nil}
+use Rattle.std.specs.Prelude.{IsTrue}
+use Rattle.std.specs.List.{flat_map, slice_index_or}
+use Rattle.std.proofs.lemmas.List.{map-append}
+use Rattle.layout_core.specs.declared.node.Node.{Node}
+use Rattle.ln_ops.specs.declared.sensor.SensorReport.{SensorReport}
+use Rattle.railway.specs.Blocks.{default_block}
+use Rattle.railway.specs.Course.{Happening, after_all, reports_of_all}
+use Rattle.railway.specs.Course.Happening.{Elapses as TimeElapses}
+use Rattle.railway.specs.Railway.{RailwayState, elapsed, is_railway, reports_in}
+use Rattle.railway.specs.Reports.{full, is_occupied, level_after}
+use Rattle.bus.specs.declared.event.Event.{Event}
+use Rattle.bus.specs.declared.event.Event.TheVariants.{Connects, Receives, Disconnects, Reports, Elapses, Turn}
+use Rattle.bus.specs.Bus.{outcome_of}
+use Rattle.bus.specs.Observations.{Observation}
+use Rattle.bus_server.specs.Applied.{Applies, AppliesAll, Handled, LoggedEvent, RunsEvent, RunsEvents, ServerState, events_of, with_backlog, without_backlog}
+use Rattle.bus_server.specs.Known.{IsKnown, IsSensorOf, reports_among}
+use Rattle.bus_server.specs.Runs.{Round, RunsByClock, RunsRounds, logged_in}
+use Rattle.bus_server.specs.Sensors.{asks_sensors, full_report, railway_elapsed, reports_elapsed}
+use Rattle.bus_server.specs.TransportEvents.{Accepted, NonePending, PeerClosed, Polled, ReadBlocked, Received, Refused, ServerClosed, TransportEvent, WriteBlocked, Written}
+use Rattle.bus_server.proofs.Rounding.{round_serves}
+
+-- what a railway promises of the reports of its sensors
+pub record SensorLaws : Type 0 where
+  pub whole : (railway : RailwayState) (nodes : List Node) (micros : ℕ) → IsTrue (is_railway railway) → IsTrue (is_railway (elapsed railway micros nodes))
+  pub full : (railway : RailwayState) (block sensor : ℕ) (before : Bool) → IsTrue (is_railway railway) → block < length railway.network.blocks
+      → (slice_index_or railway.network.blocks block default_block).sensor ≡ Some sensor
+      → level_after (full railway.network.blocks railway.trains) sensor before ≡ is_occupied railway.trains block
+  pub after : (railway : RailwayState) (happenings : List Happening) (block sensor : ℕ) → IsTrue (is_railway railway) → block < length railway.network.blocks
+      → (slice_index_or railway.network.blocks block default_block).sensor ≡ Some sensor
+      → level_after (reports_of_all railway happenings) sensor (is_occupied railway.trains block) ≡ is_occupied (after_all railway happenings).trains block
+
+-- The reports of more events.
+
+one_more : (event : Event) (events : List Event) (sensor : ℕ) (level : Bool)
+    → level_after (reports_among (event ∷ events)) sensor level ≡ level_after (reports_among events) sensor (level_after (reports_among (event ∷ [])) sensor level)
+one_more (Connects client) events sensor level = refl
+one_more (Receives client byte) events sensor level = refl
+one_more (Disconnects client) events sensor level = refl
+one_more (Reports reporting occupied) events sensor level = refl
+one_more (Elapses micros missed) events sensor level = refl
+one_more (Turn missed) events sensor level = refl
+
+level-append : (first second : List Event) (sensor : ℕ) (level : Bool)
+    → level_after (reports_among (first ++ second)) sensor level ≡ level_after (reports_among second) sensor (level_after (reports_among first) sensor level)
+level-append [] second sensor level = refl
+level-append (event ∷ first) second sensor level =
+    one_more event (first ++ second) sensor level
+    ∙ level-append first second sensor (level_after (reports_among (event ∷ [])) sensor level)
+    ∙ ap (λ (l : Bool). level_after (reports_among second) sensor l) (sym (one_more event first sensor level))
+
+-- the level that a client knows after logged events
+abbrev known_after : (sensor : ℕ) → List LoggedEvent → Bool → Bool
+known_after sensor applied level = level_after (reports_among (events_of applied)) sensor level
+
+known-append : (sensor : ℕ) (first second : List LoggedEvent) (level : Bool) → known_after sensor (first ++ second) level ≡ known_after sensor second (known_after sensor first level)
+known-append sensor first second level =
+    ap (λ (events : List Event). level_after (reports_among events) sensor level) (map-append (λ (one : LoggedEvent). one.event) first second)
+    ∙ level-append (events_of first) (events_of second) sensor level
+
+-- One event.
+
+same_known : (block sensor : ℕ) (level : Bool) (old new : ServerState) → new.railway ≡ old.railway → new.due ≡ old.due → IsKnown block sensor level old → IsKnown block sensor level new
+same_known block sensor level old new railway due h = (h.0, railway ∙ h.1, h.2, h.3, ap (λ (d : List SensorReport). level_after d sensor level) due ∙ h.4)
+
+elapsed_known : SensorLaws → (block sensor micros : ℕ) (level : Bool) (nodes : List Node) (old new : ServerState) → old.due ≡ [] → new.railway ≡ railway_elapsed old.railway micros nodes
+    → new.due ≡ reports_elapsed old.railway micros nodes → IsKnown block sensor level old → IsKnown block sensor level new
+elapsed_known laws block sensor micros level nodes old new none trains due h =
+    let railway : RailwayState = h.0 in
+    let reports : List SensorReport = reports_in railway micros nodes in
+    let known : level ≡ is_occupied railway.trains block = sym (ap (λ (d : List SensorReport). level_after d sensor level) none) ∙ h.4 in (
+      elapsed railway micros nodes,
+      trains ∙ ap (λ (r : Option RailwayState). railway_elapsed r micros nodes) h.1,
+      laws.whole railway nodes micros h.2,
+      h.3,
+      ap (λ (d : List SensorReport). level_after d sensor level) (due ∙ ap (λ (r : Option RailwayState). reports_elapsed r micros nodes) h.1)
+          ∙ ap (λ (l : Bool). level_after reports sensor l) known
+          ∙ ap (λ (all : List SensorReport). level_after all sensor (is_occupied railway.trains block)) (sym (append-nil reports))
+          ∙ laws.after railway (TimeElapses micros nodes ∷ []) block sensor h.2 h.3.0 h.3.1,
+    )
+
+asked_level : SensorLaws → (asks level : Bool) (block sensor : ℕ) (railway : RailwayState) → IsTrue (is_railway railway) → IsSensorOf block sensor railway → level ≡ is_occupied railway.trains block
+    → level_after (if asks then full_report (Some railway) else []) sensor level ≡ is_occupied railway.trains block
+asked_level laws true level block sensor railway whole is known = laws.full railway block sensor level whole is.0 is.1
+asked_level laws false level block sensor railway whole is known = known
+
+event_known : SensorLaws → (block sensor : ℕ) (level : Bool) (event : Event) (observed : Observation) (old new : ServerState) → RunsEvent event observed old new → IsKnown block sensor level old
+    → IsKnown block sensor (level_after (reports_among (event ∷ [])) sensor level) new
+event_known laws block sensor level (Connects client) observed old new runs h = same_known block sensor level old new runs.railway (runs.due.1 ∙ sym runs.due.0) h
+event_known laws block sensor level (Disconnects client) observed old new runs h = same_known block sensor level old new runs.railway (runs.due.1 ∙ sym runs.due.0) h
+event_known laws block sensor level (Receives client byte) observed old new runs h =
+    let railway : RailwayState = h.0 in
+    let asks : Bool = asks_sensors (outcome_of old.bus (Receives client byte)) in
+    let known : level ≡ is_occupied railway.trains block = sym (ap (λ (d : List SensorReport). level_after d sensor level) runs.due.0) ∙ h.4 in (
+      railway,
+      runs.railway ∙ h.1,
+      h.2,
+      h.3,
+      ap (λ (d : List SensorReport). level_after d sensor level) (runs.due.1 ∙ ap (λ (r : Option RailwayState). if asks then full_report r else []) h.1)
+          ∙ asked_level laws asks level block sensor railway h.2 h.3 known,
+    )
+event_known laws block sensor level (Reports reporting occupied) observed old new runs h =
+    (h.0, runs.railway ∙ h.1, h.2, h.3, sym (ap (λ (d : List SensorReport). level_after d sensor level) runs.due) ∙ h.4)
+event_known laws block sensor level (Elapses micros missed) observed old new runs h = elapsed_known laws block sensor micros level old.nodes old new runs.due.0 runs.railway runs.due.1 h
+event_known laws block sensor level (Turn missed) observed old new runs h = elapsed_known laws block sensor old.bus.remaining level old.nodes old new runs.due.0 runs.railway runs.due.1 h
+
+pub becomes_known : SensorLaws → (block sensor client byte : ℕ) (level : Bool) (railway : RailwayState) (observed : Observation) (old new : ServerState) → old.railway ≡ Some railway
+    → IsTrue (is_railway railway) → IsSensorOf block sensor railway → asks_sensors (outcome_of old.bus (Receives client byte)) ≡ true → RunsEvent (Receives client byte) observed old new
+    → IsKnown block sensor level new
+becomes_known laws block sensor client byte level railway observed old new beside whole is asks runs = (
+  railway,
+  runs.railway ∙ beside,
+  whole,
+  is,
+  ap (λ (d : List SensorReport). level_after d sensor level)
+      (runs.due.1 ∙ ap (λ (a : Bool). if a then full_report old.railway else []) asks ∙ ap full_report beside)
+      ∙ laws.full railway block sensor level whole is.0 is.1,
+)
+
+-- A run.
+
+module _ (laws : SensorLaws) (block sensor : ℕ) where
+  happened_known : (applied : List LoggedEvent) (level : Bool) (old new : ServerState) → RunsEvents applied old new → IsKnown block sensor level old → IsKnown block sensor (known_after sensor applied level) new
+  happened_known [] level old new same h = subst (λ (s : ServerState). IsKnown block sensor level s) (sym same) h
+  happened_known (one ∷ more) level old new runs h =
+      let first = event_known laws block sensor level one.event one.observed old runs.0 runs.1 h in
+      subst (λ (l : Bool). IsKnown block sensor l new) (sym (one_more one.event (events_of more) sensor level))
+      (happened_known more (level_after (reports_among (one.event ∷ [])) sensor level) runs.0 new runs.2 first)
+
+  none_known : (applied : List LoggedEvent) (level : Bool) (new : ServerState) → applied ≡ [] → IsKnown block sensor level new → IsKnown block sensor (known_after sensor applied level) new
+  none_known applied level new none h = subst (λ (all : List LoggedEvent). IsKnown block sensor (known_after sensor all level) new) (sym none) h
+
+  as_before : (applied : List LoggedEvent) (level : Bool) (old new : ServerState) → applied ≡ [] → new ≡ old → IsKnown block sensor level old → IsKnown block sensor (known_after sensor applied level) new
+  as_before applied level old new none same h = none_known applied level new none (subst (λ (s : ServerState). IsKnown block sensor level s) (sym same) h)
+
+  act_known : (log : TransportEvent) (applied : List LoggedEvent) (level : Bool) (old new : ServerState) → Applies log applied old new → IsKnown block sensor level old
+      → IsKnown block sensor (known_after sensor applied level) new
+  act_known (Accepted client) applied level old new does h = happened_known applied level (with_backlog old) new does.2 h
+  act_known (Received client byte) applied level old new does h = happened_known applied level (with_backlog old) new does.2 h
+  act_known (PeerClosed client) applied level old new does h = happened_known applied level old new does.2 h
+  act_known (ServerClosed client) applied level old new does h = happened_known applied level old new does.1.2 h
+  act_known (Written client bytes) applied level old new does h =
+      none_known applied level new does.0 (subst (λ (s : ServerState). IsKnown block sensor level s) (sym does.3) h)
+  act_known Refused applied level old new does h = as_before applied level (with_backlog old) new does.0 does.2 h
+  act_known (Polled longest) applied level old new does h = absurd does
+  act_known (ReadBlocked client) applied level old new does h = as_before applied level old new does.0 does.1 h
+  act_known (WriteBlocked client) applied level old new does h = as_before applied level old new does.0 does.1 h
+  act_known NonePending applied level old new does h = as_before applied level old new does.0 does.1 h
+
+  abbrev applied_in : List Handled → List LoggedEvent
+  applied_in handled = flat_map (λ one_handled. one_handled.applied) handled
+
+  acts_known : (handled : List Handled) (level : Bool) (old new : ServerState) → AppliesAll handled old new → IsKnown block sensor level old → IsKnown block sensor (known_after sensor (applied_in handled) level) new
+  acts_known [] level old new same h = subst (λ (s : ServerState). IsKnown block sensor level s) (sym same) h
+  acts_known (one_handled ∷ handled) level old new does h =
+      let first = act_known one_handled.log one_handled.applied level old does.0 does.1 h in
+      subst (λ (l : Bool). IsKnown block sensor l new) (sym (known-append sensor one_handled.applied (applied_in handled) level))
+      (acts_known handled (known_after sensor one_handled.applied level) does.0 new does.2 first)
+
+  time_known : (turns : Option ℕ) (readings : List ℕ) (elapsing : List LoggedEvent) (level : Bool) (old new : ServerState) → RunsByClock turns readings elapsing old new → IsKnown block sensor level old
+      → IsKnown block sensor (known_after sensor elapsing level) new
+  time_known (Some turns) readings elapsing level old new runs h = as_before elapsing level old new runs.1 runs.2 h
+  time_known None readings elapsing level old new runs h = happened_known elapsing level old new runs.2.2 h
+
+  rounds_known : (most : ℕ) (rounds : List Round) (level : Bool) (old new : ServerState) → RunsRounds most rounds old new → IsKnown block sensor level old
+      → IsKnown block sensor (known_after sensor (logged_in rounds) level) new
+  rounds_known most [] level old new same h = subst (λ (s : ServerState). IsKnown block sensor level s) (sym same) h
+  rounds_known most (round ∷ rounds) level old new runs h =
+      let went = runs.2 in
+      let handled = applied_in round.handled in
+      let served = acts_known round.handled level (without_backlog old) went.1 (round_serves round.handled (without_backlog old) went.1 went.2) h in
+      let timed = time_known went.1.turns round.readings round.elapsing (known_after sensor handled level) went.1 runs.1 went.3 served in
+      let rest = rounds_known most rounds (known_after sensor round.elapsing (known_after sensor handled level)) runs.1 new runs.3 timed in
+      subst (λ (l : Bool). IsKnown block sensor l new)
+      (sym (known-append sensor (handled ++ round.elapsing) (logged_in rounds) level ∙ ap (λ (l : Bool). known_after sensor (logged_in rounds) l) (known-append sensor handled round.elapsing level))) rest
+
+pub stays_known : SensorLaws → (block sensor most : ℕ) (level : Bool) (rounds : List Round) (old new : ServerState) → RunsRounds most rounds old new → IsKnown block sensor level old
+    → IsKnown block sensor (known_after sensor (logged_in rounds) level) new
+stays_known laws block sensor most level rounds old new runs h = rounds_known laws block sensor most rounds level old new runs h

@@ -1,0 +1,14 @@
+use Rattle.std.proofs.Common.{List, Option, ap, ap₂, ◌∙◌}
+use Rattle.ln_ops.specs.declared.sensor.SensorReport.{SensorReport}
+use Rattle.layout_core.specs.declared.world.World.{World}
+use Rattle.railway.specs.Railway.{RailwayState}
+use Rattle.bus_server.specs.Progress.{state_of}
+use Rattle.bus_server.specs.Sensors.{railway_elapsed, reports_elapsed}
+use Rattle.bus_server.proofs.hub.Hub.run_trains.Goals as goal
+
+pub returns : goal.returns
+returns c =
+    let old = c.args.self.now in
+    ap₂ (λ (railway : Option RailwayState) (due : List SensorReport). record (state_of old) { railway = railway; due = due })
+    (c.elapse.ensures.railway ∙ ap (λ (world : World). railway_elapsed old.sensors.railway c.args.micros world.nodes) c.world.ensures)
+    (c.elapse.ensures.due ∙ ap (λ (world : World). reports_elapsed old.sensors.railway c.args.micros world.nodes) c.world.ensures)

@@ -1,0 +1,7 @@
+use Rattle.bus_server.proofs.Knowing.{SensorLaws, becomes_known, stays_known}
+use Rattle.bus_server.proofs.laws.clients_know.Goals as goal
+
+pub returns : goal.returns
+returns c =
+    let laws : SensorLaws = record { whole = c.time_adds_up.ensures.kept; full = c.observers_know.ensures.full; after = c.observers_know.ensures.after } in
+    record { becomes = becomes_known laws; stays = stays_known laws }

@@ -1,0 +1,65 @@
+-- The railway beside a bus, and what its sensors report.
+use Rattle.std.specs.Prelude.{ℕ, ◌≡◌, ◌≤◌, Bool, true, false, if◌then◌else◌, List, [], ◌∷◌, Option, Some, None}
+use Rattle.layout_core.specs.declared.node.Node.{Node}
+use Rattle.ln_ops.specs.Sensor.{is_interrogation}
+use Rattle.ln_ops.specs.declared.sensor.SensorReport.{SensorReport}
+use Rattle.loconet_tcp.specs.declared.outcome.Outcome.{Outcome}
+use Rattle.loconet_tcp.specs.declared.outcome.Outcome.TheVariants.{Sent}
+use Rattle.railway.specs.Railway.{RailwayState, elapsed, reports_in}
+use Rattle.railway.specs.Reports.{full}
+use Rattle.bus.specs.declared.event.Event.{Event}
+use Rattle.bus.specs.declared.event.Event.TheVariants.{Connects, Receives, Disconnects, Reports, Elapses, Turn}
+use Rattle.bus.specs.Bus.{BusState, outcome_of}
+
+-- the railway, if there is one, after so many microseconds in which the decoders do this
+abbrev pub railway_elapsed : Option RailwayState → (micros : ℕ) → List Node → Option RailwayState
+railway_elapsed None micros nodes = None
+railway_elapsed (Some railway) micros nodes = Some (elapsed railway micros nodes)
+
+-- what its sensors report of that
+abbrev pub reports_elapsed : Option RailwayState → (micros : ℕ) → List Node → List SensorReport
+reports_elapsed None micros nodes = []
+reports_elapsed (Some railway) micros nodes = reports_in railway micros nodes
+
+-- a report of each sensor
+abbrev pub full_report : Option RailwayState → List SensorReport
+full_report None = []
+full_report (Some railway) = full railway.network.blocks railway.trains
+
+-- a message asks all sensors to report
+abbrev pub asks_sensors : Outcome → Bool
+asks_sensors (Sent client message reply) = is_interrogation message
+asks_sensors other = false
+
+-- The railway after an event: in the time of the event trains run as the decoders do before it.
+abbrev pub railway_after : BusState → List Node → Event → Option RailwayState → Option RailwayState
+railway_after bus nodes (Elapses micros missed) railway = railway_elapsed railway micros nodes
+railway_after bus nodes (Turn missed) railway = railway_elapsed railway bus.remaining nodes
+railway_after bus nodes other railway = railway
+
+-- What an event makes sensors report: each change in its time; all, if its message asks for that.
+abbrev pub reports_after : BusState → List Node → Event → Option RailwayState → List SensorReport
+reports_after bus nodes (Connects client) railway = []
+reports_after bus nodes (Disconnects client) railway = []
+reports_after bus nodes (Reports sensor occupied) railway = []
+reports_after bus nodes (Receives client byte) railway =
+    if asks_sensors (outcome_of bus (Receives client byte)) then full_report railway else []
+reports_after bus nodes (Elapses micros missed) railway = reports_elapsed railway micros nodes
+reports_after bus nodes (Turn missed) railway = reports_elapsed railway bus.remaining nodes
+
+-- The reports that are due before an event and after it: each is an event, in order, and no other
+-- event happens before. It makes others due.
+abbrev pub IsDue : Event → (made old new : List SensorReport) → Type 0
+IsDue (Reports sensor occupied) made old new =
+    old ≡ record { sensor = sensor; occupied = occupied } ∷ new
+IsDue other made old new = (old ≡ []) × (new ≡ made)
+
+-- A time ends with the turn under way or before it, so that the decoders do the same in all of it.
+abbrev pub IsWithinTurn : Event → BusState → Type 0
+IsWithinTurn (Elapses micros missed) bus = micros ≤ bus.remaining
+IsWithinTurn other bus = Unit {0}
+
+-- a sensor reports
+abbrev pub is_report : Event → Bool
+is_report (Reports sensor occupied) = true
+is_report other = false

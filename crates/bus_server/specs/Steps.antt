@@ -1,0 +1,46 @@
+-- An event of the bus in parts: trains run, the bus runs the event, and sensors report.
+use Rattle.std.specs.Prelude.{ℕ, ◌≡◌, true, if◌then◌else◌, List, ◌∷◌, Option}
+use Rattle.std.specs.List.{list_all}
+use Rattle.layout_core.specs.World.{HaveHeard}
+use Rattle.bus.specs.declared.event.Event.{Event}
+use Rattle.loconet_tcp.specs.declared.outcome.Outcome.{Outcome}
+use Rattle.bus.specs.Bus.{after_event, is_event, outcome_of}
+use Rattle.bus.specs.Layout.{layout_event}
+use Rattle.bus.specs.Log.{Extends}
+use Rattle.bus.specs.Observations.{Observation, Observed}
+use Rattle.bus_server.specs.Applied.{LoggedEvent, RunsEvents, ServerState, events_of, observations_of}
+use Rattle.bus_server.specs.ClientQueues.{queues_after}
+use Rattle.bus_server.specs.Counts.{disconnected_after}
+use Rattle.bus_server.specs.Sensors.{asks_sensors, full_report, is_report, railway_elapsed, reports_elapsed}
+
+-- Trains have run for a time, as the decoders do, and what sensors report of it is due.
+abbrev pub with_trains_run : (micros : ℕ) → ServerState → ServerState
+with_trains_run micros state = record state {
+  railway = railway_elapsed state.railway micros state.nodes;
+  due = reports_elapsed state.railway micros state.nodes;
+}
+
+-- The bus runs an event, once trains have run in its time: nothing of the railway changes, but a
+-- message may ask all sensors to report.
+pub record RunsOnBus (event : Event) (observed : Observation) (old new : ServerState) : Type 0 where
+  pub legal : is_event event ≡ true
+  pub bus : new.bus ≡ after_event old.bus event
+  pub nodes : HaveHeard old.bus.station (layout_event old.bus event) old.nodes new.nodes
+  pub railway : new.railway ≡ old.railway
+  pub due : new.due
+      ≡ (if asks_sensors (outcome_of old.bus event) then full_report old.railway else old.due)
+  pub queues : new.queues ≡ queues_after (outcome_of old.bus event) old.queues
+  pub losses : new.losses ≡ old.losses
+  pub turns : new.turns ≡ old.turns
+  pub has_backlog : new.has_backlog ≡ old.has_backlog
+  pub disconnected : new.disconnected
+      ≡ disconnected_after (outcome_of old.bus event) old.disconnected
+  pub saw : observed ≡ Observed (outcome_of old.bus event) new.nodes
+
+-- An outcome was observed, and then what sensors report.
+abbrev pub ObservesReports : Outcome → (observed observed' : Option (List Observation))
+    → (old new : ServerState) → Type 0
+ObservesReports outcome observed observed' old new =
+    (reports : List LoggedEvent)
+    × Extends observed observed' (Observed outcome old.nodes ∷ observations_of reports)
+    × (list_all is_report (events_of reports) ≡ true) × RunsEvents reports old new

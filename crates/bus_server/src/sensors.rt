@@ -1,0 +1,89 @@
+//! The railway beside a bus, and what its sensors are still to report.
+ghost use Rattle.std.specs.Prelude.{◌≡◌, [], IfSome, IsTrue, drop, if◌then◌else◌, slice_get, true};
+ghost use Rattle.std.specs.List.{list_all};
+ghost use Rattle.railway.specs.Reports.{is_report};
+ghost use Rattle.bus_server.specs.Sensors.{asks_sensors, full_report, railway_elapsed, reports_elapsed};
+
+use layout_core::World;
+use ln_ops::{SensorReport, is_interrogation};
+use loconet_tcp::Outcome;
+use railway::{Railway, Reports};
+
+/// The trains that run beside a bus, if there are any, and what their sensors are still to report.
+#[derive(Drop)]
+pub(crate) struct Sensors {
+    pub(crate) railway: Option<Railway>,
+    /// In the order in which they are reported.
+    pub(crate) due: Reports,
+    ghost valid: { list_all is_report due.items ≡ true },
+}
+
+impl Sensors {
+    /// The sensors of a railway, or none. Nothing is due.
+    pub(crate) fn new(railway: Option<Railway>) -> Sensors
+        ensures railway { result.railway ≡ railway }
+        ensures due { result.due.items ≡ [] }
+    {
+        Sensors {
+            railway,
+            due: Reports::new(),
+        }
+    }
+
+    /// Lets the trains run for `micros` microseconds, as the decoders do now. What the sensors
+    /// report of it is due.
+    pub(crate) fn elapse(&mut self, micros: u32, world: &World)
+        requires reported { self.old.due.items ≡ [] }
+        ensures railway { self.new.railway
+            ≡ railway_elapsed self.old.railway micros world.now.nodes }
+        ensures due { self.new.due.items
+            ≡ reports_elapsed self.old.railway micros world.now.nodes }
+    {
+        if let Some(railway) = &mut self.railway {
+            self.due = railway.elapse(micros, world);
+        }
+    }
+
+    /// Makes a report of each sensor due, if an outcome is that of a message that asks for it.
+    pub(crate) fn answer(&mut self, outcome: &Outcome)
+        ensures railway { self.new.railway ≡ self.old.railway }
+        ensures due { self.new.due.items
+            ≡ (if asks_sensors outcome.now then full_report self.old.railway
+            else self.old.due.items) }
+    {
+        if asks_sensors(outcome) {
+            self.due = full_report(&self.railway);
+        }
+    }
+
+    /// Takes the report that is due next.
+    pub(crate) fn next(&mut self) -> Option<SensorReport>
+        ensures railway { self.new.railway ≡ self.old.railway }
+        ensures first { result ≡ slice_get self.old.due.items 0 }
+        ensures rest { self.new.due.items ≡ drop 1 self.old.due.items }
+        ensures sensor { IfSome result (λ report. IsTrue (is_report report)) }
+    {
+        self.due.pop_at(0)
+    }
+}
+
+/// Whether an outcome is that of a message that asks all sensors to report.
+fn asks_sensors(outcome: &Outcome) -> bool
+    ensures { result ≡ asks_sensors outcome.now }
+{
+    match outcome {
+        Outcome::Sent { message, .. } => is_interrogation(message),
+        _ => false,
+    }
+}
+
+/// Returns a report of each sensor.
+fn full_report(railway: &Option<Railway>) -> Reports
+    ensures reports { result.items ≡ full_report railway.now }
+    ensures valid { list_all is_report result.items ≡ true }
+{
+    match railway {
+        Some(railway) => railway.report_all(),
+        None => Reports::new(),
+    }
+}
