@@ -27,6 +27,7 @@ observation_of (seen.Connected client) = Observed (outcome.Connected client) []
 observation_of (seen.Disconnected client) = Observed (outcome.Disconnected client) []
 observation_of (seen.Rejected client reason) = Observed (outcome.Rejected client reason) []
 observation_of (seen.Sent client message reply) = Observed (outcome.Sent client message.items (option_map (λ m. m.items) reply)) []
+observation_of (seen.Reported message) = Observed (outcome.Reported message.items) []
 observation_of (seen.TurnsRequested client turns) = Observed (outcome.TurnsRequested client turns) []
 observation_of (seen.TurnBegan packet) = Observed (outcome.TurnBegan (option_map (λ p. p.items) packet)) []
 observation_of (seen.Overflowed client) = Overflowed client

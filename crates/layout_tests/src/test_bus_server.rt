@@ -7,3 +7,5 @@ mod memory;
 mod runs;
 #[cfg(test)]
 mod script_run;
+#[cfg(test)]
+mod trains;

@@ -24,6 +24,7 @@ pub enum Seen {
     Disconnected(u8),
     Rejected(u8, Reason),
     Sent(u8, Vec<u8>, Option<Vec<u8>>),
+    Reported(Vec<u8>),
     TurnsRequested(u8, Result<u16, TurnsError>),
     TurnBegan(Option<Vec<u8>>),
     Overflowed(u8),

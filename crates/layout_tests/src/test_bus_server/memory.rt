@@ -218,6 +218,7 @@ fn seen_of<R: Place>(rt: &R, outcome: &Outcome) -> Seen
             message,
             reply,
         } => Seen::Sent(*client, bytes_of(rt, message), reply_of(rt, reply)),
+        Outcome::Reported { message } => Seen::Reported(bytes_of(rt, message)),
         Outcome::TurnsRequested { client, turns } => Seen::TurnsRequested(*client, *turns),
         Outcome::TurnBegan { packet } => Seen::TurnBegan(packet_of(rt, packet)),
     }

@@ -31,9 +31,11 @@ pub(crate) fn run_server<'a, R: Place>(rt: &'a R, setup: &Setup<'a>) -> Run {
     let mut server = Server::new(
         rt.alloc(),
         NodeList::new(),
+        None,
         setup.turns,
         Losses::new(0, 0),
-    ).expect(rt, "memory");
+    )
+    .expect(rt, "memory");
     let mut transport = MemoryTransport {
         rt,
         script: setup.script,
