@@ -2,9 +2,8 @@
 -- first decides.
 use Rattle.std.specs.Prelude.{ℕ, ℤ, pos, negsuc, ◌+◌, ◌++◌, ◌&&◌, Bool, nat_le, nat_lt, if◌then◌else◌, List, [], ◌∷◌, length, map, Option, Some, None, option_and_then, Result, Ok, Err, codes}
 use Rattle.std.specs.List.{list_all}
-use Rattle.std.specs.Str.{bytes_eq, is_utf8}
+use Rattle.std.specs.Str.{bytes_eq}
 use Rattle.toml.specs.Data.{Data, Items, no_items, item, Members, get_member, as_array, as_integer, as_str, as_table}
-use Rattle.toml.specs.Parse.{parse_document}
 use Rattle.roster.specs.Entry.{is_name_byte}
 use Rattle.roster.specs.Steps.{◌>>=◌, or_fault}
 use Rattle.roster.specs.Toml.{items_len, knows_only, table_in}
@@ -15,6 +14,7 @@ use Rattle.railway.specs.declared.block.Point.{Point}
 use Rattle.railway.specs.declared.joint.Joint.{Joint}
 use Rattle.railway.specs.declared.joint.Turnout.{Turnout}
 use Rattle.railway.specs.declared.train.Train.{Train}
+use Rattle.railway_plan.specs.declared.bounds.Bounds.{Bounds}
 use Rattle.railway_plan.specs.declared.fault.PlanTextFault.{PlanTextFault}
 use Rattle.railway_plan.specs.declared.fault.Section.{Section}
 use Rattle.railway_plan.specs.declared.fault.Section.TheVariants as section
@@ -57,29 +57,21 @@ abbrev pub text_at : Key → Members → Result Text Why
 text_at k table = or_fault (option_and_then as_str (value_at k table)) (BadKey k)
 
 -- Numbers: millimetres, millimetres a second, and numbers of sensors and switches as throttles show
--- them. Other keys have no number.
+-- them.
 
-abbrev pub least_of : Key → ℕ
-least_of key.Front = 0
-least_of key.Speed = 0
-least_of other = 1
+abbrev pub from_to : ℕ → ℕ → Bounds
+from_to least most = record { least = least; most = most }
 
-abbrev pub most_of : Key → ℕ
-most_of key.Length = 100000
-most_of key.Front = 100000
-most_of key.Sensor = 4096
-most_of key.Switch = 2040
-most_of key.Speed = 65535
-most_of other = 1
-
--- a number in the range of a key
-abbrev pub in_range : Key → ℤ → Result ℕ Why
-in_range k (pos n) = if nat_le (least_of k) n && nat_le n (most_of k) then Ok n else Err (BadKey k)
-in_range k (negsuc n) = Err (BadKey k)
+-- a number within bounds
+abbrev pub in_range : Key → Bounds → ℤ → Result ℕ Why
+in_range k bounds (pos n) =
+    if nat_le bounds.least n && nat_le n bounds.most then Ok n else Err (BadKey k)
+in_range k bounds (negsuc n) = Err (BadKey k)
 
 -- the number at a key, which has to be there
-abbrev pub number_at : Key → Members → Result ℕ Why
-number_at k table = or_fault (option_and_then as_integer (value_at k table)) (BadKey k) >>= in_range k
+abbrev pub number_at : Key → Bounds → Members → Result ℕ Why
+number_at k bounds table =
+    or_fault (option_and_then as_integer (value_at k table)) (BadKey k) >>= in_range k bounds
 
 -- the table has no other keys
 abbrev pub only : List Key → Members → Result Members Why
@@ -129,7 +121,7 @@ abbrev pub sensor_or_none : Option Data → Result (Option ℕ) Why
 sensor_or_none None = Ok None
 sensor_or_none (Some value) = do
   number ← or_fault (as_integer value) (BadKey key.Sensor)
-  sensor ← in_range key.Sensor number
+  sensor ← in_range key.Sensor (from_to 1 4096) number
   Ok (Some sensor)
 
 abbrev pub block_keys : List Key
@@ -139,7 +131,7 @@ abbrev pub block_in : Members → Result BlockEntry Why
 block_in given = do
   table ← only block_keys given
   name ← name_in table
-  size ← number_at key.Length table
+  size ← number_at key.Length (from_to 1 100000) table
   sensor ← sensor_or_none (value_at key.Sensor table)
   point_a ← point_at key.A table
   point_b ← point_at key.B table
@@ -162,11 +154,11 @@ abbrev pub end_from : ℕ → List Text → Text → Option BlockEnd
 end_from i [] text = None
 end_from i (name ∷ names) text = found_or i (end_from (i + 1) names text) (end_named name text)
 
-abbrev pub end_of : List Text → Text → Result BlockEnd Why
-end_of blocks text = or_fault (end_from 0 blocks text) UnknownEnd
+abbrev pub end_of : Key → List Text → Text → Result BlockEnd Why
+end_of k blocks text = or_fault (end_from 0 blocks text) (UnknownEnd k)
 
 abbrev pub end_at : List Text → Key → Members → Result BlockEnd Why
-end_at blocks k table = text_at k table >>= end_of blocks
+end_at blocks k table = text_at k table >>= end_of k blocks
 
 -- Joints: two ends.
 
@@ -179,8 +171,8 @@ joint_of blocks (item one no_items) = Err (BadKey key.Ends)
 joint_of blocks (item first (item second no_items)) = do
   one_text ← text_of_item first
   two_text ← text_of_item second
-  one ← end_of blocks one_text
-  two ← end_of blocks two_text
+  one ← end_of key.Ends blocks one_text
+  two ← end_of key.Ends blocks two_text
   Ok (record { one = one; two = two })
 joint_of blocks (item one (item two (item more items))) = Err (BadKey key.Ends)
 
@@ -198,7 +190,7 @@ turnout_keys = key.Switch ∷ key.Common ∷ key.Closed ∷ key.Thrown ∷ []
 abbrev pub turnout_in : List Text → Members → Result Turnout Why
 turnout_in blocks given = do
   table ← only turnout_keys given
-  switch ← number_at key.Switch table
+  switch ← number_at key.Switch (from_to 1 2040) table
   common ← end_at blocks key.Common table
   closed ← end_at blocks key.Closed table
   thrown ← end_at blocks key.Thrown table
@@ -236,10 +228,10 @@ train_in decoders blocks given = do
   table ← only train_keys given
   decoder ← decoder_at decoders table
   block ← block_at blocks table
-  at ← number_at key.Front table
+  at ← number_at key.Front (from_to 0 100000) table
   facing ← facing_at table
-  size ← number_at key.Length table
-  top ← number_at key.Speed table
+  size ← number_at key.Length (from_to 1 100000) table
+  top ← number_at key.Speed (from_to 0 65535) table
   Ok (record {
     decoder = decoder;
     top = top;
@@ -284,16 +276,30 @@ top_keys = key.Version ∷ key.Block ∷ key.Joint ∷ key.Turnout ∷ key.Train
 
 -- the version of a table with these keys, 1
 abbrev pub version_in : Members → Result ℕ Why
-version_in given = only top_keys given >>= number_at key.Version
+version_in given = only top_keys given >>= number_at key.Version (from_to 1 1)
 
--- What the arrays say, a table, and a text; `decoders` are the names of the layout's decoders.
+-- What the arrays say, each by its members, a table, and a text; `decoders` are the names of the
+-- layout's decoders, `blocks` those of the plan's blocks.
 
-abbrev pub plan_with : (decoders : List Text) → (blocks joints turnouts trains : Items) → Result PlanEntries PlanTextFault
+abbrev pub blocks_in : Items → Result (List BlockEntry) PlanTextFault
+blocks_in = parts_after block_in section.Block []
+
+abbrev pub joints_in : (blocks : List Text) → Items → Result (List Joint) PlanTextFault
+joints_in blocks = parts_after (joint_in blocks) section.Joint []
+
+abbrev pub turnouts_in : (blocks : List Text) → Items → Result (List Turnout) PlanTextFault
+turnouts_in blocks = parts_after (turnout_in blocks) section.Turnout []
+
+abbrev pub trains_in : (decoders blocks : List Text) → Items → Result (List Train) PlanTextFault
+trains_in decoders blocks = parts_after (train_in decoders blocks) section.Train []
+
+abbrev pub plan_with : (decoders : List Text) → (blocks joints turnouts trains : Items)
+    → Result PlanEntries PlanTextFault
 plan_with decoders block_items joint_items turnout_items train_items = do
-  blocks ← parts_after block_in section.Block [] block_items
-  joints ← parts_after (joint_in (map name_of blocks)) section.Joint [] joint_items
-  turnouts ← parts_after (turnout_in (map name_of blocks)) section.Turnout [] turnout_items
-  trains ← parts_after (train_in decoders (map name_of blocks)) section.Train [] train_items
+  blocks ← blocks_in block_items
+  joints ← joints_in (map name_of blocks) joint_items
+  turnouts ← turnouts_in (map name_of blocks) turnout_items
+  trains ← trains_in decoders (map name_of blocks) train_items
   Ok (record { blocks = blocks; joints = joints; turnouts = turnouts; trains = trains })
 
 abbrev pub plan_of : (decoders : List Text) → Members → Result PlanEntries PlanTextFault

@@ -1,6 +1,10 @@
 //! Why the text of a plan is refused.
+ghost use Rattle.std.specs.Prelude.{◌≡◌};
+ghost use Rattle.railway_plan.specs.Railways.{number_of, section_of, text_fault};
 
+use crate::bounds::{Bounds, FRONT, LENGTH, SENSOR, SPEED, SWITCH};
 use crate::key::Key;
+use railway::{End, Part, PlanFault};
 use std::fmt;
 
 /// Why the text of a plan is refused.
@@ -10,18 +14,30 @@ pub enum Why {
     NotToml,
     /// The table has a key that such a table does not have.
     UnknownKey,
-    /// The key is missing, or its value is of another type or out of its range.
+    /// The key is missing, or its value is of another type or out of its bounds.
     BadKey(Key),
     /// The array at the key has too many members.
     TooMany(Key),
     /// The member of an array is not a table.
     NotTable,
-    /// No block of the plan has this end.
-    UnknownEnd,
+    /// No block of the plan has the end at the key, or one of the two ends there.
+    UnknownEnd(Key),
     /// No block of the plan has this name.
     UnknownBlock,
     /// No decoder of the roster has this name.
     UnknownDecoder,
+    /// A later block has the name of this one.
+    RepeatedName,
+    /// A later block has the sensor of this one.
+    RepeatedSensor,
+    /// Joints and turnouts name this end of the block twice.
+    RepeatedEnd(End),
+    /// No decoder of the roster moves the turnout, or the decoder of the train runs no locomotive.
+    NoDecoder,
+    /// The train is longer than a block.
+    LongTrain,
+    /// The train does not fit into its block where it is put.
+    OffTrack,
     /// Out of memory.
     NoMemory,
 }
@@ -43,6 +59,62 @@ pub struct PlanTextFault {
     pub why: Why,
 }
 
+/// Writes between which numbers that at a key must be.
+fn write_bounds<W: fmt::Write>(key: Key, bounds: Bounds, f: &mut fmt::Formatter<W>) -> fmt::Result {
+    let (least, most) = (bounds.least, bounds.most);
+    write!(f, "{key} must be {least} to {most}")
+}
+
+/// Returns the number, from 1, of the part of an index.
+fn number_of(index: usize) -> usize
+    ensures { result ≡ number_of index }
+{
+    index.saturating_add(1)
+}
+
+/// Returns the section of a part of a plan.
+fn section_of(part: Part) -> Section
+    ensures { result ≡ section_of part }
+{
+    match part {
+        Part::Joint(i) => Section::Joint(number_of(i)),
+        Part::Turnout(i) => Section::Turnout(number_of(i)),
+        Part::Train(i) => Section::Train(number_of(i)),
+    }
+}
+
+/// Returns where a plan has a fault, and the reason.
+fn place_of(fault: PlanFault) -> (Section, Why)
+    ensures section { result.0 ≡ (text_fault fault).section }
+    ensures why { result.1 ≡ (text_fault fault).why }
+{
+    match fault {
+        PlanFault::BlockLength(i) => (Section::Block(number_of(i)), Why::BadKey(Key::Length)),
+        PlanFault::NameTwice(i) => (Section::Block(number_of(i)), Why::RepeatedName),
+        PlanFault::Sensor(i) => (Section::Block(number_of(i)), Why::BadKey(Key::Sensor)),
+        PlanFault::SensorTwice(i) => (Section::Block(number_of(i)), Why::RepeatedSensor),
+        PlanFault::UnknownBlock(part) => (section_of(part), Why::UnknownBlock),
+        PlanFault::EndTwice(end) => {
+            (
+                Section::Block(number_of(usize::from(end.block))),
+                Why::RepeatedEnd(end.end),
+            )
+        }
+        PlanFault::UnknownDecoder(part) => (section_of(part), Why::NoDecoder),
+        PlanFault::TrainLength(i) => (Section::Train(number_of(i)), Why::LongTrain),
+        PlanFault::OffTrack(i) => (Section::Train(number_of(i)), Why::OffTrack),
+    }
+}
+
+impl From<PlanFault> for PlanTextFault {
+    ghost from_gives = { λ plan fault. fault ≡ text_fault plan };
+
+    fn from(fault: PlanFault) -> PlanTextFault {
+        let (section, why) = place_of(fault);
+        PlanTextFault { section, why }
+    }
+}
+
 /// Writes what the value at a key must be.
 fn write_demand<W: fmt::Write>(key: Key, f: &mut fmt::Formatter<W>) -> fmt::Result {
     match key {
@@ -52,10 +124,11 @@ fn write_demand<W: fmt::Write>(key: Key, f: &mut fmt::Formatter<W>) -> fmt::Resu
         }
         Key::Name => f.write_str("name must be 1 to 32 ASCII letters, digits, - or _"),
         Key::Decoder => f.write_str("decoder must be a name of the roster"),
-        Key::Length | Key::Sensor | Key::Switch | Key::Front | Key::Speed => {
-            let (least, most) = (key.least(), key.most());
-            write!(f, "{key} must be {least} to {most}")
-        }
+        Key::Length => write_bounds(key, LENGTH, f),
+        Key::Sensor => write_bounds(key, SENSOR, f),
+        Key::Switch => write_bounds(key, SWITCH, f),
+        Key::Front => write_bounds(key, FRONT, f),
+        Key::Speed => write_bounds(key, SPEED, f),
         Key::A | Key::B => write!(f, "{key} must be two numbers from -10000 to 10000"),
         Key::Ends => f.write_str("ends must be two ends of blocks"),
         Key::Common | Key::Closed | Key::Thrown => write!(f, "{key} must be an end of a block"),
@@ -71,9 +144,16 @@ impl fmt::Display for Why {
             Why::BadKey(key) => write_demand(*key, f),
             Why::TooMany(key) => write!(f, "there are too many {key}s"),
             Why::NotTable => f.write_str("it is not a table"),
-            Why::UnknownEnd => f.write_str("no block has this end"),
+            Why::UnknownEnd(key) => write!(f, "{key}: no block has this end"),
             Why::UnknownBlock => f.write_str("no block has this name"),
             Why::UnknownDecoder => f.write_str("the roster has no decoder of this name"),
+            Why::RepeatedName => f.write_str("another block has this name"),
+            Why::RepeatedSensor => f.write_str("another block has this sensor"),
+            Why::RepeatedEnd(End::A) => f.write_str("end a is named twice"),
+            Why::RepeatedEnd(End::B) => f.write_str("end b is named twice"),
+            Why::NoDecoder => f.write_str("the roster has no decoder for it"),
+            Why::LongTrain => f.write_str("the train is longer than a block"),
+            Why::OffTrack => f.write_str("the train does not fit into its block there"),
             Why::NoMemory => f.write_str("no memory"),
         }
     }

@@ -1,6 +1,6 @@
 //! The keys of a plan's text.
 ghost use Rattle.std.specs.Prelude.{◌≡◌};
-ghost use Rattle.railway_plan.specs.Format.{least_of, most_of, spelled};
+ghost use Rattle.railway_plan.specs.Format.{spelled};
 
 use std::fmt;
 
@@ -53,29 +53,6 @@ impl Key {
             Key::Front => "front",
             Key::Facing => "facing",
             Key::Speed => "speed",
-        }
-    }
-
-    /// Returns the least number at this key.
-    pub fn least(self) -> u32
-        ensures least { result ≡ least_of self }
-    {
-        match self {
-            Key::Front | Key::Speed => 0,
-            _ => 1,
-        }
-    }
-
-    /// Returns the greatest number at this key.
-    pub fn most(self) -> u32
-        ensures most { result ≡ most_of self }
-    {
-        match self {
-            Key::Length | Key::Front => 100_000,
-            Key::Sensor => 4096,
-            Key::Switch => 2040,
-            Key::Speed => 65_535,
-            _ => 1,
         }
     }
 }

@@ -1,13 +1,16 @@
 //! Track plans, read from a text in TOML.
 //!
-//! [`read`] returns the [`Plan`](railway::Plan) of a text, or its first fault in words: a
-//! [`PlanTextFault`] is printed as `block 2: length must be 1 to 100000`.
+//! [`read`] returns the [`Plan`](railway::Plan) of a text, and [`read_railway`] its railway for the
+//! decoders of a roster. Both return the first fault instead: a [`PlanTextFault`] is printed as
+//! `block 2: length must be 1 to 100000`.
 //!
 //! The tests are in `layout_tests/src/test_railway/text.rt`.
 #![tactic(auto)]
 
+mod bounds;
 mod fault;
 mod key;
+mod laying;
 mod names;
 mod parts;
 mod reading;
@@ -15,4 +18,5 @@ mod table;
 
 pub use fault::{PlanTextFault, Section, Why};
 pub use key::Key;
+pub use laying::read_railway;
 pub use reading::read;

@@ -6,6 +6,7 @@ ghost use Rattle.roster.specs.Entry.{is_name_byte, name_of};
 ghost use Rattle.railway_plan.specs.Format.{block_at, block_in, decoder_at, end_at, end_of, facing_at, is_block_name, joint_in, joint_of, name_in, part_of, table_of, train_in, turnout_in};
 ghost use Rattle.railway_plan.specs.Entries.{block_entry, names_of};
 
+use crate::bounds::{FRONT, LENGTH, SPEED, SWITCH};
 use crate::fault::Why;
 use crate::key::Key;
 use crate::names::{block_end, block_index, decoder_index};
@@ -26,7 +27,7 @@ pub(crate) fn block(value: &Value) -> Result<Block, Why>
     }
     Ok(Block {
         name: name(table)?,
-        length: number_at(table, Key::Length)?,
+        length: number_at(table, Key::Length, LENGTH)?,
         sensor: sensor(value_at(table, Key::Sensor))?,
         point_a: point(Key::A, value_at(table, Key::A))?,
         point_b: point(Key::B, value_at(table, Key::B))?,
@@ -102,8 +103,8 @@ fn joint_of(blocks: &[Block], ends: &[Value]) -> Result<Joint, Why>
     match ends {
         [one, two] => match (one.as_str(), two.as_str()) {
             (Some(one), Some(two)) => Ok(Joint {
-                one: end_of(blocks, one)?,
-                two: end_of(blocks, two)?,
+                one: end_of(Key::Ends, blocks, one)?,
+                two: end_of(Key::Ends, blocks, two)?,
             }),
             _ => Err(Why::BadKey(Key::Ends)),
         },
@@ -111,14 +112,14 @@ fn joint_of(blocks: &[Block], ends: &[Value]) -> Result<Joint, Why>
     }
 }
 
-/// Returns the end that is spelled so.
-fn end_of(blocks: &[Block], text: &str) -> Result<BlockEnd, Why>
+/// Returns the end at a key, which is spelled so.
+fn end_of(key: Key, blocks: &[Block], text: &str) -> Result<BlockEnd, Why>
     requires { length blocks.now ≤ 64 }
-    ensures { result ≡ end_of (names_of blocks.now) text.now }
+    ensures { result ≡ end_of key (names_of blocks.now) text.now }
 {
     match block_end(blocks, text) {
         Some(end) => Ok(end),
-        None => Err(Why::UnknownEnd),
+        None => Err(Why::UnknownEnd(key)),
     }
 }
 
@@ -127,7 +128,7 @@ fn end_at(blocks: &[Block], table: &Table, key: Key) -> Result<BlockEnd, Why>
     requires { length blocks.now ≤ 64 }
     ensures { result ≡ end_at (names_of blocks.now) key (table_view table.now) }
 {
-    end_of(blocks, text_at(table, key)?)
+    end_of(key, blocks, text_at(table, key)?)
 }
 
 /// Returns the turnout that a table says, between ends of these blocks.
@@ -140,7 +141,7 @@ pub(crate) fn turnout(blocks: &[Block], value: &Value) -> Result<Turnout, Why>
         return Err(Why::UnknownKey);
     }
     Ok(Turnout {
-        switch: number_at(table, Key::Switch)? as u16,
+        switch: number_at(table, Key::Switch, SWITCH)? as u16,
         common: end_at(blocks, table, Key::Common)?,
         closed: end_at(blocks, table, Key::Closed)?,
         thrown: end_at(blocks, table, Key::Thrown)?,
@@ -163,13 +164,13 @@ pub(crate) fn train(roster: &Roster, blocks: &[Block], value: &Value) -> Result<
     let decoder = decoder_at(roster, table)?;
     let position = Position {
         block: block_at(blocks, table)?,
-        at: number_at(table, Key::Front)?,
+        at: number_at(table, Key::Front, FRONT)?,
         facing: facing_at(table)?,
     };
     Ok(Train {
         decoder,
-        length: number_at(table, Key::Length)?,
-        top: number_at(table, Key::Speed)? as u16,
+        length: number_at(table, Key::Length, LENGTH)?,
+        top: number_at(table, Key::Speed, SPEED)? as u16,
         position,
     })
 }

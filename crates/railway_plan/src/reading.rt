@@ -1,13 +1,14 @@
 //! Reading a plan.
-ghost use Rattle.std.specs.Prelude.{◌≡◌, ◌≢◌, ◌≤◌, [], Ok, Err, Some, None, IfOk, IfErr, IsOk, MatchResult, length, map};
+ghost use Rattle.std.specs.Prelude.{◌≡◌, ◌≢◌, ◌≤◌, Ok, Err, Some, None, IfOk, IfErr, IsOk, MatchResult, length, map};
 ghost use Rattle.toml.specs.View.{items_view, table_view};
 ghost use Rattle.roster.specs.Entry.{name_of};
 ghost use Rattle.roster.specs.Toml.{table_in};
-ghost use Rattle.railway_plan.specs.declared.fault.Section.TheVariants.{Whole as WholeSection, Block as BlockSection, Joint as JointSection, Turnout as TurnoutSection, Train as TrainSection};
+ghost use Rattle.railway_plan.specs.declared.fault.Section.TheVariants.{Whole as WholeSection};
 ghost use Rattle.railway_plan.specs.declared.fault.Why.TheVariants.{NoMemory, NotToml};
-ghost use Rattle.railway_plan.specs.Format.{block_in, in_section, items_at, joint_in, parts_after, plan_in, plan_of, plan_with, train_in, turnout_in, version_in};
+ghost use Rattle.railway_plan.specs.Format.{blocks_in, in_section, items_at, joints_in, plan_in, plan_of, plan_with, trains_in, turnouts_in, version_in};
 ghost use Rattle.railway_plan.specs.Entries.{block_entry, names_of, plan_entries};
 
+use crate::bounds::VERSION;
 use crate::fault::{PlanTextFault, Section, Why};
 use crate::key::Key;
 use crate::parts::{block, joint, train, turnout};
@@ -120,7 +121,7 @@ fn read_version(table: &Table) -> Result<(), PlanTextFault>
     if !knows_only(table, &["version", "block", "joint", "turnout", "train"]) {
         return Err(of_whole(Why::UnknownKey));
     }
-    match number_at(table, Key::Version) {
+    match number_at(table, Key::Version, VERSION) {
         Ok(_) => Ok(()),
         Err(why) => Err(of_whole(why)),
     }
@@ -176,9 +177,8 @@ fn read_members(
 fn read_blocks(values: &[Value]) -> Result<ArrayVec<Block, MAX_BLOCKS>, PlanTextFault>
     requires few { length values.now ≤ 64 }
     ensures { MatchResult result
-        (λ parts. parts_after block_in BlockSection [] (items_view values.now)
-        ≡ Ok (map block_entry parts.items))
-        (λ fault. parts_after block_in BlockSection [] (items_view values.now) ≡ Err fault) }
+        (λ parts. blocks_in (items_view values.now) ≡ Ok (map block_entry parts.items))
+        (λ fault. blocks_in (items_view values.now) ≡ Err fault) }
 {
     let mut parts = ArrayVec::new();
     for (i, value) in values.iter().enumerate() {
@@ -197,9 +197,8 @@ fn read_joints(
     requires few { length values.now ≤ 128 }
     requires blocks { length blocks.now ≤ 64 }
     ensures { MatchResult result
-        (λ parts. parts_after (joint_in (names_of blocks.now)) JointSection [] (items_view values.now)
-        ≡ Ok parts.items)
-        (λ fault. parts_after (joint_in (names_of blocks.now)) JointSection [] (items_view values.now) ≡ Err fault) }
+        (λ parts. joints_in (names_of blocks.now) (items_view values.now) ≡ Ok parts.items)
+        (λ fault. joints_in (names_of blocks.now) (items_view values.now) ≡ Err fault) }
 {
     let mut parts = ArrayVec::new();
     for (i, value) in values.iter().enumerate() {
@@ -218,9 +217,8 @@ fn read_turnouts(
     requires few { length values.now ≤ 64 }
     requires blocks { length blocks.now ≤ 64 }
     ensures { MatchResult result
-        (λ parts. parts_after (turnout_in (names_of blocks.now)) TurnoutSection [] (items_view values.now)
-        ≡ Ok parts.items)
-        (λ fault. parts_after (turnout_in (names_of blocks.now)) TurnoutSection [] (items_view values.now) ≡ Err fault) }
+        (λ parts. turnouts_in (names_of blocks.now) (items_view values.now) ≡ Ok parts.items)
+        (λ fault. turnouts_in (names_of blocks.now) (items_view values.now) ≡ Err fault) }
 {
     let mut parts = ArrayVec::new();
     for (i, value) in values.iter().enumerate() {
@@ -240,9 +238,10 @@ fn read_trains(
     requires few { length values.now ≤ 64 }
     requires blocks { length blocks.now ≤ 64 }
     ensures { MatchResult result
-        (λ parts. parts_after (train_in (map name_of roster.now) (names_of blocks.now)) TrainSection [] (items_view values.now)
+        (λ parts. trains_in (map name_of roster.now) (names_of blocks.now) (items_view values.now)
         ≡ Ok parts.items)
-        (λ fault. parts_after (train_in (map name_of roster.now) (names_of blocks.now)) TrainSection [] (items_view values.now) ≡ Err fault) }
+        (λ fault. trains_in (map name_of roster.now) (names_of blocks.now) (items_view values.now)
+        ≡ Err fault) }
 {
     let mut parts = ArrayVec::new();
     for (i, value) in values.iter().enumerate() {

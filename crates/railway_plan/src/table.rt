@@ -3,6 +3,7 @@ ghost use Rattle.std.specs.Prelude.{◌≡◌, Ok, Err, MatchResult, map, option
 ghost use Rattle.toml.specs.View.{items_view, table_view, view};
 ghost use Rattle.railway_plan.specs.Format.{array_or_none, in_range, is_coordinate, number_at, point_of, point_of_items, point_of_two, point_or_none, sensor_or_none, text_at, value_at};
 
+use crate::bounds::{Bounds, SENSOR};
 use crate::fault::Why;
 use crate::key::Key;
 use railway::Point;
@@ -34,23 +35,23 @@ pub(crate) fn text_at<'a>(table: &'a Table, key: Key) -> Result<&'a str, Why>
 }
 
 /// Returns the number at a key.
-pub(crate) fn number_at(table: &Table, key: Key) -> Result<u32, Why>
-    ensures { result ≡ number_at key (table_view table.now) }
+pub(crate) fn number_at(table: &Table, key: Key, bounds: Bounds) -> Result<u32, Why>
+    ensures { result ≡ number_at key bounds (table_view table.now) }
 {
     match value_at(table, key) {
         Some(value) => match value.as_integer() {
-            Some(number) => in_range(key, number),
+            Some(number) => in_range(key, bounds, number),
             None => Err(Why::BadKey(key)),
         },
         None => Err(Why::BadKey(key)),
     }
 }
 
-/// Returns a number in the range of a key.
-fn in_range(key: Key, number: i64) -> Result<u32, Why>
-    ensures { result ≡ in_range key number }
+/// Returns a number within the bounds of a key.
+fn in_range(key: Key, bounds: Bounds, number: i64) -> Result<u32, Why>
+    ensures { result ≡ in_range key bounds number }
 {
-    let (least, most) = (i64::from(key.least()), i64::from(key.most()));
+    let (least, most) = (i64::from(bounds.least), i64::from(bounds.most));
     if least <= number && number <= most {
         Ok(number as u32)
     } else {
@@ -66,7 +67,7 @@ pub(crate) fn sensor(value: Option<&Value>) -> Result<Option<u16>, Why>
         return Ok(None);
     };
     match value.as_integer() {
-        Some(number) => Ok(Some(in_range(Key::Sensor, number)? as u16)),
+        Some(number) => Ok(Some(in_range(Key::Sensor, SENSOR, number)? as u16)),
         None => Err(Why::BadKey(Key::Sensor)),
     }
 }

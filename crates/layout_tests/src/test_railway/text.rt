@@ -2,7 +2,7 @@
 
 use super::layout::oval;
 use railway::{Block, Plan, Point};
-use railway_plan::read;
+use railway_plan::{read, read_railway};
 use roster::Roster;
 use std::alloc::{AllocError, Global};
 use std::test::Fail;
@@ -107,7 +107,7 @@ fn faults_of_the_whole(rt: HostRuntime) -> Result<(), Fail> {
 }
 
 /// Parts after the track, and the words of their first fault.
-const PARTS: [(&'static str, &'static str); 17] = [
+const PARTS: [(&'static str, &'static str); 18] = [
     (
         "[[block]]\nlength = 1",
         "block 6: name must be 1 to 32 ASCII letters, digits, - or _",
@@ -146,11 +146,11 @@ const PARTS: [(&'static str, &'static str); 17] = [
     ),
     (
         "[[joint]]\nends = [\"main.b\", \"main.c\"]",
-        "joint 3: no block has this end",
+        "joint 3: ends: no block has this end",
     ),
     (
         "[[joint]]\nends = [\"main.b\", \"mai.a\"]",
-        "joint 3: no block has this end",
+        "joint 3: ends: no block has this end",
     ),
     (
         "[[turnout]]\nswitch = 2041\ncommon = 1",
@@ -159,6 +159,10 @@ const PARTS: [(&'static str, &'static str); 17] = [
     (
         "[[turnout]]\nswitch = 3\ncommon = \"west.a\"\nclosed = \"west.b\"",
         "turnout 3: thrown must be an end of a block",
+    ),
+    (
+        "[[turnout]]\nswitch = 3\ncommon = \"west.a\"\nclosed = \"back.c\"",
+        "turnout 3: closed: no block has this end",
     ),
     (
         "[[train]]\ndecoder = \"shunter\"",
@@ -184,6 +188,62 @@ fn faults_of_parts(rt: HostRuntime) -> Result<(), Fail> {
     for (part, fault) in PARTS {
         let text = format!(in rt.alloc(); "{VERSION}{TRACK}{part}")?;
         assert!(rt; words(rt.alloc(), &roster, text.as_str())?.as_str() == fault);
+    }
+    Ok(())
+}
+
+/// Returns the first fault of the railway of a text in words, nothing if it has none.
+fn railway_words(alloc: Global, roster: &Roster, text: &str) -> Result<String, AllocError> {
+    match read_railway(alloc, text.as_bytes(), roster) {
+        Ok(_) => Ok(String::new(alloc)),
+        Err(fault) => format!(in alloc; "{fault}"),
+    }
+}
+
+/// Parts after the track that do not fit it, and the words of their first fault.
+const MISFITS: [(&'static str, &'static str); 8] = [
+    ("", ""),
+    (
+        "[[block]]\nname = \"main\"\nlength = 1000",
+        "block 2: another block has this name",
+    ),
+    (
+        "[[block]]\nname = \"x\"\nlength = 1000\nsensor = 1",
+        "block 1: another block has this sensor",
+    ),
+    (
+        "[[joint]]\nends = [\"back.b\", \"main.a\"]",
+        "block 5: end b is named twice",
+    ),
+    (
+        "[[block]]\nname = \"x\"\nlength = 1000
+[[block]]\nname = \"y\"\nlength = 1000
+[[turnout]]\nswitch = 5\ncommon = \"x.a\"\nclosed = \"x.b\"\nthrown = \"y.a\"",
+        "turnout 3: the roster has no decoder for it",
+    ),
+    (
+        "[[train]]\ndecoder = \"turnouts\"\nblock = \"main\"\nfront = 600\nfacing = \"b\"
+length = 200\nspeed = 300",
+        "train 1: the roster has no decoder for it",
+    ),
+    (
+        "[[train]]\ndecoder = \"express\"\nblock = \"main\"\nfront = 600\nfacing = \"b\"
+length = 1001\nspeed = 300",
+        "train 1: the train is longer than a block",
+    ),
+    (
+        "[[train]]\ndecoder = \"express\"\nblock = \"main\"\nfront = 100\nfacing = \"b\"
+length = 200\nspeed = 300",
+        "train 1: the train does not fit into its block there",
+    ),
+];
+
+#[test]
+fn faults_of_a_railway(rt: HostRuntime) -> Result<(), Fail> {
+    let roster = roster(rt.alloc())?;
+    for (part, fault) in MISFITS {
+        let text = format!(in rt.alloc(); "{VERSION}{TRACK}{part}")?;
+        assert!(rt; railway_words(rt.alloc(), &roster, text.as_str())?.as_str() == fault);
     }
     Ok(())
 }
