@@ -75,6 +75,10 @@ served_app = with_rule (with_rule (new_app (codes "serve")) port_rule) roster_ru
 unfoldable pub serve_app : App
 serve_app = with_rule (with_rule (with_rule served_app turns_rule) reads_rule) connections_rule
 
+-- the program of this name, with a version, whose arguments do not include the name
+unfoldable pub named_app : (name : Text) → App
+named_app name = record (new_app name) { top = record (new_app name).top { no_binary_name = true; has_version = true } }
+
 -- the program's arguments do not include its name, and a command is required
 unfoldable pub bare_app : App
 bare_app = record (new_app (codes "station")) { top = record (new_app (codes "station")).top { no_binary_name = true; subcommand_required = true } }

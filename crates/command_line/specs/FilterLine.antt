@@ -1,19 +1,15 @@
 -- The command line of a filter, as clap reads it: `[--FLAG] [FILE]`; and its order: what clap's
 -- matches of its arguments hold.
 use Rattle.std.specs.Prelude.{◌≡◌, ◌↔◌, Bool, true, false, List, codes, Option, Some, None, option_map}
-use Rattle.clap.specs.Words.{App, Row, Rule, Text, first_of, matches_of, new_app, one_of, with_rule}
+use Rattle.clap.specs.Words.{App, Row, Rule, Text, first_of, matches_of, one_of, with_rule}
 use Rattle.command_line.specs.declared.filter_text.FilterFlag.{FilterFlag}
 use Rattle.command_line.specs.declared.filter_text.FilterOrder.{FilterOrder}
 use Rattle.command_line.specs.declared.filter_text.FilterText.{FilterText}
-use Rattle.command_line.specs.CommandLine.{value}
+use Rattle.command_line.specs.CommandLine.{named_app, value}
 use Rattle.command_line.specs.ServerLine.{flag}
 
 unfoldable pub source_rule : Rule
 source_rule = value (codes "file")
-
--- the program of this name, whose arguments do not include the name
-unfoldable pub bare_filter_app : (name : Text) → App
-bare_filter_app name = record (new_app name) { top = record (new_app name).top { no_binary_name = true; has_version = true } }
 
 -- the name of the flag, if there is one
 abbrev pub flag_of : Option FilterFlag → Option Text
@@ -24,7 +20,7 @@ with_flag None app = app
 with_flag (Some name) app = with_rule app (flag name)
 
 unfoldable pub filter_app : FilterText → App
-filter_app text = with_flag (flag_of text.flag) (with_rule (bare_filter_app text.name.now) source_rule)
+filter_app text = with_flag (flag_of text.flag) (with_rule (named_app text.name.now) source_rule)
 
 -- the file that the arguments name, if they name one
 abbrev pub file_in : FilterText → (words : List Text) → Option Text

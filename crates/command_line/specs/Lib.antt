@@ -4,6 +4,7 @@ pub mod Fault
 pub mod FilterFault
 pub mod FilterLine
 pub mod FilterRuns
+pub mod Opening
 pub mod Order
 pub mod Requests
 pub mod ServerLine

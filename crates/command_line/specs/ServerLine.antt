@@ -1,15 +1,15 @@
 -- The command line of `lbserver`, as clap reads it, and its order: what clap's matches of its
 -- arguments hold.
-use Rattle.std.specs.Prelude.{◌≡◌, ◌≢◌, ◌==◌, ◌&&◌, ◌||◌, ℕ, List, codes, length, map, nat_lt, string_bytes, Bool, IsTrue, if◌then◌else◌, Option, Some, None, true, false, [], ◌∷◌}
+use Rattle.std.specs.Prelude.{◌≡◌, ◌≢◌, ◌==◌, ◌&&◌, ◌||◌, ℕ, List, codes, length, map, nat_lt, string_bytes, Bool, IsTrue, if◌then◌else◌, Option, Some, None, false, [], ◌∷◌}
 use Rattle.std.specs.List.{list_all}
 use Rattle.std.specs.Char.{is_ascii_alphanumeric}
 use Rattle.std.specs.Net.Addr.{ipv4_octets}
 use Rattle.std.specs.Net.Grammar.{IsIpv4Text}
 use Rattle.std.specs.declared.net.ipv4_addr.Ipv4Addr.{Ipv4Addr}
-use Rattle.clap.specs.Words.{App, Row, Rule, Text, all_of, first_of, matches_of, new_app, new_rule, one_of, with_rule}
+use Rattle.clap.specs.Words.{App, Row, Rule, Text, all_of, first_of, matches_of, new_rule, one_of, with_rule}
 use Rattle.clap.specs.declared.builder.ArgAction.TheVariants.{Append, SetTrue}
 use Rattle.command_line.specs.declared.words.ServerOrder.{ServerOrder}
-use Rattle.command_line.specs.CommandLine.{number, option, or_else, roster_rule}
+use Rattle.command_line.specs.CommandLine.{named_app, number, option, or_else, roster_rule}
 use Rattle.command_line.specs.Order.{IsNumber}
 
 -- The options. An option that is not given has its default, if there is one.
@@ -19,6 +19,9 @@ address_rule = or_else (option (codes "address")) (codes "127.0.0.1")
 
 unfoldable pub port_rule : Rule
 port_rule = or_else (number (codes "port") 0 65535) (codes "1234")
+
+unfoldable pub plan_rule : Rule
+plan_rule = option (codes "plan")
 
 unfoldable pub turns_rule : Rule
 turns_rule = number (codes "turns") 0 255
@@ -51,16 +54,16 @@ page_file_rule = option (codes "page-file")
 unfoldable pub host_rule : Rule
 host_rule = record (option (codes "host")) { action = Some Append }
 
--- The program, whose arguments do not include its name.
-
-unfoldable pub bare_server_app : App
-bare_server_app = record (new_app (codes "lbserver")) { top = record (new_app (codes "lbserver")).top { no_binary_name = true; has_version = true } }
+-- The program.
 
 unfoldable pub listening_app : App
-listening_app = with_rule (with_rule (with_rule bare_server_app address_rule) port_rule) roster_rule
+listening_app = with_rule (with_rule (with_rule (named_app (codes "lbserver")) address_rule) port_rule) roster_rule
+
+unfoldable pub laid_app : App
+laid_app = with_rule listening_app plan_rule
 
 unfoldable pub paced_app : App
-paced_app = with_rule (with_rule listening_app turns_rule) clients_rule
+paced_app = with_rule (with_rule laid_app turns_rule) clients_rule
 
 unfoldable pub printed_app : App
 printed_app = with_rule (with_rule paced_app track_rule) quiet_rule
@@ -100,17 +103,27 @@ abbrev pub AreHosts : Option (List Text) → List Text → Type 0
 AreHosts None hosts = hosts ≡ []
 AreHosts (Some names) hosts = (hosts ≡ names) × IsTrue (list_all is_host_name names)
 
+-- options that need another have it: a plan a roster, and the file of a page a page
+pub record HasNeeded (rows : List Row) : Type 0 where
+  pub roster : first_of (codes "plan") rows ≢ None → first_of (codes "roster") rows ≢ None
+  pub page : first_of (codes "page-file") rows ≢ None → one_of (codes "page") rows ≢ None
+
+-- the same of whatever value
+abbrev pub HasNeededFor : {A : Type 0} → List Row → A → Type 0
+HasNeededFor rows value = HasNeeded rows
+
 pub record IsServerOrder (rows : List Row) (order : ServerOrder) : Type 0 where
   pub at_address : IsAddress (one_of (codes "address") rows) order.address
   pub at_port : IsNumber (one_of (codes "port") rows) 0 65535 order.port
   pub with_roster : order.roster ≡ first_of (codes "roster") rows
+  pub with_plan : order.plan ≡ first_of (codes "plan") rows
   pub each_turns : IsNumberIfGiven (one_of (codes "turns") rows) 0 255 order.turns
   pub most_clients : IsNumberIfGiven (one_of (codes "clients") rows) 0 4294967295 order.clients
   pub shows_track : IsFlag (one_of (codes "track") rows) order.track
   pub keeps_quiet : IsFlag (one_of (codes "quiet") rows) order.quiet
   pub at_page : IsNumberIfGiven (one_of (codes "page") rows) 0 65535 order.page
   pub with_page : order.page_file ≡ first_of (codes "page-file") rows
-  pub for_its_page : first_of (codes "page-file") rows ≢ None → one_of (codes "page") rows ≢ None
+  pub needs : HasNeeded rows
   pub by_hosts : AreHosts (all_of (codes "host") rows) (map (λ host. string_bytes host) order.hosts.items)
   pub share_lost : IsNumber (one_of (codes "lose") rows) 0 99 order.lose
   pub with_seed : IsNumber (one_of (codes "seed") rows) 0 4294967295 order.seed
@@ -123,6 +136,7 @@ pub record IsDefaultOrder (order : ServerOrder) : Type 0 where
   pub at_address : ipv4_octets order.address ≡ 127 ∷ 0 ∷ 0 ∷ 1 ∷ []
   pub at_port : order.port ≡ 1234
   pub without_roster : order.roster ≡ None
+  pub without_plan : order.plan ≡ None
   pub in_real_time : order.turns ≡ None
   pub for_ever : order.clients ≡ None
   pub shows_no_track : order.track ≡ false

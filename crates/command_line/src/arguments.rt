@@ -1,10 +1,12 @@
 //! The arguments of a program, as texts.
-ghost use Rattle.std.specs.Prelude.{◌≡◌, IfErr, IfOk, map, string_bytes};
+ghost use Rattle.std.specs.Prelude.{◌≡◌, ◌≢◌, IfErr, IfOk, map, string_bytes};
+ghost use Rattle.std.specs.IoError.{error_kind};
+ghost use Rattle.command_line.specs.declared.orders.OrderFault.TheVariants.{NoMemory};
 ghost use Rattle.command_line.specs.Arguments.{IsArgumentFault};
 
 use crate::orders::OrderFault;
 use std::alloc::{AllocError, Global};
-use std::env::Env;
+use std::env::{Args, Env};
 use std::io::ErrorKind;
 use std::{env, io};
 
@@ -22,15 +24,17 @@ pub fn read_words<E: Env, F: FnOnce(Global) -> OrderFault>(
     requires { F.pre no_text alloc }
     ensures fault { IfErr result (IsArgumentFault (F.post no_text alloc)) }
 {
-    let all = match env::args(&(from, alloc)) {
-        Ok(all) => all,
-        Err(error) => return Err(no_words(alloc, &error, no_text)),
-    };
+    match env::args(&(from, alloc)) {
+        Ok(all) => Ok(after_name(alloc, all)?),
+        Err(error) => Err(no_words(alloc, &error, no_text)),
+    }
+}
+
+/// Returns the arguments but the first, the program's name.
+fn after_name(alloc: Global, all: Args) -> Result<Vec<String>, AllocError> {
     let mut words = Vec::new(alloc);
     for word in all.skip(1) {
-        if words.push(word).is_err() {
-            return Err(OrderFault::NoMemory);
-        }
+        words.push(word)?;
     }
     Ok(words)
 }
@@ -42,7 +46,9 @@ fn no_words<F: FnOnce(Global) -> OrderFault>(
     no_text: F,
 ) -> OrderFault
     requires { F.pre no_text alloc }
-    ensures { IsArgumentFault (F.post no_text alloc) result }
+    ensures memory { error_kind error.now ≡ ErrorKind.OutOfMemory → result ≡ NoMemory }
+    ensures text { error_kind error.now ≢ ErrorKind.OutOfMemory → F.post no_text alloc result }
+    ensures fault { IsArgumentFault (F.post no_text alloc) result }
 {
     match error.kind() {
         ErrorKind::OutOfMemory => OrderFault::NoMemory,

@@ -1,8 +1,9 @@
 //! The command line of `station`, as `clap` builders.
 ghost use Rattle.std.specs.Prelude.{◌≡◌, IfOk, false};
 ghost use Rattle.clap.specs.Words.{App, rule_of, with_rule, with_subcommand};
-ghost use Rattle.command_line.specs.CommandLine.{option, number, roster_rule, lines_rule, file_rule, port_rule, turns_rule, reads_rule, connections_rule, replay_app, monitor_app, served_app, serve_app, bare_app, station_app, HasApp, HasNoGlobals};
+ghost use Rattle.command_line.specs.CommandLine.{option, number, roster_rule, lines_rule, file_rule, port_rule, turns_rule, reads_rule, connections_rule, replay_app, monitor_app, served_app, serve_app, bare_app, named_app, station_app, HasApp, HasNoGlobals};
 
+use crate::version::VERSION;
 use clap::{Arg, ArgAction, Command};
 use std::alloc::{AllocError, Global};
 
@@ -166,6 +167,21 @@ fn serve<'a>(alloc: Global) -> Draft<'a>
 {
     let paced = with_arg(with_arg(served(alloc), turns(alloc)), reads(alloc));
     with_arg(paced, connections(alloc))
+}
+
+/// A program of this name, with a version, without its arguments. These do not include the name, so
+/// the usage is given it.
+#[tactic(auto, unfolding(crate::specs::CommandLine::named_app))]
+pub(crate) fn named<'a>(alloc: Global, name: &'a str, about: &'a str, details: &'a str) -> Draft<'a>
+    ensures app { HasApp result (named_app name.entry.now) }
+    ensures local { HasNoGlobals result }
+{
+    Command::new(alloc, name)
+        .about(about)
+        .after_help(details)
+        .version(VERSION)
+        .no_binary_name(true)
+        .bin_name(name)
 }
 
 /// The program, which requires a command. Its arguments do not include its name, so the usage is

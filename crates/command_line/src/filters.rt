@@ -19,5 +19,6 @@ mod standard;
 mod terminal;
 
 pub use filter::Filter;
+pub use opening::{open_error_words, open_file};
 pub use running::execute_words;
 pub use standard::run_filter;

@@ -31,7 +31,7 @@ mod words;
 pub use arguments::{read_words, texts};
 pub use filter::{filter_order, not_utf8_filter_text};
 pub use filter_text::{FilterFlag, FilterOrder, FilterText};
-pub use filters::{Filter, execute_words, run_filter};
+pub use filters::{Filter, execute_words, open_error_words, open_file, run_filter};
 pub use orders::{OrderFault, no_text, order};
 pub use server::{not_utf8_server_text, server_order};
 pub use version::VERSION;

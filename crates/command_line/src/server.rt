@@ -1,11 +1,12 @@
 //! Parsing the command line of `lbserver`.
-ghost use Rattle.std.specs.Prelude.{◌≡◌, [], IfErr, IfOk, MatchOption, codes, map, option_map, string_bytes};
+ghost use Rattle.std.specs.Prelude.{◌≡◌, [], IfErr, IfOk, MatchOption, OnOk, codes, map, option_map, string_bytes};
 ghost use Rattle.std.specs.List.{list_all};
 ghost use Rattle.clap.specs.Words.{all_of, fault_of, found_of, one_of, rows_of};
+ghost use Rattle.command_line.specs.declared.words.ServerOrder.{ServerOrder as OrderValue};
 ghost use Rattle.command_line.specs.Fault.{IsOfKind, IsServerFault, IsUnmatched};
 ghost use Rattle.command_line.specs.Order.{HasNone};
 ghost use Rattle.command_line.specs.Requests.{IsRequestedBy};
-ghost use Rattle.command_line.specs.ServerLine.{AreHosts, IsAddress, IsDefaultOrder, IsFlag, IsNumberIfGiven, IsServerOrder, IsServerOrderOf, is_host_byte, is_host_name, server_app};
+ghost use Rattle.command_line.specs.ServerLine.{AreHosts, HasNeeded, HasNeededFor, IsAddress, IsDefaultOrder, IsFlag, IsNumberIfGiven, IsServerOrder, IsServerOrderOf, is_host_byte, is_host_name, server_app};
 
 use crate::orders::{OrderFault, file_name, matches_of, not_utf8, number, text, usage};
 use crate::server_command::server_command;
@@ -164,6 +165,17 @@ fn no_host_name(alloc: Global) -> OrderFault
     )
 }
 
+// A plan without a roster.
+fn no_roster(alloc: Global) -> OrderFault
+    ensures { IsOfKind ErrorKind.ValueValidation result }
+{
+    usage(
+        server_command(alloc),
+        ErrorKind::ValueValidation,
+        "--plan needs --roster",
+    )
+}
+
 // A file without a page.
 fn no_page(alloc: Global) -> OrderFault
     ensures { IsOfKind ErrorKind.ValueValidation result }
@@ -173,6 +185,21 @@ fn no_page(alloc: Global) -> OrderFault
         ErrorKind::ValueValidation,
         "--page-file needs --page",
     )
+}
+
+/// Checks that a plan has a roster, and that the file of a page has a page.
+fn check_needed(alloc: Global, found: &ArgMatches<'_>) -> Result<(), OrderFault>
+    ensures needed { OnOk result (HasNeeded (rows_of (found_of found.now))) }
+    ensures fault { IfErr result
+        (IsUnmatched (HasNeededFor {A = OrderValue} (rows_of (found_of found.now)))) }
+{
+    if text(found, "plan").is_some() && text(found, "roster").is_none() {
+        return Err(no_roster(alloc));
+    }
+    if text(found, "page-file").is_some() && text(found, "page").is_none() {
+        return Err(no_page(alloc));
+    }
+    Ok(())
 }
 
 fn matched(alloc: Global, found: &ArgMatches<'_>) -> Result<ServerOrder, OrderFault>
@@ -191,13 +218,12 @@ fn matched(alloc: Global, found: &ArgMatches<'_>) -> Result<ServerOrder, OrderFa
     ) else {
         return Err(out_of_range(alloc));
     };
-    if text(found, "page-file").is_some() && text(found, "page").is_none() {
-        return Err(no_page(alloc));
-    }
+    check_needed(alloc, found)?;
     Ok(ServerOrder {
         address,
         port: port as u16,
         roster: file_name(alloc, found, "roster")?,
+        plan: file_name(alloc, found, "plan")?,
         turns: number_if_given(alloc, found, "turns", 0, 255)?.map(|turns| turns as u8),
         clients: number_if_given(alloc, found, "clients", 0, u32::MAX)?,
         track,

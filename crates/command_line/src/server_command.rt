@@ -1,12 +1,11 @@
 //! The command line of `lbserver`, as `clap` builders.
-ghost use Rattle.std.specs.Prelude.{◌≡◌, false};
+ghost use Rattle.std.specs.Prelude.{◌≡◌, codes, false};
 ghost use Rattle.clap.specs.Words.{rule_of};
-ghost use Rattle.command_line.specs.CommandLine.{HasApp, HasNoGlobals};
-ghost use Rattle.command_line.specs.ServerLine.{flag, address_rule, port_rule, turns_rule, clients_rule, track_rule, quiet_rule, page_rule, page_file_rule, host_rule, lose_rule, seed_rule, bare_server_app, listening_app, paced_app, printed_app, shown_app, server_app};
+ghost use Rattle.command_line.specs.CommandLine.{HasApp, HasNoGlobals, named_app};
+ghost use Rattle.command_line.specs.ServerLine.{flag, address_rule, port_rule, plan_rule, turns_rule, clients_rule, track_rule, quiet_rule, page_rule, page_file_rule, host_rule, lose_rule, seed_rule, listening_app, laid_app, paced_app, printed_app, shown_app, server_app};
 
-use crate::command::{Draft, number, option, roster, with_arg};
-use crate::version::VERSION;
-use clap::{Arg, ArgAction, Command};
+use crate::command::{Draft, named, number, option, roster, with_arg};
+use clap::{Arg, ArgAction};
 use std::alloc::Global;
 
 /// The option `--address A`.
@@ -29,6 +28,17 @@ fn port<'a>(alloc: Global) -> Arg<'a>
     number(alloc, "port", "P", 0, 65_535)
         .default_value("1234")
         .help("The TCP port, 0 to 65535; with 0 a free one, which the line `listening` names")
+}
+
+/// The option `--plan FILE`.
+#[tactic(auto, unfolding(crate::specs::ServerLine::plan_rule))]
+fn plan<'a>(alloc: Global) -> Arg<'a>
+    ensures rule { rule_of result ≡ plan_rule }
+    ensures local { result.global ≡ false }
+{
+    option(alloc, "plan", "FILE").help(
+        "The track plan, on which the trains of the roster run and sensors report; without it no train moves",
+    )
 }
 
 /// The option `--turns T`.
@@ -134,22 +144,20 @@ fn seed<'a>(alloc: Global) -> Arg<'a>
         .help("What the draw of the missed packets begins with, 0 to 4294967295")
 }
 
-/// The program, without options. Its arguments do not include its name, so the usage is given the
-/// name.
-#[tactic(auto, unfolding(crate::specs::ServerLine::bare_server_app))]
+/// The program, without options.
 fn program<'a>(alloc: Global) -> Draft<'a>
-    ensures app { HasApp result bare_server_app }
+    ensures app { HasApp result (named_app (codes "lbserver")) }
     ensures local { HasNoGlobals result }
 {
-    Command::new(alloc, "lbserver")
-        .about("A LocoNet command station for clients of LocoNet over TCP, up to eight at once")
-        .after_help("Example: lbserver --roster layout.toml --port 1234 --track")
-        .version(VERSION)
-        .no_binary_name(true)
-        .bin_name("lbserver")
+    named(
+        alloc,
+        "lbserver",
+        "A LocoNet command station for clients of LocoNet over TCP, up to eight at once",
+        "Example: lbserver --roster layout.toml --port 1234 --track",
+    )
 }
 
-/// Adds the options for the address, the port and the layout.
+/// Adds the options for the address, the port and the roster.
 fn listening<'a>(alloc: Global) -> Draft<'a>
     ensures app { HasApp result listening_app }
     ensures local { HasNoGlobals result }
@@ -158,12 +166,20 @@ fn listening<'a>(alloc: Global) -> Draft<'a>
     with_arg(with_arg(addressed, port(alloc)), roster(alloc))
 }
 
+/// Adds the option for the track plan.
+fn laid<'a>(alloc: Global) -> Draft<'a>
+    ensures app { HasApp result laid_app }
+    ensures local { HasNoGlobals result }
+{
+    with_arg(listening(alloc), plan(alloc))
+}
+
 /// Adds the options for the speed and the duration.
 fn paced<'a>(alloc: Global) -> Draft<'a>
     ensures app { HasApp result paced_app }
     ensures local { HasNoGlobals result }
 {
-    with_arg(with_arg(listening(alloc), turns(alloc)), clients(alloc))
+    with_arg(with_arg(laid(alloc), turns(alloc)), clients(alloc))
 }
 
 /// Adds the flags for the log.

@@ -83,6 +83,8 @@ pub struct ServerOrder {
     pub port: u16,
     /// The file that describes the decoders of the layout. Without it there are none.
     pub roster: Option<FileName>,
+    /// The file of the track plan, with a roster. Without it no train moves.
+    pub plan: Option<FileName>,
     /// Track turns after each message, 0 to 255. Without it the track runs in real time.
     pub turns: Option<u8>,
     /// The number of clients to serve before the server ends, at once with 0. Without it the server

@@ -3,6 +3,7 @@ ghost use Rattle.std.specs.Prelude.{◌≡◌, ◌≢◌};
 ghost use Rattle.command_line.specs.declared.filters.report.StartFault.TheVariants.{NoMemory};
 ghost use Rattle.command_line.specs.FilterFault.{of_order, status_of};
 
+use super::opening::open_error_words;
 use crate::orders::OrderFault;
 use crate::words::FileName;
 use std::alloc::AllocError;
@@ -53,24 +54,13 @@ impl StartFault {
         let _ = match self {
             StartFault::Usage(error) => write!(faults, "{error}"),
             StartFault::Unopened { file, why } => {
-                let reason = reason_of(*why);
+                let reason = open_error_words(*why);
                 writeln!(faults, "{program}: cannot read {file}: {reason}")
             }
             StartFault::Output => writeln!(faults, "{program}: output"),
             StartFault::NoMemory => writeln!(faults, "{program}: no memory"),
         };
         self.status()
-    }
-}
-
-/// Returns why a file cannot be opened, in words.
-fn reason_of(why: ErrorKind) -> &'static str {
-    match why {
-        ErrorKind::NotFound | ErrorKind::NotADirectory => "no such file",
-        ErrorKind::IsADirectory => "is a folder",
-        ErrorKind::PermissionDenied => "permission denied",
-        ErrorKind::InvalidFilename | ErrorKind::InvalidInput => "not a name of a file",
-        _ => "it cannot be opened",
     }
 }
 

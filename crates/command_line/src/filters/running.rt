@@ -8,7 +8,7 @@ ghost use Rattle.command_line.specs.FilterRuns.{Rejects, RunsOn, RunsOnFile, Run
 ghost use Rattle.input_text.specs.Write.{failed_after};
 
 use super::filter::Filter;
-use super::opening::open;
+use super::opening::open_file;
 use super::report::StartFault;
 use crate::filter::filter_order;
 use crate::filter_text::{FilterOrder, FilterText};
@@ -117,7 +117,7 @@ fn run_on_file<F: Filter, R: Files + AllocGlobal, O: Output, E: Write>(
     ensures unwritten { O.failed output.new ≡ (result == 4) }
     ensures quiet { result ≡ 0 → faults.new ≡ faults.old }
 {
-    match open(rt, &file) {
+    match open_file(rt, &file) {
         Ok(mut input) => filter.execute(
             rt.alloc(),
             is_flagged,

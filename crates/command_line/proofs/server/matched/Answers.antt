@@ -1,6 +1,6 @@
 use Rattle.std.proofs.Common.{codes, map, string_bytes}
 use Rattle.clap.specs.Words.{all_of, found_of, one_of, rows_of}
-use Rattle.command_line.specs.ServerLine.{AreHosts, IsNumberIfGiven, IsServerOrder}
+use Rattle.command_line.specs.ServerLine.{AreHosts, HasNeededFor, IsNumberIfGiven, IsServerOrder}
 use Rattle.command_line.proofs.Faults.{none_of_part}
 use Rattle.command_line.proofs.server.matched.Goals as goal
 
@@ -27,3 +27,9 @@ returns-in_err-hosts-clause-fault c =
     let rows = rows_of (found_of c.args.found.now) in
     none_of_part (AreHosts (all_of (codes "host") rows)) (IsServerOrder rows) c.from_residual-in_err-hosts.result c.in_err-hosts.field-0.0 c.from_residual-in_err-hosts.ensures.1
     (λ order is. (map (λ host. string_bytes host) order.hosts.items, is.by_hosts)) c.in_err-hosts.ensures.fault
+
+pub returns-in_err-check_needed-clause-fault : goal.returns-in_err-check_needed-clause-fault
+returns-in_err-check_needed-clause-fault c =
+    let rows = rows_of (found_of c.args.found.now) in
+    none_of_part (HasNeededFor rows) (IsServerOrder rows) c.from_residual.result c.in_err-check_needed.field-0.0 c.from_residual.ensures.1
+    (λ order is. (order, is.needs)) c.in_err-check_needed.ensures.fault
