@@ -11,9 +11,10 @@ use Rattle.ln_ops.specs.declared.op.Op.{Op}
 use Rattle.ln_ops.specs.declared.op.Op.TheVariants.{SlotRead, SlotData}
 use Rattle.roster.specs.Entry.{Entry}
 use Rattle.show_text.specs.Lines.{track_text}
-use Rattle.show_text.specs.Messages.{message_text}
+use Rattle.describe.specs.Messages.{message_words}
 use Rattle.loconet_tcp.specs.declared.outcome.Outcome.{Outcome}
-use Rattle.loconet_tcp.specs.declared.outcome.Outcome.TheVariants.{Nothing, Connected, Disconnected, Rejected, Sent, TurnBegan, TurnsRequested}
+use Rattle.loconet_tcp.specs.declared.outcome.Outcome.TheVariants.{Nothing, Connected, Disconnected, Rejected, Reported, Sent, TurnBegan, TurnsRequested}
+use Rattle.loconet_tcp.specs.ClientLines.{hex_words}
 use Rattle.loconet_tcp.specs.Texts.{messages_in}
 
 -- The state of a printer: the turns, the clients that have disconnected, and the state of each
@@ -62,6 +63,15 @@ changed_lines (entry ∷ entries) (last ∷ before) [] = []
 changed_lines (entry ∷ entries) (last ∷ before) (now ∷ decoder_states) =
     (if same_decoder_state last now then [] else decoder_line entry.name entry.spec now ∷ []) ++ changed_lines entries before decoder_states
 
+-- two spaces before the explanation of a message; nothing if it has none
+abbrev pub set_off : (explanation : List ℕ) → List ℕ
+set_off [] = []
+set_off (first ∷ others) = 32 ∷ 32 ∷ first ∷ others
+
+-- a message: its bytes, and its explanation
+abbrev pub sent_line : (message : List ℕ) → List ℕ
+sent_line message = codes "message" ++ hex_words message ++ set_off (message_words message)
+
 -- a read of a slot (OPC_RQ_SL_DATA) that is answered by its data (OPC_SL_RD_DATA)
 abbrev pub is_read : Op → Op → Bool
 is_read (SlotRead slot) (SlotData fields) = true
@@ -72,7 +82,8 @@ is_slot_read message None = false
 is_slot_read message (Some reply) = is_read (op_of message) (op_of reply)
 
 -- The lines of an outcome: clients that connect and disconnect, each message and then its reply
--- (none for a read of a slot), the packet of a turn, and the decoders that it changed.
+-- (none for a read of a slot), each report of a sensor, the packet of a turn, and the decoders that
+-- it changed.
 abbrev pub lines_of : (track : Bool) → List Entry → PrinterState → Outcome → (decoder_states : List DecoderState) → List (List ℕ)
 lines_of track entries before Nothing decoder_states = []
 lines_of track entries before (Connected client) decoder_states = client_line client (codes " joins") ∷ []
@@ -80,7 +91,9 @@ lines_of track entries before (Disconnected client) decoder_states = client_line
 lines_of track entries before (Rejected client reason) decoder_states = []
 lines_of track entries before (TurnsRequested client turns) decoder_states = []
 lines_of track entries before (Sent client message reply) decoder_states =
-    if is_slot_read message reply then [] else map message_text (messages_in (Sent client message reply))
+    if is_slot_read message reply then []
+    else map sent_line (messages_in (Sent client message reply))
+lines_of track entries before (Reported message) decoder_states = sent_line message ∷ []
 lines_of track entries before (TurnBegan packet) decoder_states = packet_lines track (saturating_successor before.turns) packet ++ changed_lines entries before.decoder_states decoder_states
 
 -- none of these lines, if the log is quiet

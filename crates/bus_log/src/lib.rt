@@ -15,6 +15,7 @@ mod line_queue;
 mod listening;
 mod log_output;
 mod log_queue;
+mod messages;
 mod printer;
 mod sent_states;
 mod verbosity;

@@ -7,12 +7,12 @@ ghost use Rattle.layout_core.specs.declared.node.Node.{Node as NodeValue};
 ghost use Rattle.layout_core.specs.Nodes.{spec_of};
 ghost use Rattle.layout_core.specs.DecoderStates.{decoder_line, decoder_state_of};
 ghost use Rattle.roster.specs.Entry.{Entry, spec_of as entry_spec};
-ghost use Rattle.show_text.specs.Messages.{message_text};
 ghost use Rattle.bus_log.specs.Decoders.{entries_of, specs_of};
 ghost use Rattle.bus_log.specs.LogQueues.{after_lines};
-ghost use Rattle.bus_log.specs.Lines.{changed_lines, client_line, is_slot_read, lines_unless, node_message, overflow_line, saturating_successor, packet_lines, skipped_line};
+ghost use Rattle.bus_log.specs.Lines.{changed_lines, client_line, is_slot_read, lines_unless, node_message, overflow_line, saturating_successor, packet_lines, sent_line, skipped_line};
 
 use crate::log_queue::LogQueue;
+use crate::messages::print_message;
 use crate::verbosity::Verbosity;
 use arrayvec::{ArrayString, ArrayVec};
 use bus::{Observer, Outcome};
@@ -22,7 +22,7 @@ use layout_core::{DecoderState, World};
 use ln_frame::Msg;
 use ln_ops::{Op, read};
 use roster::Roster;
-use show_text::{Line, message_line, track_line};
+use show_text::{Line, track_line};
 use std::convert::Infallible;
 
 /// A message to a page about a decoder: at most five bytes longer than a line.
@@ -138,6 +138,7 @@ impl<'a> Printer<'a> {
             Outcome::Connected { client } => print_client(&mut self.log, *client, " joins"),
             Outcome::Disconnected { client } => print_client(&mut self.log, *client, " leaves"),
             Outcome::Sent { message, reply, .. } => print_sent(&mut self.log, message, reply),
+            Outcome::Reported { message } => print_message(&mut self.log, message),
             Outcome::TurnBegan { packet } => self.print_turn(packet, world),
         }
     }
@@ -279,15 +280,15 @@ fn print_client(log: &mut LogQueue, client: u8, does: &str)
 /// Prints a message, and then the reply to it, unless a slot is read.
 fn print_sent(log: &mut LogQueue, message: &Msg, reply: &Option<Msg>)
     ensures { log.new
-        ≡ after_lines log.old (if is_slot_read message.now reply.now then [] else map message_text
+        ≡ after_lines log.old (if is_slot_read message.now reply.now then [] else map sent_line
         (message.now ∷ option_to_list reply.now)) }
 {
     if is_slot_read(message, reply) {
         return;
     }
-    log.print_line(&message_line(message));
+    print_message(log, message);
     if let Some(reply) = reply {
-        log.print_line(&message_line(reply));
+        print_message(log, reply);
     }
 }
 
