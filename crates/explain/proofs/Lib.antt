@@ -5,3 +5,4 @@ mod Pieces
 mod Messages
 mod LogLines
 mod Printed
+mod TwoSpaces

@@ -1,5 +1,6 @@
 -- The hex text of a log: its whole messages, one a line (own).
-use Rattle.std.specs.Prelude.{ℕ, ◌/◌, ◌%◌, ◌||◌, if◌then◌else◌, nat_lt, List, [], ◌∷◌, ◌++◌, length, flat_map, Option, Some, None, codes}
+use Rattle.std.specs.Prelude.{ℕ, ◌/◌, ◌%◌, ◌==◌, ◌||◌, if◌then◌else◌, nat_lt, List, [], ◌∷◌, ◌++◌, length, flat_map, Option, Some, None, codes}
+use Rattle.std.specs.List.{starts_with}
 use Rattle.ascii_words.specs.Words.{hex_char, words_of}
 use Rattle.ln_frame.specs.Message.{is_whole}
 use Rattle.loconet_tcp.specs.ClientLines.{hex_words}
@@ -16,17 +17,36 @@ bytes_or_none (Some bytes) = bytes
 abbrev pub pairs_in : List ℕ → List ℕ
 pairs_in text = bytes_or_none (bytes_of (words_of text))
 
--- The bytes in a line, by its first word: after `msg` those before other words, after `reply` those
--- after the line of the station, after `RECEIVE` and `SEND` all; or the line is bytes alone.
+-- the text before the first two spaces
+unfoldable pub before_two_spaces : List ℕ → List ℕ
+before_two_spaces [] = []
+before_two_spaces (b ∷ text) =
+    if starts_with ◌==◌ (b ∷ text) (codes "  ") then [] else b ∷ before_two_spaces text
+
+-- a line without the explanation that `lbserver` prints after a message
+abbrev pub without_explanation : List ℕ → List ℕ
+without_explanation line =
+    if begins_with (codes "message") line then before_two_spaces line else line
+
+-- The bytes in a line, by its first word: after `message` and `msg` those before other words, after
+-- `reply` those after the line of the station, after `RECEIVE` and `SEND` all; or the line is bytes
+-- alone.
 abbrev pub bytes_in : List ℕ → List ℕ
 bytes_in line =
-    if begins_with (codes "msg") line then leading_bytes (words_of (rest_after line)) else
+    if begins_with (codes "message") line || begins_with (codes "msg") line
+    then leading_bytes (words_of (rest_after line)) else
     (if begins_with (codes "reply") line then pairs_in (rest_after (rest_after line)) else
     (if begins_with (codes "RECEIVE") line || begins_with (codes "SEND") line then pairs_in (rest_after line) else pairs_in line))
 
--- the message in a line of at most 400 characters, if its bytes are a whole one
+-- the message in a text of at most 400 characters, if its bytes are a whole one
+abbrev pub message_in_text : List ℕ → Option (List ℕ)
+message_in_text line =
+    if nat_lt 400 (length line) then None
+    else (if is_whole (bytes_in line) then Some (bytes_in line) else None)
+
+-- the message in a line
 abbrev pub message_in_line : List ℕ → Option (List ℕ)
-message_in_line line = if nat_lt 400 (length line) then None else (if is_whole (bytes_in line) then Some (bytes_in line) else None)
+message_in_line line = message_in_text (without_explanation line)
 
 -- bytes as pairs of digits with a space between them, and a line feed
 abbrev pub hex_line : List ℕ → List ℕ

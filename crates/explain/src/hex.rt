@@ -1,6 +1,6 @@
 //! The messages of a log as hex text.
 ghost use Rattle.std.specs.Prelude.{◌≡◌, ◌≤◌, ◌++◌, IfOk, OnOk, length};
-ghost use Rattle.explain.specs.HexText.{bytes_in, hex_line, hex_line_of, hex_text, message_in_line, pairs_in};
+ghost use Rattle.explain.specs.HexText.{before_two_spaces, bytes_in, hex_line, hex_line_of, hex_text, message_in_line, message_in_text, pairs_in, without_explanation};
 ghost use Rattle.loconet_tcp.specs.ClientLines.{hex_words};
 
 use crate::lines::{body_and_end, cut_line};
@@ -27,7 +27,7 @@ fn bytes_in(line: &[u8]) -> Bytes
     ensures { result.items ≡ bytes_in line.now }
 {
     let (first, rest) = cut_piece(line);
-    if first == b"msg".as_slice() {
+    if first == b"message".as_slice() || first == b"msg".as_slice() {
         return leading_bytes(rest);
     }
     if first == b"reply".as_slice() {
@@ -39,14 +39,44 @@ fn bytes_in(line: &[u8]) -> Bytes
     pairs_in(line)
 }
 
+/// Returns the message in a text of at most 400 characters, if it has a whole one.
+fn message_in_text(text: &[u8]) -> Option<Msg>
+    ensures { result ≡ message_in_text text.now }
+{
+    if text.len() > LONGEST_LINE {
+        return None;
+    }
+    Msg::whole(bytes_in(text).as_slice())
+}
+
+/// Returns the text before the first two spaces.
+fn before_two_spaces(text: &[u8]) -> &[u8]
+    ensures { result.now ≡ before_two_spaces text.now }
+{
+    for i in 0..text.len() {
+        if text[i..].starts_with(b"  ") {
+            return &text[..i];
+        }
+    }
+    text
+}
+
+/// Returns a line without the explanation that `lbserver` prints after a message.
+fn without_explanation(line: &[u8]) -> &[u8]
+    ensures { result.now ≡ without_explanation line.now }
+{
+    if cut_piece(line).0 == b"message".as_slice() {
+        before_two_spaces(line)
+    } else {
+        line
+    }
+}
+
 /// Returns the message in a line, if it has a whole one.
 fn message_in_line(line: &[u8]) -> Option<Msg>
     ensures { result ≡ message_in_line line.now }
 {
-    if line.len() > LONGEST_LINE {
-        return None;
-    }
-    Msg::whole(bytes_in(line).as_slice())
+    message_in_text(without_explanation(line))
 }
 
 /// Appends bytes, each as a space and two digits.

@@ -86,7 +86,7 @@ const CAPTURED: [Row; 15] = [
     (b"track 4 FF FF", b"\n", b"  wrong length"),
 ];
 
-const UNCHANGED: [Row; 31] = [
+const UNCHANGED: [Row; 32] = [
     (b"", b"", b""),
     (b"", b"\n", b""),
     (b"", b"\r\n", b""),
@@ -96,6 +96,8 @@ const UNCHANGED: [Row; 31] = [
     (b"SENT ERROR wrong check byte", b"\r\n", b""),
     (b"listening 127.0.0.1:1234", b"\n", b""),
     (b"client 1 joins", b"\n", b""),
+    // `lbserver` explains its messages.
+    (b"message 83 7C  track power on", b"\n", b""),
     (b"node yard module 1 outputs 00000000", b"\n", b""),
     (b"# Power on (OPC_GPON).", b"\n", b""),
     (b"line 0 83 7C", b"\n", b""),
