@@ -3,6 +3,7 @@ use Rattle.std.proofs.Common.{◌≡◌, ℕ, List, Option, Some, None, refl, su
 use Rattle.std.specs.Borrow.{Bor}
 use Rattle.std.specs.Option.{option_copied}
 use Rattle.command_line.specs.declared.words.ServerOrder.{ServerOrder}
+use Rattle.railway.specs.Railway.{RailwayState}
 use Rattle.roster.specs.Entry.{Entry}
 use Rattle.bus_log.specs.Decoders.{entries_of, specs_of}
 use Rattle.bus_server.specs.Applied.{initial_state}
@@ -10,8 +11,8 @@ use Rattle.bus_server.specs.Draws.{IsSeeded}
 use Rattle.bus_server.specs.Runs.{IsRun}
 use Rattle.lbserver.specs.Execution.{ServesOrder, clients_of, entries_in, unlogged}
 
-pub same_order : (a b : ServerOrder) (entries : List Entry) → a.turns ≡ b.turns → a.lose ≡ b.lose → a.seed ≡ b.seed → a.clients ≡ b.clients → ServesOrder a entries → ServesOrder b entries
-same_order a b entries turns lose seed clients served =
+pub same_order : (a b : ServerOrder) (entries : List Entry) (railway : Option RailwayState) → a.turns ≡ b.turns → a.lose ≡ b.lose → a.seed ≡ b.seed → a.clients ≡ b.clients → ServesOrder a entries railway → ServesOrder b entries railway
+same_order a b entries railway turns lose seed clients served =
     let start = served.0 in
     let losses = served.2.0 in (
       start,
@@ -19,7 +20,7 @@ same_order a b entries turns lose seed clients served =
       (
         losses,
         subst (λ (n : ℕ). IsSeeded n b.seed losses) lose (subst (λ (n : ℕ). IsSeeded a.lose n losses) seed served.2.1),
-        subst (λ (t : Option ℕ). start ≡ initial_state (specs_of entries) t losses) turns served.2.2,
+        subst (λ (t : Option ℕ). start ≡ initial_state (specs_of entries) railway t losses) turns served.2.2,
       ),
       subst (λ (c : Option ℕ). IsRun (clients_of c) (unlogged start) (unlogged served.1)) clients served.3,
     )

@@ -11,6 +11,8 @@ use Rattle.bus_log.specs.Decoders.{specs_of}
 use Rattle.bus_server.specs.declared.losses.Losses.{Losses}
 use Rattle.bus_server.specs.Applied.{ServerState, initial_state}
 use Rattle.bus_server.specs.Draws.{IsSeeded}
+use Rattle.railway.specs.Railway.{RailwayState}
+use Rattle.railway_plan.specs.Railways.{IsRailwayIn}
 use Rattle.bus_server.specs.Runs.{IsRun, RunSnapshot}
 use Rattle.lbserver.specs.declared.fault.ServerFault.{ServerFault}
 use Rattle.lbserver.specs.declared.fault.ServerFault.TheVariants.{Output}
@@ -26,25 +28,37 @@ abbrev pub entries_in : Option (List Entry) → List Entry
 entries_in None = []
 entries_in (Some entries) = entries
 
--- a new server for an order: the decoders of its roster, its turns, and losses of its share, drawn
--- from its seed
-abbrev pub IsNewServer : ServerOrder → List Entry → ServerState → Type 0
-IsNewServer order entries start =
-    (losses : Losses) × IsSeeded order.lose order.seed losses × (start ≡ initial_state (specs_of entries) order.turns losses)
+-- None without a plan or a roster. The contents of a file are not known, only that there is a text
+-- that describes this railway.
+abbrev pub IsRailwayOf : (plan : Option (List ℕ)) → List Entry → Option RailwayState → Type 0
+IsRailwayOf None entries railway = railway ≡ None
+IsRailwayOf (Some file) entries None = entries ≡ []
+IsRailwayOf (Some file) entries (Some railway) = (text : List ℕ) × IsRailwayIn entries text railway
+
+-- a new server for an order: the decoders of its roster, a railway, its turns, and losses of its
+-- share, drawn from its seed
+abbrev pub IsNewServer : ServerOrder → List Entry → Option RailwayState → ServerState → Type 0
+IsNewServer order entries railway start =
+    (losses : Losses) × IsSeeded order.lose order.seed losses × (start ≡ initial_state (specs_of entries) railway order.turns losses)
 
 -- sockets, the system's clock and standard output keep no logs
 abbrev pub unlogged : ServerState → RunSnapshot
 unlogged state = record { log = None; readings = None; observed = None; state = state }
 
 -- A run of a new server for this order, until the given number of clients have disconnected.
-abbrev pub ServesOrder : ServerOrder → List Entry → Type 0
-ServesOrder order entries =
-    (start end : ServerState) × IsNewServer order entries start × IsRun (clients_of order.clients) (unlogged start) (unlogged end)
+abbrev pub ServesOrder : ServerOrder → List Entry → Option RailwayState → Type 0
+ServesOrder order entries railway =
+    (start end : ServerState) × IsNewServer order entries railway start × IsRun (clients_of order.clients) (unlogged start) (unlogged end)
+
+-- an order is served, with the railway of its plan
+abbrev pub ServesPlan : ServerOrder → List Entry → Type 0
+ServesPlan order entries =
+    (railway : Option RailwayState) × IsRailwayOf order.plan entries railway × ServesOrder order entries railway
 
 -- The arguments are those of an order, and it is served, with its roster.
 abbrev pub ServesWords : List (List ℕ) → Type 0
 ServesWords words =
-    (order : ServerOrder) × (roster : Option (List Entry)) × IsServerOrderOf words order × IsRosterOf order.roster roster × ServesOrder order (entries_in roster)
+    (order : ServerOrder) × (roster : Option (List Entry)) × IsServerOrderOf words order × IsRosterOf order.roster roster × ServesPlan order (entries_in roster)
 
 -- Clap answers the arguments with help or the version, and a text was written: which one, clap does
 -- not specify.

@@ -2,21 +2,24 @@
 ghost use Rattle.std.specs.Prelude.{◌≡◌, ◌≤◌, OnOk, false, map, true};
 ghost use Rattle.bus_log.specs.Decoders.{entries_of, specs_of};
 ghost use Rattle.bus_log.specs.Verbosities.{verbosity_of};
-ghost use Rattle.bus_server.specs.Progress.{ObservesLayout, state_of};
+ghost use Rattle.bus_server.specs.Progress.{HasReported, ObservesLayout, state_of};
 ghost use Rattle.command_line.specs.declared.words.ServerOrder.{ServerOrder as OrderValue};
 ghost use Rattle.console.specs.Files.{IsRosterOf};
-ghost use Rattle.lbserver.specs.Execution.{IsNewServer, RunsWords, ServesOrder, clients_of, ended_by_output, entries_in};
+ghost use Rattle.lbserver.specs.Execution.{IsNewServer, RunsWords, ServesOrder, ServesPlan, clients_of, ended_by_output, entries_in};
 
 use crate::answering::answer;
 use crate::clients::Clients;
 use crate::fault::ServerFault;
+use crate::files::read_file;
+use crate::plan_file::read_railway;
 use crate::reach::reachable;
 use crate::roster_file::read_roster;
 use crate::standard_output::StandardOutput;
 use bus_log::{LogQueue, Printer, Verbosity, decoders, print_listening, write_queued};
 use bus_server::{Losses, Server, Stop};
 use command_line::{FileName, ServerOrder, server_order};
-use console::{RunFault, read_whole};
+use console::RunFault;
+use railway::Railway;
 use roster::Roster;
 use sockets::{Sockets, Stopwatch, Ticking};
 use std::io::Write;
@@ -89,26 +92,42 @@ fn with_roster<O: Write>(
     requires works { output.old.failed ≡ false }
     ensures serves { OnOk result
         ((roster : _) × IsRosterOf order.old.roster roster
-        × ServesOrder order.old (entries_in roster)) }
+        × ServesPlan order.old (entries_in roster)) }
     ensures failed { output.new.failed ≡ ended_by_output result }
 {
     let roster = read_roster(rt, order.roster.take())?;
-    with_server(rt, order, roster.as_ref(), output)
+    with_plan(rt, order, roster.as_ref(), output)
 }
 
-/// Continues with a server for the decoders of this roster.
-fn with_server<O: Write>(
+/// Continues with the railway of the order's plan.
+fn with_plan<O: Write>(
     rt: &HostRuntime,
     order: &mut ServerOrder,
     roster: Option<&Roster>,
     output: &mut StandardOutput<O>,
 ) -> Result<(), ServerFault>
     requires works { output.old.failed ≡ false }
-    ensures serves { OnOk result (ServesOrder order.old (entries_of roster.entry)) }
+    ensures serves { OnOk result (ServesPlan order.old (entries_of roster.entry)) }
+    ensures failed { output.new.failed ≡ ended_by_output result }
+{
+    let railway = read_railway(rt, order.plan.take(), roster)?;
+    with_server(rt, order, roster, railway, output)
+}
+
+/// Continues with a server for the decoders of this roster, and with this railway.
+fn with_server<O: Write>(
+    rt: &HostRuntime,
+    order: &mut ServerOrder,
+    roster: Option<&Roster>,
+    railway: Option<Railway>,
+    output: &mut StandardOutput<O>,
+) -> Result<(), ServerFault>
+    requires works { output.old.failed ≡ false }
+    ensures serves { OnOk result (ServesOrder order.old (entries_of roster.entry) railway) }
     ensures failed { output.new.failed ≡ ended_by_output result }
 {
     let losses = Losses::new(order.lose, u64::from(order.seed));
-    let mut server = Server::new(rt.alloc(), decoders(roster), order.turns, losses)?;
+    let mut server = Server::new(rt.alloc(), decoders(roster), railway, order.turns, losses)?;
     with_sockets(rt, order, roster, &mut server, output)
 }
 
@@ -122,8 +141,11 @@ fn with_sockets<O: Write>(
 ) -> Result<(), ServerFault>
     requires works { output.old.failed ≡ false }
     requires observes { ObservesLayout (specs_of (entries_of roster)) server.old.hub }
-    requires new { IsNewServer order.old (entries_of roster) (state_of server.old.hub) }
-    ensures serves { OnOk result (ServesOrder order.old (entries_of roster.entry)) }
+    requires reported { HasReported server.old.hub }
+    requires new { IsNewServer order.old (entries_of roster)
+        (state_of server.old.hub).railway (state_of server.old.hub) }
+    ensures serves { OnOk result (ServesOrder order.old (entries_of roster.entry)
+        (state_of server.old.hub).railway) }
     ensures failed { output.new.failed ≡ ended_by_output result }
 {
     let address = SocketAddr::from((order.address, order.port));
@@ -147,8 +169,11 @@ fn with_page<O: Write>(
 ) -> Result<(), ServerFault>
     requires works { output.old.failed ≡ false }
     requires observes { ObservesLayout (specs_of (entries_of roster)) server.old.hub }
-    requires new { IsNewServer order.old (entries_of roster) (state_of server.old.hub) }
-    ensures serves { OnOk result (ServesOrder order.old (entries_of roster.entry)) }
+    requires reported { HasReported server.old.hub }
+    requires new { IsNewServer order.old (entries_of roster)
+        (state_of server.old.hub).railway (state_of server.old.hub) }
+    ensures serves { OnOk result (ServesOrder order.old (entries_of roster.entry)
+        (state_of server.old.hub).railway) }
     ensures failed { output.new.failed ≡ ended_by_output result }
 {
     if let Some(page) = order.page {
@@ -170,8 +195,11 @@ fn with_log<O: Write>(
 ) -> Result<(), ServerFault>
     requires works { output.old.failed ≡ false }
     requires observes { ObservesLayout (specs_of (entries_of roster)) server.old.hub }
-    requires new { IsNewServer order.now (entries_of roster) (state_of server.old.hub) }
-    ensures serves { OnOk result (ServesOrder order.now (entries_of roster.entry)) }
+    requires reported { HasReported server.old.hub }
+    requires new { IsNewServer order.now (entries_of roster)
+        (state_of server.old.hub).railway (state_of server.old.hub) }
+    ensures serves { OnOk result (ServesOrder order.now (entries_of roster.entry)
+        (state_of server.old.hub).railway) }
     ensures failed { output.new.failed ≡ ended_by_output result }
 {
     let mut log = LogQueue::new(rt.alloc())?;
@@ -213,7 +241,7 @@ fn read_page(rt: &HostRuntime, file: Option<FileName>) -> Result<Vec<u8>, Server
         Some(file) => file,
         None => FileName::new(rt.alloc(), PAGE_FILE)?,
     };
-    Ok(read_whole(rt, file, LONGEST_PAGE)?)
+    read_file(rt, file, LONGEST_PAGE)
 }
 
 /// Reports the bound addresses and ports: of the page, one that other machines reach.
@@ -249,9 +277,12 @@ fn serve<O: Write>(
 ) -> Result<(), ServerFault>
     requires works { output.old.failed ≡ false }
     requires observes { ObservesLayout (specs_of (entries_of printer.old.roster)) server.old.hub }
-    requires new { IsNewServer order.now (entries_of printer.old.roster) (state_of server.old.hub) }
+    requires reported { HasReported server.old.hub }
+    requires new { IsNewServer order.now (entries_of printer.old.roster)
+        (state_of server.old.hub).railway (state_of server.old.hub) }
     requires verbosity { printer.old.verbosity ≡ verbosity_of order.now.track order.now.quiet }
-    ensures serves { OnOk result (ServesOrder order.now (entries_of printer.old.roster)) }
+    ensures serves { OnOk result (ServesOrder order.now (entries_of printer.old.roster)
+        (state_of server.old.hub).railway) }
     ensures failed { output.new.failed ≡ ended_by_output result }
 {
     let Ok(watch) = Stopwatch::new(rt) else {

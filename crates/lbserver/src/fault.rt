@@ -6,8 +6,9 @@ ghost use Rattle.lbserver.specs.declared.fault.ServerFault.TheVariants.{Output, 
 ghost use Rattle.lbserver.specs.Execution.{is_output};
 
 use crate::roster_line::{NAME, write_roster_fault};
-use command_line::{FileName, OrderFault};
+use command_line::{FileName, OrderFault, open_error_words};
 use console::{RunFault, WriteError, report_as};
+use railway_plan::PlanTextFault;
 use roster::{FaultDetails, RosterFault};
 use std::alloc::AllocError;
 use std::io;
@@ -22,11 +23,18 @@ pub(crate) enum ServerFault {
         address: SocketAddr,
         why: ErrorKind,
     },
+    /// Status 2: this file cannot be opened.
+    Unopened { file: FileName, why: ErrorKind },
     /// Status 3: the text of this file has this fault, the first.
     Roster {
         file: FileName,
         fault: RosterFault,
         details: FaultDetails,
+    },
+    /// Status 3: the track plan in this file has this fault, the first.
+    Plan {
+        file: FileName,
+        fault: PlanTextFault,
     },
     /// Status 4: standard output could not be written.
     Output,
@@ -45,6 +53,16 @@ impl ServerFault {
         }
     }
 
+    /// Returns the fault of a file that could not be opened for this reason.
+    pub(crate) fn of_opening(file: FileName, why: ErrorKind) -> ServerFault
+        ensures { is_output result ≡ false }
+    {
+        match why {
+            ErrorKind::OutOfMemory => ServerFault::Run(RunFault::NoMemory),
+            _ => ServerFault::Unopened { file, why },
+        }
+    }
+
     /// Writes the fault as one line, or the text of `clap` for the command line, and returns its
     /// status, 1 to 6. A failure of this report cannot be reported.
     pub(crate) fn report<E: Write>(&self, faults: &mut E) -> u8
@@ -60,12 +78,21 @@ impl ServerFault {
                 let _ = writeln!(faults, "{NAME}: cannot listen on {address}: {reason}");
                 4
             }
+            ServerFault::Unopened { file, why } => {
+                let reason = open_error_words(*why);
+                let _ = writeln!(faults, "{NAME}: cannot read {file}: {reason}");
+                2
+            }
             ServerFault::Roster {
                 file,
                 fault,
                 details,
             } => {
                 let _ = write_roster_fault(file.as_str(), fault, details, faults);
+                3
+            }
+            ServerFault::Plan { file, fault } => {
+                let _ = writeln!(faults, "{NAME}: {file}, {fault}");
                 3
             }
         }

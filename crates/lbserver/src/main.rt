@@ -5,6 +5,8 @@ mod answering;
 mod clients;
 mod executing;
 mod fault;
+mod files;
+mod plan_file;
 mod reach;
 mod roster_file;
 mod roster_line;

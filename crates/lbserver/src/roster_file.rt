@@ -7,8 +7,9 @@ ghost use Rattle.lbserver.specs.Execution.{ended_by_output, is_output};
 ghost use Rattle.lbserver.specs.RosterFaults.{HasFault};
 
 use crate::fault::ServerFault;
+use crate::files::read_file;
 use command_line::FileName;
-use console::{LONGEST_ROSTER, RunFault, read_whole};
+use console::{LONGEST_ROSTER, RunFault};
 use roster::{Roster, RosterFault, fault_details};
 use std::alloc::Global;
 
@@ -16,8 +17,8 @@ use std::alloc::Global;
 ///
 /// # Errors
 ///
-/// `Roster` with the first fault of its text; `Run` if the file cannot be opened or read, has more
-/// than 65,536 bytes, or if out of memory.
+/// `Roster` with the first fault of its text; those of [`read_file`], also if the file has more than
+/// 65,536 bytes.
 pub(crate) fn read_roster(
     rt: &HostRuntime,
     file: Option<FileName>,
@@ -29,7 +30,7 @@ pub(crate) fn read_roster(
         return Ok(None);
     };
     let name = FileName::new(rt.alloc(), file.as_str())?;
-    let text = read_whole(rt, file, LONGEST_ROSTER)?;
+    let text = read_file(rt, file, LONGEST_ROSTER)?;
     Ok(Some(roster_of(rt.alloc(), name, text.as_slice())?))
 }
 

@@ -149,7 +149,7 @@ const GOES_WITHOUT_A_WORD: &'static [Step] = &[
     Connects(1),
     Writes(1, b"SEND 83 7C\n"),
     Reads(1, &[VERSION, POWER_ON, OK]),
-    Printed("client 1 joins\nclient 1 leaves\nclient 1 joins\nmsg 83 7C power on\n"),
+    Printed("client 1 joins\nclient 1 leaves\nclient 1 joins\nmessage 83 7C  track power on\n"),
 ];
 
 /// The scenes, and the turns after each message.

@@ -1,6 +1,6 @@
 //! A server, and its clients over loopback, in one thread with it.
 ghost use Rattle.bus_log.specs.Decoders.{entries_of, specs_of};
-ghost use Rattle.bus_server.specs.Progress.{ObservesLayout};
+ghost use Rattle.bus_server.specs.Progress.{HasReported, ObservesLayout};
 
 use bus_log::{LOG_CAPACITY, LogQueue, PageStates, Printer, Verbosity, decoders};
 use bus_server::{Losses, Server};
@@ -104,6 +104,7 @@ pub(crate) struct Desk<'a> {
     /// The microseconds since the start.
     now: u64,
     ghost watched: { ObservesLayout (specs_of (entries_of printer.roster)) server.hub },
+    ghost reported: { HasReported server.hub },
 }
 
 impl<'a> Desk<'a> {
@@ -113,7 +114,13 @@ impl<'a> Desk<'a> {
         turns: u8,
         roster: Option<&'a Roster>,
     ) -> Result<Desk<'a>, Fail> {
-        let server = Server::new(rt.alloc(), decoders(roster), Some(turns), Losses::new(0, 0))?;
+        let server = Server::new(
+            rt.alloc(),
+            decoders(roster),
+            None,
+            Some(turns),
+            Losses::new(0, 0),
+        )?;
         let sockets = bound(rt)?;
         let printer = Printer::new(
             LogQueue::new(rt.alloc())?,
@@ -135,7 +142,9 @@ impl<'a> Desk<'a> {
     pub(crate) fn rounds(&mut self, count: u32) -> Result<(), Fail> {
         for _round in 0..count {
             self.sockets.serve_http(self.now);
-            self.server.round(&mut self.sockets, &mut self.printer)?;
+            if let Err(never) = self.server.round(&mut self.sockets, &mut self.printer) {
+                match never {}
+            }
             self.page_states
                 .send_all(&mut self.sockets, &self.printer, self.server.world());
         }

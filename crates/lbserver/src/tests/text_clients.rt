@@ -44,7 +44,7 @@ const GOES_IN_MID_LINE: &'static [Step] = &[
     Reads(2, &[VERSION, POWER_OFF, OK]),
     Reads(0, &[VERSION, POWER_OFF]),
     Printed(
-        "client 1 joins\nclient 2 joins\nclient 2 leaves\nclient 2 joins\nmsg 82 7D power off\n",
+        "client 1 joins\nclient 2 joins\nclient 2 leaves\nclient 2 joins\nmessage 82 7D  track power off\n",
     ),
 ];
 
@@ -79,7 +79,7 @@ const TURNS: &'static [Step] = &[
     Writes(0, b"SEND 85 7A\nSEND 83 7C\nSEND 85 7A\n"),
     At(0, 20),
     Printed(
-        "client 1 joins\nmsg 85 7A force idle\nmsg 83 7C power on\nmsg 85 7A force idle\ntrack 7 00 51 51\ntrack 8 00 51 51\ntrack 9 00 51 51\n",
+        "client 1 joins\nmessage 85 7A  stop all locomotives\nmessage 83 7C  track power on\nmessage 85 7A  stop all locomotives\ntrack 7 00 51 51\ntrack 8 00 51 51\ntrack 9 00 51 51\n",
     ),
 ];
 
@@ -109,7 +109,7 @@ const SLOT_READS: &'static [Step] = &[
         ],
     ),
     Printed(
-        "client 1 joins\nmsg BF 00 03 43 address 3\nmsg E7 0E 01 23 03 00 00 06 00 00 00 00 00 31 slot-data slot 1 stat 35 address 3 spd 0 dirf 0 trk 6 ss2 0 snd 0 ids 0 0\nmsg BB 00 00 44 read slot 0\nmsg B4 3B 00 70 ack opc 59 code 0\n",
+        "client 1 joins\nmessage BF 00 03 43  take locomotive 3\nmessage E7 0E 01 23 03 00 00 06 00 00 00 00 00 31  slot 1: locomotive 3, idle, 128 steps, stop, forward; track off\nmessage BB 00 00 44  read slot 0\nmessage B4 3B 00 70  message BB refused\n",
     ),
 ];
 

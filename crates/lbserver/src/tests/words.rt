@@ -220,7 +220,7 @@ const TOLD: [(&'static [&'static str], &'static [&'static str]); 4] = [
     ),
     (
         &["--roster", "no such folder/layout.toml"],
-        &["lbserver: cannot read no such folder/layout.toml\n"],
+        &["lbserver: cannot read no such folder/layout.toml: no such file\n"],
     ),
     (
         &[
@@ -231,7 +231,7 @@ const TOLD: [(&'static [&'static str], &'static [&'static str]); 4] = [
             "--page-file",
             "no such folder/page.html",
         ],
-        &["lbserver: cannot read no such folder/page.html\n"],
+        &["lbserver: cannot read no such folder/page.html: no such file\n"],
     ),
 ];
 
