@@ -1,6 +1,7 @@
 //! A train on the oval: what the sensors report, to the microsecond.
 
-mod layout;
+mod example;
+pub(crate) mod layout;
 mod plan;
 mod text;
 
