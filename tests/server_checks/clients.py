@@ -39,8 +39,8 @@ def clients():
                 page.write(send(POWER_OFF))
                 same("the page", page.lines_until("SENT OK"), receive(POWER_ON, POWER_OFF) + ["SENT OK"])
             same("status after two", server.process.wait(20), 0)
-            wanted = ["client 1 joins", "client 2 joins", "msg 83 7C power on", "client 2 leaves"]
-            wanted += ["msg 82 7D power off", "client 1 leaves"]
+            wanted = ["client 1 joins", "client 2 joins", "message 83 7C  track power on", "client 2 leaves"]
+            wanted += ["message 82 7D  track power off", "client 1 leaves"]
             same("printed", server.printed()[2:], wanted)
 
 

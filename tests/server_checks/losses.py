@@ -16,7 +16,7 @@ def drive_with_losses(file, *words):
             packet = f"03 3F {0x80 + speed:02X} "
             holds(f"{packet} is sent", server.until(lambda: any(packet in line for line in server.printed())))
         client.send(0x82)
-        return printed_after(server, "msg 82 7D power off")
+        return printed_after(server, "message 82 7D  track power off")
 
 
 def received(lines):

@@ -25,7 +25,12 @@ from serving import Client, Page, message, message_hex
 
 
 # A message without meaning to the station, which is sent after all others.
-LAST = "msg 80 7F other"
+LAST = "message 80 7F  unknown opcode 80"
+
+
+def speed_line(text, slot, spd):
+    """The line of a message that sets the speed of a slot: 0 is stop, 1 emergency stop, n + 1 speed n."""
+    return f"message {text}  slot {slot}: {('stop', 'emergency stop')[spd] if spd < 2 else f'speed {spd - 1} of 126'}"
 
 
 def send_all(everybody):
@@ -40,7 +45,7 @@ def send_all(everybody):
     for line in readers[0][1]:
         if line.startswith("RECEIVE "):
             slot, speed = (int(byte, 16) for byte in line.split()[2:4])
-            order.append(f"msg {line[8:]} speed slot {slot} spd {speed}")
+            order.append(speed_line(line[8:], slot, speed))
     return order
 
 
@@ -107,7 +112,7 @@ def long_output():
         holds("more than a megabyte", server.log.stat().st_size > 1 << 20)
 
 
-# Messages whose lines have some 70,000 bytes: more than a pipe holds, and less than a pipe and the queue of the log do.
+# Messages whose lines have some 80,000 bytes: more than a pipe holds, and less than a pipe and the queue of the log do.
 MESSAGES = 1750
 
 
@@ -123,7 +128,7 @@ def last_lines():
             time.sleep(seconds)
             printed = server.process.stdout.read().decode("ascii").splitlines()
             same("status", server.process.wait(20), 0)
-            wanted = [f"msg {text} speed slot {1 + i // 128} spd {i % 128}" for i, text in enumerate(texts)]
+            wanted = [speed_line(text, 1 + i // 128, i % 128) for i, text in enumerate(texts)]
             return printed, ["client 1 joins", *wanted, "client 1 leaves"]
 
     is_tried_again(lambda: same("printed", *read_after(0.3)))
@@ -149,8 +154,8 @@ def slot_reads():
         same("slot 0", client.request(0xBB, 0, 0), "RECEIVE B4 3B 00 70")
         same("slot 123", client.request(0xBB, 123, 0), "RECEIVE B4 3B 00 70")
         client.send(0x80)
-        refused = "msg B4 3B 00 70 ack opc 59 code 0"
-        reads = ["msg BB 00 00 44 read slot 0", refused, "msg BB 7B 00 3F read slot 123", refused]
+        refused = "message B4 3B 00 70  message BB refused"
+        reads = ["message BB 00 00 44  read slot 0", refused, "message BB 7B 00 3F  read the fast clock", refused]
         same("printed", printed_after(server, LAST), ["client 1 joins", *reads, LAST])
 
 

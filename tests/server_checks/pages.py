@@ -253,7 +253,7 @@ def silent_pages():
             holds("it has left after 40 seconds", 39 < time.monotonic() - start < 45)
             other.stream.sendall(client_frame(Page.TEXT, b"SEND 83 7C"))
             same("the other", other.line(), "RECEIVE 83 7C")
-            expected = ["client 1 joins", "client 2 joins", "client 1 leaves", "msg 83 7C power on"]
+            expected = ["client 1 joins", "client 2 joins", "client 1 leaves", "message 83 7C  track power on"]
             same("printed", printed_after(server, expected[-1])[1:], expected)
 
 

@@ -88,7 +88,7 @@ def never_reads():
                     holds("is closed after so much", batches < 1000)
                     send_batch(sender, 200)
                     batches += 1
-                found = [line for line in printed_after(server, "client 2 leaves")[1:] if not line.startswith("msg ")]
+                found = [line for line in printed_after(server, "client 2 leaves")[1:] if not line.startswith("message ")]
                 wanted = [f"client {i} joins" for i in (1, 2, 3, 4)]
                 wanted += ["client 1 leaves", "client 2 is too slow", "client 2 leaves"]
                 same("printed", found, wanted)

@@ -55,7 +55,7 @@ def real_time():
                 within(f"seconds until {state}", 0, took, CYCLE_SECONDS + PATIENCE)
             time.sleep(CYCLE_SECONDS)
             client.send(0x82)
-            printed = printed_after(server, "msg 82 7D power off")
+            printed = printed_after(server, "message 82 7D  track power off")
             states = [state for _, state in CHANGES]
             same("printed", [line for line in printed if line.startswith("node ")], states)
             for page in lines:
@@ -76,7 +76,7 @@ def check_turns(lines):
     for line in lines:
         if line.startswith("track "):
             turn = int(line.split()[1])
-        elif line.startswith(("msg A0", "msg B0")):
+        elif line.startswith(("message A0", "message B0")):
             asked = turn
         elif line.startswith("node "):
             within(f"turns until {line}", 0, turn - asked, CYCLE_TURNS + 2)
@@ -117,7 +117,7 @@ def lines_come_at_once():
         with serve(*LAYOUT, *words, output=subprocess.PIPE) as server, Client(server) as client:
             client.send(0x82)
             lines = [server.process.stdout.readline() for _ in range(2)]
-            same("printed", lines, [b"client 1 joins\n", b"msg 82 7D power off\n"])
+            same("printed", lines, [b"client 1 joins\n", b"message 82 7D  track power off\n"])
 
 
 def held_up():
@@ -142,8 +142,8 @@ def held_up():
         with stopped(server, 1.2):
             pass
         client.send(0x82)
-        printed = printed_after(server, "msg 82 7D power off")[1:]
-        wanted = ["client 1 joins", "client 2 joins", *2 * ["msg 83 7C power on"], "msg 82 7D power off"]
+        printed = printed_after(server, "message 82 7D  track power off")[1:]
+        wanted = ["client 1 joins", "client 2 joins", *2 * ["message 83 7C  track power on"], "message 82 7D  track power off"]
         same("printed", printed, wanted)
 
 

@@ -24,31 +24,31 @@ from serving import Client, Page
 
 # A run with three turns after each message, by docs/SENDING.md and docs/DCC.md: what is sent, what its client receives, and
 # what is printed. A turn without power and one of an idle packet are counted, and not printed.
-REPLY_1 = f"msg {SLOT_1_IDLE} slot-data slot 1 stat 35 address 3 spd 0 dirf 0 trk 6 ss2 0 snd 0 ids 0 0"
-REPLY_2 = f"msg {SLOT_1_IN_USE} slot-data slot 1 stat 51 address 3 spd 0 dirf 0 trk 7 ss2 0 snd 0 ids 0 0"
+REPLY_1 = f"message {SLOT_1_IDLE}  slot 1: locomotive 3, idle, 128 steps, stop, forward; track off"
+REPLY_2 = f"message {SLOT_1_IN_USE}  slot 1: locomotive 3, in use, 128 steps, stop, forward; track on"
 THREE_TURNS = [
     # Turns 1 to 3 have no power, 4 to 6 nothing to send.
-    (TAKE_3, [SLOT_1_IDLE], ["msg BF 00 03 43 address 3", REPLY_1]),
-    (POWER_ON, [], ["msg 83 7C power on"]),
+    (TAKE_3, [SLOT_1_IDLE], ["message BF 00 03 43  take locomotive 3", REPLY_1]),
+    (POWER_ON, [], ["message 83 7C  track power on"]),
     # The four places of the slot wait. After one of them comes the ring, which waits for a turn to the same address.
-    (USE_1, [SLOT_1_IN_USE], ["msg BA 01 01 45 move 1 1", REPLY_2, "track 7 03 3F 80 BC", "track 9 03 3F 80 BC"]),
+    (USE_1, [SLOT_1_IN_USE], ["message BA 01 01 45  use slot 1", REPLY_2, "track 7 03 3F 80 BC", "track 9 03 3F 80 BC"]),
     # The speed is queued after groups one, two and three.
-    (SPEED_63, [], ["msg A0 01 40 1E speed slot 1 spd 64", "track 11 03 80 83"]),
+    (SPEED_63, [], ["message A0 01 40 1E  slot 1: speed 63 of 126", "track 11 03 80 83"]),
     # Switch 0 is thrown: output 0 of module 1.
-    ("B0 00 10 5F", [], ["msg B0 00 10 5F switch 0 thrown on", "track 13 03 80 83", "track 15 03 B0 B3"]),
+    ("B0 00 10 5F", [], ["message B0 00 10 5F  turnout 1 thrown, on", "track 13 03 80 83", "track 15 03 B0 B3"]),
     # Reverse, F0 on: the speed keeps its place before the switch, and group one is queued after it.
-    ("A1 01 30 6F", [], ["msg A1 01 30 6F dirf slot 1 dirf 48", "track 17 03 B0 B3"]),
-    (POWER_ON, [], ["msg 83 7C power on", "track 19 03 A0 A3", "track 21 03 A0 A3"]),
+    ("A1 01 30 6F", [], ["message A1 01 30 6F  slot 1: F0 to F4: F0 on, reverse", "track 17 03 B0 B3"]),
+    (POWER_ON, [], ["message 83 7C  track power on", "track 19 03 A0 A3", "track 21 03 A0 A3"]),
     (
         POWER_ON,
         [],
-        ["msg 83 7C power on", "track 23 03 3F 40 7C", "node shunter short 3 step 63 of 128 reverse F 0000000000000"],
+        ["message 83 7C  track power on", "track 23 03 3F 40 7C", "node shunter short 3 step 63 of 128 reverse F 0000000000000"],
     ),
     (
         POWER_ON,
         [],
         [
-            "msg 83 7C power on",
+            "message 83 7C  track power on",
             "track 25 03 3F 40 7C",
             "track 26 81 F8 79",
             "node yard module 1 outputs 10000000",
@@ -56,7 +56,7 @@ THREE_TURNS = [
             "node shunter short 3 step 63 of 128 reverse F 1000000000000",
         ],
     ),
-    (POWER_ON, [], ["msg 83 7C power on", "track 28 81 F8 79", "track 29 03 B0 B3"]),
+    (POWER_ON, [], ["message 83 7C  track power on", "track 28 81 F8 79", "track 29 03 B0 B3"]),
 ]
 
 
@@ -91,7 +91,7 @@ def other_turns():
             client.request(0xBF, 0, 3)
             client.request(0xBA, 1, 1)
             client.send(0x85)
-            printed_after(server, "msg 85 7A force idle")
+            printed_after(server, "message 85 7A  stop all locomotives")
             if turns == 0:
                 same("packets", turns_of(server.printed()), [])
                 continue
@@ -119,7 +119,7 @@ TURN_REQUESTS = [
 
 def requested_turns():
     """TURNS n runs n turns in its place among the messages, is answered to its client alone, and refused in real time"""
-    mark = "msg 81 7E other"
+    mark = "message 81 7E  busy"
     with serve(*LAYOUT, "--turns", "0", "--track") as server, Client(server) as client, Client(server) as other:
         client.take(3)
         client.send(0xA0, 1, 0x40)
@@ -154,7 +154,7 @@ def no_roster():
         client.send(0xA0, 1, 0x40)
         client.send(0x85)
         holds("NODE", not [line for line in page.lines_until("RECEIVE 85 7A") if line.startswith("NODE")])
-        holds("node", not [line for line in printed_after(server, "msg 85 7A force idle") if line.startswith("node")])
+        holds("node", not [line for line in printed_after(server, "message 85 7A  stop all locomotives") if line.startswith("node")])
 
 
 def other_roster():

@@ -62,6 +62,8 @@ BAD_WORDS = [
     (["--page", "65536"], "0..=65535"),
     (["--page-file"], "--page-file"),
     (["--page-file", "pages/throttle.html"], "--page-file needs --page"),
+    (["--plan"], "--plan"),
+    (["--plan", "examples/oval.toml"], "--plan needs --roster"),
     (["--host", ""], "the host is no name"),
     (["--host", "station:8080"], "the host is no name"),
     (["--lose", "100"], "0..=99"),
@@ -90,9 +92,9 @@ def statuses():
         long.flush()
         page = ["--port", port, "--page", str(free_port()), "--page-file"]
         for words, status, faults in (
-            ([*page, "nowhere.html"], 2, "lbserver: cannot read nowhere.html\n"),
+            ([*page, "nowhere.html"], 2, "lbserver: cannot read nowhere.html: no such file\n"),
             ([*page, long.name], 2, f"lbserver: {long.name} is too long\n"),
-            (["--port", port, "--roster", "nowhere.toml"], 2, "lbserver: cannot read nowhere.toml\n"),
+            (["--port", port, "--roster", "nowhere.toml"], 2, "lbserver: cannot read nowhere.toml: no such file\n"),
             (["--port", port, "--roster", "README.md"], 3, "lbserver: README.md, line 3: the text is not TOML, or not UTF-8\n"),
             (["--port", str(server.port)], 4, f"lbserver: cannot listen on 127.0.0.1:{server.port}: the port is in use\n"),
             (["--port", port, "--page", str(server.port)], 4, f"lbserver: cannot listen on 127.0.0.1:{server.port}: the port is in use\n"),

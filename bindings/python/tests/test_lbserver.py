@@ -57,7 +57,7 @@ class TestLines(unittest.TestCase):
             self.assertTrue(line.endswith(str(state)))
         for line in (
             "",
-            "msg 83 7C power on",
+            "message 83 7C  track power on",
             "node x short 3 step 63 forward F 0000000000000",
             "node yard module 1 outputs 0",
         ):
@@ -223,7 +223,7 @@ class TestServer(unittest.TestCase):
                 self.assertEqual(server.wait_for_node("yard", bits=8), Outputs(8))
                 turnout.off()
                 server.wait_for("node yard module 1 outputs 00000000")
-                self.assertTrue(server.wait_for(re.compile(r"msg A0 .* speed slot (\d+)"))[1], "1")
+                self.assertTrue(server.wait_for(re.compile(r"message A0 .*  slot (\d+): speed"))[1], "1")
                 server.wait_for(lambda: server.nodes["yard"] == Outputs(0))
                 with self.assertRaisesRegex(StationError, "no accessory"):
                     server.outputs("shunter")
@@ -234,7 +234,7 @@ class TestServer(unittest.TestCase):
             server.power_on()
             loco.take()
             loco.speed(63)
-            server.wait_for(re.compile("msg A0 01 40 1E"))
+            server.wait_for(re.compile("message A0 01 40 1E"))
             self.assertEqual(server.nodes, {})
             server.turns(16)
             server.wait_for_node("shunter", step=63)
@@ -287,7 +287,7 @@ class TestServer(unittest.TestCase):
             self.assertEqual(len({server.port for server in servers}), 10)
             for server in servers:
                 server.power_on()
-                server.wait_for("msg 83 7C power on")
+                server.wait_for("message 83 7C  track power on")
         self.assertFalse(any(server.is_running() for server in servers))
 
     def test_port_in_use(self):
@@ -308,8 +308,8 @@ class TestServer(unittest.TestCase):
                 port = server.port
                 server.power_on()
                 server.loco(3).take()
-                self.assertIn("msg 83 7C power on", server.printed() if server.wait_for("msg 83 7C power on") else [])
-            self.assertIn("msg 83 7C power on", server.printed())
+                self.assertIn("message 83 7C  track power on", server.printed() if server.wait_for("message 83 7C  track power on") else [])
+            self.assertIn("message 83 7C  track power on", server.printed())
         self.assertEqual(server.port, port)
 
     def test_page(self):

@@ -1,0 +1,68 @@
+"""The option --plan: what sensors report of trains, worked out from examples/oval.toml and LocoNet Personal Use Edition 1.0."""
+
+import tempfile
+
+from server_checks.common import POWER_OFF, POWER_ON, SPEED_63, TAKE_3, USE_1, holds, receive, run, same, send, serve
+from serving import Client, message_hex
+
+OVAL = ["--roster", "examples/oval-roster.toml", "--plan", "examples/oval.toml"]
+
+# The eight requests of an interrogation ask for turnouts 1017 to 1020. One of them is answered.
+INTERROGATION = [message_hex(0xB0, sw1, sw2) for sw2 in (0x27, 0x07) for sw1 in (0x78, 0x79, 0x7A, 0x7B)]
+
+
+def report(sensor, is_occupied):
+    """OPC_INPUT_REP of a sensor from 1: seven bits of the address, then four, the input, the level and the control bit."""
+    address, odd = divmod(sensor - 1, 2)
+    return "RECEIVE " + message_hex(0xB2, address % 128, 0x40 + 0x20 * odd + 0x10 * is_occupied + address // 128)
+
+
+def reports_in(lines):
+    return [line for line in lines if line.startswith("RECEIVE B2")]
+
+
+def drive(client, turns):
+    """Takes locomotive 3 and drives at half speed for some turns, until the power is off. Returns what the client received."""
+    client.write([*send(TAKE_3, USE_1, POWER_ON, SPEED_63), f"TURNS {turns}", *send(POWER_OFF)])
+    return client.lines_until(*receive(POWER_OFF))
+
+
+def sensors():
+    """--plan: a train that leaves a block is reported, first the block that it enters, to all clients alike"""
+    with serve(*OVAL, "--turns", "1", "--clients", "2") as server:
+        with Client(server) as watcher, Client(server) as driver:
+            # The front has 500 mm to the end of main, at 63/126 of 250 mm/s some 4 s; then 300 mm to its rear, and 900 mm of east.
+            lines = drive(driver, 1300)
+            same("reports", reports_in(lines), [report(3, True), report(1, False)])
+            seen = watcher.lines_until(*receive(POWER_OFF))
+            same("another client", reports_in(seen), reports_in(lines))
+        same("status", server.process.wait(20), 0)
+
+
+def interrogations():
+    """--plan: an interrogation is answered by each sensor once"""
+    with serve(*OVAL, "--turns", "0", "--clients", "1") as server:
+        with Client(server) as client:
+            client.write(send(*INTERROGATION, POWER_ON))
+            lines = client.lines_until(*receive(POWER_ON))
+            wanted = [report(sensor, sensor in (1, 4)) for sensor in range(1, 6)]
+            same("reports", reports_in(lines), wanted)
+        same("status", server.process.wait(20), 0)
+
+
+def plans():
+    """--plan: a fault names the file and the part, with status 3; without the option nothing is reported"""
+    for text, wanted in (
+        ("version = 2\n", "the plan: version must be 1"),
+        ("version = 1\n[[block]]\nname = 'x'\nlength = 0\n", "block 1: length must be 1 to 100000"),
+        ("version = 1\n" + 2 * "[[block]]\nname = 'x'\nlength = 9\n", "block 1: another block has this name"),
+        ("x", "the plan: it is not TOML"),
+    ):
+        with tempfile.NamedTemporaryFile("w") as file:
+            file.write(text)
+            file.flush()
+            done = run("--port", "0", *OVAL[:2], "--plan", file.name)
+            same(wanted, done, (3, "", f"lbserver: {file.name}, {wanted}\n"))
+    with serve(*OVAL[:2], "--turns", "1", "--clients", "1") as server:
+        with Client(server) as client:
+            holds("no reports", not reports_in(drive(client, 1300)))
