@@ -24,7 +24,10 @@ pub(crate) enum ServerFault {
         why: ErrorKind,
     },
     /// Status 2: this file cannot be opened.
-    Unopened { file: FileName, why: ErrorKind },
+    Unopened {
+        file: FileName,
+        why: ErrorKind,
+    },
     /// Status 3: the text of this file has this fault, the first.
     Roster {
         file: FileName,
