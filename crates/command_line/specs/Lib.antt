@@ -1,11 +1,8 @@
 pub mod Arguments
 pub mod CommandLine
 pub mod Fault
-pub mod FilterFault
 pub mod FilterLine
-pub mod FilterRuns
 pub mod Opening
 pub mod Order
 pub mod Requests
 pub mod ServerLine
-pub mod Terminal

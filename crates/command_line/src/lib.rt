@@ -1,9 +1,8 @@
-//! Command lines: reading the arguments of the programs, parsing them with `clap`, and running
-//! programs that read one file.
+//! Command lines: reading the arguments of the programs, and parsing them with `clap`.
 //!
 //! [`order`] parses the arguments of `station` into an [`Order`], [`server_order`] those of
 //! `lbserver` into a [`ServerOrder`], and [`filter_order`] those of a program that reads one file
-//! into a [`FilterOrder`], and [`run_filter`] runs such a [`Filter`]. The text of an [`OrderFault`] is shown to the user: on standard output
+//! into a [`FilterOrder`]. The text of an [`OrderFault`] is shown to the user: on standard output
 //! if it is a requested text, otherwise on standard error. [`read_words`] returns the arguments.
 //!
 //! ```ignore
@@ -20,7 +19,7 @@ mod command;
 mod filter;
 mod filter_command;
 mod filter_text;
-mod filters;
+mod opening;
 mod orders;
 mod requests;
 mod server;
@@ -31,7 +30,7 @@ mod words;
 pub use arguments::{read_words, texts};
 pub use filter::{filter_order, not_utf8_filter_text};
 pub use filter_text::{FilterFlag, FilterOrder, FilterText};
-pub use filters::{Filter, execute_words, open_error_words, open_file, run_filter};
+pub use opening::{open_error_words, open_file};
 pub use orders::{OrderFault, no_text, order};
 pub use server::{not_utf8_server_text, server_order};
 pub use version::VERSION;

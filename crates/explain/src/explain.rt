@@ -3,7 +3,8 @@ ghost use Rattle.explain.specs.Conversion.{ExplainsOrConverts};
 
 use crate::conversion::convert;
 use crate::streams::execute;
-use command_line::{Filter, FilterFlag, FilterText};
+use command_line::{FilterFlag, FilterText};
+use filter::Filter;
 use input_text::{Input, Output};
 use std::alloc::Global;
 use std::io::Write;

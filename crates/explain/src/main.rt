@@ -14,11 +14,11 @@ mod line_kinds;
 mod lines;
 mod streams;
 
-use command_line::run_filter;
 pub use conversion::convert;
 pub use explain::Explain;
 pub use explainer::Explainer;
 pub use fault::ExplainFault;
+use filter::run_filter;
 pub use hex::hex_text;
 pub use laws::{messages_are_explained, printed_lines_are_explained};
 use std::process::ExitCode;

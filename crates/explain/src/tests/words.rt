@@ -1,7 +1,7 @@
 //! The arguments of the command line.
 
 use crate::Explain;
-use command_line::{Filter, execute_words};
+use filter::{Filter, execute_words};
 use input_text::{TrackedReader, TrackedWriter};
 use test_support::has_all;
 

@@ -1,11 +1,9 @@
 //! Why a filter does not run on its input, and the report of it.
 ghost use Rattle.std.specs.Prelude.{◌≡◌, ◌≢◌};
-ghost use Rattle.command_line.specs.declared.filters.report.StartFault.TheVariants.{NoMemory};
-ghost use Rattle.command_line.specs.FilterFault.{of_order, status_of};
+ghost use Rattle.filter.specs.declared.report.StartFault.TheVariants.{NoMemory};
+ghost use Rattle.filter.specs.FilterFault.{of_order, status_of};
 
-use super::opening::open_error_words;
-use crate::orders::OrderFault;
-use crate::words::FileName;
+use command_line::{FileName, OrderFault, open_error_words};
 use std::alloc::AllocError;
 use std::io::{ErrorKind, Write};
 

@@ -1,6 +1,6 @@
 //! Whether standard input is a terminal.
 ghost use Rattle.std.specs.Prelude.{◌≡◌};
-ghost use Rattle.command_line.specs.Terminal.{is_terminal_number};
+ghost use Rattle.filter.specs.Terminal.{is_terminal_number};
 
 use std::fs;
 use std::os::unix::fs::{FileTypeExt, MetadataExt};

@@ -1,14 +1,11 @@
 //! Running a filter on the arguments of the process and the standard streams.
 
-use super::announced::Announced;
-use super::filter::Filter;
-use super::report::StartFault;
-use super::running::execute_words;
-use super::terminal::is_terminal;
-use crate::arguments::{read_words, texts};
-use crate::filter::not_utf8_filter_text;
-use crate::filter_text::FilterText;
-use crate::orders::OrderFault;
+use crate::announced::Announced;
+use crate::filter::Filter;
+use crate::report::StartFault;
+use crate::running::execute_words;
+use crate::terminal::is_terminal;
+use command_line::{FilterText, OrderFault, not_utf8_filter_text, read_words, texts};
 use input_text::{TrackedReader, TrackedWriter};
 use std::io;
 use std::process::ExitCode;

@@ -2,8 +2,8 @@
 use Rattle.std.specs.Prelude.{ℕ}
 use Rattle.command_line.specs.declared.orders.OrderFault.{OrderFault}
 use Rattle.command_line.specs.declared.orders.OrderFault.TheVariants as order
-use Rattle.command_line.specs.declared.filters.report.StartFault.{StartFault}
-use Rattle.command_line.specs.declared.filters.report.StartFault.TheVariants.{Usage, Unopened, Output, NoMemory}
+use Rattle.filter.specs.declared.report.StartFault.{StartFault}
+use Rattle.filter.specs.declared.report.StartFault.TheVariants.{Usage, Unopened, Output, NoMemory}
 
 -- usage, the file, output, memory: as the statuses of the other programs
 abbrev pub status_of : StartFault → ℕ

@@ -9,16 +9,15 @@
 //!     run_filter(&Explain, &rt)
 //! }
 //! ```
+#![tactic(auto)]
 
 mod announced;
 mod filter;
-mod opening;
 mod report;
 mod running;
 mod standard;
 mod terminal;
 
 pub use filter::Filter;
-pub use opening::{open_error_words, open_file};
 pub use running::execute_words;
 pub use standard::run_filter;

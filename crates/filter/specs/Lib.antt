@@ -1,0 +1,3 @@
+pub mod FilterFault
+pub mod FilterRuns
+pub mod Terminal
