@@ -1,9 +1,25 @@
 """The option --plan: what sensors report of trains, worked out from examples/oval.toml and LocoNet Personal Use Edition 1.0."""
 
+import os
+import re
+import subprocess
 import tempfile
 
-from server_checks.common import POWER_OFF, POWER_ON, SPEED_63, TAKE_3, USE_1, holds, receive, run, same, send, serve
-from serving import Client, message_hex
+from server_checks.common import (
+    POWER_OFF,
+    POWER_ON,
+    SPEED_63,
+    TAKE_3,
+    USE_1,
+    holds,
+    program,
+    receive,
+    run,
+    same,
+    send,
+    serve,
+)
+from serving import TOP, Client, message_hex
 
 OVAL = ["--roster", "examples/oval-roster.toml", "--plan", "examples/oval.toml"]
 
@@ -66,3 +82,19 @@ def plans():
     with serve(*OVAL[:2], "--turns", "1", "--clients", "1") as server:
         with Client(server) as client:
             holds("no reports", not reports_in(drive(client, 1300)))
+
+
+def shuttle():
+    """--plan: examples/shuttle.py drives ten minutes of track time without a conflict, and then finds the one that it makes"""
+    done = subprocess.run(
+        ["examples/shuttle.py", "10"],
+        cwd=TOP,
+        env={**os.environ, "LBSERVER": program["path"]},
+        capture_output=True,
+        text=True,
+        timeout=50,
+    )
+    same("status", (done.returncode, done.stderr), (0, ""))
+    laps, wrong = done.stdout.splitlines()
+    holds(f"laps without a conflict: {laps}", re.fullmatch("[1-9][0-9]* laps, 0 conflicts", laps))
+    same("the conflict", wrong, "turnout 1 wrong: conflict down: local, express")

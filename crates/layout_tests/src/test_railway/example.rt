@@ -1,9 +1,10 @@
-//! The example of a track plan. `./check` compares these texts with the files.
+//! The examples of track plans. `./check` compares these texts with the files.
 
+use railway::Railway;
 use railway_plan::read_railway;
 use std::test::Fail;
 
-const ROSTER: &[u8] =
+const OVAL_ROSTER: &[u8] =
     b"# The decoders of examples/oval.toml: two locomotives and the motors of turnouts 1 to 4.
 version = 2
 
@@ -23,7 +24,7 @@ kind = \"accessory\"
 module = 1
 ";
 
-const PLAN: &[u8] = b"# An oval with a passing siding, and two trains.
+const OVAL: &[u8] = b"# An oval with a passing siding, and two trains.
 version = 1
 
 [[block]]
@@ -98,18 +99,139 @@ length = 500
 speed = 500
 ";
 
-#[test]
-fn the_example_is_a_railway(rt: HostRuntime) -> Result<(), Fail> {
-    let Ok(roster) = roster::read(rt.alloc(), ROSTER) else {
+const SHUTTLE_ROSTER: &[u8] =
+    b"# The decoders of examples/shuttle.toml: two locomotives and the motors of turnouts 1 to 4.
+version = 2
+
+[[node]]
+name = \"local\"
+kind = \"loco\"
+cvs = [[1, 3], [29, 2]]
+
+[[node]]
+name = \"express\"
+kind = \"loco\"
+cvs = [[1, 5], [29, 2]]
+
+[[node]]
+name = \"siding\"
+kind = \"accessory\"
+module = 1
+";
+
+const SHUTTLE: &[u8] =
+    b"# A single line from west to east with a passing siding, and a train at each end.
+version = 1
+
+[[block]]
+name = \"west\" # end a is a buffer stop
+length = 2000 # millimetres
+sensor = 1
+a = [0, 100]
+b = [100, 100]
+
+[[block]]
+name = \"west_line\"
+length = 3000
+sensor = 2
+a = [120, 100]
+b = [250, 100]
+
+[[block]]
+name = \"up\"
+length = 20000
+sensor = 3
+a = [300, 60]
+b = [600, 60]
+
+[[block]]
+name = \"down\"
+length = 20000
+sensor = 4
+a = [300, 140]
+b = [600, 140]
+
+[[block]]
+name = \"east_line\"
+length = 3000
+sensor = 5
+a = [650, 100]
+b = [780, 100]
+
+[[block]]
+name = \"east\" # end b is a buffer stop
+length = 2000
+sensor = 6
+a = [800, 100]
+b = [900, 100]
+
+[[joint]]
+ends = [\"west.b\", \"west_line.a\"]
+
+[[joint]]
+ends = [\"east_line.b\", \"east.a\"]
+
+[[turnout]]
+switch = 1
+common = \"west_line.b\"
+closed = \"up.a\"
+thrown = \"down.a\"
+
+[[turnout]]
+switch = 2
+common = \"east_line.a\"
+closed = \"up.b\"
+thrown = \"down.b\"
+
+[[train]]
+decoder = \"local\"
+block = \"west\"
+front = 1500 # millimetres from end a
+facing = \"b\"
+length = 600
+speed = 400 # millimetres a second at the last step
+
+[[train]]
+decoder = \"express\"
+block = \"east\"
+front = 500
+facing = \"a\"
+length = 800
+speed = 500
+";
+
+/// The railway of an example.
+fn railway_of(rt: &HostRuntime, roster: &[u8], plan: &[u8]) -> Result<Railway, Fail> {
+    let Ok(roster) = roster::read(rt.alloc(), roster) else {
         return Err(Fail::from("roster"));
     };
-    let Ok(railway) = read_railway(rt.alloc(), PLAN, &roster) else {
+    let Ok(railway) = read_railway(rt.alloc(), plan, &roster) else {
         return Err(Fail::from("plan"));
     };
-    assert_eq!(rt; railway.blocks().len(), 5);
+    Ok(railway)
+}
+
+#[test]
+fn the_oval_is_a_railway(rt: HostRuntime) -> Result<(), Fail> {
+    let railway = railway_of(&rt, OVAL_ROSTER, OVAL)?;
     assert_eq!(rt; railway.turnouts().len(), 2);
     // The shunter in main, the express in back.
-    for (block, is_occupied) in [true, false, false, true, false].iter().enumerate() {
+    let occupied = [true, false, false, true, false];
+    assert_eq!(rt; railway.blocks().len(), occupied.len());
+    for (block, is_occupied) in occupied.iter().enumerate() {
+        assert_eq!(rt; railway.is_occupied(block), *is_occupied);
+    }
+    Ok(())
+}
+
+#[test]
+fn the_shuttle_is_a_railway(rt: HostRuntime) -> Result<(), Fail> {
+    let railway = railway_of(&rt, SHUTTLE_ROSTER, SHUTTLE)?;
+    assert_eq!(rt; railway.turnouts().len(), 2);
+    // The local in west, the express in east.
+    let occupied = [true, false, false, false, false, true];
+    assert_eq!(rt; railway.blocks().len(), occupied.len());
+    for (block, is_occupied) in occupied.iter().enumerate() {
         assert_eq!(rt; railway.is_occupied(block), *is_occupied);
     }
     Ok(())
