@@ -2,6 +2,7 @@
 ghost use Rattle.std.specs.Prelude.{◌≡◌, IfErr, IfOk, false};
 ghost use Rattle.bus_log.specs.Decoders.{entries_of};
 ghost use Rattle.lbserver.specs.Execution.{IsRailwayOf, ended_by_output, is_output};
+ghost use Rattle.lbserver.specs.PlanFaults.{HasPlanFault, plan_fault};
 ghost use Rattle.railway_plan.specs.Railways.{IsRailwayIn};
 
 use crate::fault::ServerFault;
@@ -39,6 +40,7 @@ pub(crate) fn read_railway(
 }
 
 /// Returns the railway of a text, which is that of the file of this name.
+#[tactic(auto, using(crate::proofs::PlanFaulty::has_fault))]
 fn railway_of(
     alloc: Global,
     file: FileName,
@@ -46,6 +48,7 @@ fn railway_of(
     roster: &Roster,
 ) -> Result<Railway, ServerFault>
     ensures railway { IfOk result (IsRailwayIn roster.now text.now) }
+    ensures fault { IfErr result (HasPlanFault file roster.now text.now) }
     ensures output { ended_by_output result ≡ false }
 {
     match railway_plan::read_railway(alloc, text, roster) {
@@ -56,7 +59,8 @@ fn railway_of(
 
 /// Returns the fault of a text, which is that of the file of this name.
 fn fault_of(file: FileName, fault: PlanTextFault) -> ServerFault
-    ensures { is_output result ≡ false }
+    ensures fault { result ≡ plan_fault file fault }
+    ensures output { is_output result ≡ false }
 {
     if let railway_plan::Why::NoMemory = fault.why {
         return ServerFault::Run(RunFault::NoMemory);
