@@ -14,6 +14,8 @@ use Rattle.bus_server.specs.Queues.{enqueued}
 use Rattle.bus_server.specs.TransportEvents.{Polled, ServerClosed, Accepted, WriteBlocked, PeerClosed, NonePending, TransportEvent, Written, ReadBlocked, Received, Refused}
 use Rattle.bus_server.specs.Fronts.{Account, IsFront, account_handled, account_applied, account_written, account_run, account_observed, account_after_outcome}
 use Rattle.bus_server.specs.ClientQueues.{SendQueues, enqueued_all, queues_after}
+use Rattle.bus_server.specs.declared.pace.Pace.{Pace}
+use Rattle.bus_server.specs.declared.pace.Pace.TheVariants.{AfterMessages, RealTime}
 use Rattle.bus_server.specs.Runs.{RunsByClock, RunsRounds, Round}
 use Rattle.bus_server.specs.Applied.{Handled, Applies, LoggedEvent, RunsEvent, RunsEvents, AppliesAll, ServerState, with_backlog, without_backlog}
 use Rattle.bus_server.proofs.Keeping.{none_set, set_at, told_there}
@@ -145,10 +147,10 @@ front_acts i account [] old new same fits = subst (λ (s : ServerState). IsFront
 front_acts i account (one_handled ∷ handled) old new h fits =
     front_acts i (account_applied i (account_written i account one_handled.log) one_handled.applied) handled h.0 new h.2 (front_act i account one_handled.log one_handled.applied old h.0 h.1 fits)
 
-front_time : (i : ℕ) (account : Account) (turns : Option ℕ) (readings : List ℕ) (elapsing : List LoggedEvent) (old new : ServerState) → RunsByClock turns readings elapsing old new → IsFront i account old
+front_time : (i : ℕ) (account : Account) (pace : Pace) (readings : List ℕ) (elapsing : List LoggedEvent) (old new : ServerState) → RunsByClock pace readings elapsing old new → IsFront i account old
     → IsFront i (account_applied i account elapsing) new
-front_time i account (Some turns) readings elapsing old new h fits = as_before i account elapsing old new h.1 h.2 fits
-front_time i account None readings elapsing old new h fits = front_happened i account elapsing old new h.2.2 fits
+front_time i account (AfterMessages turns) readings elapsing old new h fits = as_before i account elapsing old new h.1 h.2 fits
+front_time i account (RealTime rate) readings elapsing old new h fits = front_happened i account elapsing old new h.2.2 fits
 
 pub front_rounds : (i : ℕ) (account : Account) (most : ℕ) (rounds : List Round) (old new : ServerState) → RunsRounds most rounds old new → IsFront i account old → IsFront i (account_run i account rounds) new
 front_rounds i account most [] old new same fits = subst (λ (s : ServerState). IsFront i account s) (sym same) fits
@@ -156,4 +158,4 @@ front_rounds i account most (round ∷ rounds) old new h fits =
     let went = h.2 in
     let served = front_acts i account round.handled (without_backlog old) went.1 (round_serves round.handled (without_backlog old) went.1 went.2) fits in
     front_rounds i (account_applied i (account_handled i account round.handled) round.elapsing) most rounds h.1 new h.3
-    (front_time i (account_handled i account round.handled) went.1.turns round.readings round.elapsing went.1 h.1 went.3 served)
+    (front_time i (account_handled i account round.handled) went.1.pace round.readings round.elapsing went.1 h.1 went.3 served)

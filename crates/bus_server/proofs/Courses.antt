@@ -1,5 +1,5 @@
 -- All that happened in a run, in order, is one course of the bus.
-use Rattle.std.proofs.Common.{◌≡◌, ℕ, List, [], ◌∷◌, ◌++◌, length, Option, Some, None, refl, ap, sym, subst, ◌∙◌, true}
+use Rattle.std.proofs.Common.{◌≡◌, ℕ, List, [], ◌∷◌, ◌++◌, length, refl, ap, sym, subst, ◌∙◌, true}
 use Rattle.std.specs.List.{flat_map, list_all}
 use Rattle.std.proofs.lemmas.Bool.{and_parts, and_from}
 use Rattle.std.proofs.lemmas.List.{append-nil, map-append}
@@ -12,6 +12,8 @@ use Rattle.bus.specs.Bus.{AreEvents, BusState, after_event, after_events, is_eve
 use Rattle.bus.specs.Invariant.{IsInvariant}
 use Rattle.bus.specs.Layout.{layout_event, layout_events}
 use Rattle.bus.specs.Observations.{Observation}
+use Rattle.bus_server.specs.declared.pace.Pace.{Pace}
+use Rattle.bus_server.specs.declared.pace.Pace.TheVariants.{AfterMessages, RealTime}
 use Rattle.bus_server.specs.Runs.{AreDrawn, RunsByClock, RunsRounds, IsEventRun, Round, logged_in}
 use Rattle.bus_server.specs.Applied.{Handled, Applies, LoggedEvent, RunsEvent, RunsEvents, AppliesAll, ServerState, events_of, with_backlog, without_backlog}
 use Rattle.bus_server.specs.TransportEvents.{Polled, ServerClosed, Accepted, WriteBlocked, PeerClosed, NonePending, TransportEvent, Written, ReadBlocked, Received, Refused}
@@ -110,9 +112,9 @@ acts_course laws (one_handled ∷ handled) old new kept h =
     cut_course one_handled.applied (flat_map (λ one_handled. one_handled.applied) handled) old new
     (course_more laws (events_of one_handled.applied) (events_of (flat_map (λ one_handled. one_handled.applied) handled)) old h.0 new kept (act_course laws one_handled.log one_handled.applied old h.0 kept h.1) (λ k. acts_course laws handled h.0 new k h.2))
 
-pub time_course : Laws → (turns : Option ℕ) (readings : List ℕ) (elapsing : List LoggedEvent) (old new : ServerState) → IsInvariant old.bus → RunsByClock turns readings elapsing old new → IsEventRun (events_of elapsing) old new
-time_course laws (Some turns) readings elapsing old new kept h = nothing_done laws elapsing old new h.1 h.2
-time_course laws None readings elapsing old new kept h = happened_course laws elapsing old new kept h.2.2
+pub time_course : Laws → (pace : Pace) (readings : List ℕ) (elapsing : List LoggedEvent) (old new : ServerState) → IsInvariant old.bus → RunsByClock pace readings elapsing old new → IsEventRun (events_of elapsing) old new
+time_course laws (AfterMessages turns) readings elapsing old new kept h = nothing_done laws elapsing old new h.1 h.2
+time_course laws (RealTime rate) readings elapsing old new kept h = happened_course laws elapsing old new kept h.2.2
 
 pub rounds_course : Laws → (most : ℕ) (rounds : List Round) (old new : ServerState) → IsInvariant old.bus → RunsRounds most rounds old new → IsEventRun (events_of (logged_in rounds)) old new
 rounds_course laws most [] old new kept h = same_end laws old new h
@@ -124,5 +126,5 @@ rounds_course laws most (round ∷ rounds) old new kept h =
     (cut_course handled round.elapsing old h.1
     (course_more laws (events_of handled) (events_of round.elapsing) old went.1 h.1 kept
     (course_polled (events_of handled) old went.1 (acts_course laws round.handled (without_backlog old) went.1 kept (round_serves round.handled (without_backlog old) went.1 went.2)))
-    (λ k. time_course laws went.1.turns round.readings round.elapsing went.1 h.1 k went.3)))
+    (λ k. time_course laws went.1.pace round.readings round.elapsing went.1 h.1 k went.3)))
     (λ k. rounds_course laws most rounds h.1 new k h.3))

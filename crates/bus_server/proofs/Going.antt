@@ -128,9 +128,9 @@ pub happened_then : (event : Event) (observed : Observation) (first reports : Li
     → RunsEvents (first ++ record { event = event; observed = observed } ∷ reports) old new
 happened_then event observed first reports old mid after new h one rest = happened_more first (record { event = event; observed = observed } ∷ reports) old mid new h (after, one, rest)
 
-pub same_turns : (applied : List LoggedEvent) (old new : ServerState) → RunsEvents applied old new → new.turns ≡ old.turns
-same_turns [] old new same = ap (λ (s : ServerState). s.turns) same
-same_turns (one ∷ more) old new h = same_turns more h.0 new h.2 ∙ h.1.turns
+pub same_pace : (applied : List LoggedEvent) (old new : ServerState) → RunsEvents applied old new → new.pace ≡ old.pace
+same_pace [] old new same = ap (λ (s : ServerState). s.pace) same
+same_pace (one ∷ more) old new h = same_pace more h.0 new h.2 ∙ h.1.pace
 
 -- an event of a client draws nothing
 pub none_drawn : (event : Event) (bus : BusState) (nodes : ℕ) (losses : Losses) → is_time event ≡ false → IsDrawn event bus nodes losses losses

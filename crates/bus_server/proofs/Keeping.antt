@@ -13,6 +13,8 @@ use Rattle.bus.specs.Observations.{Observation}
 use Rattle.bus.specs.Bus.{BusState}
 use Rattle.loconet_tcp.specs.Texts.{text_for}
 use Rattle.loconet_tcp.specs.ClientLines.{version_text}
+use Rattle.bus_server.specs.declared.pace.Pace.{Pace}
+use Rattle.bus_server.specs.declared.pace.Pace.TheVariants.{AfterMessages, RealTime}
 use Rattle.bus_server.specs.Rounds.{HasMoreClients, IsWrittenTo, PreservesRound, HasEmptyQueue, IsUnread, WritesInARow, backlog_after, is_read, is_reading, is_write_blocked}
 use Rattle.bus_server.specs.Applied.{Handled, AreTurns, RunsEventWithTurns, Applies, LoggedEvent, RunsEvent, RunsEvents, IsWithTurns, AppliesAll, ServerState, events_of, is_connected, has_overflowed, transport_events, observations_in, turns_after, with_backlog}
 use Rattle.bus_server.specs.Queues.{is_within_capacity, enqueued, queued}
@@ -177,27 +179,27 @@ first_alone event one [] old new same silent none h = subst (λ (e : Event). Run
 first_alone event one (other ∷ behind) old new same silent none h =
     absurd (nothing_due other.event other.observed (events_of behind) h.0 h.2.0 none (silent one.observed h.0 (subst (λ (e : Event). RunsEvent e one.observed old h.0) same h.1)) h.2.1)
 
-pub alone : (turns : Option ℕ) (event : Event) (outcome : Outcome) (applied : List LoggedEvent) (old new : ServerState) → turns_after turns outcome ≡ 0 → IsSilent event old → IsWithTurns event (turns_after turns outcome) (events_of applied) → RunsEvents applied old new
+pub alone : (pace : Pace) (event : Event) (outcome : Outcome) (applied : List LoggedEvent) (old new : ServerState) → turns_after pace outcome ≡ 0 → IsSilent event old → IsWithTurns event (turns_after pace outcome) (events_of applied) → RunsEvents applied old new
     → (observed : Observation) × RunsEvent event observed old new
-alone turns event outcome [] old new none silent are h = absurd are
-alone turns event outcome (one ∷ behind) old new none silent are h =
+alone pace event outcome [] old new none silent are h = absurd are
+alone pace event outcome (one ∷ behind) old new none silent are h =
     (one.observed, first_alone event one behind old new are.0 silent (subst (λ (n : ℕ). AreTurns n (events_of behind)) none are.1) h)
 
-no_turns : (turns : Option ℕ) (client : ℕ) → turns_after turns (Disconnected client) ≡ 0
-no_turns None client = refl
-no_turns (Some turns) client = refl
+no_turns : (pace : Pace) (client : ℕ) → turns_after pace (Disconnected client) ≡ 0
+no_turns (RealTime rate) client = refl
+no_turns (AfterMessages turns) client = refl
 
-none_joining : (turns : Option ℕ) (client : ℕ) → turns_after turns (Connected client) ≡ 0
-none_joining None client = refl
-none_joining (Some turns) client = refl
+none_joining : (pace : Pace) (client : ℕ) → turns_after pace (Connected client) ≡ 0
+none_joining (RealTime rate) client = refl
+none_joining (AfterMessages turns) client = refl
 
 pub only_leaves : (client : ℕ) (applied : List LoggedEvent) (old new : ServerState) → RunsEventWithTurns (Disconnects client) applied old new → (observed : Observation) × RunsEvent (Disconnects client) observed old new
 only_leaves client applied old new brings =
-    alone old.turns (Disconnects client) (Disconnected client) applied old new (no_turns old.turns client) (λ observed after h. h.due.1) brings.1 brings.2
+    alone old.pace (Disconnects client) (Disconnected client) applied old new (no_turns old.pace client) (λ observed after h. h.due.1) brings.1 brings.2
 
 pub only_joins : (client : ℕ) (applied : List LoggedEvent) (old new : ServerState) → RunsEventWithTurns (Connects client) applied old new → (observed : Observation) × RunsEvent (Connects client) observed old new
 only_joins client applied old new brings =
-    alone old.turns (Connects client) (Connected client) applied old new (none_joining old.turns client) (λ observed after h. h.due.1) brings.1 brings.2
+    alone old.pace (Connects client) (Connected client) applied old new (none_joining old.pace client) (λ observed after h. h.due.1) brings.1 brings.2
 
 -- A client joins.
 

@@ -39,6 +39,8 @@ use Rattle.bus_server.specs.ClientQueues.{SendQueues, enqueued_all, enqueued_fro
 use Rattle.bus_server.specs.KeepUp.{IsUpToDate, IsWithoutRailway, KeepsUp, is_blocked, is_closed}
 use Rattle.bus_server.specs.Queues.{enqueued, queued}
 use Rattle.bus_server.specs.Rounds.{IsRound, IsUnread, ServesClient, ServesClients, is_read, is_reading, is_write_blocked}
+use Rattle.bus_server.specs.declared.pace.Pace.{Pace}
+use Rattle.bus_server.specs.declared.pace.Pace.TheVariants.{AfterMessages, RealTime}
 use Rattle.bus_server.specs.Runs.{Round, RunsByClock, RunsRounds, transport_log}
 use Rattle.bus_server.specs.Sensors.{asks_sensors, full_report, is_report, railway_after, reports_after}
 use Rattle.bus_server.specs.TransportEvents.{Accepted, NonePending, PeerClosed, Polled, ReadBlocked, Received, Refused, ServerClosed, TransportEvent, WriteBlocked, Written}
@@ -718,9 +720,9 @@ round_keeps client handled old new among round up h =
     let accepted = unread_all client 789 last round.2 new round.5 round.6 (omega arith) (omega arith) served.0 in
     subst (λ (all : List TransportEvent). StaysUp client all new) (sym log) (both_stay client (transport_events turns) (transport_events last) new served.1 accepted)
 
-clock_keeps : (client : ℕ) (turns : Option ℕ) (readings : List ℕ) (elapsing : List LoggedEvent) (old new : ServerState) → RunsByClock turns readings elapsing old new → Within client 789 old → Within client 789 new
-clock_keeps client (Some turns) readings elapsing old new h within = subst (λ (s : ServerState). Within client 789 s) (sym h.2) within
-clock_keeps client None readings elapsing old new h within = (times_within client 789 elapsing old new h.2.0 h.2.2 within).0
+clock_keeps : (client : ℕ) (pace : Pace) (readings : List ℕ) (elapsing : List LoggedEvent) (old new : ServerState) → RunsByClock pace readings elapsing old new → Within client 789 old → Within client 789 new
+clock_keeps client (AfterMessages turns) readings elapsing old new h within = subst (λ (s : ServerState). Within client 789 s) (sym h.2) within
+clock_keeps client (RealTime rate) readings elapsing old new h within = (times_within client 789 elapsing old new h.2.0 h.2.2 within).0
 
 rounds_keep : (client most : ℕ) (rounds : List Round) (old new : ServerState) → client < 8 → RunsRounds most rounds old new → KeepsUp client (transport_log rounds) → Within client 789 old → list_any (is_closed client) (transport_log rounds) ≡ false
 rounds_keep client most [] old new among h up within = refl
@@ -729,7 +731,7 @@ rounds_keep client most (round ∷ rounds) old new among h up within =
     let first = Polled round.longest ∷ transport_events round.handled in
     let up_first = up_behind client (Polled round.longest ∷ []) (transport_events round.handled) (up_before client first (transport_log rounds) up) in
     let served = round_keeps client round.handled (without_backlog old) went.1 among went.2 up_first within in
-    let timed = clock_keeps client went.1.turns round.readings round.elapsing went.1 h.1 went.3 served.0 in
+    let timed = clock_keeps client went.1.pace round.readings round.elapsing went.1 h.1 went.3 served.0 in
     let rest = rounds_keep client most rounds h.1 new among h.3 (up_behind client first (transport_log rounds) up) timed in
     list_any-append (is_closed client) first (transport_log rounds) ∙ none_of_both (list_any (is_closed client) first) (list_any (is_closed client) (transport_log rounds)) served.1 rest
 

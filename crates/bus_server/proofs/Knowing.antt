@@ -1,5 +1,5 @@
 -- What a client knows of a sensor by the reports on the bus.
-use Rattle.std.proofs.Common.{◌≡◌, ℕ, ◌<◌, Bool, true, false, if◌then◌else◌, List, [], ◌∷◌, ◌++◌, length, Option, Some, None, refl, ap, sym, subst, ◌∙◌, append-nil}
+use Rattle.std.proofs.Common.{◌≡◌, ℕ, ◌<◌, Bool, true, false, if◌then◌else◌, List, [], ◌∷◌, ◌++◌, length, Option, Some, refl, ap, sym, subst, ◌∙◌, append-nil}
 use Rattle.std.specs.Prelude.{IsTrue}
 use Rattle.std.specs.List.{flat_map, slice_index_or}
 use Rattle.std.proofs.lemmas.List.{map-append}
@@ -16,6 +16,8 @@ use Rattle.bus.specs.Bus.{outcome_of}
 use Rattle.bus.specs.Observations.{Observation}
 use Rattle.bus_server.specs.Applied.{Applies, AppliesAll, Handled, LoggedEvent, RunsEvent, RunsEvents, ServerState, events_of, with_backlog, without_backlog}
 use Rattle.bus_server.specs.Known.{IsKnown, IsSensorOf, reports_among}
+use Rattle.bus_server.specs.declared.pace.Pace.{Pace}
+use Rattle.bus_server.specs.declared.pace.Pace.TheVariants.{AfterMessages, RealTime}
 use Rattle.bus_server.specs.Runs.{Round, RunsByClock, RunsRounds, logged_in}
 use Rattle.bus_server.specs.Sensors.{asks_sensors, full_report, railway_elapsed, reports_elapsed}
 use Rattle.bus_server.specs.TransportEvents.{Accepted, NonePending, PeerClosed, Polled, ReadBlocked, Received, Refused, ServerClosed, TransportEvent, WriteBlocked, Written}
@@ -158,10 +160,10 @@ module _ (laws : SensorLaws) (block sensor : ℕ) where
       subst (λ (l : Bool). IsKnown block sensor l new) (sym (known-append sensor one_handled.applied (applied_in handled) level))
       (acts_known handled (known_after sensor one_handled.applied level) does.0 new does.2 first)
 
-  time_known : (turns : Option ℕ) (readings : List ℕ) (elapsing : List LoggedEvent) (level : Bool) (old new : ServerState) → RunsByClock turns readings elapsing old new → IsKnown block sensor level old
+  time_known : (pace : Pace) (readings : List ℕ) (elapsing : List LoggedEvent) (level : Bool) (old new : ServerState) → RunsByClock pace readings elapsing old new → IsKnown block sensor level old
       → IsKnown block sensor (known_after sensor elapsing level) new
-  time_known (Some turns) readings elapsing level old new runs h = as_before elapsing level old new runs.1 runs.2 h
-  time_known None readings elapsing level old new runs h = happened_known elapsing level old new runs.2.2 h
+  time_known (AfterMessages turns) readings elapsing level old new runs h = as_before elapsing level old new runs.1 runs.2 h
+  time_known (RealTime rate) readings elapsing level old new runs h = happened_known elapsing level old new runs.2.2 h
 
   rounds_known : (most : ℕ) (rounds : List Round) (level : Bool) (old new : ServerState) → RunsRounds most rounds old new → IsKnown block sensor level old
       → IsKnown block sensor (known_after sensor (logged_in rounds) level) new
@@ -170,7 +172,7 @@ module _ (laws : SensorLaws) (block sensor : ℕ) where
       let went = runs.2 in
       let handled = applied_in round.handled in
       let served = acts_known round.handled level (without_backlog old) went.1 (round_serves round.handled (without_backlog old) went.1 went.2) h in
-      let timed = time_known went.1.turns round.readings round.elapsing (known_after sensor handled level) went.1 runs.1 went.3 served in
+      let timed = time_known went.1.pace round.readings round.elapsing (known_after sensor handled level) went.1 runs.1 went.3 served in
       let rest = rounds_known most rounds (known_after sensor round.elapsing (known_after sensor handled level)) runs.1 new runs.3 timed in
       subst (λ (l : Bool). IsKnown block sensor l new)
       (sym (known-append sensor (handled ++ round.elapsing) (logged_in rounds) level ∙ ap (λ (l : Bool). known_after sensor (logged_in rounds) l) (known-append sensor handled round.elapsing level))) rest

@@ -1,6 +1,6 @@
 -- A run that a device stops.
-use Rattle.std.proofs.Common.{◌≡◌, ℕ, Bool, List, [], ◌∷◌, ◌++◌, Option, Some, None, Result, Ok, Err, refl, ap, sym, subst, ◌∙◌, append_assoc, append-nil, inl, inr}
-use Rattle.std.specs.Prelude.{IfErr, IsErrAnd, OnErr, false, is_some}
+use Rattle.std.proofs.Common.{◌≡◌, ℕ, Bool, List, [], ◌∷◌, ◌++◌, Result, Ok, Err, refl, ap, sym, subst, ◌∙◌, append_assoc, append-nil, inl, inr}
+use Rattle.std.specs.Prelude.{IfErr, IsErrAnd, OnErr}
 use Rattle.std.specs.List.{flat_map}
 use Rattle.std.proofs.lemmas.List.Concat.{flat_map-append}
 use Rattle.station_core.specs.Powered.{HasDesk}
@@ -13,6 +13,8 @@ use Rattle.bus_server.specs.declared.running.Stop.TheVariants.{Transport, Clock,
 use Rattle.bus_server.specs.Applied.{AppliesAll, Handled, LoggedEvent, ServerState, events_of, longest_wait, observations_in, observations_of, overflow_notice, transport_events, with_backlog, without_backlog}
 use Rattle.bus_server.specs.Progress.{Snapshot}
 use Rattle.bus_server.specs.Rounds.{IsRound}
+use Rattle.bus_server.specs.declared.pace.Pace.{Pace}
+use Rattle.bus_server.specs.declared.pace.Pace.TheVariants.{AfterMessages, RealTime}
 use Rattle.bus_server.specs.Runs.{IsEventRun, Round, RunSnapshot, RunsLogged, logged_in, skipped, transport_log}
 use Rattle.bus_server.specs.Stops.{Begins, BeginsEvent, HasLogged, IsRestOfRead, IsStoppedRun, Stops, StopsAt, StopsByClock, StopsElapsing, StopsIn, StopsLogged, after_round_failed, fails}
 use Rattle.bus_server.specs.TransportEvents.{Accepted, NonePending, PeerClosed, Polled, ReadBlocked, Received, Refused, ServerClosed, TransportEvent, WriteBlocked, Written}
@@ -98,16 +100,18 @@ last_course laws last old mid new kept first second =
     subst (λ (all : List LoggedEvent). IsEventRun (events_of all) old new) (sym (append-nil (applied_in last.handled ++ last.elapsing)))
     (cut_course (applied_in last.handled) last.elapsing old new (course_more laws (events_of (applied_in last.handled)) (events_of last.elapsing) old mid new kept first second))
 
-clock_course : {T C O A : Type 0} → Laws → (stop : Stop T C O A) (readings : List ℕ) (elapsing : List LoggedEvent) (old new : ServerState) → IsInvariant old.bus → StopsByClock stop readings elapsing old new → IsEventRun (events_of elapsing) old new
-clock_course laws (Transport fault) readings elapsing old new kept h = absurd h
-clock_course laws (Clock fault) readings elapsing old new kept h = nothing_done laws elapsing old new h.1 h.2
-clock_course laws (AfterRound fault) readings elapsing old new kept h = absurd h
-clock_course laws (Observer fault) readings elapsing old new kept h = happened_course laws elapsing old new kept h.2.2.2
+clock_course : {T C O A : Type 0} → Laws → (stop : Stop T C O A) (pace : Pace) (readings : List ℕ) (elapsing : List LoggedEvent) (old new : ServerState) → IsInvariant old.bus → StopsByClock stop pace readings elapsing old new → IsEventRun (events_of elapsing) old new
+clock_course laws (Clock fault) (RealTime rate) readings elapsing old new kept h = nothing_done laws elapsing old new h.1 h.2
+clock_course laws (Observer fault) (RealTime rate) readings elapsing old new kept h = happened_course laws elapsing old new kept h.2.2.2
+clock_course laws (Transport fault) pace readings elapsing old new kept h = absurd h
+clock_course laws (AfterRound fault) pace readings elapsing old new kept h = absurd h
+clock_course laws (Clock fault) (AfterMessages turns) readings elapsing old new kept h = absurd h
+clock_course laws (Observer fault) (AfterMessages turns) readings elapsing old new kept h = absurd h
 
 elapsing_course : {T C O A : Type 0} → Laws → (stop : Stop T C O A) (last : Round) (rest : List TransportEvent) (old new : ServerState) → IsInvariant old.bus → StopsElapsing stop last rest old new → IsEventRun (events_of (logged_in (last ∷ []))) old new
 elapsing_course laws stop last rest old new kept h =
     last_course laws last old h.1 new kept (acts_course laws last.handled old h.1 kept (round_serves last.handled old h.1 h.2))
-    (λ k. clock_course laws stop last.readings last.elapsing h.1 new k h.4)
+    (λ k. clock_course laws stop h.1.pace last.readings last.elapsing h.1 new k h.3)
 
 stop_course : {T C O A : Type 0} → Laws → (stop : Stop T C O A) (last : Round) (rest : List TransportEvent) (old new : ServerState) → IsInvariant old.bus → StopsAt stop last rest old new → IsEventRun (events_of (logged_in (last ∷ []))) old new
 stop_course laws (Transport fault) last rest old new kept h =
@@ -124,7 +128,7 @@ stop_course laws (AfterRound fault) last rest old new kept h =
     old new
     (last_course laws last (without_backlog old) after.1 new kept
     (acts_course laws last.handled (without_backlog old) after.1 kept (round_serves last.handled (without_backlog old) after.1 after.2))
-    (λ k. time_course laws after.1.turns last.readings last.elapsing after.1 new k after.3))
+    (λ k. time_course laws after.1.pace last.readings last.elapsing after.1 new k after.3))
 
 -- whole rounds, and then the last
 pub run_stops : {T C O A : Type 0} → Laws → Headline → (most : ℕ) (stop : Stop T C O A) (rounds : List Round) (last : Round) (rest : List TransportEvent) (old mid new : RunSnapshot) → IsInvariant old.state.bus → HasDesk old.state.bus.station.powered
@@ -179,14 +183,10 @@ has_logged last rest old new log readings observed = (
   subst (λ (more : List Observation). Extends old.observed new.observed more) (sym (append-nil (observations_in last.handled ++ (flat_map skipped last.readings ++ observations_of last.elapsing)))) observed,
 )
 
-pub none_when : {A : Type 0} (o : Option A) → is_some o ≡ false → o ≡ None
-none_when None h = refl
-none_when (Some a) h = cc
-
 -- behind a whole round, in the time that it took
-pub stops_by_clock : {T C O A : Type 0} → (stop : Stop T C O A) (last : Round) (old mid new : ServerState) → last.longest ≡ longest_wait old → IsRound last.handled (without_backlog old) mid → mid.turns ≡ None
-    → StopsByClock stop last.readings last.elapsing mid new → StopsAt stop last [] old new
-stops_by_clock (Transport fault) last old mid new longest round turns h = absurd h
-stops_by_clock (Clock fault) last old mid new longest round turns h = (longest, (refl, mid, round, turns, h))
-stops_by_clock (Observer fault) last old mid new longest round turns h = (longest, inr (refl, mid, round, turns, h))
-stops_by_clock (AfterRound fault) last old mid new longest round turns h = absurd h
+pub stops_by_clock : {T C O A : Type 0} → (stop : Stop T C O A) (last : Round) (old mid new : ServerState) → last.longest ≡ longest_wait old → IsRound last.handled (without_backlog old) mid
+    → StopsByClock stop mid.pace last.readings last.elapsing mid new → StopsAt stop last [] old new
+stops_by_clock (Transport fault) last old mid new longest round h = absurd h
+stops_by_clock (Clock fault) last old mid new longest round h = (longest, (refl, mid, round, h))
+stops_by_clock (Observer fault) last old mid new longest round h = (longest, inr (refl, mid, round, h))
+stops_by_clock (AfterRound fault) last old mid new longest round h = absurd h

@@ -1,6 +1,5 @@
 -- A run, one round after another.
-use Rattle.std.proofs.Common.{◌≡◌, ℕ, ◌⊎◌, ◌≤◌, ◌-◌, ◌^◌, List, [], ◌∷◌, ◌++◌, length, Option, None, Some, true, refl, sym, subst}
-use Rattle.std.specs.Prelude.{is_some}
+use Rattle.std.proofs.Common.{◌≡◌, ℕ, ◌⊎◌, ◌≤◌, ◌-◌, ◌^◌, List, [], ◌∷◌, ◌++◌, length, Option, refl, sym, subst}
 use Rattle.std.specs.List.{flat_map}
 use Rattle.std.proofs.lemmas.List.Concat.{flat_map-append}
 use Rattle.station_core.specs.Powered.{HasDesk}
@@ -12,15 +11,11 @@ use Rattle.bus.specs.Bus.{AreEvents, BusState}
 use Rattle.bus.specs.Invariant.{IsInvariant}
 use Rattle.bus.specs.Layout.{layout_events}
 use Rattle.bus.specs.Cycle.{RunsInTime}
-use Rattle.bus_server.specs.Runs.{RunsByClock, RunsRounds, IsRun, Round, RunsLogged, RunSnapshot, logged_in, skipped}
+use Rattle.bus_server.specs.Runs.{RunsRounds, IsRun, Round, RunsLogged, RunSnapshot, logged_in, skipped}
 use Rattle.bus_server.specs.Applied.{ServerState, events_of, transport_events, observations_in, observations_of}
 use Rattle.bus_server.specs.TransportEvents.{Polled}
 use Rattle.bus_server.proofs.Courses.{Laws, rounds_course}
 use Rattle.bus_server.proofs.Going.{grows_more, grows_none}
-
-pub no_time_passes : (turns : Option ℕ) (all : ServerState) → is_some turns ≡ true → RunsByClock turns [] [] all all
-no_time_passes None all h = cc
-no_time_passes (Some turns) all h = (refl, refl, refl)
 
 pub runs_none : (most : ℕ) (now : RunSnapshot) → RunsLogged most [] now now
 runs_none most now = (grows_none now.log, grows_none now.readings, grows_none now.observed, refl)

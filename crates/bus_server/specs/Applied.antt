@@ -9,6 +9,9 @@ use Rattle.ln_ops.specs.declared.sensor.SensorReport.{SensorReport}
 use Rattle.railway.specs.Railway.{RailwayState}
 use Rattle.bus_server.specs.declared.losses.Losses.{Losses}
 use Rattle.bus_server.specs.Draws.{IsDraw}
+use Rattle.bus_server.specs.declared.pace.Pace.{Pace}
+use Rattle.bus_server.specs.declared.pace.Pace.TheVariants.{AfterMessages}
+use Rattle.bus_server.specs.Paces.{clock_time, follows_messages}
 use Rattle.bus.specs.declared.event.Event.{Event}
 use Rattle.bus.specs.declared.event.Event.TheVariants.{Receives, Connects, Disconnects, Reports, Elapses, Turn}
 use Rattle.loconet_tcp.specs.declared.outcome.Outcome.{Outcome}
@@ -23,9 +26,8 @@ use Rattle.bus_server.specs.ClientQueues.{SendQueues, queues_after}
 use Rattle.bus_server.specs.TransportEvents.{Polled, ServerClosed, Accepted, PeerClosed, TransportEvent, Written, Received, Refused}
 
 -- A server: its bus, the decoders, the railway beside them (or None) and what its sensors are still
--- to report, the queue of each client, the generator of losses, the turns that follow each message
--- (or None, where turns follow time), how many clients have disconnected, and whether there may be
--- more input than was read.
+-- to report, the queue of each client, the generator of losses, what turns follow, how many clients
+-- have disconnected, and whether there may be more input than was read.
 pub record ServerState : Type 0 where
   pub bus : BusState
   pub nodes : List Node
@@ -33,20 +35,20 @@ pub record ServerState : Type 0 where
   pub due : List SensorReport
   pub queues : SendQueues
   pub losses : Losses
-  pub turns : Option ℕ
+  pub pace : Pace
   pub disconnected : ℕ
   pub has_backlog : Bool
 
 -- a new server: new decoders, and no clients
-abbrev pub initial_state : List NodeSpec → Option RailwayState → Option ℕ → Losses → ServerState
-initial_state nodes railway turns losses = record {
-  bus = first_bus (is_some turns);
+abbrev pub initial_state : List NodeSpec → Option RailwayState → Pace → Losses → ServerState
+initial_state nodes railway pace losses = record {
+  bus = first_bus (follows_messages pace);
   nodes = map node_of nodes;
   railway = railway;
   due = [];
   queues = replicate 8 None;
   losses = losses;
-  turns = turns;
+  pace = pace;
   disconnected = 0;
   has_backlog = false;
 }
@@ -68,7 +70,7 @@ pub record RunsEvent (event : Event) (observed : Observation) (old new : ServerS
   pub due : IsDue event (reports_after old.bus old.nodes event old.railway) old.due new.due
   pub queues : new.queues ≡ queues_after (outcome_of old.bus event) old.queues
   pub losses : IsDrawn event old.bus (length old.nodes) old.losses new.losses
-  pub turns : new.turns ≡ old.turns
+  pub pace : new.pace ≡ old.pace
   pub has_backlog : new.has_backlog ≡ old.has_backlog
   pub disconnected : new.disconnected ≡ disconnected_after (outcome_of old.bus event) old.disconnected
   pub saw : observed ≡ Observed (outcome_of old.bus event) new.nodes
@@ -97,10 +99,10 @@ RunsFor micros applied old new =
 
 -- how many turns follow an outcome, if turns follow messages: those after a message, or those
 -- requested
-abbrev pub turns_after : Option ℕ → Outcome → ℕ
-turns_after (Some turns) (Sent client message reply) = turns
-turns_after (Some turns) (TurnsRequested client (Ok count)) = count
-turns_after turns other = 0
+abbrev pub turns_after : Pace → Outcome → ℕ
+turns_after (AfterMessages turns) (Sent client message reply) = turns
+turns_after (AfterMessages turns) (TurnsRequested client (Ok count)) = count
+turns_after pace other = 0
 
 -- a number of turns, and what sensors report before, between and after them
 abbrev pub AreTurns : ℕ → List Event → Type 0
@@ -131,7 +133,7 @@ IsWithTurns event turns (first ∷ behind) = (first ≡ event) × AreTurns turns
 -- connects at a free index.
 abbrev pub RunsEventWithTurns : Event → List LoggedEvent → ServerState → ServerState → Type 0
 RunsEventWithTurns event applied old new =
-    (is_accepted old event ≡ true) × IsWithTurns event (turns_after old.turns (outcome_of old.bus event)) (events_of applied) × RunsEvents applied old new
+    (is_accepted old event ≡ true) × IsWithTurns event (turns_after old.pace (outcome_of old.bus event)) (events_of applied) × RunsEvents applied old new
 
 -- an event of the transport, and the events of the bus that it caused
 pub record Handled : Type 0 where
@@ -141,7 +143,7 @@ pub record Handled : Type 0 where
 -- How long a server waits for input, in microseconds: not while there may be more of it; else until the turn under way ends;
 -- where turns follow messages, without end.
 abbrev pub longest_wait : ServerState → Option ℕ
-longest_wait state = if state.has_backlog then Some 0 else if is_some state.turns then None else Some state.bus.remaining
+longest_wait state = if state.has_backlog then Some 0 else clock_time state.pace state.bus.remaining
 
 -- there may be more input; and none was found since the last wait
 abbrev pub with_backlog : ServerState → ServerState

@@ -7,6 +7,7 @@ pub mod Fronts
 pub mod KeepUp
 pub mod Known
 pub mod PageEvents
+pub mod Paces
 pub mod Progress
 pub mod Queues
 pub mod Rounds

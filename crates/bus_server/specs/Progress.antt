@@ -20,7 +20,7 @@ state_of hub = record {
   due = hub.sensors.due.items;
   queues = hub.queues;
   losses = hub.losses;
-  turns = hub.turns;
+  pace = hub.pace;
   disconnected = hub.disconnected;
   has_backlog = hub.has_backlog;
 }

@@ -1,5 +1,5 @@
 -- A whole run of a server: round after round, each with the time that it took.
-use Rattle.std.specs.Prelude.{ℕ, Bool, true, ◌==◌, ◌≡◌, ◌⊎◌, ◌+◌, ◌-◌, ◌^◌, ◌<◌, ◌≤◌, if◌then◌else◌, length, min, nat_lt, List, [], ◌∷◌, ◌++◌, Option, Some, None}
+use Rattle.std.specs.Prelude.{ℕ, Bool, true, ◌==◌, ◌≡◌, ◌⊎◌, ◌+◌, ◌-◌, ◌*◌, ◌^◌, ◌<◌, ◌≤◌, if◌then◌else◌, length, min, nat_lt, List, [], ◌∷◌, ◌++◌, Option}
 use Rattle.std.specs.List.{flat_map, list_all}
 use Rattle.layout_core.specs.declared.event.Event.{Event as LayoutEvent}
 use Rattle.layout_core.specs.declared.event.Event.TheVariants as layout
@@ -13,6 +13,9 @@ use Rattle.bus.specs.Observations.{Observation, Skipped}
 use Rattle.bus.specs.Cycle.{RunsInTime}
 use Rattle.bus_server.specs.declared.hub.Hub.{Hub}
 use Rattle.bus_server.specs.declared.losses.Losses.{Losses}
+use Rattle.bus_server.specs.declared.pace.Pace.{Pace}
+use Rattle.bus_server.specs.declared.pace.Pace.TheVariants.{AfterMessages, RealTime}
+use Rattle.bus_server.specs.Paces.{longest_step, track_time}
 use Rattle.bus_server.specs.Progress.{state_of}
 use Rattle.bus_server.specs.Rounds.{IsRound}
 use Rattle.bus_server.specs.Applied.{Handled, IsDrawn, longest_wait, LoggedEvent, RunsFor, ServerState, events_of, transport_events, observations_in, observations_of, without_backlog}
@@ -27,17 +30,17 @@ pub record Round : Type 0 where
 
 -- what is beyond a second is skipped, and observed
 abbrev pub skipped : (micros : ℕ) → List Observation
-skipped micros = if nat_lt 1000000 micros then Skipped (micros - 1000000) ∷ [] else []
+skipped micros = if nat_lt longest_step micros then Skipped (micros - longest_step) ∷ [] else []
 
 -- What follows a round: nothing, and no reading, if turns follow messages. Else the clock is read once, and the track runs for
--- that time, a second at most.
-abbrev pub RunsByClock : (turns : Option ℕ) → (readings : List ℕ) → List LoggedEvent → ServerState → ServerState → Type 0
-RunsByClock (Some turns) readings elapsing old new = (readings ≡ []) × (elapsing ≡ []) × (new ≡ old)
-RunsByClock None readings elapsing old new = (micros : ℕ) × (readings ≡ micros ∷ []) × RunsFor (min micros 1000000) elapsing old new
+-- that time, a second at most, as many times as fast.
+abbrev pub RunsByClock : Pace → (readings : List ℕ) → List LoggedEvent → ServerState → ServerState → Type 0
+RunsByClock (AfterMessages turns) readings elapsing old new = (readings ≡ []) × (elapsing ≡ []) × (new ≡ old)
+RunsByClock (RealTime rate) readings elapsing old new = (micros : ℕ) × (readings ≡ micros ∷ []) × RunsFor (track_time rate micros) elapsing old new
 
 abbrev pub RunsRound : Round → ServerState → ServerState → Type 0
 RunsRound round old new =
-    (round.longest ≡ longest_wait old) × (mid : ServerState) × IsRound round.handled (without_backlog old) mid × RunsByClock mid.turns round.readings round.elapsing mid new
+    (round.longest ≡ longest_wait old) × (mid : ServerState) × IsRound round.handled (without_backlog old) mid × RunsByClock mid.pace round.readings round.elapsing mid new
 
 -- one after another, each begun while fewer clients than these had disconnected
 abbrev pub RunsRounds : (most : ℕ) → List Round → ServerState → ServerState → Type 0
@@ -105,9 +108,9 @@ NoneMisses = (events : List Event) (old new : ServerState) → IsEventRun events
 -- the sum of the clock's readings, each a second at most
 abbrev pub time_read : List ℕ → ℕ
 time_read [] = 0
-time_read (micros ∷ readings) = min micros 1000000 + time_read readings
+time_read (micros ∷ readings) = min micros longest_step + time_read readings
 
--- If turns follow time, the track time of a run is the time that the clock returned, and no other.
+-- If turns follow time, the track time of a run is the time that the clock returned, as many times as fast, and no other.
 abbrev pub TimeIsRead : Type 0
-TimeIsRead = (most : ℕ) (rounds : List Round) (old new : ServerState) → old.turns ≡ None → RunsRounds most rounds old new
-    → micros_in old.bus (events_of (logged_in rounds)) ≡ time_read (readings_of rounds)
+TimeIsRead = (rate most : ℕ) (rounds : List Round) (old new : ServerState) → old.pace ≡ RealTime rate → RunsRounds most rounds old new
+    → micros_in old.bus (events_of (logged_in rounds)) ≡ rate * time_read (readings_of rounds)

@@ -31,7 +31,7 @@ pub record RunsOnBus (event : Event) (observed : Observation) (old new : ServerS
       ≡ (if asks_sensors (outcome_of old.bus event) then full_report old.railway else old.due)
   pub queues : new.queues ≡ queues_after (outcome_of old.bus event) old.queues
   pub losses : new.losses ≡ old.losses
-  pub turns : new.turns ≡ old.turns
+  pub pace : new.pace ≡ old.pace
   pub has_backlog : new.has_backlog ≡ old.has_backlog
   pub disconnected : new.disconnected
       ≡ disconnected_after (outcome_of old.bus event) old.disconnected

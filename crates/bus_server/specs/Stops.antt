@@ -1,5 +1,5 @@
 -- A run that stopped at a fault: what was applied up to it, and which device failed.
-use Rattle.std.specs.Prelude.{ℕ, ◌≡◌, ◌⊎◌, ◌<◌, ◌≤◌, Bool, true, min, map, List, [], ◌∷◌, ◌++◌, None, Result, Ok, Err}
+use Rattle.std.specs.Prelude.{ℕ, ◌≡◌, ◌⊎◌, ◌<◌, ◌≤◌, Bool, true, map, List, [], ◌∷◌, ◌++◌, Result, Ok, Err}
 use Rattle.bus.specs.Log.{Extends}
 use Rattle.bus.specs.Bus.{outcome_of}
 use Rattle.bus.specs.declared.event.Event.{Event}
@@ -7,6 +7,9 @@ use Rattle.bus.specs.declared.event.Event.TheVariants.{Connects, Disconnects, Re
 use Rattle.bus.specs.Cycle.{RunsInTime}
 use Rattle.bus_server.specs.declared.running.Stop.{Stop}
 use Rattle.bus_server.specs.declared.running.Stop.TheVariants.{Transport, Clock, Observer, AfterRound}
+use Rattle.bus_server.specs.declared.pace.Pace.{Pace}
+use Rattle.bus_server.specs.declared.pace.Pace.TheVariants.{RealTime}
+use Rattle.bus_server.specs.Paces.{track_time}
 use Rattle.bus_server.specs.Applied.{AppliesAll, AreTurns, Handled, IsWithTurns, LoggedEvent, RunsEvents, RunsFor, ServerState, events_of, has_overflowed, is_accepted, longest_wait, observations_in, transport_events, turns_after, with_backlog, without_backlog}
 use Rattle.bus_server.specs.Progress.{Snapshot}
 use Rattle.bus_server.specs.Rounds.{IsRound}
@@ -20,7 +23,7 @@ BeginsTurns turns applied old new = (count : ℕ) × (count ≤ turns) × AreTur
 -- an event of a client was run, and some of the turns that follow it
 abbrev pub BeginsEvent : Event → List LoggedEvent → ServerState → ServerState → Type 0
 BeginsEvent event applied old new =
-    (is_accepted old event ≡ true) × (count : ℕ) × (count ≤ turns_after old.turns (outcome_of old.bus event)) × IsWithTurns event count (events_of applied)
+    (is_accepted old event ≡ true) × (count : ℕ) × (count ≤ turns_after old.pace (outcome_of old.bus event)) × IsWithTurns event count (events_of applied)
     × RunsEvents applied old new
 
 -- What was applied of an event of the transport at which the observer failed: its event of the bus,
@@ -55,17 +58,16 @@ Stops old new =
 abbrev pub RunsPart : (micros : ℕ) → List LoggedEvent → ServerState → ServerState → Type 0
 RunsPart micros elapsing old new = (part : ℕ) × (part ≤ micros) × RunsFor part elapsing old new
 
--- Time did not elapse to its end: the clock could not be read, or the observer failed in that time.
-abbrev pub StopsByClock : {T C O A : Type 0} → Stop T C O A → (readings : List ℕ) → List LoggedEvent → ServerState → ServerState → Type 0
-StopsByClock (Transport fault) readings elapsing old new = ⊥
-StopsByClock (Clock fault) readings elapsing old new = (readings ≡ []) × (elapsing ≡ []) × (new ≡ old)
-StopsByClock (AfterRound fault) readings elapsing old new = ⊥
-StopsByClock (Observer fault) readings elapsing old new = (micros : ℕ) × (readings ≡ micros ∷ []) × RunsPart (min micros 1000000) elapsing old new
+-- Turns follow time, and it did not elapse to its end: the clock could not be read, or the observer failed in that time.
+abbrev pub StopsByClock : {T C O A : Type 0} → Stop T C O A → Pace → (readings : List ℕ) → List LoggedEvent → ServerState → ServerState → Type 0
+StopsByClock (Clock fault) (RealTime rate) readings elapsing old new = (readings ≡ []) × (elapsing ≡ []) × (new ≡ old)
+StopsByClock (Observer fault) (RealTime rate) readings elapsing old new = (micros : ℕ) × (readings ≡ micros ∷ []) × RunsPart (track_time rate micros) elapsing old new
+StopsByClock stop pace readings elapsing old new = ⊥
 
--- After a whole round, turns follow time, and it did not elapse to its end.
+-- After a whole round, time did not elapse to its end.
 abbrev pub StopsElapsing : {T C O A : Type 0} → Stop T C O A → Round → (rest : List TransportEvent) → ServerState → ServerState → Type 0
 StopsElapsing stop last rest old new =
-    (rest ≡ []) × (mid : ServerState) × IsRound last.handled old mid × (mid.turns ≡ None) × StopsByClock stop last.readings last.elapsing mid new
+    (rest ≡ []) × (mid : ServerState) × IsRound last.handled old mid × StopsByClock stop mid.pace last.readings last.elapsing mid new
 
 -- the observer failed in a round, before time elapsed
 abbrev pub StopsRound : Round → (rest : List TransportEvent) → ServerState → ServerState → Type 0
@@ -74,7 +76,7 @@ StopsRound last rest old new = (last.readings ≡ []) × (last.elapsing ≡ []) 
 -- what is done after a round failed, after the round and the time after it
 abbrev pub StopsAfterRound : Round → (rest : List TransportEvent) → ServerState → ServerState → Type 0
 StopsAfterRound last rest old new =
-    (rest ≡ []) × (mid : ServerState) × IsRound last.handled old mid × RunsByClock mid.turns last.readings last.elapsing mid new
+    (rest ≡ []) × (mid : ServerState) × IsRound last.handled old mid × RunsByClock mid.pace last.readings last.elapsing mid new
 
 -- A round that a device stopped. The transport failed in its wait, and nothing followed; the clock at
 -- its reading, after the round; the observer in the round, or in the time after it; or what is done

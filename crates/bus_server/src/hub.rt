@@ -4,8 +4,10 @@ ghost use Rattle.std.specs.List.{list_all};
 ghost use Rattle.bus_server.specs.Queues.{is_within_capacity, queued};
 ghost use Rattle.bus_server.specs.ClientQueues.{names_client, enqueued_all, queues_after};
 ghost use Rattle.bus_server.specs.Counts.{disconnected_after};
+ghost use Rattle.bus_server.specs.Paces.{is_pace};
 
 use crate::losses::Losses;
+use crate::pace::Pace;
 use crate::send_queues::{SendQueues, empty_queues};
 use crate::sensors::Sensors;
 use crate::transport::{IoOutcome, Transport};
@@ -23,14 +25,15 @@ pub(crate) struct Hub {
     pub(crate) queues: SendQueues,
     /// Draws the packets that decoders miss.
     pub(crate) losses: Losses,
-    /// The turns that follow each message; `None`: turns follow time.
-    pub(crate) turns: Option<u8>,
+    /// What turns follow.
+    pub(crate) pace: Pace,
     /// How many clients have disconnected.
     pub(crate) disconnected: u64,
     /// Something was read, accepted or refused since the last wait, so there may be more.
     pub(crate) has_backlog: bool,
     ghost eight: { length queues ≡ 8 },
     ghost within_capacity: { list_all is_within_capacity queues ≡ true },
+    ghost paced: { is_pace pace ≡ true },
 }
 
 impl Hub {
@@ -56,15 +59,16 @@ impl Hub {
         alloc: Global,
         nodes: NodeList,
         railway: Option<Railway>,
-        turns: Option<u8>,
+        pace: Pace,
         losses: Losses,
     ) -> Result<Hub, AllocError>
+        requires pace { IsTrue (is_pace pace) }
         ensures hub { IfOk result
-            (λ hub. state_of hub ≡ initial_state nodes.items railway turns losses) }
+            (λ hub. state_of hub ≡ initial_state nodes.items railway pace losses) }
         ensures specs { IfOk result (λ hub. map spec_of hub.bus.world.nodes ≡ nodes.items) }
         ensures reported { IfOk result HasReported }
     {
-        let bus = match Bus::new(alloc, nodes, turns.is_some()) {
+        let bus = match Bus::new(alloc, nodes, pace.follows_messages()) {
             Ok(bus) => bus,
             Err(_) => return Err(AllocError),
         };
@@ -74,7 +78,7 @@ impl Hub {
             sensors: Sensors::new(railway),
             queues,
             losses,
-            turns,
+            pace,
             disconnected: 0,
             has_backlog: false,
         })

@@ -4,7 +4,7 @@ ghost use Rattle.bus_server.specs.KeepUp.{StaysConnected};
 ghost use Rattle.bus_server.specs.Known.{BecomesKnown, StaysKnown};
 ghost use Rattle.bus_server.specs.Runs.{NoneMisses, TimeIsRead};
 
-/// If turns follow time, the track time of a run is the sum of the clock's readings, each a second at most.
+/// If turns follow time, the track time of a run is the sum of the clock's readings, each a second at most, times the rate.
 pub fn time_is_read()
     ensures { TimeIsRead }
 {}

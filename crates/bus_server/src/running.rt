@@ -4,16 +4,18 @@ ghost use Rattle.std.specs.List.{flat_map};
 ghost use Rattle.bus.specs.Log.{Extends};
 ghost use Rattle.bus_server.specs.Progress.{HasReported, ObservesLayout, state_of};
 ghost use Rattle.bus_server.specs.Applied.{LoggedEvent, longest_wait, RunsFor, observations_of};
+ghost use Rattle.bus_server.specs.Paces.{track_time};
 ghost use Rattle.bus_server.specs.TransportEvents.{TransportEvent};
 ghost use Rattle.bus_server.specs.Runs.{RunsByClock, IsRun, Round, RunsLogged, RunSnapshot, skipped, run_snapshot};
 
 use crate::after_round::AfterRound;
+use crate::pace::Pace;
 use crate::server::Server;
 use crate::time_source::TimeSource;
 use crate::transport::Transport;
 use bus::Observer;
 
-/// The longest time of one round, in microseconds: what is beyond it is skipped.
+/// The longest time of one round by the clock, in microseconds: what is beyond it is skipped.
 const LONGEST_STEP: u64 = 1_000_000;
 
 /// Why a run stopped. Each fault was made by a device, so that device has failed.
@@ -128,9 +130,9 @@ impl Server {
         if self.has_backlog() {
             return Some(0);
         }
-        match self.turns() {
-            Some(_) => None,
-            None => Some(self.remaining()),
+        match self.pace() {
+            Pace::AfterMessages { .. } => None,
+            Pace::RealTime { rate } => Some((self.remaining() - 1) / u32::from(rate) + 1),
         }
     }
 
@@ -149,33 +151,39 @@ impl Server {
             × Extends (C.readings clock.old) (C.readings clock.new) readings
             × Extends (P.observed observer.old) (P.observed observer.new)
             (flat_map skipped readings ++ observations_of elapsing)
-            × RunsByClock self.old.hub.turns readings elapsing (state_of self.old.hub)
+            × RunsByClock self.old.hub.pace readings elapsing (state_of self.old.hub)
             (state_of self.new.hub)) }
         ensures not_after_round { IfErr result
             (λ stop. (before : Bool) → fails stop before ≡ before) }
-        ensures in_time { OnErr result (self.old.hub.turns ≡ None) }
         ensures stopped { IfErr result
             (λ stop. (readings : List ℕ) × (elapsing : List LoggedEvent)
             × Extends (C.readings clock.old) (C.readings clock.new) readings
             × Extends (P.observed observer.old) (P.observed observer.new)
             (flat_map skipped readings ++ observations_of elapsing)
-            × StopsByClock stop readings elapsing (state_of self.old.hub) (state_of self.new.hub)) }
+            × StopsByClock stop self.old.hub.pace readings elapsing (state_of self.old.hub)
+            (state_of self.new.hub)) }
     {
-        if self.hub.turns.is_some() {
+        let Pace::RealTime { rate } = self.hub.pace else {
             return Ok(());
-        }
+        };
         let micros = match clock.elapsed() {
             Ok(micros) => micros,
             Err(fault) => return Err(Stop::Clock(fault)),
         };
-        match self.run_capped(micros, observer) {
+        match self.run_capped(micros, rate, observer) {
             Ok(()) => Ok(()),
             Err(fault) => Err(Stop::Observer(fault)),
         }
     }
 
-    /// Runs the track for `micros` microseconds, a second at most, and reports the rest as skipped.
-    fn run_capped<P: Observer>(&mut self, micros: u64, observer: &mut P) -> Result<(), P::Fault>
+    /// Runs the track for `micros` microseconds of the clock, a second at most, `rate` times as fast,
+    /// and reports the rest as skipped.
+    fn run_capped<P: Observer>(
+        &mut self,
+        micros: u64,
+        rate: u8,
+        observer: &mut P,
+    ) -> Result<(), P::Fault>
         requires observes { ObservesLayout (P.decoder_specs observer.old) self.old.hub }
         requires reported { HasReported self.old.hub }
         ensures observes { ObservesLayout (P.decoder_specs observer.new) self.new.hub }
@@ -184,18 +192,25 @@ impl Server {
             ((elapsing : List LoggedEvent)
             × Extends (P.observed observer.old) (P.observed observer.new)
             (skipped micros ++ observations_of elapsing)
-            × RunsFor (min micros 1000000) elapsing (state_of self.old.hub)
+            × RunsFor (track_time rate micros) elapsing (state_of self.old.hub)
             (state_of self.new.hub)) }
         ensures stops { OnErr result
             ((elapsing : List LoggedEvent)
             × Extends (P.observed observer.old) (P.observed observer.new)
             (skipped micros ++ observations_of elapsing)
-            × RunsPart (min micros 1000000) elapsing (state_of self.old.hub)
+            × RunsPart (track_time rate micros) elapsing (state_of self.old.hub)
             (state_of self.new.hub)) }
     {
         observe_skipped(micros, observer)?;
-        self.run_for(micros.min(LONGEST_STEP) as u32, observer)
+        self.run_for(track_time(micros, rate), observer)
     }
+}
+
+/// The time of the track for `micros` microseconds of the clock, a second at most, `rate` times as fast.
+fn track_time(micros: u64, rate: u8) -> u32
+    ensures { result ≡ track_time rate micros }
+{
+    u32::from(rate) * micros.min(LONGEST_STEP) as u32
 }
 
 /// Reports what is beyond a second as skipped.

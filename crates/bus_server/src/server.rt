@@ -8,6 +8,7 @@ ghost use Rattle.bus.specs.Course.{is_time};
 ghost use Rattle.bus.specs.State.{bus_state};
 ghost use Rattle.bus_server.specs.TransportEvents.{TransportEvent, Received};
 ghost use Rattle.bus_server.specs.Applied.{Handled, AreTurns, RunsEventWithTurns, RunsFor, RunsEvents, AppliesAll, events_of, is_accepted, initial_state, has_overflowed, transport_events, observations_in, turns_after};
+ghost use Rattle.bus_server.specs.Paces.{is_pace};
 ghost use Rattle.bus_server.specs.Steps.{ObservesReports};
 ghost use Rattle.bus_server.specs.Progress.{HasReported, ProgressesBy, Progresses, ProgressesWithoutInput, Snapshot, AcceptsAt, IsObserved, ObservesLayout, snapshot, state_of};
 ghost use Rattle.bus_server.specs.Rounds.{AllWrittenTo, IsRead, IsRound, IsWrittenTo, AcceptsPending, refusals};
@@ -15,6 +16,7 @@ ghost use Rattle.bus_server.specs.Stops.{BeginsEvent, BeginsTurns, RunsPart, Sto
 
 use crate::hub::Hub;
 use crate::losses::Losses;
+use crate::pace::Pace;
 use crate::transport::{IoOutcome, Transport};
 use bus::{Event, Observer, Outcome, SHORTEST_TURN};
 use layout_core::{NodeList, World};
@@ -39,9 +41,6 @@ impl Server {
     /// A new layout with these decoders, a railway beside it or none, and no clients. It takes all
     /// its memory here.
     ///
-    /// `turns`: how many turns of the track follow each message, and clients may request turns;
-    /// with `None`, turns follow time.
-    ///
     /// # Errors
     ///
     /// Out of memory.
@@ -49,17 +48,18 @@ impl Server {
         alloc: Global,
         nodes: NodeList,
         railway: Option<Railway>,
-        turns: Option<u8>,
+        pace: Pace,
         losses: Losses,
     ) -> Result<Server, AllocError>
+        requires pace { IsTrue (is_pace pace) }
         ensures hub { IfOk result
-            (λ server. state_of server.hub ≡ initial_state nodes.items railway turns losses) }
+            (λ server. state_of server.hub ≡ initial_state nodes.items railway pace losses) }
         ensures specs { IfOk result
             (λ server. map spec_of server.hub.bus.world.nodes ≡ nodes.items) }
         ensures reported { IfOk result (λ server. HasReported server.hub) }
     {
         Ok(Server {
-            hub: Hub::new(alloc, nodes, railway, turns, losses)?,
+            hub: Hub::new(alloc, nodes, railway, pace, losses)?,
         })
     }
 
@@ -78,11 +78,12 @@ impl Server {
         self.hub.bus.is_connected(client)
     }
 
-    /// The turns that follow each message; `None`: turns follow time.
-    pub fn turns(&self) -> Option<u8>
-        ensures { result ≡ self.now.hub.turns }
+    /// What turns follow.
+    pub fn pace(&self) -> Pace
+        ensures pace { result ≡ self.now.hub.pace }
+        ensures within { IsTrue (is_pace result) }
     {
-        self.hub.turns
+        self.hub.pace
     }
 
     /// The microseconds that remain of the turn under way, 1 to 10,740.
@@ -389,7 +390,7 @@ impl Server {
     {
         let outcome = self.hub.step(event);
         self.observe(&outcome, observer)?;
-        let turns = turns_after(self.hub.turns, &outcome);
+        let turns = turns_after(self.hub.pace, &outcome);
         self.run_turns(turns, observer)
     }
 
@@ -432,10 +433,13 @@ impl Server {
 }
 
 /// How many turns follow an outcome, if turns follow messages: those after a message, or those requested.
-fn turns_after(turns: Option<u8>, outcome: &Outcome) -> u16
-    ensures { result ≡ turns_after turns outcome.now }
+fn turns_after(pace: Pace, outcome: &Outcome) -> u16
+    ensures { result ≡ turns_after pace outcome.now }
 {
-    let Some(after_message) = turns else {
+    let Pace::AfterMessages {
+        turns: after_message,
+    } = pace
+    else {
         return 0;
     };
     match outcome {

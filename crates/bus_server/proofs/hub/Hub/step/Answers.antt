@@ -17,6 +17,7 @@ pub invariant_of-self : goal.invariant_of-self
 invariant_of-self c = record {
   eight = ap length c.enqueue.ensures ∙ length-after c.step-outcome.result c.args.self.now.queues ∙ c.args.self.now.eight;
   within_capacity = ap (list_all is_within_capacity) c.enqueue.ensures ∙ within_capacity-after c.step-outcome.result c.args.self.now.queues c.args.self.now.within_capacity;
+  paced = c.args.self.now.paced;
 }
 
 pub returns-clause-runs : goal.returns-clause-runs
@@ -31,7 +32,7 @@ returns-clause-runs c =
       due = c.answer.ensures.due ∙ ap (λ (outcome : Outcome). if asks_sensors outcome then full_report sensors.railway else sensors.due.items) outcome;
       queues = c.enqueue.ensures ∙ ap (λ (outcome : Outcome). queues_after outcome c.args.self.now.queues) outcome;
       losses = refl;
-      turns = refl;
+      pace = refl;
       has_backlog = refl;
       disconnected = c.disconnected_after-self.ensures ∙ ap (λ (outcome : Outcome). disconnected_after outcome c.args.self.now.disconnected) outcome;
       saw = ap (λ (outcome : Outcome). Observed outcome c.step-outcome.new.self.world.nodes) outcome;

@@ -4,7 +4,7 @@ use Rattle.bus.specs.Bus.{outcome_of}
 use Rattle.bus.specs.Observations.{Observed, Observation}
 use Rattle.bus_server.specs.Progress.{state_of}
 use Rattle.bus_server.specs.Applied.{AreTurns, LoggedEvent, events_of, turns_after}
-use Rattle.bus_server.proofs.Going.{happened_more, reports_behind, same_turns, shown_more, turns_none}
+use Rattle.bus_server.proofs.Going.{happened_more, reports_behind, same_pace, shown_more, turns_none}
 use Rattle.bus_server.proofs.Stepping.{client_runs}
 use Rattle.bus_server.proofs.Stopping.{whatever_fails}
 use Rattle.bus_server.proofs.server.Server.apply.Goals as goal
@@ -19,15 +19,15 @@ returns-clause-happened g c =
     let one : LoggedEvent = record { event = event; observed = observed } in
     let happens = client_runs event observed old mid c.requires.clients c.requires.reported c.step-outcome.ensures.runs in
     let reports = c.observe.ensures.log in
-    let count : c.turns_after-turns.result ≡ turns_after old.turns (outcome_of old.bus event) =
-    c.turns_after-turns.ensures ∙ ap (λ turns. turns_after turns c.step-outcome.result) (same_turns reports.0 mid told reports.3 ∙ happens.turns) ∙ ap (turns_after old.turns) c.step-outcome.ensures.outcome in
+    let count : c.turns_after-turns.result ≡ turns_after old.pace (outcome_of old.bus event) =
+    c.turns_after-turns.ensures ∙ ap (λ pace. turns_after pace c.step-outcome.result) (same_pace reports.0 mid told reports.3 ∙ happens.pace) ∙ ap (turns_after old.pace) c.step-outcome.ensures.outcome in
     on_ok_weaker c.run_turns.result
     (λ behind. (
       one ∷ (reports.0 ++ behind.0),
       shown_more (g.P.Observer.observed c.args.observer.now) (g.P.Observer.observed c.observe.new.observer) (g.P.Observer.observed c.run_turns.new.observer) (one ∷ reports.0) behind.0 reports.1 behind.1,
       (
         c.requires.place,
-        (refl, reports_behind (turns_after old.turns (outcome_of old.bus event)) reports.0 behind.0 reports.2 (subst (λ (n : ℕ). AreTurns n (events_of behind.0)) count behind.2.0)),
+        (refl, reports_behind (turns_after old.pace (outcome_of old.bus event)) reports.0 behind.0 reports.2 (subst (λ (n : ℕ). AreTurns n (events_of behind.0)) count behind.2.0)),
         (mid, happens, happened_more reports.0 behind.0 mid told (state_of c.run_turns.new.self.hub) reports.3 behind.2.1),
       ),
     ))
@@ -57,8 +57,8 @@ returns-clause-stops g c =
     let one : LoggedEvent = record { event = event; observed = observed } in
     let happens = client_runs event observed old mid c.requires.clients c.requires.reported c.step-outcome.ensures.runs in
     let reports = c.observe.ensures.log in
-    let count : c.turns_after-turns.result ≡ turns_after old.turns (outcome_of old.bus event) =
-    c.turns_after-turns.ensures ∙ ap (λ turns. turns_after turns c.step-outcome.result) (same_turns reports.0 mid told reports.3 ∙ happens.turns) ∙ ap (turns_after old.turns) c.step-outcome.ensures.outcome in
+    let count : c.turns_after-turns.result ≡ turns_after old.pace (outcome_of old.bus event) =
+    c.turns_after-turns.ensures ∙ ap (λ pace. turns_after pace c.step-outcome.result) (same_pace reports.0 mid told reports.3 ∙ happens.pace) ∙ ap (turns_after old.pace) c.step-outcome.ensures.outcome in
     on_err_weaker c.run_turns.result
     (λ behind. (
       one ∷ (reports.0 ++ behind.0),

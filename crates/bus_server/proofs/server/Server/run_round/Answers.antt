@@ -92,7 +92,7 @@ returns-in_err-elapse-clause-stopped g c =
             stops.2
             (grows_more (observed c.args.observer.now) (observed c.round.new.observer) (observed c.elapse.new.observer) (observations_in served.0) later served.2 stops.3),
         c.requires.fewer,
-        stops_by_clock stop last (state_of c.args.self.now.hub) (state_of c.round.new.self.hub) (state_of c.elapse.new.self.hub) refl served.3 c.in_err-elapse.ensures.in_time stops.4,
+        stops_by_clock stop last (state_of c.args.self.now.hub) (state_of c.round.new.self.hub) (state_of c.elapse.new.self.hub) refl served.3 stops.4,
       ),
     )
 
