@@ -12,7 +12,7 @@ use Rattle.clap.specs.Words.{Row, Text, all_of, first_of, matches_of, one_of}
 use Rattle.command_line.specs.declared.words.ServerOrder.{ServerOrder}
 use Rattle.command_line.specs.CommandLine.{named_app, roster_rule}
 use Rattle.command_line.specs.Order.{IsNumber, Writes, number_of}
-use Rattle.command_line.specs.ServerLine.{AreHosts, IsAddress, IsDefaultOrder, IsFlag, IsNumberIfGiven, IsServerOrder, address_rule, port_rule, plan_rule, turns_rule, clients_rule, track_rule, quiet_rule, page_rule, page_file_rule, host_rule, lose_rule, seed_rule, listening_app, laid_app, paced_app, printed_app, shown_app, server_app}
+use Rattle.command_line.specs.ServerLine.{AreHosts, IsAddress, IsDefaultOrder, IsFlag, IsNumberIfGiven, IsServerOrder, address_rule, port_rule, plan_rule, turns_rule, rate_rule, clients_rule, track_rule, quiet_rule, page_rule, page_file_rule, host_rule, lose_rule, seed_rule, listening_app, laid_app, paced_app, printed_app, shown_app, server_app}
 
 -- clap's matches of no arguments
 record HasDefaults (rows : List Row) : Type 0 where
@@ -21,6 +21,7 @@ record HasDefaults (rows : List Row) : Type 0 where
   pub roster : first_of (codes "roster") rows ≡ None
   pub plan : first_of (codes "plan") rows ≡ None
   pub turns : one_of (codes "turns") rows ≡ None
+  pub rate : one_of (codes "rate") rows ≡ None
   pub clients : one_of (codes "clients") rows ≡ None
   pub track : one_of (codes "track") rows ≡ Some (codes "false")
   pub quiet : one_of (codes "quiet") rows ≡ Some (codes "false")
@@ -31,8 +32,8 @@ record HasDefaults (rows : List Row) : Type 0 where
   pub seed : one_of (codes "seed") rows ≡ Some (codes "0")
 
 no_words : HasDefaults (matches_of server_app [])
-unfolding roster_rule address_rule port_rule plan_rule turns_rule clients_rule track_rule quiet_rule page_rule page_file_rule host_rule lose_rule seed_rule named_app listening_app laid_app paced_app printed_app shown_app server_app
-no_words = record { address = refl; port = refl; roster = refl; plan = refl; turns = refl; clients = refl; track = refl; quiet = refl; page = refl; page_file = refl; hosts = refl; lose = refl; seed = refl }
+unfolding roster_rule address_rule port_rule plan_rule turns_rule rate_rule clients_rule track_rule quiet_rule page_rule page_file_rule host_rule lose_rule seed_rule named_app listening_app laid_app paced_app printed_app shown_app server_app
+no_words = record { address = refl; port = refl; roster = refl; plan = refl; turns = refl; rate = refl; clients = refl; track = refl; quiet = refl; page = refl; page_file = refl; hosts = refl; lose = refl; seed = refl }
 
 number_is : (read : Option Text) (text : Text) (least most n : ℕ) → IsNumber read least most n → read ≡ Some text → n ≡ number_of text
 number_is read text least most n is same =
@@ -78,6 +79,7 @@ defaults rows order has is = record {
   without_roster = is.with_roster ∙ has.roster;
   without_plan = is.with_plan ∙ has.plan;
   in_real_time = number_is_none _ 0 255 order.turns is.each_turns has.turns;
+  without_rate = number_is_none _ 1 100 order.rate is.at_rate has.rate;
   for_ever = number_is_none _ 0 4294967295 order.clients is.most_clients has.clients;
   shows_no_track = flag_is _ order.track is.shows_track has.track;
   prints_log = flag_is _ order.quiet is.keeps_quiet has.quiet;

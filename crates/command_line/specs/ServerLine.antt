@@ -26,6 +26,9 @@ plan_rule = option (codes "plan")
 unfoldable pub turns_rule : Rule
 turns_rule = number (codes "turns") 0 255
 
+unfoldable pub rate_rule : Rule
+rate_rule = number (codes "rate") 1 100
+
 unfoldable pub clients_rule : Rule
 clients_rule = number (codes "clients") 0 4294967295
 
@@ -63,7 +66,7 @@ unfoldable pub laid_app : App
 laid_app = with_rule listening_app plan_rule
 
 unfoldable pub paced_app : App
-paced_app = with_rule (with_rule laid_app turns_rule) clients_rule
+paced_app = with_rule (with_rule (with_rule laid_app turns_rule) rate_rule) clients_rule
 
 unfoldable pub printed_app : App
 printed_app = with_rule (with_rule paced_app track_rule) quiet_rule
@@ -103,14 +106,16 @@ abbrev pub AreHosts : Option (List Text) → List Text → Type 0
 AreHosts None hosts = hosts ≡ []
 AreHosts (Some names) hosts = (hosts ≡ names) × IsTrue (list_all is_host_name names)
 
--- options that need another have it: a plan a roster, and the file of a page a page
-pub record HasNeeded (rows : List Row) : Type 0 where
+-- options that need another have it: a plan a roster, and the file of a page a page; a rate is not
+-- given with turns
+pub record AreCompatible (rows : List Row) : Type 0 where
   pub roster : first_of (codes "plan") rows ≢ None → first_of (codes "roster") rows ≢ None
   pub page : first_of (codes "page-file") rows ≢ None → one_of (codes "page") rows ≢ None
+  pub rate : first_of (codes "rate") rows ≢ None → first_of (codes "turns") rows ≡ None
 
 -- the same of whatever value
-abbrev pub HasNeededFor : {A : Type 0} → List Row → A → Type 0
-HasNeededFor rows value = HasNeeded rows
+abbrev pub AreCompatibleFor : {A : Type 0} → List Row → A → Type 0
+AreCompatibleFor rows value = AreCompatible rows
 
 pub record IsServerOrder (rows : List Row) (order : ServerOrder) : Type 0 where
   pub at_address : IsAddress (one_of (codes "address") rows) order.address
@@ -118,12 +123,13 @@ pub record IsServerOrder (rows : List Row) (order : ServerOrder) : Type 0 where
   pub with_roster : order.roster ≡ first_of (codes "roster") rows
   pub with_plan : order.plan ≡ first_of (codes "plan") rows
   pub each_turns : IsNumberIfGiven (one_of (codes "turns") rows) 0 255 order.turns
+  pub at_rate : IsNumberIfGiven (one_of (codes "rate") rows) 1 100 order.rate
   pub most_clients : IsNumberIfGiven (one_of (codes "clients") rows) 0 4294967295 order.clients
   pub shows_track : IsFlag (one_of (codes "track") rows) order.track
   pub keeps_quiet : IsFlag (one_of (codes "quiet") rows) order.quiet
   pub at_page : IsNumberIfGiven (one_of (codes "page") rows) 0 65535 order.page
   pub with_page : order.page_file ≡ first_of (codes "page-file") rows
-  pub needs : HasNeeded rows
+  pub compatible : AreCompatible rows
   pub by_hosts : AreHosts (all_of (codes "host") rows) (map (λ host. string_bytes host) order.hosts.items)
   pub share_lost : IsNumber (one_of (codes "lose") rows) 0 99 order.lose
   pub with_seed : IsNumber (one_of (codes "seed") rows) 0 4294967295 order.seed
@@ -138,6 +144,7 @@ pub record IsDefaultOrder (order : ServerOrder) : Type 0 where
   pub without_roster : order.roster ≡ None
   pub without_plan : order.plan ≡ None
   pub in_real_time : order.turns ≡ None
+  pub without_rate : order.rate ≡ None
   pub for_ever : order.clients ≡ None
   pub shows_no_track : order.track ≡ false
   pub prints_log : order.quiet ≡ false

@@ -6,7 +6,7 @@ ghost use Rattle.command_line.specs.declared.words.ServerOrder.{ServerOrder as O
 ghost use Rattle.command_line.specs.Fault.{IsOfKind, IsServerFault, IsUnmatched};
 ghost use Rattle.command_line.specs.Order.{HasNone};
 ghost use Rattle.command_line.specs.Requests.{IsRequestedBy};
-ghost use Rattle.command_line.specs.ServerLine.{AreHosts, HasNeeded, HasNeededFor, IsAddress, IsDefaultOrder, IsFlag, IsNumberIfGiven, IsServerOrder, IsServerOrderOf, is_host_byte, is_host_name, server_app};
+ghost use Rattle.command_line.specs.ServerLine.{AreCompatible, AreCompatibleFor, AreHosts, IsAddress, IsDefaultOrder, IsFlag, IsNumberIfGiven, IsServerOrder, IsServerOrderOf, is_host_byte, is_host_name, server_app};
 
 use crate::orders::{OrderFault, file_name, matches_of, not_utf8, number, text, usage};
 use crate::server_command::server_command;
@@ -187,17 +187,32 @@ fn no_page(alloc: Global) -> OrderFault
     )
 }
 
-/// Checks that a plan has a roster, and that the file of a page has a page.
-fn check_needed(alloc: Global, found: &ArgMatches<'_>) -> Result<(), OrderFault>
-    ensures needed { OnOk result (HasNeeded (rows_of (found_of found.now))) }
+// A rate beside turns after messages.
+fn two_paces(alloc: Global) -> OrderFault
+    ensures { IsOfKind ErrorKind.ValueValidation result }
+{
+    usage(
+        server_command(alloc),
+        ErrorKind::ValueValidation,
+        "--rate cannot be used with --turns",
+    )
+}
+
+/// Checks that a plan has a roster, that the file of a page has a page, and that a rate is not
+/// given with turns.
+fn check_compatible(alloc: Global, found: &ArgMatches<'_>) -> Result<(), OrderFault>
+    ensures compatible { OnOk result (AreCompatible (rows_of (found_of found.now))) }
     ensures fault { IfErr result
-        (IsUnmatched (HasNeededFor {A = OrderValue} (rows_of (found_of found.now)))) }
+        (IsUnmatched (AreCompatibleFor {A = OrderValue} (rows_of (found_of found.now)))) }
 {
     if text(found, "plan").is_some() && text(found, "roster").is_none() {
         return Err(no_roster(alloc));
     }
     if text(found, "page-file").is_some() && text(found, "page").is_none() {
         return Err(no_page(alloc));
+    }
+    if text(found, "rate").is_some() && text(found, "turns").is_some() {
+        return Err(two_paces(alloc));
     }
     Ok(())
 }
@@ -218,13 +233,14 @@ fn matched(alloc: Global, found: &ArgMatches<'_>) -> Result<ServerOrder, OrderFa
     ) else {
         return Err(out_of_range(alloc));
     };
-    check_needed(alloc, found)?;
+    check_compatible(alloc, found)?;
     Ok(ServerOrder {
         address,
         port: port as u16,
         roster: file_name(alloc, found, "roster")?,
         plan: file_name(alloc, found, "plan")?,
         turns: number_if_given(alloc, found, "turns", 0, 255)?.map(|turns| turns as u8),
+        rate: number_if_given(alloc, found, "rate", 1, 100)?.map(|rate| rate as u8),
         clients: number_if_given(alloc, found, "clients", 0, u32::MAX)?,
         track,
         quiet,

@@ -2,7 +2,7 @@
 ghost use Rattle.std.specs.Prelude.{◌≡◌, codes, false};
 ghost use Rattle.clap.specs.Words.{rule_of};
 ghost use Rattle.command_line.specs.CommandLine.{HasApp, HasNoGlobals, named_app};
-ghost use Rattle.command_line.specs.ServerLine.{flag, address_rule, port_rule, plan_rule, turns_rule, clients_rule, track_rule, quiet_rule, page_rule, page_file_rule, host_rule, lose_rule, seed_rule, listening_app, laid_app, paced_app, printed_app, shown_app, server_app};
+ghost use Rattle.command_line.specs.ServerLine.{flag, address_rule, port_rule, plan_rule, turns_rule, rate_rule, clients_rule, track_rule, quiet_rule, page_rule, page_file_rule, host_rule, lose_rule, seed_rule, listening_app, laid_app, paced_app, printed_app, shown_app, server_app};
 
 use crate::command::{Draft, named, number, option, roster, with_arg};
 use clap::{Arg, ArgAction};
@@ -49,6 +49,17 @@ fn turns<'a>(alloc: Global) -> Arg<'a>
 {
     number(alloc, "turns", "T", 0, 255).help(
         "Track turns after each message, 0 to 255; without it the track runs in real time",
+    )
+}
+
+/// The option `--rate R`.
+#[tactic(auto, unfolding(crate::specs::ServerLine::rate_rule))]
+fn rate<'a>(alloc: Global) -> Arg<'a>
+    ensures rule { rule_of result ≡ rate_rule }
+    ensures local { result.global ≡ false }
+{
+    number(alloc, "rate", "R", 1, 100).help(
+        "How many times as fast time passes, for track and trains, 1 to 100, without --turns; 1 without it",
     )
 }
 
@@ -179,7 +190,8 @@ fn paced<'a>(alloc: Global) -> Draft<'a>
     ensures app { HasApp result paced_app }
     ensures local { HasNoGlobals result }
 {
-    with_arg(with_arg(laid(alloc), turns(alloc)), clients(alloc))
+    let timed = with_arg(with_arg(laid(alloc), turns(alloc)), rate(alloc));
+    with_arg(timed, clients(alloc))
 }
 
 /// Adds the flags for the log.

@@ -1,6 +1,6 @@
 use Rattle.std.proofs.Common.{codes, map, string_bytes}
 use Rattle.clap.specs.Words.{all_of, found_of, one_of, rows_of}
-use Rattle.command_line.specs.ServerLine.{AreHosts, HasNeededFor, IsNumberIfGiven, IsServerOrder}
+use Rattle.command_line.specs.ServerLine.{AreCompatibleFor, AreHosts, IsNumberIfGiven, IsServerOrder}
 use Rattle.command_line.proofs.Faults.{none_of_part}
 use Rattle.command_line.proofs.server.matched.Goals as goal
 
@@ -13,14 +13,20 @@ returns-in_err-number_if_given-clause-fault c =
 pub returns-in_err-number_if_given-2-clause-fault : goal.returns-in_err-number_if_given-2-clause-fault
 returns-in_err-number_if_given-2-clause-fault c =
     let rows = rows_of (found_of c.args.found.now) in
-    none_of_part (IsNumberIfGiven (one_of (codes "clients") rows) 0 4294967295) (IsServerOrder rows) c.from_residual-in_err-number_if_given-2.result c.in_err-number_if_given-2.field-0.0
-    c.from_residual-in_err-number_if_given-2.ensures.1 (λ order is. (order.clients, is.most_clients)) c.in_err-number_if_given-2.ensures.fault
+    none_of_part (IsNumberIfGiven (one_of (codes "rate") rows) 1 100) (IsServerOrder rows) c.from_residual-in_err-number_if_given-2.result c.in_err-number_if_given-2.field-0.0
+    c.from_residual-in_err-number_if_given-2.ensures.1 (λ order is. (order.rate, is.at_rate)) c.in_err-number_if_given-2.ensures.fault
 
 pub returns-in_err-number_if_given-3-clause-fault : goal.returns-in_err-number_if_given-3-clause-fault
 returns-in_err-number_if_given-3-clause-fault c =
     let rows = rows_of (found_of c.args.found.now) in
-    none_of_part (IsNumberIfGiven (one_of (codes "page") rows) 0 65535) (IsServerOrder rows) c.from_residual-in_err-number_if_given-3.result c.in_err-number_if_given-3.field-0.0
-    c.from_residual-in_err-number_if_given-3.ensures.1 (λ order is. (order.page, is.at_page)) c.in_err-number_if_given-3.ensures.fault
+    none_of_part (IsNumberIfGiven (one_of (codes "clients") rows) 0 4294967295) (IsServerOrder rows) c.from_residual-in_err-number_if_given-3.result c.in_err-number_if_given-3.field-0.0
+    c.from_residual-in_err-number_if_given-3.ensures.1 (λ order is. (order.clients, is.most_clients)) c.in_err-number_if_given-3.ensures.fault
+
+pub returns-in_err-number_if_given-4-clause-fault : goal.returns-in_err-number_if_given-4-clause-fault
+returns-in_err-number_if_given-4-clause-fault c =
+    let rows = rows_of (found_of c.args.found.now) in
+    none_of_part (IsNumberIfGiven (one_of (codes "page") rows) 0 65535) (IsServerOrder rows) c.from_residual-in_err-number_if_given-4.result c.in_err-number_if_given-4.field-0.0
+    c.from_residual-in_err-number_if_given-4.ensures.1 (λ order is. (order.page, is.at_page)) c.in_err-number_if_given-4.ensures.fault
 
 pub returns-in_err-hosts-clause-fault : goal.returns-in_err-hosts-clause-fault
 returns-in_err-hosts-clause-fault c =
@@ -28,8 +34,8 @@ returns-in_err-hosts-clause-fault c =
     none_of_part (AreHosts (all_of (codes "host") rows)) (IsServerOrder rows) c.from_residual-in_err-hosts.result c.in_err-hosts.field-0.0 c.from_residual-in_err-hosts.ensures.1
     (λ order is. (map (λ host. string_bytes host) order.hosts.items, is.by_hosts)) c.in_err-hosts.ensures.fault
 
-pub returns-in_err-check_needed-clause-fault : goal.returns-in_err-check_needed-clause-fault
-returns-in_err-check_needed-clause-fault c =
+pub returns-in_err-check_compatible-clause-fault : goal.returns-in_err-check_compatible-clause-fault
+returns-in_err-check_compatible-clause-fault c =
     let rows = rows_of (found_of c.args.found.now) in
-    none_of_part (HasNeededFor rows) (IsServerOrder rows) c.from_residual.result c.in_err-check_needed.field-0.0 c.from_residual.ensures.1
-    (λ order is. (order, is.needs)) c.in_err-check_needed.ensures.fault
+    none_of_part (AreCompatibleFor rows) (IsServerOrder rows) c.from_residual.result c.in_err-check_compatible.field-0.0 c.from_residual.ensures.1
+    (λ order is. (order, is.compatible)) c.in_err-check_compatible.ensures.fault
