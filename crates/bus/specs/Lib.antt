@@ -4,7 +4,6 @@ pub mod Course
 pub mod Invariant
 pub mod Layout
 pub mod Log
-pub mod Observations
 pub mod State
 pub mod Cycle
 pub mod Own

@@ -2,8 +2,7 @@
 //! outcome out.
 //!
 //! A [`Bus`] takes each [`Event`] by [`Bus::step`] and returns its [`Outcome`], from which
-//! [`Outcome::push_text_for`] makes the text for each client. An [`Observer`] is notified of every
-//! outcome.
+//! [`Outcome::push_text_for`] makes the text for each client.
 //!
 //! ```ignore
 //! let mut bus = Bus::new(alloc, nodes, false)?;
@@ -16,7 +15,6 @@ mod bus;
 mod course;
 mod event;
 pub mod laws;
-mod observer;
 mod sending;
 mod turning;
 
@@ -28,5 +26,4 @@ pub use laws::{
     turns_are_bounded, turns_of_the_time,
 };
 pub use loconet_tcp::Outcome;
-pub use observer::Observer;
 pub use turning::SHORTEST_TURN;

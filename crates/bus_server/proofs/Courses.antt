@@ -11,9 +11,9 @@ use Rattle.bus.specs.declared.event.Event.{Event}
 use Rattle.bus.specs.Bus.{AreEvents, BusState, after_event, after_events, is_event}
 use Rattle.bus.specs.Invariant.{IsInvariant}
 use Rattle.bus.specs.Layout.{layout_event, layout_events}
-use Rattle.bus.specs.Observations.{Observation}
 use Rattle.bus_server.specs.declared.pace.Pace.{Pace}
 use Rattle.bus_server.specs.declared.pace.Pace.TheVariants.{AfterMessages, RealTime}
+use Rattle.bus_server.specs.Observations.{Observation}
 use Rattle.bus_server.specs.Runs.{AreDrawn, RunsByClock, RunsRounds, IsEventRun, Round, logged_in}
 use Rattle.bus_server.specs.Applied.{Handled, Applies, LoggedEvent, RunsEvent, RunsEvents, AppliesAll, ServerState, events_of, with_backlog, without_backlog}
 use Rattle.bus_server.specs.TransportEvents.{Polled, ServerClosed, Accepted, WriteBlocked, PeerClosed, NonePending, TransportEvent, Written, ReadBlocked, Received, Refused}

@@ -10,8 +10,9 @@ use Rattle.bus.specs.declared.event.Event.{Event}
 use Rattle.bus.specs.declared.event.Event.TheVariants.{Connects, Receives, Disconnects, Reports, Elapses, Turn}
 use Rattle.bus.specs.Bus.{BusState, after_event}
 use Rattle.bus.specs.Course.{is_time, micros_in}
-use Rattle.bus.specs.Observations.{Observed, Observation}
+use Rattle.bus_server.specs.Observations.{Observed, Observation}
 use Rattle.layout_core.specs.declared.world.World.{World}
+use Rattle.railway.specs.Railway.{RailwayState}
 use Rattle.loconet_tcp.specs.declared.outcome.Outcome.{Outcome}
 use Rattle.bus.specs.Log.{Extends}
 use Rattle.bus_server.specs.declared.losses.Losses.{Losses}
@@ -58,8 +59,11 @@ shown_more a b c first second h k =
     subst (λ (more : List Observation). Extends a c more) (sym (map-append (λ (one : LoggedEvent). one.observed) first second)) (grows_more a b c (observations_of first) (observations_of second) h k)
 
 -- what was shown of a layout that is this one
-pub seen_world : (a b : Option (List Observation)) (outcome : Outcome) (seen world : World) → seen ≡ world → Extends a b (Observed outcome seen.nodes ∷ []) → Extends a b (Observed outcome world.nodes ∷ [])
-seen_world a b outcome seen world same = subst (λ (w : World). Extends a b (Observed outcome w.nodes ∷ [])) same
+pub seen_layout : (a b : Option (List Observation)) (outcome : Outcome) (seen world : World) (lent railway : Option RailwayState) → seen ≡ world → lent ≡ railway
+    → Extends a b (Observed outcome seen.nodes lent ∷ []) → Extends a b (Observed outcome world.nodes railway ∷ [])
+seen_layout a b outcome seen world lent railway same same_railway grows =
+    subst (λ (r : Option RailwayState). Extends a b (Observed outcome world.nodes r ∷ [])) same_railway
+    (subst (λ (w : World). Extends a b (Observed outcome w.nodes lent ∷ [])) same grows)
 
 -- What is served.
 
@@ -189,16 +193,16 @@ reports_behind count reports turns are h =
 
 -- An outcome was observed, and then what sensors report.
 
-pub observes_first : (outcome : Outcome) (a b : Option (List Observation)) (old : ServerState) → Extends a b (Observed outcome old.nodes ∷ []) → ObservesReports outcome a b old old
+pub observes_first : (outcome : Outcome) (a b : Option (List Observation)) (old : ServerState) → Extends a b (Observed outcome old.nodes old.railway ∷ []) → ObservesReports outcome a b old old
 observes_first outcome a b old grows = ([], grows, refl, refl)
 
 pub observes_more : (outcome next : Outcome) (sensor : ℕ) (occupied : Bool) (a b c : Option (List Observation)) (old mid new : ServerState) → ObservesReports outcome a b old mid
-    → RunsEvent (Reports sensor occupied) (Observed next new.nodes) mid new → Extends b c (Observed next new.nodes ∷ []) → ObservesReports outcome a c old new
+    → RunsEvent (Reports sensor occupied) (Observed next new.nodes new.railway) mid new → Extends b c (Observed next new.nodes new.railway ∷ []) → ObservesReports outcome a c old new
 observes_more outcome next sensor occupied a b c old mid new so_far one grows =
-    let last : LoggedEvent = record { event = Reports sensor occupied; observed = Observed next new.nodes } in (
+    let last : LoggedEvent = record { event = Reports sensor occupied; observed = Observed next new.nodes new.railway } in (
       so_far.0 ++ last ∷ [],
-      subst (λ (more : List Observation). Extends a c (Observed outcome old.nodes ∷ more)) (sym (map-append (λ (one : LoggedEvent). one.observed) so_far.0 (last ∷ [])))
-          (grows_more a b c (Observed outcome old.nodes ∷ observations_of so_far.0) (Observed next new.nodes ∷ []) so_far.1 grows),
+      subst (λ (more : List Observation). Extends a c (Observed outcome old.nodes old.railway ∷ more)) (sym (map-append (λ (one : LoggedEvent). one.observed) so_far.0 (last ∷ [])))
+          (grows_more a b c (Observed outcome old.nodes old.railway ∷ observations_of so_far.0) (Observed next new.nodes new.railway ∷ []) so_far.1 grows),
       ap (list_all is_report) (map-append (λ (one : LoggedEvent). one.event) so_far.0 (last ∷ [])) ∙ list_all-append is_report (events_of so_far.0) (Reports sensor occupied ∷ [])
           ∙ and_from (list_all is_report (events_of so_far.0)) true so_far.2 refl,
       happened_more so_far.0 (last ∷ []) old mid new so_far.3 (new, one, refl),

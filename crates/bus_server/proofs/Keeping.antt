@@ -9,7 +9,7 @@ use Rattle.bus.specs.declared.event.Event.{Event}
 use Rattle.bus.specs.declared.event.Event.TheVariants.{Connects, Receives, Disconnects, Reports, Elapses, Turn}
 use Rattle.loconet_tcp.specs.declared.outcome.Outcome.{Outcome}
 use Rattle.loconet_tcp.specs.declared.outcome.Outcome.TheVariants.{Connected, Disconnected}
-use Rattle.bus.specs.Observations.{Observation}
+use Rattle.bus_server.specs.Observations.{Observation}
 use Rattle.bus.specs.Bus.{BusState}
 use Rattle.loconet_tcp.specs.Texts.{text_for}
 use Rattle.loconet_tcp.specs.ClientLines.{version_text}

@@ -31,7 +31,7 @@ use Rattle.loconet_tcp.specs.declared.request.Request.TheVariants.{Invalid, Send
 use Rattle.std.specs.List.{after_first}
 use Rattle.bus.specs.Bus.{BusState, after_event, client_of, granted, outcome_of, outcome_of_request, pending_text_at, reply_to, request_at}
 use Rattle.bus.specs.Course.{is_time}
-use Rattle.bus.specs.Observations.{Observation}
+use Rattle.bus_server.specs.Observations.{Observation}
 use Rattle.bus.specs.declared.event.Event.{Event}
 use Rattle.bus.specs.declared.event.Event.TheVariants.{Connects, Disconnects, Elapses, Receives, Reports, Turn}
 use Rattle.bus_server.specs.Applied.{Applies, AppliesAll, AreTurns, Handled, LoggedEvent, RunsEvent, RunsEventWithTurns, RunsEvents, ServerState, events_of, has_overflowed, is_connected, transport_events, with_backlog, without_backlog}

@@ -13,7 +13,7 @@ use Rattle.railway.specs.Reports.{full, is_occupied, level_after}
 use Rattle.bus.specs.declared.event.Event.{Event}
 use Rattle.bus.specs.declared.event.Event.TheVariants.{Connects, Receives, Disconnects, Reports, Elapses, Turn}
 use Rattle.bus.specs.Bus.{outcome_of}
-use Rattle.bus.specs.Observations.{Observation}
+use Rattle.bus_server.specs.Observations.{Observation}
 use Rattle.bus_server.specs.Applied.{Applies, AppliesAll, Handled, LoggedEvent, RunsEvent, RunsEvents, ServerState, events_of, with_backlog, without_backlog}
 use Rattle.bus_server.specs.Known.{IsKnown, IsSensorOf, reports_among}
 use Rattle.bus_server.specs.declared.pace.Pace.{Pace}

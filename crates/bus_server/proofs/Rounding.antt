@@ -6,7 +6,7 @@ use Rattle.std.proofs.lemmas.Bool.{and_from, cases_eq}
 use Rattle.std.proofs.lemmas.List.{length-append}
 use Rattle.std.proofs.lemmas.List.Folds.{list_all-append, list_any-append}
 use Rattle.bus.specs.declared.event.Event.TheVariants.{Disconnects}
-use Rattle.bus.specs.Observations.{Observation}
+use Rattle.bus_server.specs.Observations.{Observation}
 use Rattle.bus.specs.Log.{Extends}
 use Rattle.bus_server.specs.Progress.{ProgressesWithoutInput, Snapshot, WritesFront}
 use Rattle.bus_server.specs.Rounds.{AllWrittenTo, HasMoreClients, ServesClients, IsRead, IsRound, IsUnread, IsWrittenTo, is_reading, PreservesRound, AcceptsPending, WritesInARow, backlog_after, refusals, is_write}

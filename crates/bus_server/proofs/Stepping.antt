@@ -9,7 +9,7 @@ use Rattle.bus.specs.declared.event.Event.{Event}
 use Rattle.bus.specs.declared.event.Event.TheVariants.{Connects, Receives, Disconnects, Reports, Elapses, Turn}
 use Rattle.bus.specs.Bus.{outcome_of}
 use Rattle.bus.specs.Course.{is_time}
-use Rattle.bus.specs.Observations.{Observation}
+use Rattle.bus_server.specs.Observations.{Observation}
 use Rattle.bus_server.specs.declared.losses.Losses.{Losses}
 use Rattle.bus_server.specs.Applied.{IsDrawn, RunsEvent, ServerState}
 use Rattle.bus_server.specs.Sensors.{IsDue, IsWithinTurn, asks_sensors, full_report, railway_after, railway_elapsed, reports_after, reports_elapsed}

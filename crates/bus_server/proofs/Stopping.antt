@@ -7,7 +7,7 @@ use Rattle.station_core.specs.Powered.{HasDesk}
 use Rattle.bus.specs.declared.event.Event.{Event}
 use Rattle.bus.specs.Invariant.{IsInvariant}
 use Rattle.bus.specs.Log.{Extends}
-use Rattle.bus.specs.Observations.{Observation}
+use Rattle.bus_server.specs.Observations.{Observation}
 use Rattle.bus_server.specs.declared.running.Stop.{Stop}
 use Rattle.bus_server.specs.declared.running.Stop.TheVariants.{Transport, Clock, Observer, AfterRound}
 use Rattle.bus_server.specs.Applied.{AppliesAll, Handled, LoggedEvent, ServerState, events_of, longest_wait, observations_in, observations_of, overflow_notice, transport_events, with_backlog, without_backlog}

@@ -19,7 +19,7 @@ use Rattle.loconet_tcp.specs.declared.outcome.Outcome.TheVariants.{Sent, TurnsRe
 use Rattle.bus.specs.Bus.{BusState, after_event, client_of, first_bus, is_event, outcome_of}
 use Rattle.bus.specs.Course.{is_time, micros_in}
 use Rattle.bus.specs.Layout.{layout_event}
-use Rattle.bus.specs.Observations.{Observed, Observation, Overflowed}
+use Rattle.bus_server.specs.Observations.{Observed, Observation, Overflowed}
 use Rattle.bus_server.specs.Counts.{disconnected_after}
 use Rattle.bus_server.specs.Sensors.{IsDue, IsWithinTurn, railway_after, reports_after}
 use Rattle.bus_server.specs.ClientQueues.{SendQueues, queues_after}
@@ -60,7 +60,7 @@ IsDrawn (Turn missed) bus nodes old new = IsDraw nodes missed old new
 IsDrawn other bus nodes old new = new ≡ old
 
 -- One event of the bus: the decoders heard what it is to the layout, trains ran in its time, the
--- text of its outcome was enqueued, and the outcome was observed with the decoders as they stand then.
+-- text of its outcome was enqueued, and the outcome was observed with the decoders and the railway as they are then.
 pub record RunsEvent (event : Event) (observed : Observation) (old new : ServerState) : Type 0 where
   pub legal : is_event event ≡ true
   pub bus : new.bus ≡ after_event old.bus event
@@ -73,7 +73,7 @@ pub record RunsEvent (event : Event) (observed : Observation) (old new : ServerS
   pub pace : new.pace ≡ old.pace
   pub has_backlog : new.has_backlog ≡ old.has_backlog
   pub disconnected : new.disconnected ≡ disconnected_after (outcome_of old.bus event) old.disconnected
-  pub saw : observed ≡ Observed (outcome_of old.bus event) new.nodes
+  pub saw : observed ≡ Observed (outcome_of old.bus event) new.nodes new.railway
 
 -- an event of the bus, and its observation
 pub record LoggedEvent : Type 0 where

@@ -1,7 +1,7 @@
 -- The text of a client since it connected, and what of it was written.
 use Rattle.std.specs.Prelude.{ℕ, ◌≡◌, ◌==◌, Bool, false, if◌then◌else◌, List, [], ◌∷◌, ◌++◌, Some, None}
 use Rattle.std.specs.List.{slice_index_or}
-use Rattle.bus.specs.Observations.{Observation, Observed}
+use Rattle.bus_server.specs.Observations.{Observation, Observed}
 use Rattle.loconet_tcp.specs.declared.outcome.Outcome.{Outcome}
 use Rattle.loconet_tcp.specs.declared.outcome.Outcome.TheVariants.{Connected}
 use Rattle.loconet_tcp.specs.Texts.{text_for}
@@ -26,7 +26,7 @@ abbrev pub account_after_outcome : (client : ℕ) → Account → Outcome → Ac
 account_after_outcome i account outcome = record { text = begun i outcome account.text ++ text_for i outcome; written = begun i outcome account.written }
 
 abbrev pub account_observed : (client : ℕ) → Account → Observation → Account
-account_observed i account (Observed outcome nodes) = account_after_outcome i account outcome
+account_observed i account (Observed outcome nodes railway) = account_after_outcome i account outcome
 account_observed i account other = account
 
 abbrev pub account_applied : (client : ℕ) → Account → List LoggedEvent → Account

@@ -8,7 +8,7 @@ use Rattle.railway.specs.Reports.{is_occupied, level_after}
 use Rattle.bus.specs.declared.event.Event.{Event}
 use Rattle.bus.specs.declared.event.Event.TheVariants.{Receives, Reports}
 use Rattle.bus.specs.Bus.{outcome_of}
-use Rattle.bus.specs.Observations.{Observation}
+use Rattle.bus_server.specs.Observations.{Observation}
 use Rattle.bus_server.specs.Applied.{RunsEvent, ServerState, events_of}
 use Rattle.bus_server.specs.Runs.{Round, RunsRounds, logged_in}
 use Rattle.bus_server.specs.Sensors.{asks_sensors}

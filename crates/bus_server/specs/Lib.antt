@@ -6,6 +6,7 @@ pub mod Draws
 pub mod Fronts
 pub mod KeepUp
 pub mod Known
+pub mod Observations
 pub mod PageEvents
 pub mod Paces
 pub mod Progress

@@ -1,7 +1,7 @@
 -- A server as contracts see it, and how it progresses with its transport and its observer.
 use Rattle.std.specs.Prelude.{ℕ, ◌≡◌, ◌⊎◌, Bool, true, false, List, [], ◌∷◌, map, Option}
 use Rattle.bus.specs.State.{bus_state}
-use Rattle.bus.specs.Observations.{Observation}
+use Rattle.bus_server.specs.Observations.{Observation}
 use Rattle.decoder_node.specs.declared.node.NodeSpec.{NodeSpec}
 use Rattle.layout_core.specs.Nodes.{spec_of}
 use Rattle.bus.specs.Log.{Extends}

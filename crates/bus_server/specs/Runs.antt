@@ -9,7 +9,7 @@ use Rattle.bus.specs.declared.event.Event.{Event}
 use Rattle.bus.specs.Bus.{AreEvents, BusState, after_event, after_events}
 use Rattle.bus.specs.Course.{micros_in}
 use Rattle.bus.specs.Layout.{layout_events}
-use Rattle.bus.specs.Observations.{Observation, Skipped}
+use Rattle.bus_server.specs.Observations.{Observation, Skipped}
 use Rattle.bus.specs.Cycle.{RunsInTime}
 use Rattle.bus_server.specs.declared.hub.Hub.{Hub}
 use Rattle.bus_server.specs.declared.losses.Losses.{Losses}

@@ -7,7 +7,7 @@ use Rattle.loconet_tcp.specs.declared.outcome.Outcome.{Outcome}
 use Rattle.bus.specs.Bus.{after_event, is_event, outcome_of}
 use Rattle.bus.specs.Layout.{layout_event}
 use Rattle.bus.specs.Log.{Extends}
-use Rattle.bus.specs.Observations.{Observation, Observed}
+use Rattle.bus_server.specs.Observations.{Observation, Observed}
 use Rattle.bus_server.specs.Applied.{LoggedEvent, RunsEvents, ServerState, events_of, observations_of}
 use Rattle.bus_server.specs.ClientQueues.{queues_after}
 use Rattle.bus_server.specs.Counts.{disconnected_after}
@@ -35,12 +35,13 @@ pub record RunsOnBus (event : Event) (observed : Observation) (old new : ServerS
   pub has_backlog : new.has_backlog ≡ old.has_backlog
   pub disconnected : new.disconnected
       ≡ disconnected_after (outcome_of old.bus event) old.disconnected
-  pub saw : observed ≡ Observed (outcome_of old.bus event) new.nodes
+  pub saw : observed ≡ Observed (outcome_of old.bus event) new.nodes new.railway
 
 -- An outcome was observed, and then what sensors report.
 abbrev pub ObservesReports : Outcome → (observed observed' : Option (List Observation))
     → (old new : ServerState) → Type 0
 ObservesReports outcome observed observed' old new =
     (reports : List LoggedEvent)
-    × Extends observed observed' (Observed outcome old.nodes ∷ observations_of reports)
+    × Extends observed observed'
+    (Observed outcome old.nodes old.railway ∷ observations_of reports)
     × (list_all is_report (events_of reports) ≡ true) × RunsEvents reports old new

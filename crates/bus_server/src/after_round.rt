@@ -4,8 +4,8 @@ ghost use Rattle.input_text.specs.Write.{failed_after};
 ghost use Rattle.layout_core.specs.Nodes.{spec_of};
 ghost use Rattle.bus.specs.Log.{Extends};
 
+use crate::observer::Observer;
 use crate::transport::Transport;
-use bus::Observer;
 use layout_core::World;
 
 /// What a program does between two rounds.

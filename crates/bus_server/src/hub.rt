@@ -1,5 +1,5 @@
 //! The bus, with a railway beside it and a send queue for each client.
-ghost use Rattle.std.specs.Prelude.{◌≡◌, ◌<◌, ◌≤◌, ◌&&◌, ◌∷◌, [], Bool, IfNone, IfOk, IfSome, IsTrue, OnSome, is_some, length, not, slice_index_or, slice_set, drop, take, map, None, Some, true};
+ghost use Rattle.std.specs.Prelude.{◌≡◌, ◌<◌, ◌≤◌, ◌&&◌, ◌∷◌, [], Bool, IfNone, IfOk, IfSome, IsTrue, OnSome, is_some, length, not, slice_index_or, slice_set, drop, take, map, option_copied, None, Some, true};
 ghost use Rattle.std.specs.List.{list_all};
 ghost use Rattle.bus_server.specs.Queues.{is_within_capacity, queued};
 ghost use Rattle.bus_server.specs.ClientQueues.{names_client, enqueued_all, queues_after};
@@ -42,7 +42,7 @@ impl Hub {
     ghost use Rattle.bus_server.specs.Draws.{IsDraw};
     ghost use Rattle.bus.specs.Bus.{client_of, is_event, outcome_of};
     ghost use Rattle.bus.specs.State.{bus_state};
-    ghost use Rattle.bus.specs.Observations.{Observed};
+    ghost use Rattle.bus_server.specs.Observations.{Observed};
     ghost use Rattle.bus.specs.declared.event.Event.TheVariants.{Elapses, Reports, Turn};
     ghost use Rattle.bus_server.specs.Rounds.{backlog_after};
     ghost use Rattle.bus_server.specs.Progress.{HasReported, WritesFront, state_of};
@@ -91,7 +91,8 @@ impl Hub {
         ensures outcome { result ≡ outcome_of (bus_state self.old.bus) event }
         ensures specs { map spec_of self.new.bus.world.nodes
             ≡ map spec_of self.old.bus.world.nodes }
-        ensures runs { RunsOnBus event (Observed result self.new.bus.world.nodes)
+        ensures runs { RunsOnBus event
+            (Observed result self.new.bus.world.nodes self.new.sensors.railway)
             (state_of self.old) (state_of self.new) }
     {
         let outcome = self.bus.step(event);
@@ -109,7 +110,8 @@ impl Hub {
         ensures specs { map spec_of self.new.bus.world.nodes
             ≡ map spec_of self.old.bus.world.nodes }
         ensures happens { (missed : ℕ)
-            × RunsEvent (Elapses micros missed) (Observed result self.new.bus.world.nodes)
+            × RunsEvent (Elapses micros missed)
+            (Observed result self.new.bus.world.nodes self.new.sensors.railway)
             (state_of self.old) (state_of self.new) }
     {
         let missed = self.draw_within(micros);
@@ -123,8 +125,9 @@ impl Hub {
         ensures specs { map spec_of self.new.bus.world.nodes
             ≡ map spec_of self.old.bus.world.nodes }
         ensures happens { (missed : ℕ)
-            × RunsEvent (Turn missed) (Observed result self.new.bus.world.nodes) (state_of self.old)
-            (state_of self.new) }
+            × RunsEvent (Turn missed)
+            (Observed result self.new.bus.world.nodes self.new.sensors.railway)
+            (state_of self.old) (state_of self.new) }
     {
         let missed = self.draw();
         let rest = self.bus.remaining();
@@ -141,7 +144,8 @@ impl Hub {
         ensures fewer { OnSome result
             (length self.new.sensors.due.items < length self.old.sensors.due.items) }
         ensures happens { IfSome result (λ outcome. (sensor : ℕ) × (occupied : Bool)
-            × RunsEvent (Reports sensor occupied) (Observed outcome self.new.bus.world.nodes)
+            × RunsEvent (Reports sensor occupied)
+            (Observed outcome self.new.bus.world.nodes self.new.sensors.railway)
             (state_of self.old) (state_of self.new)) }
     {
         let report = self.sensors.next()?;
@@ -149,6 +153,13 @@ impl Hub {
             sensor: report.sensor,
             occupied: report.occupied,
         }))
+    }
+
+    /// The railway, if there is one.
+    pub(crate) fn railway(&self) -> Option<&Railway>
+        ensures { option_copied result ≡ self.now.sensors.railway }
+    {
+        self.sensors.railway.as_ref()
     }
 
     /// Runs the trains for `micros` microseconds, as the decoders do now.

@@ -1,6 +1,6 @@
 //! The server of a bus: clients are accepted, read, written to and disconnected, round after round,
 //! while track time elapses and trains run. A [`Transport`] connects the clients, a [`TimeSource`]
-//! is the clock and a `bus::Observer` the log, so there are no sockets, no clock and no printing
+//! is the clock and a [`Observer`] the log, so there are no sockets, no clock and no printing
 //! here.
 //!
 //! [`Server::run`] is the loop. [`Losses`] draws the packets that decoders miss.
@@ -12,6 +12,7 @@ mod after_round;
 mod hub;
 pub mod laws;
 mod losses;
+mod observer;
 mod pace;
 mod page_clients;
 mod running;
@@ -25,6 +26,7 @@ mod transport;
 pub use crate::losses::Losses;
 pub use after_round::AfterRound;
 pub use bus::MAX_CLIENTS;
+pub use observer::Observer;
 pub use pace::Pace;
 pub use page_clients::PageClients;
 pub use railway::Railway;

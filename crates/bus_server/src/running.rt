@@ -9,11 +9,11 @@ ghost use Rattle.bus_server.specs.TransportEvents.{TransportEvent};
 ghost use Rattle.bus_server.specs.Runs.{RunsByClock, IsRun, Round, RunsLogged, RunSnapshot, skipped, run_snapshot};
 
 use crate::after_round::AfterRound;
+use crate::observer::Observer;
 use crate::pace::Pace;
 use crate::server::Server;
 use crate::time_source::TimeSource;
 use crate::transport::Transport;
-use bus::Observer;
 
 /// The longest time of one round by the clock, in microseconds: what is beyond it is skipped.
 const LONGEST_STEP: u64 = 1_000_000;

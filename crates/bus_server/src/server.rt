@@ -1,5 +1,5 @@
 //! A server and its rounds.
-ghost use Rattle.std.specs.Prelude.{◌≡◌, ◌<◌, ◌≤◌, IfOk, IsTrue, List, OnErr, OnOk, ◌++◌, false, is_some, map, true};
+ghost use Rattle.std.specs.Prelude.{◌≡◌, ◌<◌, ◌≤◌, IfOk, IsTrue, List, OnErr, OnOk, ◌++◌, false, is_some, map, option_copied, true};
 ghost use Rattle.decoder_node.specs.declared.node.NodeSpec.{NodeSpec};
 ghost use Rattle.layout_core.specs.Nodes.{spec_of};
 ghost use Rattle.bus.specs.Log.{Extends};
@@ -16,9 +16,10 @@ ghost use Rattle.bus_server.specs.Stops.{BeginsEvent, BeginsTurns, RunsPart, Sto
 
 use crate::hub::Hub;
 use crate::losses::Losses;
+use crate::observer::Observer;
 use crate::pace::Pace;
 use crate::transport::{IoOutcome, Transport};
-use bus::{Event, Observer, Outcome, SHORTEST_TURN};
+use bus::{Event, Outcome, SHORTEST_TURN};
 use layout_core::{NodeList, World};
 use railway::Railway;
 use std::alloc::{AllocError, Global};
@@ -68,6 +69,13 @@ impl Server {
         ensures { result.now ≡ self.now.hub.bus.world }
     {
         self.hub.bus.world()
+    }
+
+    /// The railway, if there is one.
+    pub fn railway(&self) -> Option<&Railway>
+        ensures { option_copied result ≡ (state_of self.now.hub).railway }
+    {
+        self.hub.railway()
     }
 
     /// Whether a client, 0 to 7, is connected.
@@ -424,9 +432,11 @@ impl Server {
         ensures log { ObservesReports outcome.now (P.observed observer.old)
             (P.observed observer.new) (state_of self.old.hub) (state_of self.new.hub) }
     {
-        observer.observe(outcome, self.hub.bus.world())?;
+        let hub = &self.hub;
+        observer.observe(outcome, hub.bus.world(), hub.railway())?;
         while let Some(report) = self.hub.report() {
-            observer.observe(&report, self.hub.bus.world())?;
+            let hub = &self.hub;
+            observer.observe(&report, hub.bus.world(), hub.railway())?;
         }
         Ok(())
     }

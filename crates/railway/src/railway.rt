@@ -165,9 +165,10 @@ impl Railway {
         conflicts(track.blocks.as_slice(), self.trains.as_slice())
     }
 
-    /// Returns the trains, as they are.
+    /// Returns the trains, as they are: at most 64.
     pub fn trains(&self) -> &[TrainState]
         ensures trains { result.now ≡ self.now.trains }
+        ensures few { length result.now ≤ 64 }
     {
         self.trains.as_slice()
     }

@@ -2,7 +2,7 @@ use Rattle.std.proofs.Common.{◌∙◌, ap, if◌then◌else◌, length, refl}
 use Rattle.std.specs.List.{list_all}
 use Rattle.loconet_tcp.specs.declared.outcome.Outcome.{Outcome}
 use Rattle.bus.specs.State.{bus_state}
-use Rattle.bus.specs.Observations.{Observed}
+use Rattle.bus_server.specs.Observations.{Observed}
 use Rattle.bus_server.specs.Queues.{is_within_capacity}
 use Rattle.bus_server.specs.Counts.{disconnected_after}
 use Rattle.bus_server.specs.ClientQueues.{names_client, queues_after}
@@ -35,5 +35,5 @@ returns-clause-runs c =
       pace = refl;
       has_backlog = refl;
       disconnected = c.disconnected_after-self.ensures ∙ ap (λ (outcome : Outcome). disconnected_after outcome c.args.self.now.disconnected) outcome;
-      saw = ap (λ (outcome : Outcome). Observed outcome c.step-outcome.new.self.world.nodes) outcome;
+      saw = ap (λ (outcome : Outcome). Observed outcome c.step-outcome.new.self.world.nodes c.answer.new.self.railway) outcome;
     }

@@ -1,7 +1,7 @@
 use Rattle.std.proofs.Common.{◌≡◌, ◌∷◌, ◌++◌, ℕ, ap, refl, subst, ◌∙◌, ◌≤◌, arith}
 use Rattle.std.proofs.lemmas.Result.{on_ok_weaker, on_err_weaker}
 use Rattle.bus.specs.Bus.{outcome_of}
-use Rattle.bus.specs.Observations.{Observed, Observation}
+use Rattle.bus_server.specs.Observations.{Observed, Observation}
 use Rattle.bus_server.specs.Progress.{state_of}
 use Rattle.bus_server.specs.Applied.{AreTurns, LoggedEvent, events_of, turns_after}
 use Rattle.bus_server.proofs.Going.{happened_more, reports_behind, same_pace, shown_more, turns_none}
@@ -15,7 +15,7 @@ returns-clause-happened g c =
     let old = state_of c.args.self.now.hub in
     let mid = state_of c.step-outcome.new.self in
     let told = state_of c.observe.new.self.hub in
-    let observed : Observation = Observed c.step-outcome.result c.step-outcome.new.self.bus.world.nodes in
+    let observed : Observation = Observed c.step-outcome.result c.step-outcome.new.self.bus.world.nodes c.step-outcome.new.self.sensors.railway in
     let one : LoggedEvent = record { event = event; observed = observed } in
     let happens = client_runs event observed old mid c.requires.clients c.requires.reported c.step-outcome.ensures.runs in
     let reports = c.observe.ensures.log in
@@ -37,7 +37,7 @@ pub returns-in_err-observe-clause-stops : goal.returns-in_err-observe-clause-sto
 returns-in_err-observe-clause-stops g c =
     let old = state_of c.args.self.now.hub in
     let mid = state_of c.step-outcome.new.self in
-    let observed : Observation = Observed c.step-outcome.result c.step-outcome.new.self.bus.world.nodes in
+    let observed : Observation = Observed c.step-outcome.result c.step-outcome.new.self.bus.world.nodes c.step-outcome.new.self.sensors.railway in
     let one : LoggedEvent = record { event = c.args.event; observed = observed } in
     let happens = client_runs c.args.event observed old mid c.requires.clients c.requires.reported c.step-outcome.ensures.runs in
     let reports = c.observe.ensures.log in
@@ -53,7 +53,7 @@ returns-clause-stops g c =
     let old = state_of c.args.self.now.hub in
     let mid = state_of c.step-outcome.new.self in
     let told = state_of c.observe.new.self.hub in
-    let observed : Observation = Observed c.step-outcome.result c.step-outcome.new.self.bus.world.nodes in
+    let observed : Observation = Observed c.step-outcome.result c.step-outcome.new.self.bus.world.nodes c.step-outcome.new.self.sensors.railway in
     let one : LoggedEvent = record { event = event; observed = observed } in
     let happens = client_runs event observed old mid c.requires.clients c.requires.reported c.step-outcome.ensures.runs in
     let reports = c.observe.ensures.log in

@@ -3,7 +3,7 @@ use Rattle.std.proofs.lemmas.Result.{on_ok_weaker, on_err_weaker}
 use Rattle.bus_server.specs.Progress.{snapshot, state_of}
 use Rattle.bus_server.specs.Rounds.{PreservesRound}
 use Rattle.bus_server.specs.Applied.{has_overflowed, observations_of}
-use Rattle.bus.specs.Observations.{Overflowed}
+use Rattle.bus_server.specs.Observations.{Overflowed}
 use Rattle.bus_server.specs.TransportEvents.{ServerClosed}
 use Rattle.bus_server.proofs.Going.{calm_nowhere, goes_one, grows_more}
 use Rattle.bus_server.proofs.Keeping.{left_is_not_late, left_keeps, only_leaves}

@@ -1,6 +1,7 @@
 use Rattle.std.proofs.Common.{rules}
 use Rattle.bus_server.specs.Progress.{state_of}
-use Rattle.bus_server.proofs.Going.{observes_first, observes_more, seen_world}
+use Rattle.std.specs.Prelude.{option_copied}
+use Rattle.bus_server.proofs.Going.{observes_first, observes_more, seen_layout}
 use Rattle.bus_server.proofs.server.Server.observe.Goals as goal
 
 pub loop-report-init : goal.loop-report-init
@@ -10,7 +11,7 @@ loop-report-init g c =
     record {
       observes = search rules;
       log = observes_first c.args.outcome.now (observed c.args.observer.now) (observed c.observe.new.self) (state_of hub)
-          (seen_world (observed c.args.observer.now) (observed c.observe.new.self) c.args.outcome.now c.world.result.now hub.bus.world c.world.ensures c.observe.ensures.observed);
+          (seen_layout (observed c.args.observer.now) (observed c.observe.new.self) c.args.outcome.now c.world.result.now hub.bus.world (option_copied c.railway.result) hub.sensors.railway c.world.ensures c.railway.ensures c.observe.ensures.observed);
     }
 
 pub loop-report-preserved : goal.loop-report-preserved
@@ -23,7 +24,7 @@ loop-report-preserved g c =
       observes = search rules;
       log = observes_more c.args.outcome.now c.in-Some.report happens.0 happens.1 (observed c.args.observer.now) (observed first.observer) (observed c.observe-in-Some.new.self) (state_of c.args.self.now.hub) (state_of first.self.hub) (state_of hub)
           first.invariant.log happens.2
-          (seen_world (observed first.observer) (observed c.observe-in-Some.new.self) c.in-Some.report c.world-in-Some.result.now hub.bus.world c.world-in-Some.ensures c.observe-in-Some.ensures.observed);
+          (seen_layout (observed first.observer) (observed c.observe-in-Some.new.self) c.in-Some.report c.world-in-Some.result.now hub.bus.world (option_copied c.railway-in-Some.result) hub.sensors.railway c.world-in-Some.ensures c.railway-in-Some.ensures c.observe-in-Some.ensures.observed);
     }
 
 pub returns-in_err-observe-2-clause-log : goal.returns-in_err-observe-2-clause-log
@@ -34,4 +35,4 @@ returns-in_err-observe-2-clause-log g c =
     let hub = c.report.new.self in
     observes_more c.args.outcome.now c.in-Some.report happens.0 happens.1 (observed c.args.observer.now) (observed first.observer) (observed c.observe-in-Some.new.self) (state_of c.args.self.now.hub) (state_of first.self.hub) (state_of hub)
     first.invariant.log happens.2
-    (seen_world (observed first.observer) (observed c.observe-in-Some.new.self) c.in-Some.report c.world-in-Some.result.now hub.bus.world c.world-in-Some.ensures c.observe-in-Some.ensures.observed)
+    (seen_layout (observed first.observer) (observed c.observe-in-Some.new.self) c.in-Some.report c.world-in-Some.result.now hub.bus.world (option_copied c.railway-in-Some.result) hub.sensors.railway c.world-in-Some.ensures c.railway-in-Some.ensures c.observe-in-Some.ensures.observed)

@@ -1,7 +1,7 @@
 use Rattle.std.proofs.Common.{[], append-nil, arith, List, subst, sym}
 use Rattle.bus_server.proofs.Stopping.{whatever_fails}
 use Rattle.bus.specs.Log.{Extends}
-use Rattle.bus.specs.Observations.{Observation}
+use Rattle.bus_server.specs.Observations.{Observation}
 use Rattle.bus_server.specs.Progress.{state_of}
 use Rattle.bus_server.specs.Runs.{skipped}
 use Rattle.bus_server.proofs.Going.{no_time}

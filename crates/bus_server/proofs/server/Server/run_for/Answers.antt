@@ -1,6 +1,6 @@
 use Rattle.std.proofs.Common.{◌≡◌, ◌+◌, ◌∷◌, ◌++◌, [], ℕ, arith, subst}
 use Rattle.bus.specs.declared.event.Event.TheVariants.{Elapses}
-use Rattle.bus.specs.Observations.{Observed, Observation}
+use Rattle.bus_server.specs.Observations.{Observed, Observation}
 use Rattle.bus_server.specs.Progress.{IsObserved, state_of}
 use Rattle.bus_server.specs.Applied.{LoggedEvent, RunsFor}
 use Rattle.bus_server.proofs.Going.{grows_none, more_time, no_time, shown_more}
@@ -19,7 +19,7 @@ loop-rest-preserved g c =
     let piece = c.min-piece.result in
     let so_far = c.loop-rest.invariant.log in
     let happens = c.elapse-outcome.ensures.happens in
-    let observed : Observation = Observed c.elapse-outcome.result c.elapse-outcome.new.self.bus.world.nodes in
+    let observed : Observation = Observed c.elapse-outcome.result c.elapse-outcome.new.self.bus.world.nodes c.elapse-outcome.new.self.sensors.railway in
     let one : LoggedEvent = record { event = Elapses piece happens.0; observed = observed } in
     let reports = c.observe.ensures.log in
     record {
@@ -48,7 +48,7 @@ returns-in_err-observe-clause-stops g c =
     let piece = c.min-piece.result in
     let so_far = c.loop-rest.invariant.log in
     let happens = c.elapse-outcome.ensures.happens in
-    let observed : Observation = Observed c.elapse-outcome.result c.elapse-outcome.new.self.bus.world.nodes in
+    let observed : Observation = Observed c.elapse-outcome.result c.elapse-outcome.new.self.bus.world.nodes c.elapse-outcome.new.self.sensors.railway in
     let one : LoggedEvent = record { event = Elapses piece happens.0; observed = observed } in
     let reports = c.observe.ensures.log in
     whatever_fails c.from_residual.result (

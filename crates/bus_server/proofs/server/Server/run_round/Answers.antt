@@ -7,7 +7,7 @@ use Rattle.bus_server.specs.Applied.{longest_wait, transport_events, observation
 use Rattle.bus_server.specs.TransportEvents.{Polled, TransportEvent}
 use Rattle.bus_server.proofs.Going.{grows_more, grows_none}
 use Rattle.bus_server.proofs.Stopping.{failed_on, has_logged, passed_on, stops_by_clock}
-use Rattle.bus.specs.Observations.{Observation}
+use Rattle.bus_server.specs.Observations.{Observation}
 use Rattle.bus_server.specs.Stops.{StopsLogged}
 use Rattle.bus_server.proofs.server.Server.run_round.Goals as goal
 

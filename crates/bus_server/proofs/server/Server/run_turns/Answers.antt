@@ -1,6 +1,6 @@
 use Rattle.std.proofs.Common.{[], ◌∷◌, ◌++◌, refl, ◌+◌, arith}
 use Rattle.bus.specs.declared.event.Event.TheVariants.{Turn}
-use Rattle.bus.specs.Observations.{Observed, Observation}
+use Rattle.bus_server.specs.Observations.{Observed, Observation}
 use Rattle.bus_server.specs.Progress.{state_of}
 use Rattle.bus_server.specs.Applied.{LoggedEvent}
 use Rattle.bus_server.proofs.Going.{grows_none, happened_then, shown_more, turns_more}
@@ -14,7 +14,7 @@ pub loop-turn-preserved : goal.loop-turn-preserved
 loop-turn-preserved g c =
     let so_far = c.loop-turn.invariant.happened in
     let missed = c.turn-outcome.ensures.happens.0 in
-    let observed : Observation = Observed c.turn-outcome.result c.turn-outcome.new.self.bus.world.nodes in
+    let observed : Observation = Observed c.turn-outcome.result c.turn-outcome.new.self.bus.world.nodes c.turn-outcome.new.self.sensors.railway in
     let one : LoggedEvent = record { event = Turn missed; observed = observed } in
     let reports = c.observe.ensures.log in
     record {
@@ -35,7 +35,7 @@ pub returns-in_err-observe-clause-stops : goal.returns-in_err-observe-clause-sto
 returns-in_err-observe-clause-stops g c =
     let so_far = c.loop-turn.invariant.happened in
     let missed = c.turn-outcome.ensures.happens.0 in
-    let observed : Observation = Observed c.turn-outcome.result c.turn-outcome.new.self.bus.world.nodes in
+    let observed : Observation = Observed c.turn-outcome.result c.turn-outcome.new.self.bus.world.nodes c.turn-outcome.new.self.sensors.railway in
     let one : LoggedEvent = record { event = Turn missed; observed = observed } in
     let reports = c.observe.ensures.log in
     whatever_fails c.from_residual.result (

@@ -1,12 +1,13 @@
-//! Observers of a bus.
-ghost use Rattle.std.specs.Prelude.{◌≡◌, ◌<◌, ◌∷◌, [], List, Option, map};
+//! Observers of a server.
+ghost use Rattle.std.specs.Prelude.{◌≡◌, ◌<◌, ◌∷◌, [], List, Option, map, option_copied};
 ghost use Rattle.decoder_node.specs.declared.node.NodeSpec.{NodeSpec};
 ghost use Rattle.layout_core.specs.Nodes.{spec_of};
 ghost use Rattle.bus.specs.Log.{Extends};
-ghost use Rattle.bus.specs.Observations.{Observed, Observation, Skipped, Overflowed};
+ghost use Rattle.bus_server.specs.Observations.{Observed, Observation, Skipped, Overflowed};
 
 use layout_core::World;
 use loconet_tcp::Outcome;
+use railway::Railway;
 
 /// Observes what happens on a bus, as it happens.
 pub trait Observer {
@@ -19,12 +20,17 @@ pub trait Observer {
     /// All observations so far, in order, if they are known.
     ghost observed: { Self → Option (List Observation) };
 
-    /// Observes an outcome and the layout after it.
-    fn observe(&mut self, outcome: &Outcome, world: &World) -> Result<(), Self::Fault>
+    /// Observes an outcome, with the layout and the railway, if there is one, after it.
+    fn observe(
+        &mut self,
+        outcome: &Outcome,
+        world: &World,
+        railway: Option<&Railway>,
+    ) -> Result<(), Self::Fault>
         requires { map spec_of world.now.nodes ≡ decoder_specs self.old }
         ensures decoder_specs { decoder_specs self.new ≡ decoder_specs self.old }
         ensures observed { Extends (observed self.old) (observed self.new)
-            (Observed outcome.now world.now.nodes ∷ []) };
+            (Observed outcome.now world.now.nodes (option_copied railway.entry) ∷ []) };
 
     /// Observes that the queue of a client, 0 to 7, overflowed and that its connection is closed.
     fn overflowed(&mut self, client: u8) -> Result<(), Self::Fault>
