@@ -3,5 +3,6 @@ pub mod Lines
 pub mod Listening
 pub mod LogQueues
 pub mod Printers
+pub mod RailwayLines
 pub mod SentStates
 pub mod Verbosities

@@ -9,6 +9,7 @@ use Rattle.layout_core.specs.DecoderStates.{decoder_line, same_decoder_state, de
 use Rattle.ln_ops.specs.Message.{op_of}
 use Rattle.ln_ops.specs.declared.op.Op.{Op}
 use Rattle.ln_ops.specs.declared.op.Op.TheVariants.{SlotRead, SlotData}
+use Rattle.railway.specs.declared.train.TrainState.{TrainState}
 use Rattle.roster.specs.Entry.{Entry}
 use Rattle.show_text.specs.Lines.{track_text}
 use Rattle.describe.specs.Messages.{message_words}
@@ -17,26 +18,27 @@ use Rattle.loconet_tcp.specs.declared.outcome.Outcome.TheVariants.{Nothing, Conn
 use Rattle.loconet_tcp.specs.ClientLines.{hex_words}
 use Rattle.loconet_tcp.specs.Texts.{messages_in}
 
--- The state of a printer: the turns, the clients that have disconnected, and the state of each
--- decoder when it was last printed, or at the start.
+-- The state of a printer: the turns, the clients that have disconnected, the state of each decoder
+-- when it was last printed, or at the start, and the trains at the last outcome, or at the start.
 pub record PrinterState : Type 0 where
   pub turns : ℕ
   pub disconnected : ℕ
   pub decoder_states : List DecoderState
+  pub trains : List TrainState
 
 -- at the start
-abbrev pub initial_printer_state : (decoder_states : List DecoderState) → PrinterState
-initial_printer_state decoder_states = record { turns = 0; disconnected = 0; decoder_states = decoder_states }
+abbrev pub initial_printer_state : (decoder_states : List DecoderState) → List TrainState → PrinterState
+initial_printer_state decoder_states trains = record { turns = 0; disconnected = 0; decoder_states = decoder_states; trains = trains }
 
 -- One more. A count stays at 2 ^ 64 - 1: that many turns last three thousand million years.
 abbrev pub saturating_successor : ℕ → ℕ
 saturating_successor count = if nat_lt count 0xFFFFFFFFFFFFFFFF then count + 1 else count
 
--- the printer's state after an outcome, with the decoders in these states
-abbrev pub printer_state_after : PrinterState → Outcome → (decoder_states : List DecoderState) → PrinterState
-printer_state_after before (Disconnected client) decoder_states = record before { disconnected = saturating_successor before.disconnected }
-printer_state_after before (TurnBegan packet) decoder_states = record before { turns = saturating_successor before.turns; decoder_states = decoder_states }
-printer_state_after before other decoder_states = before
+-- the printer's state after an outcome, with the decoders in these states, and these trains
+abbrev pub printer_state_after : PrinterState → Outcome → (decoder_states : List DecoderState) → List TrainState → PrinterState
+printer_state_after before (Disconnected client) decoder_states trains = record before { disconnected = saturating_successor before.disconnected; trains = trains }
+printer_state_after before (TurnBegan packet) decoder_states trains = record before { turns = saturating_successor before.turns; decoder_states = decoder_states; trains = trains }
+printer_state_after before other decoder_states trains = record before { trains = trains }
 
 -- the action of a client, 0 to 7; the log counts clients from 1
 abbrev pub client_line : (client : ℕ) → (does : List ℕ) → List ℕ

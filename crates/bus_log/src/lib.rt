@@ -5,9 +5,8 @@
 //! not received, and sends them.
 //!
 //! ```ignore
-//! let mut printer = Printer::new(output, roster, track, world);
-//! let outcome = bus.step(event);
-//! printer.observe(&outcome, bus.world())?;
+//! let mut printer = Printer::new(log, roster, verbosity, server.world(), server.railway());
+//! server.run(&mut transport, &mut clock, &mut printer, &mut after_round, most)?;
 //! ```
 #![tactic(auto)]
 
@@ -17,6 +16,7 @@ mod log_output;
 mod log_queue;
 mod messages;
 mod printer;
+mod railway_lines;
 mod sent_states;
 mod verbosity;
 

@@ -1,5 +1,5 @@
 //! Printing the outcomes of a bus.
-ghost use Rattle.std.specs.Prelude.{◌≡◌, ◌<◌, ◌/◌, None, List, [], ◌∷◌, if◌then◌else◌, length, map};
+ghost use Rattle.std.specs.Prelude.{◌≡◌, ◌<◌, ◌/◌, None, List, [], ◌∷◌, if◌then◌else◌, length, map, option_copied};
 ghost use Rattle.std.specs.Option.{option_to_list};
 ghost use Rattle.dcc_packet.specs.Sent.{idle_bytes};
 ghost use Rattle.std.specs.List.{slice_index_or};
@@ -9,18 +9,22 @@ ghost use Rattle.layout_core.specs.DecoderStates.{decoder_line, decoder_state_of
 ghost use Rattle.roster.specs.Entry.{Entry, spec_of as entry_spec};
 ghost use Rattle.bus_log.specs.Decoders.{entries_of, specs_of};
 ghost use Rattle.bus_log.specs.LogQueues.{after_lines};
+ghost use Rattle.bus_log.specs.RailwayLines.{trains_of};
 ghost use Rattle.bus_log.specs.Lines.{changed_lines, client_line, is_slot_read, lines_unless, node_message, overflow_line, saturating_successor, packet_lines, sent_line, skipped_line};
 
 use crate::log_queue::LogQueue;
 use crate::messages::print_message;
+use crate::railway_lines::{Trains, print_railway, trains_of};
 use crate::verbosity::Verbosity;
 use arrayvec::{ArrayString, ArrayVec};
-use bus::{Observer, Outcome};
+use bus::Outcome;
+use bus_server::Observer;
 use dcc_packet::{Packet, idle};
 use decoder_node::{MAX_NODES, NodeList, NodeSpec};
 use layout_core::{DecoderState, World};
 use ln_frame::Msg;
 use ln_ops::{Op, read};
+use railway::Railway;
 use roster::Roster;
 use show_text::{Line, track_line};
 use std::convert::Infallible;
@@ -43,29 +47,35 @@ pub struct Printer<'a> {
     pub(crate) turns: u64,
     /// The number of clients that have disconnected.
     pub(crate) disconnected: u64,
+    /// The trains at the last outcome, or at the start.
+    pub(crate) trains: Trains,
     ghost as_many: { length decoder_states.items ≡ length (entries_of roster) },
 }
 
 impl<'a> Printer<'a> {
-    ghost use Rattle.bus_log.specs.Printers.{outcome_lines, printer_state, decoder_states_of};
+    ghost use Rattle.bus_log.specs.Printers.{observed_lines, outcome_lines, printer_state, decoder_states_of};
+    ghost use Rattle.bus_log.specs.RailwayLines.{railway_lines};
     ghost use Rattle.bus_log.specs.Lines.{initial_printer_state, line_at, printer_state_after};
     ghost use Rattle.loconet_tcp.specs.declared.outcome.Outcome.TheVariants.{TurnBegan};
 
-    /// Creates a printer for a layout with the decoders of this roster, or none.
+    /// Creates a printer for a layout with the decoders of this roster, or none, and for the
+    /// railway beside it, if there is one.
     ///
-    /// The present states of the decoders are not printed.
+    /// The present states of the decoders and the railway are not printed.
     pub fn new(
         log: LogQueue,
         roster: Option<&'a Roster>,
         verbosity: Verbosity,
         world: &World,
+        railway: Option<&Railway>,
     ) -> Printer<'a>
         requires { map spec_of world.now.nodes ≡ specs_of (entries_of roster) }
         ensures log { result.log ≡ log }
         ensures roster { result.roster ≡ roster.entry }
         ensures verbosity { result.verbosity ≡ verbosity }
         ensures printer_state { printer_state result
-            ≡ initial_printer_state (decoder_states_of world.now.nodes) }
+            ≡ initial_printer_state (decoder_states_of world.now.nodes)
+            (trains_of (option_copied railway.entry)) }
     {
         Printer {
             log,
@@ -74,6 +84,7 @@ impl<'a> Printer<'a> {
             decoder_states: decoder_states(world),
             turns: 0,
             disconnected: 0,
+            trains: trains_of(railway),
         }
     }
 
@@ -160,13 +171,41 @@ impl<'a> Printer<'a> {
         }
     }
 
-    /// Counts a disconnected client or a turn, and keeps the states of the decoders after a turn.
-    fn update(&mut self, outcome: &Outcome, world: &World)
+    /// Prints an outcome, and then what has changed on the railway.
+    fn print_observed(&mut self, outcome: &Outcome, world: &World, railway: Option<&Railway>)
+        requires { map spec_of world.now.nodes ≡ specs_of (entries_of self.old.roster) }
+        ensures printed { self.new.log
+            ≡ after_lines self.old.log
+            (observed_lines self.old outcome.now world.now.nodes (option_copied railway.entry)) }
+        ensures printer_state { printer_state self.new ≡ printer_state self.old }
+        ensures roster { self.new.roster ≡ self.old.roster }
+        ensures verbosity { self.new.verbosity ≡ self.old.verbosity }
+    {
+        self.print(outcome, world);
+        self.print_railway(railway);
+    }
+
+    /// Prints what has changed on the railway since the last outcome.
+    fn print_railway(&mut self, railway: Option<&Railway>)
+        ensures printed { self.new.log
+            ≡ after_lines self.old.log
+            (railway_lines (entries_of self.old.roster) self.old.trains.items
+            (option_copied railway.entry)) }
+        ensures printer_state { printer_state self.new ≡ printer_state self.old }
+        ensures roster { self.new.roster ≡ self.old.roster }
+        ensures verbosity { self.new.verbosity ≡ self.old.verbosity }
+    {
+        print_railway(&mut self.log, self.roster, self.trains.as_slice(), railway);
+    }
+
+    /// Counts a disconnected client or a turn, and keeps the states of the decoders after a turn,
+    /// and the trains.
+    fn update(&mut self, outcome: &Outcome, world: &World, railway: Option<&Railway>)
         requires { map spec_of world.now.nodes ≡ specs_of (entries_of self.old.roster) }
         ensures log { self.new.log ≡ self.old.log }
         ensures printer_state { printer_state self.new
             ≡ printer_state_after (printer_state self.old) outcome.now
-            (decoder_states_of world.now.nodes) }
+            (decoder_states_of world.now.nodes) (trains_of (option_copied railway.entry)) }
         ensures roster { self.new.roster ≡ self.old.roster }
         ensures verbosity { self.new.verbosity ≡ self.old.verbosity }
     {
@@ -178,12 +217,13 @@ impl<'a> Printer<'a> {
             }
             _ => {}
         }
+        self.trains = trains_of(railway);
     }
 }
 
 impl Observer for Printer<'_> {
     ghost use Rattle.bus_log.specs.Verbosities.{is_quiet};
-    ghost use Rattle.bus_log.specs.Printers.{printer_state, decoder_states_of, outcome_lines};
+    ghost use Rattle.bus_log.specs.Printers.{printer_state, decoder_states_of, observed_lines};
     ghost use Rattle.bus_log.specs.Lines.{printer_state_after};
 
     type Fault = Infallible;
@@ -192,24 +232,30 @@ impl Observer for Printer<'_> {
 
     ghost observed = { λ _. None };
 
-    /// Prints an outcome, unless the log is quiet, and records it.
-    fn observe(&mut self, outcome: &Outcome, world: &World) -> Result<(), Infallible>
+    /// Prints an outcome and what has changed on the railway, unless the log is quiet, and records
+    /// both.
+    fn observe(
+        &mut self,
+        outcome: &Outcome,
+        world: &World,
+        railway: Option<&Railway>,
+    ) -> Result<(), Infallible>
         requires { map spec_of world.now.nodes ≡ specs_of (entries_of self.old.roster) }
         ensures printed { self.new.log
             ≡ after_lines self.old.log (lines_unless (is_quiet self.old.verbosity)
-            (outcome_lines self.old outcome.now world.now.nodes)) }
+            (observed_lines self.old outcome.now world.now.nodes (option_copied railway.entry))) }
         ensures printer_state { printer_state self.new
             ≡ printer_state_after (printer_state self.old) outcome.now
-            (decoder_states_of world.now.nodes) }
+            (decoder_states_of world.now.nodes) (trains_of (option_copied railway.entry)) }
         ensures decoder_specs { specs_of (entries_of self.new.roster)
             ≡ specs_of (entries_of self.old.roster) }
         ensures roster { self.new.roster ≡ self.old.roster }
         ensures verbosity { self.new.verbosity ≡ self.old.verbosity }
     {
         if !self.verbosity.is_quiet() {
-            self.print(outcome, world);
+            self.print_observed(outcome, world, railway);
         }
-        self.update(outcome, world);
+        self.update(outcome, world, railway);
         Ok(())
     }
 

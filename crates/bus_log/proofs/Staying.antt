@@ -1,0 +1,118 @@
+-- Nothing is printed of trains that stay where they are.
+use Rattle.std.proofs.Common.{◌≡◌, ◌<◌, ◌≤◌, ◌+◌, ◌-◌, ◌∙◌, ℕ, zero, suc, Bool, true, false, if◌then◌else◌, inl, inr, List, [], ◌∷◌, ◌++◌, length, Option, Some, None, refl, ap, ap₂, sym, subst, arith, eqb-true}
+use Rattle.std.specs.Prelude.{◌==◌, ◌&&◌, ◌||◌, not, slice_get}
+use Rattle.std.proofs.lemmas.Bool.{and_parts, cases_lt}
+use Rattle.railway.specs.declared.block.Block.{Block}
+use Rattle.railway.specs.declared.conflict.Conflict.{Conflict}
+use Rattle.railway.specs.declared.train.TrainState.{TrainState}
+use Rattle.railway.specs.Conflicts.{first_in}
+use Rattle.railway.specs.Reports.{occupies}
+use Rattle.railway.specs.Turnouts.{same_bool}
+use Rattle.roster.specs.Entry.{Entry}
+use Rattle.bus_log.specs.RailwayLines.{AllStay, are_in, block_lines, block_name, change_lines, conflict_line, conflict_lines, derailed_line, derailed_lines, front_of, is_derailed, is_in, is_new, lines_of_each, meeting_lines, moved_lines, pair_lines, stays, train_lines, train_name}
+use Rattle.bus_log.proofs.EachLine.{each_empty}
+
+same : (a b : Bool) → same_bool a b ≡ true → a ≡ b
+same true true h = refl
+same false false h = refl
+same true false h = cc
+same false true h = cc
+
+and_not : (a : Bool) → (a && not a) ≡ false
+and_not true = refl
+and_not false = refl
+
+-- a train in the same blocks
+
+stays_in : (block : ℕ) (before now : Option TrainState) → stays before now ≡ true → is_in block before ≡ is_in block now
+stays_in block None None h = refl
+stays_in block None (Some now) h = cc
+stays_in block (Some before) None h = cc
+stays_in block (Some before) (Some now) h =
+    let ends = (and_parts (before.front.block == now.front.block && before.rear.block == now.rear.block) (same_bool before.derailed now.derailed) h).0 in
+    let both = and_parts (before.front.block == now.front.block) (before.rear.block == now.rear.block) ends in
+    ap₂ (λ (front rear : ℕ). front == block || rear == block) (eqb-true before.front.block now.front.block both.0) (eqb-true before.rear.block now.rear.block both.1)
+
+stays_derailed : (before now : Option TrainState) → stays before now ≡ true → is_derailed before ≡ is_derailed now
+stays_derailed None None h = refl
+stays_derailed None (Some now) h = cc
+stays_derailed (Some before) None h = cc
+stays_derailed (Some before) (Some now) h =
+    same before.derailed now.derailed (and_parts (before.front.block == now.front.block && before.rear.block == now.rear.block) (same_bool before.derailed now.derailed) h).1
+
+stays_first : (block i : ℕ) (before now : List TrainState) → AllStay before now → first_in block i before ≡ first_in block i now
+stays_first block i [] [] all = refl
+stays_first block i [] (now ∷ others) all = let none : false ≡ true = all 0 in cc
+stays_first block i (before ∷ others) [] all = let none : false ≡ true = all 0 in cc
+stays_first block i (before ∷ befores) (now ∷ nows) all =
+    ap₂ (λ (is : Bool) (rest : Option ℕ). if is then Some i else rest) (stays_in block (Some before) (Some now) (all 0)) (stays_first block (i + 1) befores nows (λ train. all (suc train)))
+
+-- no lines
+
+same_change : (entries : List Entry) (trains : List TrainState) (block : List ℕ) (first : Option ℕ) → change_lines entries trains block first first ≡ []
+same_change entries trains block None = refl
+same_change entries trains block (Some first) = refl
+
+no_change : (entries : List Entry) (blocks : List Block) (before now : List TrainState) → AllStay before now → (block : ℕ) → block_lines entries blocks before now block ≡ []
+no_change entries blocks before now all block =
+    ap (λ (first : Option ℕ). change_lines entries now (block_name (slice_get blocks block)) first (first_in block 0 now)) (stays_first block 0 before now all)
+    ∙ same_change entries now (block_name (slice_get blocks block)) (first_in block 0 now)
+
+no_derailing : (entries : List Entry) (blocks : List Block) (before now : List TrainState) → AllStay before now → (train : ℕ) → derailed_lines entries blocks before now train ≡ []
+no_derailing entries blocks before now all train =
+    let was : Option TrainState = slice_get before train in
+    let is : Option TrainState = slice_get now train in
+    ap (λ (derails : Bool). if derails then derailed_line (train_name entries is) (front_of blocks is) ∷ [] else [])
+    (ap (λ (derailed : Bool). is_derailed is && not derailed) (stays_derailed was is (all train)) ∙ and_not (is_derailed is))
+
+no_pair : (entries : List Entry) (blocks : List Block) (before now : List TrainState) → AllStay before now → (conflict : Conflict) → pair_lines entries blocks before now conflict ≡ []
+no_pair entries blocks before now all conflict =
+    let first = stays_in conflict.block (slice_get before conflict.first) (slice_get now conflict.first) (all conflict.first) in
+    let second = stays_in conflict.block (slice_get before conflict.second) (slice_get now conflict.second) (all conflict.second) in
+    let both : are_in before conflict ≡ are_in now conflict = ap₂ (λ (a b : Bool). a && b) first second in
+    ap (λ (new : Bool). if new then conflict_line entries blocks now conflict ∷ [] else [])
+    (ap (λ (were : Bool). are_in now conflict && not were) both ∙ and_not (are_in now conflict))
+
+no_meeting : (entries : List Entry) (blocks : List Block) (before now : List TrainState) → AllStay before now → (block first : ℕ) → meeting_lines entries blocks before now block first ≡ []
+no_meeting entries blocks before now all block first =
+    each_empty (λ second. pair_lines entries blocks before now (record { block = block; first = first; second = second }))
+    (λ second. no_pair entries blocks before now all (record { block = block; first = first; second = second })) (first + 1) (length now - (first + 1))
+
+no_conflict : (entries : List Entry) (blocks : List Block) (before now : List TrainState) → AllStay before now → (block : ℕ) → conflict_lines entries blocks before now block ≡ []
+no_conflict entries blocks before now all block =
+    each_empty (meeting_lines entries blocks before now block) (no_meeting entries blocks before now all block) 0 (length now)
+
+pub no_lines : (entries : List Entry) (blocks : List Block) (before now : List TrainState) → AllStay before now → moved_lines entries blocks before now ≡ []
+no_lines entries blocks before now all =
+    ap₂ (λ (a b : List (List ℕ)). a ++ b)
+    (ap₂ (λ (a b : List (List ℕ)). a ++ b)
+    (each_empty (block_lines entries blocks before now) (no_change entries blocks before now all) 0 (length blocks))
+    (each_empty (derailed_lines entries blocks before now) (no_derailing entries blocks before now all) 0 (length now)))
+    (each_empty (conflict_lines entries blocks before now) (no_conflict entries blocks before now all) 0 (length blocks))
+
+-- the test of each train
+
+none_there : (trains : List TrainState) (i : ℕ) → length trains ≤ i → slice_get trains i ≡ None
+none_there [] i over = refl
+none_there (train ∷ trains) zero over = absurd (omega (arith, over))
+none_there (train ∷ trains) (suc i) over = none_there trains i (omega (arith, over))
+
+abbrev pub StayBelow : (before now : List TrainState) → (i : ℕ) → Type 0
+StayBelow before now i = (train : ℕ) → train < i → stays (slice_get before train) (slice_get now train) ≡ true
+
+pub stay_below_none : (before now : List TrainState) → StayBelow before now 0
+stay_below_none before now train below = absurd (omega (arith, below))
+
+pub stay_below_more : (before now : List TrainState) (i : ℕ) → StayBelow before now i → stays (slice_get before i) (slice_get now i) ≡ true → StayBelow before now (i + 1)
+stay_below_more before now i so_far one train below = elim (cases_lt train i) [
+  | inl under ↦ so_far train under
+  | inr over ↦
+      let at : i ≡ train = omega (arith, below, over) in
+      subst (λ (k : ℕ). stays (slice_get before k) (slice_get now k) ≡ true) at one
+]
+
+pub all_below_stay : (before now : List TrainState) (i : ℕ) → length before ≡ length now → length now ≤ i → StayBelow before now i → AllStay before now
+all_below_stay before now i many end so_far train = elim (cases_lt train i) [
+  | inl under ↦ so_far train under
+  | inr over ↦ ap₂ stays (none_there before train (omega (arith, many, end, over))) (none_there now train (omega (arith, end, over)))
+]

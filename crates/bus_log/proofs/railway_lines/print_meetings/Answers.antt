@@ -1,0 +1,17 @@
+use Rattle.std.proofs.Common.{◌<◌, ◌≤◌, ◌∙◌, ℕ, List, length, arith, sym}
+use Rattle.bus_log.specs.Decoders.{entries_of}
+use Rattle.bus_log.specs.RailwayLines.{pair_lines}
+use Rattle.bus_log.proofs.EachLine.{each_more, each_none}
+use Rattle.bus_log.proofs.railway_lines.print_meetings.Goals as goal
+
+pub loop-second-preserved : goal.loop-second-preserved
+loop-second-preserved c =
+    let below : c.loop-second.second < length c.args.after.now = omega (arith, c.loop-second-test.true) in
+    let lines : ℕ → List (List ℕ) = λ second. pair_lines (entries_of c.args.roster) c.args.blocks.now c.args.before.now c.args.after.now (record { block = c.args.block; first = c.args.first; second = second }) in
+    each_more c.loop-second.log c.print_pair.new.log lines c.loop-second.second (length c.args.after.now) below c.print_pair.ensures ∙ c.loop-second.invariant
+
+pub returns : goal.returns
+returns c =
+    let over : length c.args.after.now ≤ c.loop-second.second = omega (arith, c.loop-second-test.false) in
+    let lines : ℕ → List (List ℕ) = λ second. pair_lines (entries_of c.args.roster) c.args.blocks.now c.args.before.now c.args.after.now (record { block = c.args.block; first = c.args.first; second = second }) in
+    sym (each_none c.loop-second.log lines c.loop-second.second (length c.args.after.now) over) ∙ c.loop-second.invariant

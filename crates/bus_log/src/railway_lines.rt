@@ -1,0 +1,409 @@
+//! The lines of the blocks and the trains of a railway.
+ghost use Rattle.std.specs.Prelude.{◌≡◌, ◌≤◌, ◌<◌, ◌+◌, ◌-◌, length, option_copied, slice_get, true};
+ghost use Rattle.railway.specs.Conflicts.{first_in};
+ghost use Rattle.bus_log.specs.Decoders.{entries_of};
+ghost use Rattle.bus_log.specs.LogQueues.{after_lines};
+ghost use Rattle.bus_log.specs.RailwayLines.{AllStay, are_in, block_lines, block_name, change_lines, conflict_line, conflict_lines, decoder_name, derailed_line, derailed_lines, free_line, front_of, is_derailed, is_in, is_new, lines_of_each, meeting_lines, moved_lines, occupied_line, pair_lines, railway_lines, stays, train_lines, train_name, trains_of};
+
+use crate::log_queue::LogQueue;
+use arrayvec::ArrayVec;
+use railway::{Block, Conflict, MAX_TRAINS, Railway, TrainState};
+use roster::Roster;
+use show_text::Line;
+
+/// The trains of a railway, in the order of the plan.
+pub(crate) type Trains = ArrayVec<TrainState, MAX_TRAINS>;
+
+/// Returns the trains of a railway; none without one.
+pub(crate) fn trains_of(railway: Option<&Railway>) -> Trains
+    ensures { result.items ≡ trains_of (option_copied railway.entry) }
+{
+    match railway {
+        Some(railway) => copied(railway.trains()),
+        None => Trains::new(),
+    }
+}
+
+fn copied(trains: &[TrainState]) -> Trains
+    requires { length trains.now ≤ 64 }
+    ensures { result.items ≡ trains.now }
+{
+    let mut copy = Trains::new();
+    for train in trains {
+        copy.push(*train);
+    }
+    copy
+}
+
+/// Prints what has changed on a railway since its trains were these, if there is a railway: blocks
+/// that became occupied or free, trains that derailed, and conflicts.
+pub(crate) fn print_railway(
+    log: &mut LogQueue,
+    roster: Option<&Roster>,
+    before: &[TrainState],
+    railway: Option<&Railway>,
+)
+    ensures { log.new
+        ≡ after_lines log.old
+        (railway_lines (entries_of roster.entry) before.now (option_copied railway.entry)) }
+{
+    if let Some(railway) = railway {
+        print_moved(log, roster, railway.blocks(), before, railway.trains());
+    }
+}
+
+/// Prints what has changed. Nothing is looked up while each train stays where it is.
+fn print_moved(
+    log: &mut LogQueue,
+    roster: Option<&Roster>,
+    blocks: &[Block],
+    before: &[TrainState],
+    after: &[TrainState],
+)
+    ensures { log.new
+        ≡ after_lines log.old
+        (moved_lines (entries_of roster.entry) blocks.now before.now after.now) }
+{
+    if all_stay(before, after) {
+        return;
+    }
+    print_blocks(log, roster, blocks, before, after);
+    print_derailed(log, roster, blocks, before, after);
+    print_conflicts(log, roster, blocks, before, after);
+}
+
+/// Returns whether each train is in the same blocks as before, and is derailed if it was.
+fn all_stay(before: &[TrainState], after: &[TrainState]) -> bool
+    ensures { result ≡ true → AllStay before.now after.now }
+{
+    if before.len() != after.len() {
+        return false;
+    }
+    for i in 0..after.len() {
+        if !stays(before, after, i) {
+            return false;
+        }
+    }
+    true
+}
+
+fn stays(before: &[TrainState], after: &[TrainState], i: usize) -> bool
+    ensures { result ≡ stays (slice_get before.now i) (slice_get after.now i) }
+{
+    match (before.get(i), after.get(i)) {
+        (None, None) => true,
+        (Some(before), Some(after)) => {
+            before.front.block == after.front.block
+                && before.rear.block == after.rear.block
+                && before.derailed == after.derailed
+        }
+        _ => false,
+    }
+}
+
+/// Prints each block that became occupied or free.
+fn print_blocks(
+    log: &mut LogQueue,
+    roster: Option<&Roster>,
+    blocks: &[Block],
+    before: &[TrainState],
+    after: &[TrainState],
+)
+    ensures { log.new
+        ≡ after_lines log.old (lines_of_each 0 (length blocks.now)
+        (block_lines (entries_of roster.entry) blocks.now before.now after.now)) }
+{
+    for i in 0..blocks.len() {
+        print_block(log, roster, blocks, i, before, after);
+    }
+}
+
+/// Prints a block, if it became occupied or free.
+fn print_block(
+    log: &mut LogQueue,
+    roster: Option<&Roster>,
+    blocks: &[Block],
+    i: usize,
+    before: &[TrainState],
+    after: &[TrainState],
+)
+    ensures { log.new
+        ≡ after_lines log.old
+        (block_lines (entries_of roster.entry) blocks.now before.now after.now i) }
+{
+    let name = block_name(blocks, i);
+    match (first_in(i, before), first_in(i, after)) {
+        (None, Some(first)) => {
+            log.print_line(&occupied_line(name, train_name(roster, after, first)));
+        }
+        (Some(_), None) => log.print_line(&free_line(name)),
+        _ => {}
+    }
+}
+
+/// Returns the index of the first train in a block, if there is one.
+fn first_in(block: usize, trains: &[TrainState]) -> Option<usize>
+    ensures { result ≡ first_in block 0 trains.now }
+{
+    for (i, train) in trains.iter().enumerate() {
+        if train.occupies(block) {
+            return Some(i);
+        }
+    }
+    None
+}
+
+/// Prints each train that derailed.
+fn print_derailed(
+    log: &mut LogQueue,
+    roster: Option<&Roster>,
+    blocks: &[Block],
+    before: &[TrainState],
+    after: &[TrainState],
+)
+    ensures { log.new
+        ≡ after_lines log.old (lines_of_each 0 (length after.now)
+        (derailed_lines (entries_of roster.entry) blocks.now before.now after.now)) }
+{
+    for i in 0..after.len() {
+        print_train(log, roster, blocks, i, before, after);
+    }
+}
+
+/// Prints a train, if it derailed.
+fn print_train(
+    log: &mut LogQueue,
+    roster: Option<&Roster>,
+    blocks: &[Block],
+    i: usize,
+    before: &[TrainState],
+    after: &[TrainState],
+)
+    ensures { log.new
+        ≡ after_lines log.old
+        (derailed_lines (entries_of roster.entry) blocks.now before.now after.now i) }
+{
+    if is_derailed(after, i) && !is_derailed(before, i) {
+        let train = train_name(roster, after, i);
+        log.print_line(&derailed_line(train, front_of(blocks, after, i)));
+    }
+}
+
+/// Prints the conflicts of each block: each two trains that are in it and were not both before.
+fn print_conflicts(
+    log: &mut LogQueue,
+    roster: Option<&Roster>,
+    blocks: &[Block],
+    before: &[TrainState],
+    after: &[TrainState],
+)
+    ensures { log.new
+        ≡ after_lines log.old (lines_of_each 0 (length blocks.now)
+        (conflict_lines (entries_of roster.entry) blocks.now before.now after.now)) }
+{
+    for block in 0..blocks.len() {
+        print_block_conflicts(log, roster, blocks, block, before, after);
+    }
+}
+
+/// Prints the conflicts of a block.
+fn print_block_conflicts(
+    log: &mut LogQueue,
+    roster: Option<&Roster>,
+    blocks: &[Block],
+    block: usize,
+    before: &[TrainState],
+    after: &[TrainState],
+)
+    ensures { log.new
+        ≡ after_lines log.old
+        (conflict_lines (entries_of roster.entry) blocks.now before.now after.now block) }
+{
+    for first in 0..after.len() {
+        print_meetings(log, roster, blocks, block, before, after, first);
+    }
+}
+
+/// Prints the conflicts of a train in a block with those behind it in the plan.
+fn print_meetings(
+    log: &mut LogQueue,
+    roster: Option<&Roster>,
+    blocks: &[Block],
+    block: usize,
+    before: &[TrainState],
+    after: &[TrainState],
+    first: usize,
+)
+    requires { first < length after.now }
+    ensures { log.new
+        ≡ after_lines log.old
+        (meeting_lines (entries_of roster.entry) blocks.now before.now after.now block first) }
+{
+    for second in first + 1..after.len() {
+        let conflict = Conflict {
+            block,
+            first,
+            second,
+        };
+        print_pair(log, roster, blocks, before, after, conflict);
+    }
+}
+
+/// Prints the conflict of two trains in a block, if both are in it now and were not before.
+fn print_pair(
+    log: &mut LogQueue,
+    roster: Option<&Roster>,
+    blocks: &[Block],
+    before: &[TrainState],
+    after: &[TrainState],
+    conflict: Conflict,
+)
+    ensures { log.new
+        ≡ after_lines log.old
+        (pair_lines (entries_of roster.entry) blocks.now before.now after.now conflict) }
+{
+    if is_new(before, after, conflict) {
+        log.print_line(&conflict_line(roster, blocks, after, conflict));
+    }
+}
+
+/// Whether both trains of a conflict are in its block now, and were not before.
+fn is_new(before: &[TrainState], after: &[TrainState], conflict: Conflict) -> bool
+    ensures { result ≡ is_new before.now after.now conflict }
+{
+    are_in(after, conflict) && !are_in(before, conflict)
+}
+
+fn are_in(trains: &[TrainState], conflict: Conflict) -> bool
+    ensures { result ≡ are_in trains.now conflict }
+{
+    is_in(trains, conflict.first, conflict.block) && is_in(trains, conflict.second, conflict.block)
+}
+
+fn is_in(trains: &[TrainState], i: usize, block: usize) -> bool
+    ensures { result ≡ is_in block (slice_get trains.now i) }
+{
+    match trains.get(i) {
+        Some(train) => train.occupies(block),
+        None => false,
+    }
+}
+
+fn is_derailed(trains: &[TrainState], i: usize) -> bool
+    ensures { result ≡ is_derailed (slice_get trains.now i) }
+{
+    match trains.get(i) {
+        Some(train) => train.derailed,
+        None => false,
+    }
+}
+
+/// Returns the name of the block in which the front of a train is.
+fn front_of<'a>(blocks: &'a [Block], trains: &[TrainState], i: usize) -> &'a str
+    ensures name { result.now ≡ front_of blocks.now (slice_get trains.now i) }
+    ensures most { length result.now ≤ 32 }
+{
+    match trains.get(i) {
+        Some(train) => block_name(blocks, usize::from(train.front.block)),
+        None => "",
+    }
+}
+
+/// Returns the name of a block.
+fn block_name<'a>(blocks: &'a [Block], i: usize) -> &'a str
+    ensures name { result.now ≡ block_name (slice_get blocks.now i) }
+    ensures most { length result.now ≤ 32 }
+{
+    match blocks.get(i) {
+        Some(block) => block.name.as_str(),
+        None => "",
+    }
+}
+
+/// Returns the name of a train, which is that of its decoder.
+fn train_name<'a>(roster: Option<&'a Roster>, trains: &[TrainState], i: usize) -> &'a str
+    ensures name { result.now
+        ≡ train_name (entries_of roster.entry) (slice_get trains.now i) }
+    ensures most { length result.now ≤ 16 }
+{
+    match trains.get(i) {
+        Some(train) => decoder_name(roster, usize::from(train.decoder)),
+        None => "",
+    }
+}
+
+/// Returns the name of a decoder of a roster.
+fn decoder_name<'a>(roster: Option<&'a Roster>, i: usize) -> &'a str
+    ensures name { result.now ≡ decoder_name (slice_get (entries_of roster.entry) i) }
+    ensures most { length result.now ≤ 16 }
+{
+    match roster {
+        Some(roster) => entry_name(roster, i),
+        None => "",
+    }
+}
+
+#[tactic(auto, using(crate::proofs::RailwayNames::name_found, crate::proofs::RailwayNames::name_lost))]
+fn entry_name(roster: &Roster, i: usize) -> &str
+    ensures name { result.now ≡ decoder_name (slice_get roster.now i) }
+    ensures most { length result.now ≤ 16 }
+{
+    if i < roster.len() { roster.name(i) } else { "" }
+}
+
+fn occupied_line(block: &str, train: &str) -> Line
+    requires block { length block.now ≤ 32 }
+    requires train { length train.now ≤ 16 }
+    ensures { result.bytes ≡ occupied_line block.now train.now }
+{
+    let mut line = Line::new();
+    line.push_str("block ");
+    line.push_str(block);
+    line.push_str(" occupied (");
+    line.push_str(train);
+    line.push_str(")");
+    line
+}
+
+fn free_line(block: &str) -> Line
+    requires { length block.now ≤ 32 }
+    ensures { result.bytes ≡ free_line block.now }
+{
+    let mut line = Line::new();
+    line.push_str("block ");
+    line.push_str(block);
+    line.push_str(" free");
+    line
+}
+
+fn derailed_line(train: &str, block: &str) -> Line
+    requires train { length train.now ≤ 16 }
+    requires block { length block.now ≤ 32 }
+    ensures { result.bytes ≡ derailed_line train.now block.now }
+{
+    let mut line = Line::new();
+    line.push_str("derailed ");
+    line.push_str(train);
+    line.push_str(" in ");
+    line.push_str(block);
+    line
+}
+
+fn conflict_line(
+    roster: Option<&Roster>,
+    blocks: &[Block],
+    trains: &[TrainState],
+    conflict: Conflict,
+) -> Line
+    ensures { result.bytes
+        ≡ conflict_line (entries_of roster.entry) blocks.now trains.now conflict }
+{
+    let mut line = Line::new();
+    line.push_str("conflict ");
+    line.push_str(block_name(blocks, conflict.block));
+    line.push_str(": ");
+    line.push_str(train_name(roster, trains, conflict.first));
+    line.push_str(", ");
+    line.push_str(train_name(roster, trains, conflict.second));
+    line
+}
