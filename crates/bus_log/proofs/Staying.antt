@@ -78,6 +78,16 @@ no_meeting entries blocks before now all block first =
     each_empty (λ second. pair_lines entries blocks before now (record { block = block; first = first; second = second }))
     (λ second. no_pair entries blocks before now all (record { block = block; first = first; second = second })) (first + 1) (length now - (first + 1))
 
+-- a train outside the block meets none there
+pub no_meeting_outside : (entries : List Entry) (blocks : List Block) (before now : List TrainState) (block first : ℕ) → is_in block (slice_get now first) ≡ false
+    → meeting_lines entries blocks before now block first ≡ []
+no_meeting_outside entries blocks before now block first outside =
+    each_empty (λ second. pair_lines entries blocks before now (record { block = block; first = first; second = second }))
+    (λ second.
+    let conflict : Conflict = record { block = block; first = first; second = second } in
+    ap (λ (inside : Bool). if (inside && is_in block (slice_get now second)) && not (are_in before conflict) then conflict_line entries blocks now conflict ∷ [] else []) outside)
+    (first + 1) (length now - (first + 1))
+
 no_conflict : (entries : List Entry) (blocks : List Block) (before now : List TrainState) → AllStay before now → (block : ℕ) → conflict_lines entries blocks before now block ≡ []
 no_conflict entries blocks before now all block =
     each_empty (meeting_lines entries blocks before now block) (no_meeting entries blocks before now all block) 0 (length now)

@@ -239,6 +239,9 @@ fn print_meetings(
         ≡ after_lines log.old
         (meeting_lines (entries_of roster.entry) blocks.now before.now after.now block first) }
 {
+    if !is_in(after, first, block) {
+        return;
+    }
     for second in first + 1..after.len() {
         let conflict = Conflict {
             block,

@@ -1,8 +1,15 @@
-use Rattle.std.proofs.Common.{◌<◌, ◌≤◌, ◌∙◌, ℕ, List, length, arith, sym}
+use Rattle.std.proofs.Common.{◌<◌, ◌≤◌, ◌∙◌, ℕ, List, ap, length, arith, sym}
 use Rattle.bus_log.specs.Decoders.{entries_of}
 use Rattle.bus_log.specs.RailwayLines.{pair_lines}
+use Rattle.bus_log.specs.LogQueues.{after_lines}
 use Rattle.bus_log.proofs.EachLine.{each_more, each_none}
+use Rattle.bus_log.proofs.Staying.{no_meeting_outside}
 use Rattle.bus_log.proofs.railway_lines.print_meetings.Goals as goal
+
+pub returns-then-not-is_in : goal.returns-then-not-is_in
+returns-then-not-is_in c =
+    let outside = sym c.is_in.ensures ∙ c.if-not-is_in.true in
+    sym (ap (after_lines c.args.log.now) (no_meeting_outside (entries_of c.args.roster) c.args.blocks.now c.args.before.now c.args.after.now c.args.block c.args.first outside))
 
 pub loop-second-preserved : goal.loop-second-preserved
 loop-second-preserved c =
