@@ -14,7 +14,7 @@ ghost use Rattle.bus_log.specs.Lines.{changed_lines, client_line, is_slot_read, 
 
 use crate::log_queue::LogQueue;
 use crate::messages::print_message;
-use crate::railway_lines::{Trains, print_railway, trains_of};
+use crate::railway_lines::{Trains, keep_trains, print_railway, trains_of};
 use crate::verbosity::Verbosity;
 use arrayvec::{ArrayString, ArrayVec};
 use bus::Outcome;
@@ -217,7 +217,7 @@ impl<'a> Printer<'a> {
             }
             _ => {}
         }
-        self.trains = trains_of(railway);
+        keep_trains(&mut self.trains, railway);
     }
 }
 

@@ -18,21 +18,19 @@ pub(crate) type Trains = ArrayVec<TrainState, MAX_TRAINS>;
 pub(crate) fn trains_of(railway: Option<&Railway>) -> Trains
     ensures { result.items ≡ trains_of (option_copied railway.entry) }
 {
-    match railway {
-        Some(railway) => copied(railway.trains()),
-        None => Trains::new(),
-    }
+    let mut trains = Trains::new();
+    keep_trains(&mut trains, railway);
+    trains
 }
 
-fn copied(trains: &[TrainState]) -> Trains
-    requires { length trains.now ≤ 64 }
-    ensures { result.items ≡ trains.now }
+/// Replaces trains by those of a railway; by none without one.
+pub(crate) fn keep_trains(trains: &mut Trains, railway: Option<&Railway>)
+    ensures { trains.new.items ≡ trains_of (option_copied railway.entry) }
 {
-    let mut copy = Trains::new();
-    for train in trains {
-        copy.push(*train);
+    trains.clear();
+    if let Some(railway) = railway {
+        let _fits = trains.try_extend_from_slice(railway.trains());
     }
-    copy
 }
 
 /// Prints what has changed on a railway since its trains were these, if there is a railway: blocks
