@@ -10,11 +10,11 @@ use Rattle.std.proofs.lemmas.Bool.{and_parts, not-true, lt-leb, lt-ltb, le-ltb, 
 use Rattle.std.proofs.lemmas.List.{append-nil, append_assoc, length-drop, length-take}
 use Rattle.std.proofs.lemmas.Slice.Eq.{bytes_eq-Decides}
 use Rattle.loconet_tcp.specs.declared.request.Request.{Request}
-use Rattle.loconet_tcp.specs.declared.request.Request.TheVariants.{Invalid, Turns}
+use Rattle.loconet_tcp.specs.declared.request.Request.TheVariants.{Invalid, Turns, Nodes}
 use Rattle.loconet_tcp.specs.declared.request.Reason.TheVariants.{TooLong}
 use Rattle.loconet_tcp.specs.Text.{is_end, is_open, onto_line, lines_of}
 use Rattle.ascii_words.specs.Words.{words_of, is_blank}
-use Rattle.loconet_tcp.specs.Requests.{request_of, parse_send, bytes_of, in_range, is_send, is_turns, turns_of}
+use Rattle.loconet_tcp.specs.Requests.{request_of, parse_send, bytes_of, in_range, is_nodes, is_send, is_turns, turns_of}
 use Rattle.show_text.specs.Words.{decimal_of}
 use Rattle.loconet_tcp.specs.Reading.{requests_in, requests_of, request_of_byte, kept_after, requests_along}
 
@@ -93,15 +93,23 @@ turns-too_long line h is =
     omega (arith, size, h, length-take (position_or_len is_blank line) line, length-drop (position_or_len is_blank line + 1) line) in
     ap in_range (seven_digits (after_first is_blank line) long)
 
-request-turns : (line : List ℕ) (turns : Bool) → 400 < length line → is_turns line ≡ turns
-    → (if turns then Some (Turns (turns_of (after_first is_blank line))) else None) ≡ (if turns then Some (Turns None) else None)
-request-turns line true h is = ap (λ (count : Option ℕ). Some (Turns count)) (turns-too_long line h is)
-request-turns line false h is = refl
+no_nodes : (line : List ℕ) → 400 < length line → is_nodes line ≡ true → Some Nodes ≡ None
+no_nodes line h is =
+    let same : line ≡ codes "NODES" = (bytes_eq-Decides line (codes "NODES")).0 is in
+    let size : length line ≡ 5 = ap length same in
+    absurd (omega (arith, size, h))
+
+request-turns : (line : List ℕ) (turns nodes : Bool) → 400 < length line → is_turns line ≡ turns → is_nodes line ≡ nodes
+    → (if turns then Some (Turns (turns_of (after_first is_blank line))) else if nodes then Some Nodes else None) ≡ (if turns then Some (Turns None) else None)
+request-turns line true nodes h is is_nodes = ap (λ (count : Option ℕ). Some (Turns count)) (turns-too_long line h is)
+request-turns line false true h is is_nodes = no_nodes line h is_nodes
+request-turns line false false h is is_nodes = refl
 
 request-too_long : (line : List ℕ) → 400 < length line → request_of line ≡ asked_when (is_send line) (is_turns line) true (Invalid TooLong) None
 request-too_long line h =
-    ap (λ (long : Bool). asked_when (is_send line) (is_turns line) long (parse_send (bytes_of (words_of (after_first is_blank line)))) (turns_of (after_first is_blank line))) (lt-ltb 400 (length line) h)
-    ∙ ap (λ (other : Option Request). if is_send line then Some (Invalid TooLong) else other) (request-turns line (is_turns line) h refl)
+    let others : Option Request = if is_turns line then Some (Turns (turns_of (after_first is_blank line))) else if is_nodes line then Some Nodes else None in
+    ap (λ (long : Bool). if is_send line then Some (if long then Invalid TooLong else parse_send (bytes_of (words_of (after_first is_blank line)))) else others) (lt-ltb 400 (length line) h)
+    ∙ ap (λ (other : Option Request). if is_send line then Some (Invalid TooLong) else other) (request-turns line (is_turns line) (is_nodes line) h refl refl)
 
 request-long : (xs ys : List ℕ) → length xs ≡ 401 → request_of (xs ++ ys) ≡ request_of xs
 request-long xs ys h =

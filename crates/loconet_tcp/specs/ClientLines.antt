@@ -1,5 +1,5 @@
 -- The lines sent to a client, in LocoNet over TCP. The words after SENT ERROR, VERSION and ERROR,
--- and the lines that begin with TURNS, are this project's own.
+-- and the lines that begin with TURNS or NODE, are this project's own.
 use Rattle.std.specs.Prelude.{ℕ, ◌/◌, ◌%◌, List, [], ◌∷◌, ◌++◌, codes, Result, Ok, Err}
 use Rattle.std.specs.List.{flat_map}
 use Rattle.ascii_words.specs.Words.{hex_char}
@@ -45,6 +45,14 @@ turns_error_text NoNumber = codes "no number from 1 to 10000"
 abbrev pub turns_text : Result ℕ TurnsError → List ℕ
 turns_text (Ok count) = codes "TURNS OK" ++ line_end
 turns_text (Err error) = codes "TURNS ERROR " ++ turns_error_text error ++ line_end
+
+-- how a decoder stands, by its line
+abbrev pub node_text : (line : List ℕ) → List ℕ
+node_text line = codes "NODE " ++ line ++ line_end
+
+-- the lines of all decoders were sent
+abbrev pub nodes_ok_text : List ℕ
+nodes_ok_text = codes "NODES OK" ++ line_end
 
 -- the name of the server
 abbrev pub version_text : List ℕ

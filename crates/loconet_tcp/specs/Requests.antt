@@ -1,6 +1,6 @@
 -- The request of a client's line, in LocoNet over TCP. The protocol leaves open the longest line,
 -- the case of the digits, the tab as a blank and the replies to invalid lines: these are rules of
--- this project. So is the word TURNS, which other servers pass over.
+-- this project. So are the words TURNS and NODES, which other servers pass over.
 use Rattle.std.specs.Prelude.{ℕ, Bool, ◌&&◌, if◌then◌else◌, nat_le, nat_lt, List, [], ◌∷◌, length, Option, Some, None, codes}
 use Rattle.std.specs.List.{list_all, before_first, after_first}
 use Rattle.std.specs.Option.{is_some}
@@ -8,7 +8,7 @@ use Rattle.std.specs.Str.{bytes_eq}
 use Rattle.ascii_words.specs.Words.{is_blank, words_of, pair_of}
 use Rattle.ln_frame.specs.Message.{has_form, is_whole}
 use Rattle.loconet_tcp.specs.declared.request.Request.{Request}
-use Rattle.loconet_tcp.specs.declared.request.Request.TheVariants.{Send, Invalid, Turns}
+use Rattle.loconet_tcp.specs.declared.request.Request.TheVariants.{Send, Invalid, Turns, Nodes}
 use Rattle.show_text.specs.Words.{decimal_of}
 use Rattle.loconet_tcp.specs.declared.request.Reason.TheVariants.{TooLong, NotHex, NoMessage, WrongCheck}
 
@@ -46,6 +46,10 @@ is_send line = bytes_eq (before_first is_blank line) (codes "SEND")
 abbrev pub is_turns : List ℕ → Bool
 is_turns line = bytes_eq (before_first is_blank line) (codes "TURNS")
 
+-- the line is NODES
+abbrev pub is_nodes : List ℕ → Bool
+is_nodes line = bytes_eq line (codes "NODES")
+
 -- a number of turns that can be requested
 abbrev pub in_range : Option ℕ → Option ℕ
 in_range None = None
@@ -57,9 +61,11 @@ turns_of text = in_range (decimal_of text)
 
 -- A line that begins with the word SEND requests to send the bytes of the words after it, if the
 -- line has at most 400 characters. One that begins with TURNS and a blank requests the number of
--- turns that the rest of the line writes (own). Every other line makes no request.
+-- turns that the rest of the line writes (own). The line NODES asks how the decoders stand (own).
+-- Every other line makes no request.
 abbrev pub request_of : List ℕ → Option Request
 request_of line =
     if is_send line then Some (if nat_lt 400 (length line) then Invalid TooLong
     else parse_send (bytes_of (words_of (after_first is_blank line))))
-    else if is_turns line then Some (Turns (turns_of (after_first is_blank line))) else None
+    else if is_turns line then Some (Turns (turns_of (after_first is_blank line)))
+    else if is_nodes line then Some Nodes else None

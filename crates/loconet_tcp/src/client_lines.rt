@@ -1,7 +1,7 @@
 //! The lines sent to a client. Each ends with a carriage return and a line feed.
 ghost use Rattle.std.specs.Prelude.{◌≡◌, ◌+◌, ◌*◌, ◌<◌, ◌≤◌, ◌++◌, length, Err};
 ghost use Rattle.arrayvec.specs.ArrayVec.{array_vec_len};
-ghost use Rattle.loconet_tcp.specs.ClientLines.{hex_word, hex_words, line_end, receive_text, sent_ok_text, reason_text, sent_error_text, turns_error_text, turns_text, version_text, server_full_text};
+ghost use Rattle.loconet_tcp.specs.ClientLines.{hex_word, hex_words, line_end, receive_text, sent_ok_text, reason_text, sent_error_text, turns_error_text, turns_text, node_text, nodes_ok_text, version_text, server_full_text};
 
 use crate::request::{Reason, TurnsError};
 use arrayvec::ArrayVec;
@@ -67,6 +67,26 @@ fn push_turns_error(text: &mut Text, error: TurnsError)
     push_all(text, b"TURNS ERROR ");
     push_all(text, words_of_turns(error));
     push_all(text, b"\r\n");
+}
+
+/// Appends `NODE` and the line of a decoder, 7 bytes longer than the line.
+pub fn push_node(text: &mut Text, line: &[u8])
+    requires { array_vec_len text.old + length line.now + 7 ≤ 800 }
+    ensures text { text.new.items ≡ text.old.items ++ node_text line.now }
+    ensures len { array_vec_len text.new ≡ array_vec_len text.old + length line.now + 7 }
+{
+    push_all(text, b"NODE ");
+    push_all(text, line);
+    push_all(text, b"\r\n");
+}
+
+/// Appends `NODES OK`: the lines of all decoders were sent.
+pub fn push_nodes_ok(text: &mut Text)
+    requires { array_vec_len text.old + 10 ≤ 800 }
+    ensures text { text.new.items ≡ text.old.items ++ nodes_ok_text }
+    ensures len { array_vec_len text.new ≡ array_vec_len text.old + 10 }
+{
+    push_all(text, b"NODES OK\r\n");
 }
 
 /// Appends the greeting of a client: `VERSION` and the name of the server.

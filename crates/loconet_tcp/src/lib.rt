@@ -10,6 +10,7 @@
 //!         Some(Request::Send(message)) => { /* send it */ }
 //!         Some(Request::Invalid(reason)) => push_sent_error(&mut text, reason),
 //!         Some(Request::Turns(count)) => { /* run them */ }
+//!         Some(Request::Nodes) => { /* tell how the decoders stand */ }
 //!         None => {}
 //!     }
 //! }
@@ -26,7 +27,8 @@ mod reader;
 mod request;
 
 pub use client_lines::{
-    Text, push_receive, push_sent_error, push_sent_ok, push_server_full, push_turns, push_version,
+    Text, push_node, push_nodes_ok, push_receive, push_sent_error, push_sent_ok, push_server_full,
+    push_turns, push_version,
 };
 pub use laws::{any_cut, received_is_sendable};
 pub use outcome::Outcome;

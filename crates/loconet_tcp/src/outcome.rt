@@ -45,6 +45,11 @@ pub enum Outcome {
         client: u8,
         turns: Result<u16, TurnsError>,
     },
+    /// A client asked how the decoders stand. The answer is not of the bus, which knows no names;
+    /// clients receive nothing of this event.
+    NodesRequested {
+        client: u8,
+    },
     /// A turn began and sent this packet, or none while the track power is off. Clients receive
     /// nothing.
     TurnBegan {

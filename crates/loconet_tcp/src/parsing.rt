@@ -32,7 +32,11 @@ pub(crate) fn parse_line(line: &[u8]) -> Option<Request>
         return Some(Request::Turns(turns_of(rest)));
     }
     if first != b"SEND".as_slice() {
-        return None;
+        return if line == b"NODES".as_slice() {
+            Some(Request::Nodes)
+        } else {
+            None
+        };
     }
     if line.len() > LONGEST_LINE {
         return Some(Request::Invalid(Reason::TooLong));

@@ -2,7 +2,7 @@
 
 use ln_frame::Msg;
 
-/// The request of a line that begins with the word `SEND` or `TURNS`.
+/// The request of a line that begins with the word `SEND` or `TURNS`, or of the line `NODES`.
 #[derive(Debug, Drop, PartialEq, Eq)]
 pub enum Request {
     /// Send this message.
@@ -11,6 +11,8 @@ pub enum Request {
     Invalid(Reason),
     /// Run this number of turns; `None` if the line has no number from 1 to 10,000.
     Turns(Option<u16>),
+    /// Tell how the decoders stand.
+    Nodes,
 }
 
 /// Why nothing is sent. The first reason that applies is reported.
