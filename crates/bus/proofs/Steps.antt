@@ -6,10 +6,10 @@ use Rattle.std.proofs.lemmas.Bool.{cases_lt, ltb-true, leb-true, le-leb, lt-leb}
 use Rattle.std.proofs.lemmas.List.{length-set}
 use Rattle.ln_frame.specs.Message.{IsWhole, has_form, is_whole}
 use Rattle.loconet_tcp.specs.declared.request.Request.{Request}
-use Rattle.loconet_tcp.specs.declared.request.Request.TheVariants.{Send, Invalid, Turns}
+use Rattle.loconet_tcp.specs.declared.request.Request.TheVariants.{Send, Invalid, Turns, Nodes}
 use Rattle.loconet_tcp.specs.declared.request.Reason.TheVariants.{TooLong, NoMessage, WrongCheck}
 use Rattle.ascii_words.specs.Words.{is_blank, words_of}
-use Rattle.loconet_tcp.specs.Requests.{parse_send, request_of, bytes_of, is_send, is_turns, turns_of}
+use Rattle.loconet_tcp.specs.Requests.{parse_send, request_of, bytes_of, is_nodes, is_send, is_turns, turns_of}
 use Rattle.loconet_tcp.specs.Text.{is_end}
 use Rattle.station_core.specs.Seen.{Seen}
 use Rattle.layout_core.specs.declared.event.Event.{Event as LayoutEvent}
@@ -29,6 +29,7 @@ IsWholeAsk None = Unit {0}
 IsWholeAsk (Some (Invalid reason)) = Unit {0}
 IsWholeAsk (Some (Send message)) = IsWhole message
 IsWholeAsk (Some (Turns count)) = Unit {0}
+IsWholeAsk (Some Nodes) = Unit {0}
 
 whole_by : (whole form : Bool) (bytes : List ℕ) → is_whole bytes ≡ whole → IsWholeAsk (Some (if whole then Send bytes else if form then Invalid WrongCheck else Invalid NoMessage))
 whole_by true form bytes e = e
@@ -39,12 +40,13 @@ whole_sends : (said : Option (List ℕ)) → IsWholeAsk (Some (parse_send said))
 whole_sends None = tt
 whole_sends (Some bytes) = whole_by (is_whole bytes) (has_form bytes) bytes refl
 
-whole_when : (sends turns long : Bool) (said : Option (List ℕ)) (count : Option ℕ)
-    → IsWholeAsk (if sends then Some (if long then Invalid TooLong else parse_send said) else if turns then Some (Turns count) else None)
-whole_when false true long said count = tt
-whole_when false false long said count = tt
-whole_when true turns true said count = tt
-whole_when true turns false said count = whole_sends said
+whole_when : (sends turns nodes long : Bool) (said : Option (List ℕ)) (count : Option ℕ)
+    → IsWholeAsk (if sends then Some (if long then Invalid TooLong else parse_send said) else if turns then Some (Turns count) else if nodes then Some Nodes else None)
+whole_when false true nodes long said count = tt
+whole_when false false true long said count = tt
+whole_when false false false long said count = tt
+whole_when true turns nodes true said count = tt
+whole_when true turns nodes false said count = whole_sends said
 
 whole_at_end : (ends : Bool) (request : Option Request) → IsWholeAsk request → IsWholeAsk (if ends then request else None)
 whole_at_end true request whole = whole
@@ -52,7 +54,7 @@ whole_at_end false request whole = tt
 
 pub whole_ask : (kept : Option (List ℕ)) (byte : ℕ) → IsWholeAsk (request_at kept byte)
 whole_ask None byte = tt
-whole_ask (Some kept) byte = whole_at_end (is_end byte) (request_of kept) (whole_when (is_send kept) (is_turns kept) (nat_lt 400 (length kept)) (bytes_of (words_of (after_first is_blank kept))) (turns_of (after_first is_blank kept)))
+whole_ask (Some kept) byte = whole_at_end (is_end byte) (request_of kept) (whole_when (is_send kept) (is_turns kept) (is_nodes kept) (nat_lt 400 (length kept)) (bytes_of (words_of (after_first is_blank kept))) (turns_of (after_first is_blank kept)))
 
 -- A time in which the current turn ends, and one in which it does not.
 
@@ -84,6 +86,7 @@ asked_lines station None = refl
 asked_lines station (Some (Invalid reason)) = refl
 asked_lines station (Some (Send message)) = refl
 asked_lines station (Some (Turns count)) = refl
+asked_lines station (Some Nodes) = refl
 
 kept_turned : TurnsAreBounded → (bus : BusState) (micros : ℕ) → IsInvariant bus → bus.remaining ≤ micros → micros ≤ bus.remaining + 5795 → IsInvariant (after_turn_boundary bus micros)
 kept_turned laws bus micros h ends soon = record {
@@ -117,6 +120,7 @@ asked_station laws station client None idle below whole = refl
 asked_station laws station client (Some (Invalid reason)) idle below whole = refl
 asked_station laws station client (Some (Send message)) idle below whole = whole_after laws station client message idle below whole
 asked_station laws station client (Some (Turns count)) idle below whole = refl
+asked_station laws station client (Some Nodes) idle below whole = refl
 
 pub plays : StationMoves → (bus : BusState) (event : Event) → IsInvariant bus → is_event event ≡ true → played bus.station (layout_event bus event) ≡ (after_event bus event).station
 plays laws bus (Connects client) h legal = refl

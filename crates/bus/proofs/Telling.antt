@@ -10,7 +10,7 @@ use Rattle.loconet_tcp.specs.declared.request.Reason.{Reason}
 use Rattle.loconet_tcp.specs.declared.request.TurnsError.{TurnsError}
 use Rattle.loconet_tcp.specs.ClientLines.{receive_text, sent_error_text, sent_ok_text, turns_text, version_text}
 use Rattle.loconet_tcp.specs.declared.outcome.Outcome.{Outcome}
-use Rattle.loconet_tcp.specs.declared.outcome.Outcome.TheVariants.{Nothing, Connected, Disconnected, Rejected, Reported, Sent, TurnBegan, TurnsRequested}
+use Rattle.loconet_tcp.specs.declared.outcome.Outcome.TheVariants.{Nothing, Connected, Disconnected, Rejected, Reported, Sent, TurnBegan, TurnsRequested, NodesRequested}
 use Rattle.loconet_tcp.specs.Texts.{messages_in, reply_text, text_for}
 use Rattle.bus.specs.Since.{makes_request, text_since, is_connecting, is_disconnecting, requests_nothing, is_nonempty, has_connected, changes_connection, since_connected, stays_connected, traffic}
 
@@ -147,6 +147,7 @@ listens i (Sent client message reply) m q = no_ok (client == i) message reply q
 listens i (Reported message) m q = sym (append-nil (receive_text message))
 listens i (TurnBegan packet) m q = refl
 listens i (TurnsRequested client turns) m q = no_answer (client == i) turns q
+listens i (NodesRequested client) m q = refl
 
 pub bystander : (i : ℕ) (outcomes : List Outcome) → stays_connected i outcomes ≡ true → requests_nothing i outcomes ≡ true → flat_map (text_for i) outcomes ≡ flat_map receive_text (traffic outcomes)
 bystander i [] stay quiet = refl

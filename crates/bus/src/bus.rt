@@ -152,6 +152,7 @@ impl Bus {
                 client,
                 turns: granted(self.is_stepped, count),
             },
+            Some(Request::Nodes) => Outcome::NodesRequested { client },
         }
     }
 
