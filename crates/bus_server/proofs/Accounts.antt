@@ -8,17 +8,17 @@ use Rattle.bus.specs.declared.event.Event.{Event}
 use Rattle.bus.specs.Bus.{outcome_of}
 use Rattle.bus_server.specs.Observations.{Observation}
 use Rattle.loconet_tcp.specs.declared.outcome.Outcome.{Outcome}
-use Rattle.loconet_tcp.specs.declared.outcome.Outcome.TheVariants.{Nothing, Connected, Disconnected, Rejected, Reported, Sent, TurnBegan, TurnsRequested}
+use Rattle.loconet_tcp.specs.declared.outcome.Outcome.TheVariants.{Nothing, Connected, Disconnected, Rejected, Reported, Sent, TurnBegan, TurnsRequested, NodesRequested}
 use Rattle.loconet_tcp.specs.Texts.{text_for}
 use Rattle.bus_server.specs.Queues.{enqueued}
 use Rattle.bus_server.specs.TransportEvents.{Polled, ServerClosed, Accepted, WriteBlocked, PeerClosed, NonePending, TransportEvent, Written, ReadBlocked, Received, Refused}
-use Rattle.bus_server.specs.Fronts.{Account, IsFront, account_handled, account_applied, account_written, account_run, account_observed, account_after_outcome}
+use Rattle.bus_server.specs.Fronts.{Account, IsFront, account_handled, account_applied, account_written, account_run, account_observed, account_after_outcome, account_answered}
 use Rattle.bus_server.specs.ClientQueues.{SendQueues, enqueued_all, queues_after}
 use Rattle.bus_server.specs.declared.pace.Pace.{Pace}
 use Rattle.bus_server.specs.declared.pace.Pace.TheVariants.{AfterMessages, RealTime}
 use Rattle.bus_server.specs.Runs.{RunsByClock, RunsRounds, Round}
-use Rattle.bus_server.specs.Applied.{Handled, Applies, LoggedEvent, RunsEvent, RunsEvents, AppliesAll, ServerState, with_backlog, without_backlog}
-use Rattle.bus_server.proofs.Keeping.{none_set, set_at, told_there}
+use Rattle.bus_server.specs.Applied.{Handled, Applies, LoggedEvent, RunsEvent, RunsEvents, AppliesAll, ServerState, answer_to, round_start, with_backlog}
+use Rattle.bus_server.proofs.Keeping.{enqueued_there, none_set, set_at, told_there}
 use Rattle.bus_server.proofs.Rounding.{round_serves}
 
 some_same : {A : Type 0} (a b : A) → Some a ≡ Some b → a ≡ b
@@ -69,6 +69,7 @@ front_told i account (Rejected client reason) queues fits q h = all_told i accou
 front_told i account (Sent client message reply) queues fits q h = all_told i account (Sent client message reply) queues fits q h
 front_told i account (Reported message) queues fits q h = all_told i account (Reported message) queues fits q h
 front_told i account (TurnsRequested client turns) queues fits q h = all_told i account (TurnsRequested client turns) queues fits q h
+front_told i account (NodesRequested client) queues fits q h = fits q h ∙ sym (append-nil account.text)
 front_told i account (Disconnected client) queues fits q h = elim (cases_eq i client) [
   | inl same ↦ no_some q (sym (subst (λ (n : ℕ). slice_index_or (slice_set queues client None) n None ≡ None) (sym same) (none_set queues client)) ∙ h)
   | inr differs ↦ fits q (sym (get_or-set_other queues client i None None differs) ∙ h) ∙ sym (append-nil account.text)
@@ -152,10 +153,17 @@ front_time : (i : ℕ) (account : Account) (pace : Pace) (readings : List ℕ) (
 front_time i account (AfterMessages turns) readings elapsing old new h fits = as_before i account elapsing old new h.1 h.2 fits
 front_time i account (RealTime rate) readings elapsing old new h fits = front_happened i account elapsing old new h.2.2 fits
 
+-- A round starts.
+front_starts : (i : ℕ) (account : Account) (round : Round) (old : ServerState) → round.answers ≡ answer_to old → IsFront i account old → IsFront i (account_answered i account round) (round_start old)
+front_starts i account round old same fits q h =
+    let o = told_some (answer_to old i) (slice_index_or old.queues i None) q (sym (enqueued_there (answer_to old) old.queues i) ∙ h) in
+    text_more account.written o.0 q account.text (answer_to old i) o.2 (fits o.0 o.1) ∙ ap (λ (answers : ℕ → List ℕ). account.text ++ answers i) (sym same)
+
 pub front_rounds : (i : ℕ) (account : Account) (most : ℕ) (rounds : List Round) (old new : ServerState) → RunsRounds most rounds old new → IsFront i account old → IsFront i (account_run i account rounds) new
 front_rounds i account most [] old new same fits = subst (λ (s : ServerState). IsFront i account s) (sym same) fits
 front_rounds i account most (round ∷ rounds) old new h fits =
     let went = h.2 in
-    let served = front_acts i account round.handled (without_backlog old) went.1 (round_serves round.handled (without_backlog old) went.1 went.2) fits in
-    front_rounds i (account_applied i (account_handled i account round.handled) round.elapsing) most rounds h.1 new h.3
-    (front_time i (account_handled i account round.handled) went.1.pace round.readings round.elapsing went.1 h.1 went.3 served)
+    let start = account_answered i account round in
+    let served = front_acts i start round.handled (round_start old) went.1 (round_serves round.handled (round_start old) went.1 went.2) (front_starts i account round old went.0.1 fits) in
+    front_rounds i (account_applied i (account_handled i start round.handled) round.elapsing) most rounds h.1 new h.3
+    (front_time i (account_handled i start round.handled) went.1.pace round.readings round.elapsing went.1 h.1 went.3 served)

@@ -15,7 +15,7 @@ use Rattle.bus_server.specs.declared.pace.Pace.{Pace}
 use Rattle.bus_server.specs.declared.pace.Pace.TheVariants.{AfterMessages, RealTime}
 use Rattle.bus_server.specs.Observations.{Observation}
 use Rattle.bus_server.specs.Runs.{AreDrawn, RunsByClock, RunsRounds, IsEventRun, Round, logged_in}
-use Rattle.bus_server.specs.Applied.{Handled, Applies, LoggedEvent, RunsEvent, RunsEvents, AppliesAll, ServerState, events_of, with_backlog, without_backlog}
+use Rattle.bus_server.specs.Applied.{Handled, Applies, LoggedEvent, RunsEvent, RunsEvents, AppliesAll, ServerState, events_of, with_backlog, round_start}
 use Rattle.bus_server.specs.TransportEvents.{Polled, ServerClosed, Accepted, WriteBlocked, PeerClosed, NonePending, TransportEvent, Written, ReadBlocked, Received, Refused}
 use Rattle.bus_server.specs.declared.losses.Losses.{Losses}
 use Rattle.bus_server.proofs.Rounding.{round_serves}
@@ -88,7 +88,7 @@ nothing_done laws applied old new none same = nothing_brought laws applied old n
 pub course_behind : (events : List Event) (old new : ServerState) → IsEventRun events (with_backlog old) new → IsEventRun events old new
 course_behind events old new h = record { legal = h.legal; bus = h.bus; nodes = h.nodes; losses = h.losses }
 
-pub course_polled : (events : List Event) (old new : ServerState) → IsEventRun events (without_backlog old) new → IsEventRun events old new
+pub course_polled : (events : List Event) (old new : ServerState) → IsEventRun events (round_start old) new → IsEventRun events old new
 course_polled events old new h = record { legal = h.legal; bus = h.bus; nodes = h.nodes; losses = h.losses }
 
 act_course : Laws → (log : TransportEvent) (applied : List LoggedEvent) (old new : ServerState) → IsInvariant old.bus → Applies log applied old new → IsEventRun (events_of applied) old new
@@ -125,6 +125,6 @@ rounds_course laws most (round ∷ rounds) old new kept h =
     (course_more laws (events_of (handled ++ round.elapsing)) (events_of (logged_in rounds)) old h.1 new kept
     (cut_course handled round.elapsing old h.1
     (course_more laws (events_of handled) (events_of round.elapsing) old went.1 h.1 kept
-    (course_polled (events_of handled) old went.1 (acts_course laws round.handled (without_backlog old) went.1 kept (round_serves round.handled (without_backlog old) went.1 went.2)))
+    (course_polled (events_of handled) old went.1 (acts_course laws round.handled (round_start old) went.1 kept (round_serves round.handled (round_start old) went.1 went.2)))
     (λ k. time_course laws went.1.pace round.readings round.elapsing went.1 h.1 k went.3)))
     (λ k. rounds_course laws most rounds h.1 new k h.3))

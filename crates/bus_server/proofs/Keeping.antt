@@ -203,14 +203,17 @@ only_joins client applied old new brings =
 
 -- A client joins.
 
-told_at : (outcome : Outcome) (place : ℕ) (queues : SendQueues) (i : ℕ) → slice_index_or (enqueued_from place outcome queues) i None ≡ enqueued (text_for (place + i) outcome) (slice_index_or queues i None)
-told_at outcome place [] i = refl
-told_at outcome place (send_queue ∷ queues) zero = ap (λ (n : ℕ). enqueued (text_for n outcome) send_queue) {x = place} {y = place + 0} (omega arith)
-told_at outcome place (send_queue ∷ queues) (suc i) =
-    told_at outcome (place + 1) queues i ∙ ap (λ (n : ℕ). enqueued (text_for n outcome) (slice_index_or queues i None)) {x = place + 1 + i} {y = place + suc i} (omega arith)
+enqueued_at : (text : ℕ → List ℕ) (place : ℕ) (queues : SendQueues) (i : ℕ) → slice_index_or (enqueued_from place text queues) i None ≡ enqueued (text (place + i)) (slice_index_or queues i None)
+enqueued_at text place [] i = refl
+enqueued_at text place (send_queue ∷ queues) zero = ap (λ (n : ℕ). enqueued (text n) send_queue) {x = place} {y = place + 0} (omega arith)
+enqueued_at text place (send_queue ∷ queues) (suc i) =
+    enqueued_at text (place + 1) queues i ∙ ap (λ (n : ℕ). enqueued (text n) (slice_index_or queues i None)) {x = place + 1 + i} {y = place + suc i} (omega arith)
+
+pub enqueued_there : (text : ℕ → List ℕ) (queues : SendQueues) (i : ℕ) → slice_index_or (enqueued_from 0 text queues) i None ≡ enqueued (text i) (slice_index_or queues i None)
+enqueued_there text queues i = enqueued_at text 0 queues i ∙ ap (λ (n : ℕ). enqueued (text n) (slice_index_or queues i None)) {x = 0 + i} {y = i} (omega arith)
 
 pub told_there : (outcome : Outcome) (queues : SendQueues) (i : ℕ) → slice_index_or (enqueued_all outcome queues) i None ≡ enqueued (text_for i outcome) (slice_index_or queues i None)
-told_there outcome queues i = told_at outcome 0 queues i ∙ ap (λ (n : ℕ). enqueued (text_for n outcome) (slice_index_or queues i None)) {x = 0 + i} {y = i} (omega arith)
+told_there outcome queues i = enqueued_there (λ client. text_for client outcome) queues i
 
 -- without text for it, a client is as it was
 nothing_told : (send_queue : Option (List ℕ)) → is_within_capacity send_queue ≡ true → enqueued [] send_queue ≡ send_queue

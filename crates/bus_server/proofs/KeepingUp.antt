@@ -1,5 +1,5 @@
 -- A client that keeps up stays connected.
-use Rattle.std.proofs.Common.{◌≡◌, ℕ, zero, suc, ◌+◌, ◌*◌, ◌<◌, ◌≤◌, ◌⊎◌, inl, inr, Bool, true, false, if◌then◌else◌, nat_le, List, [], ◌∷◌, ◌++◌, length, Option, Some, None, refl, ap, ap₂, sym, subst, ◌∙◌, arith, eqb-true, ne_eqb}
+use Rattle.std.proofs.Common.{◌≡◌, ℕ, zero, suc, ◌+◌, ◌*◌, ◌<◌, ◌≤◌, ◌⊎◌, inl, inr, Bool, true, false, if◌then◌else◌, nat_le, List, [], ◌∷◌, ◌++◌, length, take, Option, Some, None, refl, ap, ap₂, sym, subst, ◌∙◌, arith, eqb-true, ne_eqb}
 use Rattle.std.specs.Prelude.{◌==◌, ◌&&◌, ◌||◌, Err, Ok, Result, codes, is_some, nat_lt, not, slice_set}
 use Rattle.std.specs.List.{before_first, list_all, list_any, position_or_len, slice_index_or}
 use Rattle.std.specs.Option.{option_map}
@@ -14,27 +14,30 @@ use Rattle.ln_ops.specs.Reply.{reply_bytes}
 use Rattle.ln_ops.specs.declared.reply.Reply.{Reply}
 use Rattle.ln_ops.specs.declared.reply.Reply.TheVariants.{LongAck, SlotData}
 use Rattle.layout_core.specs.declared.node.Node.{Node}
+use Rattle.layout_core.specs.DecoderStates.{decoder_line, decoder_state_of}
+use Rattle.layout_core.specs.Nodes.{spec_of}
 use Rattle.railway.specs.Railway.{RailwayState}
-use Rattle.loconet_tcp.specs.ClientLines.{hex_words, line_end, receive_text, sent_error_text, sent_ok_text, turns_text, version_text}
-use Rattle.loconet_tcp.specs.Requests.{bytes_of, is_send, is_turns, parse_send, request_of, turns_of}
+use Rattle.loconet_tcp.specs.ClientLines.{hex_words, line_end, node_text, nodes_ok_text, receive_text, sent_error_text, sent_ok_text, turns_text, version_text}
+use Rattle.loconet_tcp.specs.Requests.{bytes_of, is_nodes, is_send, is_turns, parse_send, request_of, turns_of}
 use Rattle.loconet_tcp.specs.Text.{is_end}
 use Rattle.loconet_tcp.specs.Texts.{reply_text, text_for}
 use Rattle.loconet_tcp.specs.declared.outcome.Outcome.{Outcome}
-use Rattle.loconet_tcp.specs.declared.outcome.Outcome.TheVariants.{Connected, Nothing, Rejected, Sent, TurnBegan, TurnsRequested}
+use Rattle.loconet_tcp.specs.declared.outcome.Outcome.TheVariants.{Connected, NodesRequested, Nothing, Rejected, Sent, TurnBegan, TurnsRequested}
 use Rattle.loconet_tcp.specs.declared.request.Reason.{Reason}
 use Rattle.loconet_tcp.specs.declared.request.Reason.TheVariants.{NoMessage, NotHex, TooLong, WrongCheck}
 use Rattle.loconet_tcp.specs.declared.request.TurnsError.{TurnsError}
 use Rattle.loconet_tcp.specs.declared.request.TurnsError.TheVariants.{NoNumber, RealTime}
 use Rattle.std.specs.Str.{bytes_eq}
 use Rattle.loconet_tcp.specs.declared.request.Request.{Request}
-use Rattle.loconet_tcp.specs.declared.request.Request.TheVariants.{Invalid, Send, Turns}
+use Rattle.loconet_tcp.specs.declared.request.Request.TheVariants.{Invalid, Nodes, Send, Turns}
 use Rattle.std.specs.List.{after_first}
 use Rattle.bus.specs.Bus.{BusState, after_event, client_of, granted, outcome_of, outcome_of_request, pending_text_at, reply_to, request_at}
 use Rattle.bus.specs.Course.{is_time}
 use Rattle.bus_server.specs.Observations.{Observation}
 use Rattle.bus.specs.declared.event.Event.{Event}
 use Rattle.bus.specs.declared.event.Event.TheVariants.{Connects, Disconnects, Elapses, Receives, Reports, Turn}
-use Rattle.bus_server.specs.Applied.{Applies, AppliesAll, AreTurns, Handled, LoggedEvent, RunsEvent, RunsEventWithTurns, RunsEvents, ServerState, events_of, has_overflowed, is_connected, transport_events, with_backlog, without_backlog}
+use Rattle.bus_server.specs.Answers.{next_line, node_lines}
+use Rattle.bus_server.specs.Applied.{answer_to, Applies, AppliesAll, AreTurns, Handled, LoggedEvent, RunsEvent, RunsEventWithTurns, RunsEvents, ServerState, events_of, has_overflowed, is_connected, transport_events, with_backlog, round_start}
 use Rattle.bus_server.specs.ClientQueues.{SendQueues, enqueued_all, enqueued_from, queues_after}
 use Rattle.bus_server.specs.KeepUp.{IsUpToDate, IsWithoutRailway, KeepsUp, is_blocked, is_closed}
 use Rattle.bus_server.specs.Queues.{enqueued, queued}
@@ -45,7 +48,8 @@ use Rattle.bus_server.specs.Runs.{Round, RunsByClock, RunsRounds, transport_log}
 use Rattle.bus_server.specs.Sensors.{asks_sensors, full_report, is_report, railway_after, reports_after}
 use Rattle.bus_server.specs.TransportEvents.{Accepted, NonePending, PeerClosed, Polled, ReadBlocked, Received, Refused, ServerClosed, TransportEvent, WriteBlocked, Written}
 use Rattle.bus_server.proofs.Going.{log-append}
-use Rattle.bus_server.proofs.Keeping.{joined_one, none_of_both, none_set, only_joins, only_leaves, left_is_not_late, put_keeps, row_before, row_behind, set_at, told_there}
+use Rattle.bus_server.proofs.Keeping.{enqueued_there, joined_one, none_of_both, none_set, only_joins, only_leaves, left_is_not_late, put_keeps, row_before, row_behind, set_at}
+use Rattle.bus_server.proofs.Placing.{length-enqueued}
 
 -- A request has at least five bytes, its line end with them, and a message at most 127.
 
@@ -63,12 +67,13 @@ most_whole (op ∷ s ∷ m) w =
     let form = and_parts (has_form (op ∷ s ∷ m)) _ w in
     most_bytes op s (length (op ∷ s ∷ m)) (and_parts (is_len (message_len op s) (length (op ∷ s ∷ m))) (are_data (s ∷ m)) form.0).0
 
--- the line of a request begins with SEND or TURNS, and what is sent is a whole message
+-- the line of a request begins with SEND or TURNS or is NODES, and what is sent is a whole message
 abbrev IsFromLine : List ℕ → Option Request → Type 0
 IsFromLine kept None = Unit {0}
 IsFromLine kept (Some (Invalid reason)) = 4 ≤ length kept
 IsFromLine kept (Some (Send message)) = (4 ≤ length kept) × IsWhole message
 IsFromLine kept (Some (Turns count)) = 4 ≤ length kept
+IsFromLine kept (Some Nodes) = 4 ≤ length kept
 
 first_bytes : (line word : List ℕ) → bytes_eq (before_first is_blank line) word ≡ true → length word ≤ length line
 first_bytes line word h =
@@ -82,6 +87,12 @@ four_bytes line h = first_bytes line (codes "SEND") h
 five_bytes : (line : List ℕ) → is_turns line ≡ true → 4 ≤ length line
 five_bytes line h = omega (arith, first_bytes line (codes "TURNS") h)
 
+nodes_bytes : (line : List ℕ) → is_nodes line ≡ true → 4 ≤ length line
+nodes_bytes line h =
+    let same : line ≡ codes "NODES" = (bytes_eq-Decides line (codes "NODES")).0 h in
+    let size : length line ≡ 5 = ap length same in
+    omega (arith, size)
+
 whole_by : (line : List ℕ) (whole form : Bool) (bytes : List ℕ) → 4 ≤ length line → is_whole bytes ≡ whole
     → IsFromLine line (Some (if whole then Send bytes else if form then Invalid WrongCheck else Invalid NoMessage))
 whole_by line true form bytes four e = (four, e)
@@ -92,16 +103,17 @@ whole_sends : (line : List ℕ) (bytes : Option (List ℕ)) → 4 ≤ length lin
 whole_sends line None four = four
 whole_sends line (Some bytes) four = whole_by line (is_whole bytes) (has_form bytes) bytes four refl
 
-from_line : (line : List ℕ) (sends turns long : Bool) (bytes : Option (List ℕ)) (count : Option ℕ) → is_send line ≡ sends → is_turns line ≡ turns
-    → IsFromLine line (if sends then Some (if long then Invalid TooLong else parse_send bytes) else if turns then Some (Turns count) else None)
-from_line line false true long bytes count e f = five_bytes line f
-from_line line false false long bytes count e f = tt
-from_line line true turns true bytes count e f = four_bytes line e
-from_line line true turns false bytes count e f = whole_sends line bytes (four_bytes line e)
+from_line : (line : List ℕ) (sends turns nodes long : Bool) (bytes : Option (List ℕ)) (count : Option ℕ) → is_send line ≡ sends → is_turns line ≡ turns → is_nodes line ≡ nodes
+    → IsFromLine line (if sends then Some (if long then Invalid TooLong else parse_send bytes) else if turns then Some (Turns count) else if nodes then Some Nodes else None)
+from_line line false true nodes long bytes count e f g = five_bytes line f
+from_line line false false true long bytes count e f g = nodes_bytes line g
+from_line line false false false long bytes count e f g = tt
+from_line line true turns nodes true bytes count e f g = four_bytes line e
+from_line line true turns nodes false bytes count e f g = whole_sends line bytes (four_bytes line e)
 
 at_end : (kept : List ℕ) (ends : Bool) → IsFromLine kept (if ends then request_of kept else None)
 at_end kept false = tt
-at_end kept true = from_line kept (is_send kept) (is_turns kept) (nat_lt 400 (length kept)) (bytes_of (words_of (after_first is_blank kept))) (turns_of (after_first is_blank kept)) refl refl
+at_end kept true = from_line kept (is_send kept) (is_turns kept) (is_nodes kept) (nat_lt 400 (length kept)) (bytes_of (words_of (after_first is_blank kept))) (turns_of (after_first is_blank kept)) refl refl refl
 
 request_line : (kept : Option (List ℕ)) (byte : ℕ) → IsFromLine (queued kept) (request_at kept byte)
 request_line None byte = tt
@@ -145,6 +157,7 @@ request_most : (bus : BusState) (client i : ℕ) (kept : List ℕ) (request : Op
 request_most bus client i kept None h = omega arith
 request_most bus client i kept (Some (Invalid reason)) h = error_most (client == i) reason
 request_most bus client i kept (Some (Turns count)) h = turns_most (client == i) (granted bus.stepped count)
+request_most bus client i kept (Some Nodes) h = omega arith
 request_most bus client i kept (Some (Send message)) h =
     three_most (receive_text message) (if client == i then sent_ok_text else []) (reply_text (reply_to bus.station message)) (receive_most message h.1) (ok_most (client == i)) (reply_most _)
 
@@ -208,10 +221,6 @@ length-set_queue [] i a = refl
 length-set_queue (x ∷ all) zero a = refl
 length-set_queue (x ∷ all) (suc i) a = ap suc (length-set_queue all i a)
 
-length-enqueued_from : (place : ℕ) (outcome : Outcome) (queues : SendQueues) → length (enqueued_from place outcome queues) ≡ length queues
-length-enqueued_from place outcome [] = refl
-length-enqueued_from place outcome (queue ∷ queues) = ap suc (length-enqueued_from (place + 1) outcome queues)
-
 enqueued_by : (fits : Bool) (text bytes : List ℕ) (m : ℕ) → fits ≡ true → length bytes + length text ≤ m
     → (length (queued (if fits then Some (bytes ++ text) else None)) ≤ m) × (is_some (if fits then Some (bytes ++ text) else None) ≡ true)
 enqueued_by true text bytes m e most = (omega (arith, most, length-append bytes text), refl)
@@ -224,18 +233,21 @@ enqueued_within text (Some bytes) n m has most room =
     enqueued_by (nat_le (length bytes + length text) 65536) text bytes m (le-leb (length bytes + length text) 65536 (omega (arith, has, most, room))) (omega (arith, has, most))
 
 -- Texts are enqueued for all.
-enqueues_within : (client n m : ℕ) (outcome : Outcome) (old new : ServerState) → new.queues ≡ enqueued_all outcome old.queues → is_connected new client ≡ is_connected old client → IsWithoutRailway new
-    → n + length (text_for client outcome) ≤ m → m ≤ 65536 → Within client n old → Within client m new
-enqueues_within client n m outcome old new queues connected without most room h =
+texts_within : (client n m : ℕ) (text : ℕ → List ℕ) (old new : ServerState) → new.queues ≡ enqueued_from 0 text old.queues → is_connected new client ≡ is_connected old client → IsWithoutRailway new
+    → n + length (text client) ≤ m → m ≤ 65536 → Within client n old → Within client m new
+texts_within client n m text old new queues connected without most room h =
     let queue = slice_index_or old.queues client None in
-    let text = text_for client outcome in
-    let does = enqueued_within text queue n m h.1 most room in (
-      subst (λ (all : SendQueues). client < length all) (sym queues) (omega (arith, h.0, length-enqueued_from 0 outcome old.queues)),
+    let does = enqueued_within (text client) queue n m h.1 most room in (
+      subst (λ (all : SendQueues). client < length all) (sym queues) (omega (arith, h.0, length-enqueued 0 text old.queues)),
       subst (λ (all : SendQueues). length (queued (slice_index_or all client None)) ≤ m) (sym queues)
-          (subst (λ (q : Option (List ℕ)). length (queued q) ≤ m) (sym (told_there outcome old.queues client)) does.0),
-      ap₂ (λ (a b : Bool). a && not b) connected (ap (λ (all : SendQueues). is_some (slice_index_or all client None)) queues ∙ ap is_some (told_there outcome old.queues client) ∙ does.1) ∙ h.2,
+          (subst (λ (q : Option (List ℕ)). length (queued q) ≤ m) (sym (enqueued_there text old.queues client)) does.0),
+      ap₂ (λ (a b : Bool). a && not b) connected (ap (λ (all : SendQueues). is_some (slice_index_or all client None)) queues ∙ ap is_some (enqueued_there text old.queues client) ∙ does.1) ∙ h.2,
       without,
     )
+
+enqueues_within : (client n m : ℕ) (outcome : Outcome) (old new : ServerState) → new.queues ≡ enqueued_all outcome old.queues → is_connected new client ≡ is_connected old client → IsWithoutRailway new
+    → n + length (text_for client outcome) ≤ m → m ≤ 65536 → Within client n old → Within client m new
+enqueues_within client n m outcome old new queues connected without most room h = texts_within client n m (λ i. text_for i outcome) old new queues connected without most room h
 
 -- Nothing happens to the queues.
 same_within : (client n : ℕ) (old new : ServerState) → new.queues ≡ old.queues → is_connected new client ≡ is_connected old client → IsWithoutRailway new → Within client n old → Within client n new
@@ -275,6 +287,8 @@ request_within client reader n m bus (Some (Send message)) old new queues connec
     enqueues_within client n m (Sent reader message (reply_to bus.station message)) old new queues connected without most room h
 request_within client reader n m bus (Some (Turns count)) old new queues connected without most room h =
     enqueues_within client n m (TurnsRequested reader (granted bus.stepped count)) old new queues connected without most room h
+request_within client reader n m bus (Some Nodes) old new queues connected without most room h =
+    within_more client n m new (omega (arith, most)) (same_within client n old new queues connected without h)
 
 receives_within : (client reader byte n m : ℕ) (observed : Observation) (old new : ServerState) → RunsEvent (Receives reader byte) observed old new
     → n + length (text_for client (outcome_of old.bus (Receives reader byte))) ≤ m → m ≤ 65536 → Within client n old → Within client m new
@@ -376,6 +390,7 @@ is_four : (kept : List ℕ) (asked : Request) → IsFromLine kept (Some asked) �
 is_four kept (Invalid reason) h = h
 is_four kept (Send message) h = h.0
 is_four kept (Turns count) h = h
+is_four kept Nodes h = h
 
 -- A client connects or disconnects.
 
@@ -389,7 +404,7 @@ joined_within client observed old new runs there without =
     let queues : new.queues ≡ enqueued_all (Connected client) (slice_set old.queues client (Some [])) = runs.queues in
     let queue : slice_index_or new.queues client None ≡ Some version_text = ap (λ (all : SendQueues). slice_index_or all client None) queues ∙ joined_one old.queues client there in (
       subst (λ (all : SendQueues). client < length all) (sym queues)
-          (omega (arith, there, length-enqueued_from 0 (Connected client) (slice_set old.queues client (Some [])), length-set_queue old.queues client (Some []))),
+          (omega (arith, there, length-enqueued 0 (λ i. text_for i (Connected client)) (slice_set old.queues client (Some [])), length-set_queue old.queues client (Some []))),
       subst (λ (q : Option (List ℕ)). length (queued q) ≤ 26) (sym queue) (version_most true),
       opened (is_connected new client) (slice_index_or new.queues client None) version_text queue,
       still_without (Connects client) observed old new runs without,
@@ -438,7 +453,7 @@ Paced client reader n p state = Within client n state × ((length (queued (clien
 
 -- after a number of bytes
 abbrev HasRoom : (client reader bytes : ℕ) → ServerState → Type 0
-HasRoom client reader bytes state = (n p : ℕ) × (5 * n + 789 * p ≤ 7101 + 789 * bytes) × Paced client reader n p state
+HasRoom client reader bytes state = (n p : ℕ) × (5 * n + 789 * p ≤ 10336 + 789 * bytes) × Paced client reader n p state
 
 kept_by : (ends short : Bool) (kept : List ℕ) (byte : ℕ) → length (if ends then [] else if short then kept ++ byte ∷ [] else kept) ≤ length kept + 1
 kept_by true short kept byte = omega arith
@@ -465,7 +480,7 @@ kept_then reader byte observed old mid new runs same =
 
 paced_by : (client reader byte n p bytes : ℕ) (request : Option Request) (observed : Observation) (turns : List LoggedEvent) (old mid new : ServerState)
     → RunsEvent (Receives reader byte) observed old mid → RunsEvents turns mid new → list_all is_time (events_of turns) ≡ true
-    → request_at (client_of old.bus reader) byte ≡ request → bytes < 400 → 5 * n + 789 * p ≤ 7101 + 789 * bytes → Paced client reader n p old → HasRoom client reader (bytes + 1) new
+    → request_at (client_of old.bus reader) byte ≡ request → bytes < 400 → 5 * n + 789 * p ≤ 10336 + 789 * bytes → Paced client reader n p old → HasRoom client reader (bytes + 1) new
 paced_by client reader byte n p bytes None observed turns old mid new runs after time asks within_bytes spent h =
     let text : length (text_for client (outcome_of old.bus (Receives reader byte))) ≡ 0 = ap (λ (r : Option Request). length (text_for client (outcome_of_request old.bus reader r))) asks in
     let one = receives_within client reader byte n n observed old mid runs (omega (arith, text)) (omega (arith, spent, within_bytes)) h.0 in
@@ -671,23 +686,24 @@ up_behind : (client : ℕ) (log more : List TransportEvent) → KeepsUp client (
 up_behind client log more h =
     ((unread_parts (list_any (is_blocked client) log) (list_any (is_blocked client) more) (sym (list_any-append (is_blocked client) log more) ∙ h.0)).1, λ row. h.1 (row_behind client 4 log more row))
 
--- What a part of a run does for a client that keeps up: little text is left in its queue, and it is not closed.
-abbrev StaysUp : (client : ℕ) → List TransportEvent → ServerState → Type 0
-StaysUp client log new = Within client 789 new × (list_any (is_closed client) log ≡ false)
+-- What a part of a run does for a client that keeps up: at most this much text is left in its queue, and it is not closed.
+abbrev StaysUp : (client n : ℕ) → List TransportEvent → ServerState → Type 0
+StaysUp client n log new = Within client n new × (list_any (is_closed client) log ≡ false)
 
-both_stay : (client : ℕ) (first second : List TransportEvent) (new : ServerState) → list_any (is_closed client) first ≡ false → StaysUp client second new → StaysUp client (first ++ second) new
-both_stay client first second new none h =
+both_stay : (client n : ℕ) (first second : List TransportEvent) (new : ServerState) → list_any (is_closed client) first ≡ false → StaysUp client n second new → StaysUp client n (first ++ second) new
+both_stay client n first second new none h =
     (h.0, list_any-append (is_closed client) first second ∙ none_of_both (list_any (is_closed client) first) (list_any (is_closed client) second) none h.1)
 
-serve_keeps : (client reader : ℕ) (handled : List Handled) (old new : ServerState) → client < 8 → ServesClient reader handled old new → KeepsUp client (transport_events handled) → Within client 789 old
-    → StaysUp client (transport_events handled) new
+-- A client has at most 789 bytes in its queue after it was written to, and 647 more once a line of an answer is enqueued.
+serve_keeps : (client reader : ℕ) (handled : List Handled) (old new : ServerState) → client < 8 → ServesClient reader handled old new → KeepsUp client (transport_events handled) → Within client 1436 old
+    → StaysUp client 789 (transport_events handled) new
 serve_keeps client reader handled old new among serve up h =
     let heard = serve.0 in
     let written = serve.1 in
     let log : transport_events handled ≡ transport_events heard ++ transport_events written = ap transport_events serve.3 ∙ log-append heard written in
     let up_log : KeepsUp client (transport_events heard ++ transport_events written) = subst (KeepsUp client) log up in
     let up_written = up_behind client (transport_events heard) (transport_events written) up_log in
-    let start : HasRoom client reader 0 old = (789, 4, omega arith, (h, inr (omega arith))) in
+    let start : HasRoom client reader 0 old = (1436, 4, omega arith, (h, inr (omega arith))) in
     let read = reads client reader 0 heard old serve.2 serve.4 serve.5.2 (omega (arith, serve.5.1)) start in
     let put = unread_all client 65536 written serve.2 new serve.6 serve.7 (omega arith) (omega arith) read.0 in
     let small : Within client 789 new = elim (serve.8 client among).0 [
@@ -695,30 +711,56 @@ serve_keeps client reader handled old new among serve up h =
       | inr (inl blocked) ↦ accepted_small client written serve.2 new serve.6 serve.7 (blocked_all client (transport_events written) blocked up_written.0) read.0
       | inr (inr four) ↦ absurd (up_written.1 four)
     ] in
-    subst (λ (all : List TransportEvent). StaysUp client all new) (sym log) (both_stay client (transport_events heard) (transport_events written) new read.1 (small, put.1))
+    subst (λ (all : List TransportEvent). StaysUp client 789 all new) (sym log) (both_stay client 789 (transport_events heard) (transport_events written) new read.1 (small, put.1))
 
-serves_keep : (client count : ℕ) (handled : List Handled) (old new : ServerState) → client < 8 → ServesClients count handled old new → KeepsUp client (transport_events handled) → Within client 789 old
-    → StaysUp client (transport_events handled) new
-serves_keep client zero handled old new among serves up h =
-    subst (λ (all : List Handled). StaysUp client (transport_events all) new) (sym serves.0) (subst (λ (s : ServerState). Within client 789 s) (sym serves.1) h, refl)
-serves_keep client (suc n) handled old new among serves up h =
-    let first = serves.0 in
-    let last = serves.1 in
-    let log : transport_events handled ≡ transport_events first ++ transport_events last = ap transport_events serves.3 ∙ log-append first last in
+-- the last of some
+last_keeps : (client n : ℕ) (handled first last : List Handled) (old mid new : ServerState) → client < 8 → handled ≡ first ++ last → ServesClient n last mid new → KeepsUp client (transport_events handled)
+    → (KeepsUp client (transport_events first) → StaysUp client 1436 (transport_events first) mid) → StaysUp client 789 (transport_events handled) new
+last_keeps client n handled first last old mid new among both serve up before =
+    let log : transport_events handled ≡ transport_events first ++ transport_events last = ap transport_events both ∙ log-append first last in
     let up_log : KeepsUp client (transport_events first ++ transport_events last) = subst (KeepsUp client) log up in
-    let before = serves_keep client n first old serves.2 among serves.4 (up_before client (transport_events first) (transport_events last) up_log) h in
-    let after = serve_keeps client n last serves.2 new among serves.5 (up_behind client (transport_events first) (transport_events last) up_log) before.0 in
-    subst (λ (all : List TransportEvent). StaysUp client all new) (sym log) (both_stay client (transport_events first) (transport_events last) new before.1 after)
+    let so_far = before (up_before client (transport_events first) (transport_events last) up_log) in
+    let after = serve_keeps client n last mid new among serve (up_behind client (transport_events first) (transport_events last) up_log) so_far.0 in
+    subst (λ (all : List TransportEvent). StaysUp client 789 all new) (sym log) (both_stay client 789 (transport_events first) (transport_events last) new so_far.1 after)
 
-round_keeps : (client : ℕ) (handled : List Handled) (old new : ServerState) → client < 8 → IsRound handled old new → KeepsUp client (transport_events handled) → Within client 789 old → StaysUp client (transport_events handled) new
+serves_keep : (client count : ℕ) (handled : List Handled) (old new : ServerState) → client < 8 → ServesClients count handled old new → KeepsUp client (transport_events handled) → Within client 1436 old
+    → StaysUp client 1436 (transport_events handled) new
+serves_keep client zero handled old new among serves up h =
+    subst (λ (all : List Handled). StaysUp client 1436 (transport_events all) new) (sym serves.0) (subst (λ (s : ServerState). Within client 1436 s) (sym serves.1) h, refl)
+serves_keep client (suc n) handled old new among serves up h =
+    let all = last_keeps client n handled serves.0 serves.1 old serves.2 new among serves.3 serves.5 up (λ first. serves_keep client n serves.0 old serves.2 among serves.4 first h) in
+    (within_more client 789 1436 new (omega arith) all.0, all.1)
+
+round_keeps : (client : ℕ) (handled : List Handled) (old new : ServerState) → client < 8 → IsRound handled old new → KeepsUp client (transport_events handled) → Within client 1436 old → StaysUp client 789 (transport_events handled) new
 round_keeps client handled old new among round up h =
     let turns = round.0 in
     let last = round.1 in
     let log : transport_events handled ≡ transport_events turns ++ transport_events last = ap transport_events round.3 ∙ log-append turns last in
     let up_log : KeepsUp client (transport_events turns ++ transport_events last) = subst (KeepsUp client) log up in
-    let served = serves_keep client 8 turns old round.2 among round.4 (up_before client (transport_events turns) (transport_events last) up_log) h in
+    let serves : ServesClients (suc 7) turns old round.2 = round.4 in
+    let served = last_keeps client 7 turns serves.0 serves.1 old serves.2 round.2 among serves.3 serves.5 (up_before client (transport_events turns) (transport_events last) up_log)
+    (λ first. serves_keep client 7 serves.0 old serves.2 among serves.4 first h) in
     let accepted = unread_all client 789 last round.2 new round.5 round.6 (omega arith) (omega arith) served.0 in
-    subst (λ (all : List TransportEvent). StaysUp client all new) (sym log) (both_stay client (transport_events turns) (transport_events last) new served.1 accepted)
+    subst (λ (all : List TransportEvent). StaysUp client 789 all new) (sym log) (both_stay client 789 (transport_events turns) (transport_events last) new served.1 accepted)
+
+-- A round starts: a line of an answer has at most 647 bytes.
+
+line_most : (line : List ℕ) → length (node_text (take 640 line)) ≤ 647
+line_most line = omega (arith, length-append (take 640 line) line_end, length-take 640 line)
+
+lines_most : (names : List (List ℕ)) (nodes : List Node) (count : ℕ) → length (slice_index_or (node_lines names nodes) count nodes_ok_text) ≤ 647
+lines_most [] nodes count = omega arith
+lines_most (name ∷ names) [] count = omega arith
+lines_most (name ∷ names) (node ∷ nodes) zero = line_most (decoder_line name (spec_of node) (decoder_state_of node))
+lines_most (name ∷ names) (node ∷ nodes) (suc count) = lines_most names nodes count
+
+next_most : (names : List (List ℕ)) (nodes : List Node) (count : Option ℕ) → length (next_line (node_lines names nodes) count) ≤ 647
+next_most names nodes None = omega arith
+next_most names nodes (Some count) = lines_most names nodes count
+
+starts_within : (client : ℕ) (old : ServerState) → Within client 789 old → Within client 1436 (round_start old)
+starts_within client old h =
+    texts_within client 789 1436 (answer_to old) old (round_start old) refl refl h.3 (omega (arith, next_most old.names old.nodes (slice_index_or old.answers client None))) (omega arith) h
 
 clock_keeps : (client : ℕ) (pace : Pace) (readings : List ℕ) (elapsing : List LoggedEvent) (old new : ServerState) → RunsByClock pace readings elapsing old new → Within client 789 old → Within client 789 new
 clock_keeps client (AfterMessages turns) readings elapsing old new h within = subst (λ (s : ServerState). Within client 789 s) (sym h.2) within
@@ -730,7 +772,7 @@ rounds_keep client most (round ∷ rounds) old new among h up within =
     let went = h.2 in
     let first = Polled round.longest ∷ transport_events round.handled in
     let up_first = up_behind client (Polled round.longest ∷ []) (transport_events round.handled) (up_before client first (transport_log rounds) up) in
-    let served = round_keeps client round.handled (without_backlog old) went.1 among went.2 up_first within in
+    let served = round_keeps client round.handled (round_start old) went.1 among went.2 up_first (starts_within client old within) in
     let timed = clock_keeps client went.1.pace round.readings round.elapsing went.1 h.1 went.3 served.0 in
     let rest = rounds_keep client most rounds h.1 new among h.3 (up_behind client first (transport_log rounds) up) timed in
     list_any-append (is_closed client) first (transport_log rounds) ∙ none_of_both (list_any (is_closed client) first) (list_any (is_closed client) (transport_log rounds)) served.1 rest

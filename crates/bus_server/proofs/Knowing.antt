@@ -14,7 +14,7 @@ use Rattle.bus.specs.declared.event.Event.{Event}
 use Rattle.bus.specs.declared.event.Event.TheVariants.{Connects, Receives, Disconnects, Reports, Elapses, Turn}
 use Rattle.bus.specs.Bus.{outcome_of}
 use Rattle.bus_server.specs.Observations.{Observation}
-use Rattle.bus_server.specs.Applied.{Applies, AppliesAll, Handled, LoggedEvent, RunsEvent, RunsEvents, ServerState, events_of, with_backlog, without_backlog}
+use Rattle.bus_server.specs.Applied.{Applies, AppliesAll, Handled, LoggedEvent, RunsEvent, RunsEvents, ServerState, events_of, with_backlog, round_start}
 use Rattle.bus_server.specs.Known.{IsKnown, IsSensorOf, reports_among}
 use Rattle.bus_server.specs.declared.pace.Pace.{Pace}
 use Rattle.bus_server.specs.declared.pace.Pace.TheVariants.{AfterMessages, RealTime}
@@ -171,7 +171,7 @@ module _ (laws : SensorLaws) (block sensor : ℕ) where
   rounds_known most (round ∷ rounds) level old new runs h =
       let went = runs.2 in
       let handled = applied_in round.handled in
-      let served = acts_known round.handled level (without_backlog old) went.1 (round_serves round.handled (without_backlog old) went.1 went.2) h in
+      let served = acts_known round.handled level (round_start old) went.1 (round_serves round.handled (round_start old) went.1 went.2) h in
       let timed = time_known went.1.pace round.readings round.elapsing (known_after sensor handled level) went.1 runs.1 went.3 served in
       let rest = rounds_known most rounds (known_after sensor round.elapsing (known_after sensor handled level)) runs.1 new runs.3 timed in
       subst (λ (l : Bool). IsKnown block sensor l new)

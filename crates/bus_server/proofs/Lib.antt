@@ -1,4 +1,5 @@
 pub mod Accounts
+pub mod Answering
 pub mod Courses
 pub mod Going
 pub mod Keeping

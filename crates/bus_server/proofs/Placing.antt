@@ -6,16 +6,16 @@ use Rattle.std.proofs.lemmas.Bool.{and_from}
 use Rattle.std.proofs.lemmas.Bool.Decides.{nat_tests}
 use Rattle.std.proofs.lemmas.List.{length-append, length-drop, length-set}
 use Rattle.loconet_tcp.specs.declared.request.Request.{Request}
-use Rattle.loconet_tcp.specs.declared.request.Request.TheVariants.{Send, Invalid, Turns}
+use Rattle.loconet_tcp.specs.declared.request.Request.TheVariants.{Send, Invalid, Turns, Nodes}
 use Rattle.station_core.specs.Moved.{packet_of_turn}
 use Rattle.bus.specs.declared.event.Event.{Event}
 use Rattle.bus.specs.declared.event.Event.TheVariants.{Connects, Receives, Disconnects, Reports, Elapses, Turn}
 use Rattle.loconet_tcp.specs.declared.outcome.Outcome.{Outcome}
-use Rattle.loconet_tcp.specs.declared.outcome.Outcome.TheVariants.{Nothing, Connected, Disconnected, Rejected, Reported, Sent, TurnBegan, TurnsRequested}
+use Rattle.loconet_tcp.specs.declared.outcome.Outcome.TheVariants.{Nothing, Connected, Disconnected, Rejected, Reported, Sent, TurnBegan, TurnsRequested, NodesRequested}
 use Rattle.bus.specs.Bus.{BusState, request_at, client_of, is_event, outcome_of_request, outcome_of}
 use Rattle.loconet_tcp.specs.Texts.{text_for}
 use Rattle.bus_server.specs.Queues.{is_within_capacity, enqueued, queued}
-use Rattle.bus_server.specs.ClientQueues.{SendQueues, names_client, enqueued_from, queues_after}
+use Rattle.bus_server.specs.ClientQueues.{SendQueues, names_client, enqueued_all, enqueued_from, queues_after}
 use Rattle.bus_server.proofs.Keeping.{room_set}
 
 asked_placed : (bus : BusState) (client : ℕ) (request : Option Request) → is_event (Connects client) ≡ true → names_client (outcome_of_request bus client request) ≡ true
@@ -23,6 +23,7 @@ asked_placed bus client None below = refl
 asked_placed bus client (Some (Invalid reason)) below = below
 asked_placed bus client (Some (Send message)) below = below
 asked_placed bus client (Some (Turns count)) below = below
+asked_placed bus client (Some Nodes) below = below
 
 passing_placed : (packet : Option (List ℕ)) (ends : Bool) → names_client (if ends then TurnBegan packet else Nothing) ≡ true
 passing_placed packet true = refl
@@ -36,19 +37,23 @@ placed_by bus (Elapses micros missed) legal = passing_placed (packet_of_turn bus
 placed_by bus (Reports sensor occupied) legal = refl
 placed_by bus (Turn missed) legal = refl
 
-length-outcome : (place : ℕ) (outcome : Outcome) (queues : SendQueues) → length (enqueued_from place outcome queues) ≡ length queues
-length-outcome place outcome [] = refl
-length-outcome place outcome (send_queue ∷ queues) = ap suc (length-outcome (place + 1) outcome queues)
+pub length-enqueued : (place : ℕ) (text : ℕ → List ℕ) (queues : SendQueues) → length (enqueued_from place text queues) ≡ length queues
+length-enqueued place text [] = refl
+length-enqueued place text (send_queue ∷ queues) = ap suc (length-enqueued (place + 1) text queues)
+
+length-outcome : (outcome : Outcome) (queues : SendQueues) → length (enqueued_all outcome queues) ≡ length queues
+length-outcome outcome queues = length-enqueued 0 (λ client. text_for client outcome) queues
 
 pub length-after : (outcome : Outcome) (queues : SendQueues) → length (queues_after outcome queues) ≡ length queues
 length-after Nothing queues = refl
 length-after (TurnBegan packet) queues = refl
 length-after (Disconnected client) queues = length-set queues client None
-length-after (Connected client) queues = length-outcome 0 (Connected client) (slice_set queues client (Some [])) ∙ length-set queues client (Some [])
-length-after (Rejected client reason) queues = length-outcome 0 (Rejected client reason) queues
-length-after (Sent client message reply) queues = length-outcome 0 (Sent client message reply) queues
-length-after (Reported message) queues = length-outcome 0 (Reported message) queues
-length-after (TurnsRequested client turns) queues = length-outcome 0 (TurnsRequested client turns) queues
+length-after (Connected client) queues = length-outcome (Connected client) (slice_set queues client (Some [])) ∙ length-set queues client (Some [])
+length-after (Rejected client reason) queues = length-outcome (Rejected client reason) queues
+length-after (Sent client message reply) queues = length-outcome (Sent client message reply) queues
+length-after (Reported message) queues = length-outcome (Reported message) queues
+length-after (TurnsRequested client turns) queues = length-outcome (TurnsRequested client turns) queues
+length-after (NodesRequested client) queues = refl
 
 -- What waits has room.
 
@@ -60,20 +65,24 @@ within_capacity-enqueued : (text : List ℕ) (send_queue : Option (List ℕ)) �
 within_capacity-enqueued text None = refl
 within_capacity-enqueued text (Some bytes) = told_if bytes text (nat_le (length bytes + length text) 65536) refl
 
-within_capacity-outcome : (place : ℕ) (outcome : Outcome) (queues : SendQueues) → list_all is_within_capacity (enqueued_from place outcome queues) ≡ true
-within_capacity-outcome place outcome [] = refl
-within_capacity-outcome place outcome (send_queue ∷ queues) =
-    and_from (is_within_capacity (enqueued (text_for place outcome) send_queue)) (list_all is_within_capacity (enqueued_from (place + 1) outcome queues)) (within_capacity-enqueued (text_for place outcome) send_queue) (within_capacity-outcome (place + 1) outcome queues)
+pub within_capacity-all : (place : ℕ) (text : ℕ → List ℕ) (queues : SendQueues) → list_all is_within_capacity (enqueued_from place text queues) ≡ true
+within_capacity-all place text [] = refl
+within_capacity-all place text (send_queue ∷ queues) =
+    and_from (is_within_capacity (enqueued (text place) send_queue)) (list_all is_within_capacity (enqueued_from (place + 1) text queues)) (within_capacity-enqueued (text place) send_queue) (within_capacity-all (place + 1) text queues)
+
+within_capacity-outcome : (outcome : Outcome) (queues : SendQueues) → list_all is_within_capacity (enqueued_all outcome queues) ≡ true
+within_capacity-outcome outcome queues = within_capacity-all 0 (λ client. text_for client outcome) queues
 
 pub within_capacity-after : (outcome : Outcome) (queues : SendQueues) → list_all is_within_capacity queues ≡ true → list_all is_within_capacity (queues_after outcome queues) ≡ true
 within_capacity-after Nothing queues within_capacity = within_capacity
 within_capacity-after (TurnBegan packet) queues within_capacity = within_capacity
 within_capacity-after (Disconnected client) queues within_capacity = room_set queues client None within_capacity refl
-within_capacity-after (Connected client) queues within_capacity = within_capacity-outcome 0 (Connected client) (slice_set queues client (Some []))
-within_capacity-after (Rejected client reason) queues within_capacity = within_capacity-outcome 0 (Rejected client reason) queues
-within_capacity-after (Sent client message reply) queues within_capacity = within_capacity-outcome 0 (Sent client message reply) queues
-within_capacity-after (Reported message) queues within_capacity = within_capacity-outcome 0 (Reported message) queues
-within_capacity-after (TurnsRequested client turns) queues within_capacity = within_capacity-outcome 0 (TurnsRequested client turns) queues
+within_capacity-after (Connected client) queues within_capacity = within_capacity-outcome (Connected client) (slice_set queues client (Some []))
+within_capacity-after (Rejected client reason) queues within_capacity = within_capacity-outcome (Rejected client reason) queues
+within_capacity-after (Sent client message reply) queues within_capacity = within_capacity-outcome (Sent client message reply) queues
+within_capacity-after (Reported message) queues within_capacity = within_capacity-outcome (Reported message) queues
+within_capacity-after (TurnsRequested client turns) queues within_capacity = within_capacity-outcome (TurnsRequested client turns) queues
+within_capacity-after (NodesRequested client) queues within_capacity = within_capacity
 
 pub within_capacity-dropped : (count : ℕ) (send_queue : Option (List ℕ)) → is_within_capacity send_queue ≡ true → is_within_capacity (Some (drop count (queued send_queue))) ≡ true
 within_capacity-dropped count send_queue within_capacity = let less : length (drop count (queued send_queue)) ≡ length (queued send_queue) - count = length-drop count (queued send_queue) in grind (arith, nat_tests, less, within_capacity)

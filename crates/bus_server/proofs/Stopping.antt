@@ -10,12 +10,12 @@ use Rattle.bus.specs.Log.{Extends}
 use Rattle.bus_server.specs.Observations.{Observation}
 use Rattle.bus_server.specs.declared.running.Stop.{Stop}
 use Rattle.bus_server.specs.declared.running.Stop.TheVariants.{Transport, Clock, Observer, AfterRound}
-use Rattle.bus_server.specs.Applied.{AppliesAll, Handled, LoggedEvent, ServerState, events_of, longest_wait, observations_in, observations_of, overflow_notice, transport_events, with_backlog, without_backlog}
+use Rattle.bus_server.specs.Applied.{AppliesAll, Handled, LoggedEvent, ServerState, events_of, longest_wait, observations_in, observations_of, overflow_notice, transport_events, with_backlog, round_start}
 use Rattle.bus_server.specs.Progress.{Snapshot}
 use Rattle.bus_server.specs.Rounds.{IsRound}
 use Rattle.bus_server.specs.declared.pace.Pace.{Pace}
 use Rattle.bus_server.specs.declared.pace.Pace.TheVariants.{AfterMessages, RealTime}
-use Rattle.bus_server.specs.Runs.{IsEventRun, Round, RunSnapshot, RunsLogged, logged_in, skipped, transport_log}
+use Rattle.bus_server.specs.Runs.{IsEventRun, Round, RunSnapshot, RunsLogged, StartsRound, logged_in, skipped, transport_log}
 use Rattle.bus_server.specs.Stops.{Begins, BeginsEvent, HasLogged, IsRestOfRead, IsStoppedRun, Stops, StopsAt, StopsByClock, StopsElapsing, StopsIn, StopsLogged, after_round_failed, fails}
 use Rattle.bus_server.specs.TransportEvents.{Accepted, NonePending, PeerClosed, Polled, ReadBlocked, Received, Refused, ServerClosed, TransportEvent, WriteBlocked, Written}
 use Rattle.bus_server.proofs.Courses.{Laws, acts_course, course_behind, course_more, course_polled, cut_course, happened_course, nothing_done, rounds_course, time_course}
@@ -117,17 +117,17 @@ stop_course : {T C O A : Type 0} → Laws → (stop : Stop T C O A) (last : Roun
 stop_course laws (Transport fault) last rest old new kept h =
     subst (λ (round : Round). IsEventRun (events_of (logged_in (round ∷ []))) old new) (sym h.0) (nothing_done laws [] old new refl h.2)
 stop_course {T = T} {O = O} {A = A} laws (Clock fault) last rest old new kept h =
-    course_polled (events_of (logged_in (last ∷ []))) old new (elapsing_course {T = T} {O = O} {A = A} laws (Clock fault) last rest (without_backlog old) new kept h.1)
+    course_polled (events_of (logged_in (last ∷ []))) old new (elapsing_course {T = T} {O = O} {A = A} laws (Clock fault) last rest (round_start old) new kept h.1)
 stop_course {T = T} {C = C} {A = A} laws (Observer fault) last rest old new kept h = course_polled (events_of (logged_in (last ∷ []))) old new (elim h.1 [
-  | inl inside ↦ last_course laws last (without_backlog old) new new kept (stops_in_course laws last.handled rest (without_backlog old) new kept inside.2) (λ k. nothing_done laws last.elapsing new new inside.1 refl)
-  | inr elapsing ↦ elapsing_course {T = T} {C = C} {A = A} laws (Observer fault) last rest (without_backlog old) new kept elapsing
+  | inl inside ↦ last_course laws last (round_start old) new new kept (stops_in_course laws last.handled rest (round_start old) new kept inside.2) (λ k. nothing_done laws last.elapsing new new inside.1 refl)
+  | inr elapsing ↦ elapsing_course {T = T} {C = C} {A = A} laws (Observer fault) last rest (round_start old) new kept elapsing
 ])
 stop_course laws (AfterRound fault) last rest old new kept h =
     let after = h.1 in
     course_polled (events_of (logged_in (last ∷ [])))
     old new
-    (last_course laws last (without_backlog old) after.1 new kept
-    (acts_course laws last.handled (without_backlog old) after.1 kept (round_serves last.handled (without_backlog old) after.1 after.2))
+    (last_course laws last (round_start old) after.1 new kept
+    (acts_course laws last.handled (round_start old) after.1 kept (round_serves last.handled (round_start old) after.1 after.2))
     (λ k. time_course laws after.1.pace last.readings last.elapsing after.1 new k after.3))
 
 -- whole rounds, and then the last
@@ -184,9 +184,9 @@ has_logged last rest old new log readings observed = (
 )
 
 -- behind a whole round, in the time that it took
-pub stops_by_clock : {T C O A : Type 0} → (stop : Stop T C O A) (last : Round) (old mid new : ServerState) → last.longest ≡ longest_wait old → IsRound last.handled (without_backlog old) mid
+pub stops_by_clock : {T C O A : Type 0} → (stop : Stop T C O A) (last : Round) (old mid new : ServerState) → StartsRound last old → IsRound last.handled (round_start old) mid
     → StopsByClock stop mid.pace last.readings last.elapsing mid new → StopsAt stop last [] old new
-stops_by_clock (Transport fault) last old mid new longest round h = absurd h
-stops_by_clock (Clock fault) last old mid new longest round h = (longest, (refl, mid, round, h))
-stops_by_clock (Observer fault) last old mid new longest round h = (longest, inr (refl, mid, round, h))
-stops_by_clock (AfterRound fault) last old mid new longest round h = absurd h
+stops_by_clock (Transport fault) last old mid new starts round h = absurd h
+stops_by_clock (Clock fault) last old mid new starts round h = (starts, (refl, mid, round, h))
+stops_by_clock (Observer fault) last old mid new starts round h = (starts, inr (refl, mid, round, h))
+stops_by_clock (AfterRound fault) last old mid new starts round h = absurd h

@@ -11,7 +11,7 @@ use Rattle.bus_server.specs.declared.pace.Pace.{Pace}
 use Rattle.bus_server.specs.declared.pace.Pace.TheVariants.{RealTime}
 use Rattle.bus_server.specs.Paces.{longest_step, track_time}
 use Rattle.bus_server.specs.Runs.{RunsByClock, RunsRounds, Round, logged_in, readings_of, time_read}
-use Rattle.bus_server.specs.Applied.{Handled, AreTurns, RunsEventWithTurns, Applies, LoggedEvent, RunsEvents, IsWithTurns, AppliesAll, ServerState, events_of, turns_after, with_backlog, without_backlog}
+use Rattle.bus_server.specs.Applied.{Handled, AreTurns, RunsEventWithTurns, Applies, LoggedEvent, RunsEvents, IsWithTurns, AppliesAll, ServerState, events_of, turns_after, with_backlog, round_start}
 use Rattle.bus_server.specs.TransportEvents.{Polled, ServerClosed, Accepted, WriteBlocked, PeerClosed, NonePending, TransportEvent, Written, ReadBlocked, Received, Refused}
 use Rattle.bus_server.proofs.Courses.{after-append}
 use Rattle.bus_server.proofs.Rounding.{round_serves}
@@ -86,7 +86,7 @@ same_took applied old new none same = nothing_took applied old new none (ap (λ 
 took_behind : (micros : ℕ) (events : List Event) (old new : ServerState) → Took micros events (with_backlog old) new → Took micros events old new
 took_behind micros events old new h = record { bus = h.bus; time = h.time; pace = h.pace }
 
-took_polled : (micros : ℕ) (events : List Event) (old new : ServerState) → Took micros events (without_backlog old) new → Took micros events old new
+took_polled : (micros : ℕ) (events : List Event) (old new : ServerState) → Took micros events (round_start old) new → Took micros events old new
 took_polled micros events old new h = record { bus = h.bus; time = h.time; pace = h.pace }
 
 act_took : {rate : ℕ} → (log : TransportEvent) (applied : List LoggedEvent) (old new : ServerState) → old.pace ≡ RealTime rate → Applies log applied old new → Took 0 (events_of applied) old new
@@ -128,7 +128,7 @@ rounds_took rate most (round ∷ rounds) old new none h =
     let handled = flat_map (λ one_handled. one_handled.applied) round.handled in
     let first = rate * time_read round.readings in
     let second = rate * time_read (readings_of rounds) in
-    let served = took_polled 0 (events_of handled) old went.1 (acts_took round.handled (without_backlog old) went.1 none (round_serves round.handled (without_backlog old) went.1 went.2)) in
+    let served = took_polled 0 (events_of handled) old went.1 (acts_took round.handled (round_start old) went.1 none (round_serves round.handled (round_start old) went.1 went.2)) in
     let by_clock = subst (λ (pace : Pace). RunsByClock pace round.readings round.elapsing went.1 h.1) (served.pace ∙ none) went.3 in
     let elapsed = time_took rate round.readings round.elapsing went.1 h.1 by_clock in
     let one = took_same (0 + first) first (events_of handled ++ events_of round.elapsing) old h.1 (zero-add first) (took_more 0 first (events_of handled) (events_of round.elapsing) old went.1 h.1 served elapsed) in

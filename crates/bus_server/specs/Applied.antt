@@ -1,7 +1,7 @@
 -- The effect of transport events, and of time, on a server.
-use Rattle.std.specs.Prelude.{ℕ, zero, suc, ◌≡◌, ◌<◌, Bool, true, false, if◌then◌else◌, ◌&&◌, nat_le, not, is_some, length, List, [], ◌∷◌, ◌++◌, map, replicate, MatchBool, Option, Some, None, Ok, slice_set}
+use Rattle.std.specs.Prelude.{ℕ, zero, suc, ◌≡◌, ◌<◌, Bool, true, false, if◌then◌else◌, ◌&&◌, nat_le, not, is_some, length, ◌||◌, List, [], ◌∷◌, ◌++◌, map, replicate, MatchBool, Option, Some, None, Ok, slice_set}
 use Rattle.decoder_node.specs.declared.node.NodeSpec.{NodeSpec}
-use Rattle.std.specs.List.{flat_map, list_all, slice_index_or}
+use Rattle.std.specs.List.{flat_map, list_all, list_any, slice_index_or}
 use Rattle.layout_core.specs.declared.node.Node.{Node}
 use Rattle.layout_core.specs.Nodes.{node_of}
 use Rattle.layout_core.specs.World.{HaveHeard}
@@ -20,33 +20,39 @@ use Rattle.bus.specs.Bus.{BusState, after_event, client_of, first_bus, is_event,
 use Rattle.bus.specs.Course.{is_time, micros_in}
 use Rattle.bus.specs.Layout.{layout_event}
 use Rattle.bus_server.specs.Observations.{Observed, Observation, Overflowed}
+use Rattle.bus_server.specs.Answers.{Answers, after_line, answers_after, next_line, node_lines}
 use Rattle.bus_server.specs.Counts.{disconnected_after}
 use Rattle.bus_server.specs.Sensors.{IsDue, IsWithinTurn, railway_after, reports_after}
-use Rattle.bus_server.specs.ClientQueues.{SendQueues, queues_after}
+use Rattle.bus_server.specs.ClientQueues.{SendQueues, enqueued_from, queues_after}
 use Rattle.bus_server.specs.TransportEvents.{Polled, ServerClosed, Accepted, PeerClosed, TransportEvent, Written, Received, Refused}
 
--- A server: its bus, the decoders, the railway beside them (or None) and what its sensors are still
--- to report, the queue of each client, the generator of losses, what turns follow, how many clients
--- have disconnected, and whether there may be more input than was read.
+-- A server: its bus, the decoders and their names, the railway beside them (or None) and what its
+-- sensors are still to report, the queue of each client, the answer under way to each, the
+-- generator of losses, what turns follow, how many clients have disconnected, and whether there may
+-- be more input than was read.
 pub record ServerState : Type 0 where
   pub bus : BusState
   pub nodes : List Node
+  pub names : List (List ℕ)
   pub railway : Option RailwayState
   pub due : List SensorReport
   pub queues : SendQueues
+  pub answers : Answers
   pub losses : Losses
   pub pace : Pace
   pub disconnected : ℕ
   pub has_backlog : Bool
 
 -- a new server: new decoders, and no clients
-abbrev pub initial_state : List NodeSpec → Option RailwayState → Pace → Losses → ServerState
-initial_state nodes railway pace losses = record {
+abbrev pub initial_state : List NodeSpec → (names : List (List ℕ)) → Option RailwayState → Pace → Losses → ServerState
+initial_state nodes names railway pace losses = record {
   bus = first_bus (follows_messages pace);
   nodes = map node_of nodes;
+  names = names;
   railway = railway;
   due = [];
   queues = replicate 8 None;
+  answers = replicate 8 None;
   losses = losses;
   pace = pace;
   disconnected = 0;
@@ -69,6 +75,8 @@ pub record RunsEvent (event : Event) (observed : Observation) (old new : ServerS
   pub railway : new.railway ≡ railway_after old.bus old.nodes event old.railway
   pub due : IsDue event (reports_after old.bus old.nodes event old.railway) old.due new.due
   pub queues : new.queues ≡ queues_after (outcome_of old.bus event) old.queues
+  pub names : new.names ≡ old.names
+  pub answers : new.answers ≡ answers_after (outcome_of old.bus event) old.answers
   pub losses : IsDrawn event old.bus (length old.nodes) old.losses new.losses
   pub pace : new.pace ≡ old.pace
   pub has_backlog : new.has_backlog ≡ old.has_backlog
@@ -140,10 +148,14 @@ pub record Handled : Type 0 where
   pub log : TransportEvent
   pub applied : List LoggedEvent
 
--- How long a server waits for input, in microseconds: not while there may be more of it; else until the turn under way ends;
--- where turns follow messages, without end.
+-- an answer to a client is under way
+abbrev pub is_answering : ServerState → Bool
+is_answering state = list_any is_some state.answers
+
+-- How long a server waits for input, in microseconds: not while there may be more of it or an answer is under way; else until
+-- the turn under way ends; where turns follow messages, without end.
 abbrev pub longest_wait : ServerState → Option ℕ
-longest_wait state = if state.has_backlog then Some 0 else clock_time state.pace state.bus.remaining
+longest_wait state = if state.has_backlog || is_answering state then Some 0 else clock_time state.pace state.bus.remaining
 
 -- there may be more input; and none was found since the last wait
 abbrev pub with_backlog : ServerState → ServerState
@@ -151,6 +163,21 @@ with_backlog state = record state { has_backlog = true }
 
 abbrev pub without_backlog : ServerState → ServerState
 without_backlog state = record state { has_backlog = false }
+
+-- the line that each client receives next of the answer under way to it
+abbrev pub answer_to : ServerState → (client : ℕ) → List ℕ
+answer_to state client = next_line (node_lines state.names state.nodes) (slice_index_or state.answers client None)
+
+-- it is enqueued
+abbrev pub with_answers : ServerState → ServerState
+with_answers state = record state {
+  queues = enqueued_from 0 (answer_to state) state.queues;
+  answers = map (after_line (length state.names)) state.answers;
+}
+
+-- the start of a round, after its wait
+abbrev pub round_start : ServerState → ServerState
+round_start state = with_answers (without_backlog state)
 
 -- What each event of the transport does, after a wait. A client that is accepted or closes, and each byte, is an event of the bus. What is
 -- written is the front of the client's queue. The server closes a client only if its queue has overflowed, and refuses one only

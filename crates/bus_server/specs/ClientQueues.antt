@@ -2,7 +2,7 @@
 use Rattle.std.specs.Prelude.{ℕ, ◌+◌, Bool, true, nat_lt, List, [], ◌∷◌, Option, Some, None, slice_set}
 use Rattle.bus_server.specs.Queues.{enqueued}
 use Rattle.loconet_tcp.specs.declared.outcome.Outcome.{Outcome}
-use Rattle.loconet_tcp.specs.declared.outcome.Outcome.TheVariants.{Nothing, Connected, Disconnected, Rejected, Reported, Sent, TurnBegan, TurnsRequested}
+use Rattle.loconet_tcp.specs.declared.outcome.Outcome.TheVariants.{Nothing, Connected, Disconnected, Rejected, Reported, Sent, TurnBegan, TurnsRequested, NodesRequested}
 use Rattle.loconet_tcp.specs.Texts.{text_for}
 
 -- the queue of each client; None where it is closed
@@ -10,12 +10,12 @@ abbrev pub SendQueues : Type 0
 SendQueues = List (Option (List ℕ))
 
 -- for each client from this index on its own text is enqueued
-abbrev pub enqueued_from : (place : ℕ) → Outcome → SendQueues → SendQueues
-enqueued_from place outcome [] = []
-enqueued_from place outcome (send_queue ∷ queues) = enqueued (text_for place outcome) send_queue ∷ enqueued_from (place + 1) outcome queues
+abbrev pub enqueued_from : (place : ℕ) → (text : ℕ → List ℕ) → SendQueues → SendQueues
+enqueued_from place text [] = []
+enqueued_from place text (send_queue ∷ queues) = enqueued (text place) send_queue ∷ enqueued_from (place + 1) text queues
 
 abbrev pub enqueued_all : Outcome → SendQueues → SendQueues
-enqueued_all outcome queues = enqueued_from 0 outcome queues
+enqueued_all outcome queues = enqueued_from 0 (λ client. text_for client outcome) queues
 
 -- The queues after an outcome: a client that connects begins with an empty queue, and that of one that disconnects is closed.
 abbrev pub queues_after : Outcome → SendQueues → SendQueues
@@ -27,6 +27,7 @@ queues_after (Rejected client reason) queues = enqueued_all (Rejected client rea
 queues_after (Sent client message reply) queues = enqueued_all (Sent client message reply) queues
 queues_after (Reported message) queues = enqueued_all (Reported message) queues
 queues_after (TurnsRequested client turns) queues = enqueued_all (TurnsRequested client turns) queues
+queues_after (NodesRequested client) queues = queues
 
 -- a client that it names is one of the eight
 abbrev pub names_client : Outcome → Bool
@@ -38,3 +39,4 @@ names_client (Rejected client reason) = nat_lt client 8
 names_client (Sent client message reply) = nat_lt client 8
 names_client (Reported message) = true
 names_client (TurnsRequested client turns) = nat_lt client 8
+names_client (NodesRequested client) = nat_lt client 8

@@ -45,9 +45,13 @@ account_handled i account (one_handled ∷ handled) = account_handled i (account
 abbrev pub IsFront : (client : ℕ) → Account → ServerState → Type 0
 IsFront i account state = (queued : List ℕ) → slice_index_or state.queues i None ≡ Some queued → account.written ++ queued ≡ account.text
 
+-- of an answer a client received a line
+abbrev pub account_answered : (client : ℕ) → Account → Round → Account
+account_answered i account round = record account { text = account.text ++ round.answers i }
+
 abbrev pub account_run : (client : ℕ) → Account → List Round → Account
 account_run i account [] = account
-account_run i account (round ∷ rounds) = account_run i (account_applied i (account_handled i account round.handled) round.elapsing) rounds
+account_run i account (round ∷ rounds) = account_run i (account_applied i (account_handled i (account_answered i account round) round.handled) round.elapsing) rounds
 
 -- it stays so in every run
 abbrev pub FrontsAreWritten : Type 0

@@ -1,3 +1,4 @@
+pub mod Answers
 pub mod Applied
 pub mod ClientQueues
 pub mod Counts
@@ -6,6 +7,7 @@ pub mod Draws
 pub mod Fronts
 pub mod KeepUp
 pub mod Known
+pub mod Names
 pub mod Observations
 pub mod PageEvents
 pub mod Paces

@@ -6,6 +6,7 @@ use Rattle.decoder_node.specs.declared.node.NodeSpec.{NodeSpec}
 use Rattle.layout_core.specs.Nodes.{spec_of}
 use Rattle.bus.specs.Log.{Extends}
 use Rattle.bus_server.specs.declared.hub.Hub.{Hub}
+use Rattle.bus_server.specs.Names.{names_of}
 use Rattle.bus_server.specs.Rounds.{HasMoreClients, PreservesRound, HasEmptyQueue}
 use Rattle.bus_server.specs.Applied.{Handled, Applies, LoggedEvent, AppliesAll, ServerState, transport_events, observations_in, observations_of}
 use Rattle.bus_server.specs.declared.transport.IoOutcome.{IoOutcome}
@@ -16,9 +17,11 @@ abbrev pub state_of : Hub → ServerState
 state_of hub = record {
   bus = bus_state hub.bus;
   nodes = hub.bus.world.nodes;
+  names = names_of hub.answers.nodes.items;
   railway = hub.sensors.railway;
   due = hub.sensors.due.items;
   queues = hub.queues;
+  answers = hub.answers.under_way;
   losses = hub.losses;
   pace = hub.pace;
   disconnected = hub.disconnected;

@@ -18,12 +18,14 @@ use Rattle.bus_server.specs.declared.pace.Pace.TheVariants.{AfterMessages, RealT
 use Rattle.bus_server.specs.Paces.{longest_step, track_time}
 use Rattle.bus_server.specs.Progress.{state_of}
 use Rattle.bus_server.specs.Rounds.{IsRound}
-use Rattle.bus_server.specs.Applied.{Handled, IsDrawn, longest_wait, LoggedEvent, RunsFor, ServerState, events_of, transport_events, observations_in, observations_of, without_backlog}
+use Rattle.bus_server.specs.Applied.{Handled, IsDrawn, longest_wait, LoggedEvent, RunsFor, ServerState, events_of, transport_events, observations_in, observations_of, answer_to, round_start}
 use Rattle.bus_server.specs.TransportEvents.{Polled, TransportEvent}
 
--- one round: how long it waited at most, what was handled, the clock's reading, and the events of that time
+-- one round: how long it waited at most, what each client received of an answer under way, what was handled, the clock's
+-- reading, and the events of that time
 pub record Round : Type 0 where
   pub longest : Option ℕ
+  pub answers : (client : ℕ) → List ℕ
   pub handled : List Handled
   pub readings : List ℕ
   pub elapsing : List LoggedEvent
@@ -38,9 +40,13 @@ abbrev pub RunsByClock : Pace → (readings : List ℕ) → List LoggedEvent →
 RunsByClock (AfterMessages turns) readings elapsing old new = (readings ≡ []) × (elapsing ≡ []) × (new ≡ old)
 RunsByClock (RealTime rate) readings elapsing old new = (micros : ℕ) × (readings ≡ micros ∷ []) × RunsFor (track_time rate micros) elapsing old new
 
+-- how long a round waits, and what is enqueued of answers as it starts
+abbrev pub StartsRound : Round → ServerState → Type 0
+StartsRound round old = (round.longest ≡ longest_wait old) × (round.answers ≡ answer_to old)
+
 abbrev pub RunsRound : Round → ServerState → ServerState → Type 0
 RunsRound round old new =
-    (round.longest ≡ longest_wait old) × (mid : ServerState) × IsRound round.handled (without_backlog old) mid × RunsByClock mid.pace round.readings round.elapsing mid new
+    StartsRound round old × (mid : ServerState) × IsRound round.handled (round_start old) mid × RunsByClock mid.pace round.readings round.elapsing mid new
 
 -- one after another, each begun while fewer clients than these had disconnected
 abbrev pub RunsRounds : (most : ℕ) → List Round → ServerState → ServerState → Type 0

@@ -8,6 +8,7 @@ use Rattle.bus.specs.Bus.{after_event, is_event, outcome_of}
 use Rattle.bus.specs.Layout.{layout_event}
 use Rattle.bus.specs.Log.{Extends}
 use Rattle.bus_server.specs.Observations.{Observation, Observed}
+use Rattle.bus_server.specs.Answers.{answers_after}
 use Rattle.bus_server.specs.Applied.{LoggedEvent, RunsEvents, ServerState, events_of, observations_of}
 use Rattle.bus_server.specs.ClientQueues.{queues_after}
 use Rattle.bus_server.specs.Counts.{disconnected_after}
@@ -30,6 +31,8 @@ pub record RunsOnBus (event : Event) (observed : Observation) (old new : ServerS
   pub due : new.due
       ≡ (if asks_sensors (outcome_of old.bus event) then full_report old.railway else old.due)
   pub queues : new.queues ≡ queues_after (outcome_of old.bus event) old.queues
+  pub names : new.names ≡ old.names
+  pub answers : new.answers ≡ answers_after (outcome_of old.bus event) old.answers
   pub losses : new.losses ≡ old.losses
   pub pace : new.pace ≡ old.pace
   pub has_backlog : new.has_backlog ≡ old.has_backlog

@@ -10,10 +10,10 @@ use Rattle.bus_server.specs.declared.running.Stop.TheVariants.{Transport, Clock,
 use Rattle.bus_server.specs.declared.pace.Pace.{Pace}
 use Rattle.bus_server.specs.declared.pace.Pace.TheVariants.{RealTime}
 use Rattle.bus_server.specs.Paces.{track_time}
-use Rattle.bus_server.specs.Applied.{AppliesAll, AreTurns, Handled, IsWithTurns, LoggedEvent, RunsEvents, RunsFor, ServerState, events_of, has_overflowed, is_accepted, longest_wait, observations_in, transport_events, turns_after, with_backlog, without_backlog}
+use Rattle.bus_server.specs.Applied.{AppliesAll, AreTurns, Handled, IsWithTurns, LoggedEvent, RunsEvents, RunsFor, ServerState, events_of, has_overflowed, is_accepted, longest_wait, observations_in, round_start, transport_events, turns_after, with_backlog}
 use Rattle.bus_server.specs.Progress.{Snapshot}
 use Rattle.bus_server.specs.Rounds.{IsRound}
-use Rattle.bus_server.specs.Runs.{IsEventRun, Round, RunsByClock, RunsRounds, RunSnapshot, logged_in, observation_log, readings_of, transport_log}
+use Rattle.bus_server.specs.Runs.{IsEventRun, Round, RunsByClock, RunsRounds, RunSnapshot, StartsRound, logged_in, observation_log, readings_of, transport_log}
 use Rattle.bus_server.specs.TransportEvents.{Accepted, PeerClosed, Received, ServerClosed, TransportEvent}
 
 -- some of `turns` turns were run
@@ -82,13 +82,13 @@ StopsAfterRound last rest old new =
 -- its reading, after the round; the observer in the round, or in the time after it; or what is done
 -- after that.
 abbrev pub StopsAt : {T C O A : Type 0} → Stop T C O A → Round → (rest : List TransportEvent) → ServerState → ServerState → Type 0
-StopsAt (Transport fault) last rest old new = (last ≡ record { longest = longest_wait old; handled = []; readings = []; elapsing = [] }) × (rest ≡ []) × (new ≡ old)
+StopsAt (Transport fault) last rest old new = (last ≡ record { longest = longest_wait old; answers = λ client. []; handled = []; readings = []; elapsing = [] }) × (rest ≡ []) × (new ≡ old)
 StopsAt {T = T} {O = O} {A = A} (Clock fault) last rest old new =
-    (last.longest ≡ longest_wait old) × StopsElapsing {T = T} {O = O} {A = A} (Clock fault) last rest (without_backlog old) new
+    StartsRound last old × StopsElapsing {T = T} {O = O} {A = A} (Clock fault) last rest (round_start old) new
 StopsAt {T = T} {C = C} {A = A} (Observer fault) last rest old new =
-    (last.longest ≡ longest_wait old)
-    × (StopsRound last rest (without_backlog old) new ⊎ StopsElapsing {T = T} {C = C} {A = A} (Observer fault) last rest (without_backlog old) new)
-StopsAt (AfterRound fault) last rest old new = (last.longest ≡ longest_wait old) × StopsAfterRound last rest (without_backlog old) new
+    StartsRound last old
+    × (StopsRound last rest (round_start old) new ⊎ StopsElapsing {T = T} {C = C} {A = A} (Observer fault) last rest (round_start old) new)
+StopsAt (AfterRound fault) last rest old new = StartsRound last old × StopsAfterRound last rest (round_start old) new
 
 -- the three logs grew by these rounds, and by the rest of a read
 abbrev pub HasLogged : List Round → (rest : List TransportEvent) → (old new : RunSnapshot) → Type 0

@@ -2,17 +2,22 @@
 ghost use Rattle.std.specs.Prelude.{◌≡◌, ◌<◌, ◌≤◌, ◌&&◌, ◌∷◌, [], Bool, IfNone, IfOk, IfSome, IsTrue, OnSome, is_some, length, not, slice_index_or, slice_set, drop, take, map, option_copied, None, Some, true};
 ghost use Rattle.std.specs.List.{list_all};
 ghost use Rattle.bus_server.specs.Queues.{is_within_capacity, queued};
-ghost use Rattle.bus_server.specs.ClientQueues.{names_client, enqueued_all, queues_after};
+ghost use Rattle.layout_core.specs.Nodes.{spec_of};
+ghost use Rattle.bus_server.specs.Answers.{next_line, node_lines};
+ghost use Rattle.bus_server.specs.ClientQueues.{names_client, enqueued_all, enqueued_from, queues_after};
 ghost use Rattle.bus_server.specs.Counts.{disconnected_after};
+ghost use Rattle.bus_server.specs.Names.{names_of, specs_of};
 ghost use Rattle.bus_server.specs.Paces.{is_pace};
 
+use crate::answers::{Answers, specs};
 use crate::losses::Losses;
+use crate::named_node::NamedNodes;
 use crate::pace::Pace;
 use crate::send_queues::{SendQueues, empty_queues};
 use crate::sensors::Sensors;
 use crate::transport::{IoOutcome, Transport};
 use bus::{Bus, Event, Outcome};
-use layout_core::NodeList;
+use layout_core::World;
 use loconet_tcp::Text;
 use railway::Railway;
 use std::alloc::{AllocError, Global};
@@ -23,6 +28,7 @@ pub(crate) struct Hub {
     pub(crate) bus: Bus,
     pub(crate) sensors: Sensors,
     pub(crate) queues: SendQueues,
+    pub(crate) answers: Answers,
     /// Draws the packets that decoders miss.
     pub(crate) losses: Losses,
     /// What turns follow.
@@ -34,11 +40,12 @@ pub(crate) struct Hub {
     ghost eight: { length queues ≡ 8 },
     ghost within_capacity: { list_all is_within_capacity queues ≡ true },
     ghost paced: { is_pace pace ≡ true },
+    ghost named: { specs_of answers.nodes.items ≡ map spec_of bus.world.nodes },
 }
 
 impl Hub {
     ghost use Rattle.std.specs.Prelude.{ℕ};
-    ghost use Rattle.layout_core.specs.Nodes.{node_of, spec_of};
+    ghost use Rattle.layout_core.specs.Nodes.{node_of};
     ghost use Rattle.bus_server.specs.Draws.{IsDraw};
     ghost use Rattle.bus.specs.Bus.{client_of, is_event, outcome_of};
     ghost use Rattle.bus.specs.State.{bus_state};
@@ -47,7 +54,7 @@ impl Hub {
     ghost use Rattle.bus_server.specs.Rounds.{backlog_after};
     ghost use Rattle.bus_server.specs.Progress.{HasReported, WritesFront, state_of};
     ghost use Rattle.bus_server.specs.Steps.{RunsOnBus, with_trains_run};
-    ghost use Rattle.bus_server.specs.Applied.{RunsEvent, IsDrawn, initial_state, has_overflowed};
+    ghost use Rattle.bus_server.specs.Applied.{RunsEvent, IsDrawn, initial_state, has_overflowed, round_start};
 
     /// A new layout with these decoders, a railway beside it or none, and no clients. It takes all
     /// its memory here.
@@ -57,18 +64,20 @@ impl Hub {
     /// Out of memory.
     pub(crate) fn new(
         alloc: Global,
-        nodes: NodeList,
+        nodes: NamedNodes,
         railway: Option<Railway>,
         pace: Pace,
         losses: Losses,
     ) -> Result<Hub, AllocError>
         requires pace { IsTrue (is_pace pace) }
         ensures hub { IfOk result
-            (λ hub. state_of hub ≡ initial_state nodes.items railway pace losses) }
-        ensures specs { IfOk result (λ hub. map spec_of hub.bus.world.nodes ≡ nodes.items) }
+            (λ hub. state_of hub
+            ≡ initial_state (specs_of nodes.items) (names_of nodes.items) railway pace losses) }
+        ensures specs { IfOk result
+            (λ hub. map spec_of hub.bus.world.nodes ≡ specs_of nodes.items) }
         ensures reported { IfOk result HasReported }
     {
-        let bus = match Bus::new(alloc, nodes, pace.follows_messages()) {
+        let bus = match Bus::new(alloc, specs(&nodes), pace.follows_messages()) {
             Ok(bus) => bus,
             Err(_) => return Err(AllocError),
         };
@@ -77,6 +86,7 @@ impl Hub {
             bus,
             sensors: Sensors::new(railway),
             queues,
+            answers: Answers::new(nodes),
             losses,
             pace,
             disconnected: 0,
@@ -97,6 +107,7 @@ impl Hub {
     {
         let outcome = self.bus.step(event);
         enqueue(&mut self.queues, &outcome);
+        self.answers.update(&outcome);
         self.disconnected = disconnected_after(&outcome, self.disconnected);
         self.sensors.answer(&outcome);
         outcome
@@ -193,6 +204,18 @@ impl Hub {
         self.losses.draw(nodes)
     }
 
+    /// Starts a round, after its wait: no more input was found yet, and the next line of each answer
+    /// under way is enqueued.
+    pub(crate) fn start_round(&mut self)
+        ensures state { state_of self.new ≡ round_start (state_of self.old) }
+        ensures bus { self.new.bus ≡ self.old.bus }
+        ensures due { self.new.sensors.due.items ≡ self.old.sensors.due.items }
+    {
+        self.has_backlog = false;
+        enqueue_lines(&mut self.queues, &self.answers, self.bus.world());
+        self.answers.advance();
+    }
+
     /// Notes that `refused` pending clients were refused: after any, there may be more.
     pub(crate) fn note_refused(&mut self, refused: u8)
         ensures state { state_of self.new ≡ backlog_after refused (state_of self.old) }
@@ -272,7 +295,7 @@ fn enqueue(queues: &mut SendQueues, outcome: &Outcome)
     ensures { queues.new ≡ queues_after outcome.now queues.old }
 {
     match outcome {
-        Outcome::Nothing | Outcome::TurnBegan { .. } => {}
+        Outcome::Nothing | Outcome::TurnBegan { .. } | Outcome::NodesRequested { .. } => {}
         Outcome::Disconnected { client } => queues[usize::from(*client)].close(),
         Outcome::Connected { client } => {
             queues[usize::from(*client)].open();
@@ -293,5 +316,19 @@ fn enqueue_all(queues: &mut SendQueues, outcome: &Outcome)
         let mut text = Text::new();
         outcome.push_text_for(place, &mut text);
         queues[usize::from(place)].enqueue(text.as_slice());
+    }
+}
+
+/// Enqueues for each client the next line of the answer under way to it.
+fn enqueue_lines(queues: &mut SendQueues, answers: &Answers, world: &World)
+    requires { specs_of answers.now.nodes.items ≡ map spec_of world.now.nodes }
+    ensures { queues.new
+        ≡ enqueued_from 0 (λ client.
+        next_line (node_lines (names_of answers.now.nodes.items) world.now.nodes)
+        (slice_index_or answers.now.under_way client None)) queues.old }
+{
+    for client in 0..8u8 {
+        let line = answers.next_line(client, world);
+        queues[usize::from(client)].enqueue(line.as_slice());
     }
 }

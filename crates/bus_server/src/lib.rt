@@ -9,9 +9,11 @@
 #![tactic(auto)]
 
 mod after_round;
+mod answers;
 mod hub;
 pub mod laws;
 mod losses;
+mod named_node;
 mod observer;
 mod pace;
 mod page_clients;
@@ -26,6 +28,7 @@ mod transport;
 pub use crate::losses::Losses;
 pub use after_round::AfterRound;
 pub use bus::MAX_CLIENTS;
+pub use named_node::{Name, NamedNode, NamedNodes};
 pub use observer::Observer;
 pub use pace::Pace;
 pub use page_clients::PageClients;

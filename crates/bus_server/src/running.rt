@@ -112,7 +112,7 @@ impl Server {
         if let Err(fault) = transport.wait(self.longest_wait()) {
             return Err(Stop::Transport(fault));
         }
-        self.hub.has_backlog = false;
+        self.hub.start_round();
         if let Err(fault) = self.round(transport, observer) {
             return Err(Stop::Observer(fault));
         }
@@ -127,7 +127,7 @@ impl Server {
     fn longest_wait(&self) -> Option<u32>
         ensures { result ≡ longest_wait (state_of self.now.hub) }
     {
-        if self.has_backlog() {
+        if self.has_backlog() || self.hub.answers.is_any_under_way() {
             return Some(0);
         }
         match self.pace() {

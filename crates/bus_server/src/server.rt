@@ -1,6 +1,5 @@
 //! A server and its rounds.
 ghost use Rattle.std.specs.Prelude.{◌≡◌, ◌<◌, ◌≤◌, IfOk, IsTrue, List, OnErr, OnOk, ◌++◌, false, is_some, map, option_copied, true};
-ghost use Rattle.decoder_node.specs.declared.node.NodeSpec.{NodeSpec};
 ghost use Rattle.layout_core.specs.Nodes.{spec_of};
 ghost use Rattle.bus.specs.Log.{Extends};
 ghost use Rattle.bus.specs.Bus.{client_of, is_event};
@@ -8,6 +7,7 @@ ghost use Rattle.bus.specs.Course.{is_time};
 ghost use Rattle.bus.specs.State.{bus_state};
 ghost use Rattle.bus_server.specs.TransportEvents.{TransportEvent, Received};
 ghost use Rattle.bus_server.specs.Applied.{Handled, AreTurns, RunsEventWithTurns, RunsFor, RunsEvents, AppliesAll, events_of, is_accepted, initial_state, has_overflowed, transport_events, observations_in, turns_after};
+ghost use Rattle.bus_server.specs.Names.{names_of, specs_of};
 ghost use Rattle.bus_server.specs.Paces.{is_pace};
 ghost use Rattle.bus_server.specs.Steps.{ObservesReports};
 ghost use Rattle.bus_server.specs.Progress.{HasReported, ProgressesBy, Progresses, ProgressesWithoutInput, Snapshot, AcceptsAt, IsObserved, ObservesLayout, snapshot, state_of};
@@ -16,11 +16,12 @@ ghost use Rattle.bus_server.specs.Stops.{BeginsEvent, BeginsTurns, RunsPart, Sto
 
 use crate::hub::Hub;
 use crate::losses::Losses;
+use crate::named_node::NamedNodes;
 use crate::observer::Observer;
 use crate::pace::Pace;
 use crate::transport::{IoOutcome, Transport};
 use bus::{Event, Outcome, SHORTEST_TURN};
-use layout_core::{NodeList, World};
+use layout_core::World;
 use railway::Railway;
 use std::alloc::{AllocError, Global};
 
@@ -47,16 +48,17 @@ impl Server {
     /// Out of memory.
     pub fn new(
         alloc: Global,
-        nodes: NodeList,
+        nodes: NamedNodes,
         railway: Option<Railway>,
         pace: Pace,
         losses: Losses,
     ) -> Result<Server, AllocError>
         requires pace { IsTrue (is_pace pace) }
         ensures hub { IfOk result
-            (λ server. state_of server.hub ≡ initial_state nodes.items railway pace losses) }
+            (λ server. state_of server.hub
+            ≡ initial_state (specs_of nodes.items) (names_of nodes.items) railway pace losses) }
         ensures specs { IfOk result
-            (λ server. map spec_of server.hub.bus.world.nodes ≡ nodes.items) }
+            (λ server. map spec_of server.hub.bus.world.nodes ≡ specs_of nodes.items) }
         ensures reported { IfOk result (λ server. HasReported server.hub) }
     {
         Ok(Server {
@@ -110,7 +112,8 @@ impl Server {
         self.hub.has_backlog
     }
 
-    /// Serves one round: reads each client, writing to all after each, and then accepts pending clients.
+    /// Serves one round, which [`Server::run`] starts: reads each client, writing to all after each, and then accepts pending
+    /// clients.
     ///
     /// # Errors
     ///

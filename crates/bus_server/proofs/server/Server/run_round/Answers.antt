@@ -3,12 +3,13 @@ use Rattle.std.specs.List.{flat_map}
 use Rattle.bus.specs.Log.{Extends}
 use Rattle.bus_server.specs.Progress.{state_of}
 use Rattle.bus_server.specs.Runs.{Round, skipped, run_snapshot}
-use Rattle.bus_server.specs.Applied.{longest_wait, transport_events, observations_in, observations_of}
+use Rattle.bus_server.specs.Applied.{ServerState, answer_to, longest_wait, transport_events, observations_in, observations_of}
 use Rattle.bus_server.specs.TransportEvents.{Polled, TransportEvent}
 use Rattle.bus_server.proofs.Going.{grows_more, grows_none}
 use Rattle.bus_server.proofs.Stopping.{failed_on, has_logged, passed_on, stops_by_clock}
 use Rattle.bus_server.specs.Observations.{Observation}
-use Rattle.bus_server.specs.Stops.{StopsLogged}
+use Rattle.bus_server.specs.Rounds.{IsRound}
+use Rattle.bus_server.specs.Stops.{StopsIn, StopsLogged}
 use Rattle.bus_server.proofs.server.Server.run_round.Goals as goal
 
 pub returns-in-Ok-clause-round : goal.returns-in-Ok-clause-round
@@ -17,10 +18,11 @@ returns-in-Ok-clause-round g c =
     let observed = g.P.Observer.observed in
     let readings = g.C.TimeSource.readings in
     let served = c.in_default-round.ensures.served in
+    let is_round = subst (λ (start : ServerState). IsRound served.0 start (state_of c.round.new.self.hub)) c.start_round.ensures.state served.3 in
     let elapsed = c.in_ok-elapse.ensures.elapses in
     let later = flat_map skipped elapsed.0 ++ observations_of elapsed.1 in
     let longest = longest_wait (state_of c.args.self.now.hub) in
-    let round : Round = record { longest = longest; handled = served.0; readings = elapsed.0; elapsing = elapsed.1 } in
+    let round : Round = record { longest = longest; answers = answer_to (state_of c.args.self.now.hub); handled = served.0; readings = elapsed.0; elapsing = elapsed.1 } in
     let polled = subst (λ (wait : Option ℕ). Extends (log c.args.transport.now) (log c.wait.new.self) (Polled wait ∷ [])) c.longest_wait.ensures c.in_default.ensures in (
       round,
       (
@@ -29,14 +31,14 @@ returns-in-Ok-clause-round g c =
         subst (λ (more : List ℕ). Extends (readings c.args.clock.now) (readings c.elapse.new.clock) more) (sym (append-nil elapsed.0)) elapsed.2,
         grows_more (observed c.args.observer.now) (observed c.elapse.new.observer) (observed c.after_round.new.observer) (observations_in served.0 ++ later) []
             (grows_more (observed c.args.observer.now) (observed c.round.new.observer) (observed c.elapse.new.observer) (observations_in served.0) later served.2 elapsed.3) c.after_round.ensures.observed,
-        (c.requires.fewer, state_of c.elapse.new.self.hub, (refl, state_of c.round.new.self.hub, served.3, elapsed.4), refl),
+        (c.requires.fewer, state_of c.elapse.new.self.hub, ((refl, refl), state_of c.round.new.self.hub, is_round, elapsed.4), refl),
       ),
     )
 
 pub returns-in-Err-clause-stopped : goal.returns-in-Err-clause-stopped
 returns-in-Err-clause-stopped g c =
     let longest = longest_wait (state_of c.args.self.now.hub) in
-    let last : Round = record { longest = longest; handled = []; readings = []; elapsing = [] } in
+    let last : Round = record { longest = longest; answers = λ client. []; handled = []; readings = []; elapsing = [] } in
     let polled = subst (λ (wait : Option ℕ). Extends (g.W.Transport.log c.args.transport.now) (g.W.Transport.log c.wait.new.self) (Polled wait ∷ [])) c.longest_wait.ensures c.in-Err.ensures in (
       last,
       [],
@@ -55,7 +57,8 @@ returns-in-Err-round-clause-stopped g c =
     let longest = longest_wait (state_of c.args.self.now.hub) in
     let polled = subst (λ (wait : Option ℕ). Extends (log c.args.transport.now) (log c.wait.new.self) (Polled wait ∷ [])) c.longest_wait.ensures c.in_default.ensures in
     let stops = c.in-Err-round.ensures.stops in
-    let last : Round = record { longest = longest; handled = stops.0; readings = []; elapsing = [] } in (
+    let stops_in = subst (λ (start : ServerState). StopsIn stops.0 stops.1 start (state_of c.round.new.self.hub)) c.start_round.ensures.state stops.4 in
+    let last : Round = record { longest = longest; answers = answer_to (state_of c.args.self.now.hub); handled = stops.0; readings = []; elapsing = [] } in (
       last,
       stops.1,
       (
@@ -64,7 +67,7 @@ returns-in-Err-round-clause-stopped g c =
             (grows_none (readings c.args.clock.now))
             (subst (λ (more : List Observation). Extends (observed c.args.observer.now) (observed c.round.new.observer) more) (sym (append-nil (observations_in stops.0))) stops.3),
         c.requires.fewer,
-        (refl, inl (refl, refl, stops.4)),
+        ((refl, refl), inl (refl, refl, stops_in)),
       ),
     )
 
@@ -76,10 +79,11 @@ returns-in_err-elapse-clause-stopped g c =
     let longest = longest_wait (state_of c.args.self.now.hub) in
     let polled = subst (λ (wait : Option ℕ). Extends (log c.args.transport.now) (log c.wait.new.self) (Polled wait ∷ [])) c.longest_wait.ensures c.in_default.ensures in
     let served = c.in_default-round.ensures.served in
+    let is_round = subst (λ (start : ServerState). IsRound served.0 start (state_of c.round.new.self.hub)) c.start_round.ensures.state served.3 in
     let stop = c.in_err-elapse.field-0.0 in
     let stops = c.in_err-elapse.ensures.stopped in
     let later = flat_map skipped stops.0 ++ observations_of stops.1 in
-    let last : Round = record { longest = longest; handled = served.0; readings = stops.0; elapsing = stops.1 } in
+    let last : Round = record { longest = longest; answers = answer_to (state_of c.args.self.now.hub); handled = served.0; readings = stops.0; elapsing = stops.1 } in
     let start = (run_snapshot (g.W.Transport.log c.args.transport.now) (g.C.TimeSource.readings c.args.clock.now) (g.P.Observer.observed c.args.observer.now) c.args.self.now.hub) in
     let end = (run_snapshot (g.W.Transport.log c.round.new.transport) (g.C.TimeSource.readings c.elapse.new.clock) (g.P.Observer.observed c.elapse.new.observer) c.elapse.new.self.hub) in
     passed_on (λ stop. (last : Round) × (rest : List TransportEvent) × StopsLogged c.args.most stop last rest start end) c.from_residual.result stop c.from_residual.ensures.1 (
@@ -92,7 +96,7 @@ returns-in_err-elapse-clause-stopped g c =
             stops.2
             (grows_more (observed c.args.observer.now) (observed c.round.new.observer) (observed c.elapse.new.observer) (observations_in served.0) later served.2 stops.3),
         c.requires.fewer,
-        stops_by_clock stop last (state_of c.args.self.now.hub) (state_of c.round.new.self.hub) (state_of c.elapse.new.self.hub) refl served.3 stops.4,
+        stops_by_clock stop last (state_of c.args.self.now.hub) (state_of c.round.new.self.hub) (state_of c.elapse.new.self.hub) (refl, refl) is_round stops.4,
       ),
     )
 
@@ -104,9 +108,10 @@ returns-in-Err-after_round-clause-stopped g c =
     let longest = longest_wait (state_of c.args.self.now.hub) in
     let polled = subst (λ (wait : Option ℕ). Extends (log c.args.transport.now) (log c.wait.new.self) (Polled wait ∷ [])) c.longest_wait.ensures c.in_default.ensures in
     let served = c.in_default-round.ensures.served in
+    let is_round = subst (λ (start : ServerState). IsRound served.0 start (state_of c.round.new.self.hub)) c.start_round.ensures.state served.3 in
     let elapsed = c.in_ok-elapse.ensures.elapses in
     let later = flat_map skipped elapsed.0 ++ observations_of elapsed.1 in
-    let last : Round = record { longest = longest; handled = served.0; readings = elapsed.0; elapsing = elapsed.1 } in (
+    let last : Round = record { longest = longest; answers = answer_to (state_of c.args.self.now.hub); handled = served.0; readings = elapsed.0; elapsing = elapsed.1 } in (
       last,
       [],
       (
@@ -118,7 +123,7 @@ returns-in-Err-after_round-clause-stopped g c =
             (grows_more (observed c.args.observer.now) (observed c.elapse.new.observer) (observed c.after_round.new.observer) (observations_in served.0 ++ later) []
             (grows_more (observed c.args.observer.now) (observed c.round.new.observer) (observed c.elapse.new.observer) (observations_in served.0) later served.2 elapsed.3) c.after_round.ensures.observed)),
         c.requires.fewer,
-        (refl, (refl, state_of c.round.new.self.hub, served.3, elapsed.4)),
+        ((refl, refl), (refl, state_of c.round.new.self.hub, is_round, elapsed.4)),
       ),
     )
 
