@@ -19,6 +19,10 @@ stands_more (node ∷ nodes) i decoder_states decoder_state below so_far is =
     ap₂ (λ (ss : List DecoderState) (s : DecoderState). ss ++ s ∷ []) so_far (is node ∙ sym (get_or-map decoder_state_of (node ∷ nodes) i node decoder_state below))
     ∙ sym (take_more (map decoder_state_of (node ∷ nodes)) i decoder_state inside)
 
+-- one more of the front of a list
+pub taken_more : {A : Type 0} (all : List A) (i : ℕ) (so_far : List A) (one : A) → i < length all → so_far ≡ take i all → one ≡ get_or all i one → so_far ++ one ∷ [] ≡ take (i + 1) all
+taken_more {A = A} all i so_far one below is one_is = ap₂ (λ (front : List A) (a : A). front ++ a ∷ []) is one_is ∙ sym (take_more all i one below)
+
 -- the line of one decoder, if its state has changed
 abbrev pub line_if : Entry → (last now : DecoderState) → List (List ℕ)
 line_if entry last now = if same_decoder_state last now then [] else decoder_line entry.name entry.spec now ∷ []

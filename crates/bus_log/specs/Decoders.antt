@@ -1,8 +1,8 @@
 -- The decoders of a borrowed roster.
-use Rattle.std.specs.Prelude.{List, [], map, Option, Some, None}
+use Rattle.std.specs.Prelude.{ℕ, List, [], map, Option, Some, None}
 use Rattle.std.specs.Borrow.{Bor}
 use Rattle.decoder_node.specs.declared.node.NodeSpec.{NodeSpec}
-use Rattle.roster.specs.Entry.{Entry, spec_of}
+use Rattle.roster.specs.Entry.{Entry, name_of, spec_of}
 
 -- its entries; none without one
 abbrev pub entries_of : Option (Bor (List Entry)) → List Entry
@@ -12,3 +12,7 @@ entries_of None = []
 -- the decoders of these entries
 abbrev pub specs_of : List Entry → List NodeSpec
 specs_of entries = map spec_of entries
+
+-- their names
+abbrev pub names_of : List Entry → List (List ℕ)
+names_of entries = map name_of entries

@@ -7,7 +7,8 @@ ghost use Rattle.layout_core.specs.declared.node.Node.{Node as NodeValue};
 ghost use Rattle.layout_core.specs.Nodes.{spec_of};
 ghost use Rattle.layout_core.specs.DecoderStates.{decoder_line, decoder_state_of};
 ghost use Rattle.roster.specs.Entry.{Entry, spec_of as entry_spec};
-ghost use Rattle.bus_log.specs.Decoders.{entries_of, specs_of};
+ghost use Rattle.bus_log.specs.Decoders.{entries_of, names_of, specs_of};
+ghost use Rattle.bus_server.specs.Names.{names_of as named_names, specs_of as named_specs};
 ghost use Rattle.bus_log.specs.LogQueues.{after_lines};
 ghost use Rattle.bus_log.specs.RailwayLines.{trains_of};
 ghost use Rattle.bus_log.specs.Lines.{changed_lines, client_line, is_slot_read, lines_unless, node_message, overflow_line, saturating_successor, packet_lines, sent_line, skipped_line};
@@ -18,9 +19,9 @@ use crate::railway_lines::{Trains, keep_trains, print_railway, trains_of};
 use crate::verbosity::Verbosity;
 use arrayvec::{ArrayString, ArrayVec};
 use bus::Outcome;
-use bus_server::Observer;
+use bus_server::{NamedNode, NamedNodes, Observer};
 use dcc_packet::{Packet, idle};
-use decoder_node::{MAX_NODES, NodeList, NodeSpec};
+use decoder_node::{MAX_NODES, NodeSpec};
 use layout_core::{DecoderState, World};
 use ln_frame::Msg;
 use ln_ops::{Op, read};
@@ -145,7 +146,10 @@ impl<'a> Printer<'a> {
         ensures verbosity { self.new.verbosity ≡ self.old.verbosity }
     {
         match outcome {
-            Outcome::Nothing | Outcome::Rejected { .. } | Outcome::TurnsRequested { .. } => {}
+            Outcome::Nothing
+            | Outcome::Rejected { .. }
+            | Outcome::TurnsRequested { .. }
+            | Outcome::NodesRequested { .. } => {}
             Outcome::Connected { client } => print_client(&mut self.log, *client, " joins"),
             Outcome::Disconnected { client } => print_client(&mut self.log, *client, " leaves"),
             Outcome::Sent { message, reply, .. } => print_sent(&mut self.log, message, reply),
@@ -295,14 +299,27 @@ impl Observer for Printer<'_> {
     }
 }
 
-/// The decoders of a roster; none without one.
-pub fn decoders(roster: Option<&Roster>) -> NodeList
-    ensures { result.items ≡ specs_of (entries_of roster.entry) }
+/// The decoders of a roster under their names; none without one.
+pub fn decoders(roster: Option<&Roster>) -> NamedNodes
+    ensures specs { named_specs result.items ≡ specs_of (entries_of roster.entry) }
+    ensures names { named_names result.items ≡ names_of (entries_of roster.entry) }
 {
     match roster {
-        Some(roster) => roster.nodes(),
-        None => NodeList::new(),
+        Some(roster) => named(roster),
+        None => NamedNodes::new(),
     }
+}
+
+/// The decoders of a roster under their names.
+fn named(roster: &Roster) -> NamedNodes
+    ensures specs { named_specs result.items ≡ specs_of roster.now }
+    ensures names { named_names result.items ≡ names_of roster.now }
+{
+    let mut decoders = NamedNodes::new();
+    for (i, spec) in roster.nodes().as_slice().iter().enumerate() {
+        decoders.push(NamedNode::new(roster.name(i), *spec));
+    }
+    decoders
 }
 
 /// The states of the decoders of a layout.
