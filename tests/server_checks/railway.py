@@ -4,20 +4,24 @@ import os
 import re
 import subprocess
 import tempfile
+import time
 
 from server_checks.common import (
+    PATIENCE,
     POWER_OFF,
     POWER_ON,
     SPEED_63,
     TAKE_3,
     USE_1,
     holds,
+    is_tried_again,
     program,
     receive,
     run,
     same,
     send,
     serve,
+    within,
 )
 from serving import TOP, Client, message_hex
 
@@ -53,6 +57,25 @@ def sensors():
             seen = watcher.lines_until(*receive(POWER_OFF))
             same("another client", reports_in(seen), reports_in(lines))
         same("status", server.process.wait(20), 0)
+
+
+def fast_time():
+    """--rate: at rate 100 a train goes round in a hundredth of the time"""
+
+    def go_round():
+        with serve(*OVAL, "--rate", "100", "--clients", "1") as server:
+            with Client(server) as client:
+                client.write(send(TAKE_3, USE_1, POWER_ON, SPEED_63))
+                client.lines_until(report(3, True))
+                start = time.monotonic()
+                for _ in range(2):
+                    client.lines_until(report(3, True))
+                took = time.monotonic() - start
+            # Main, east, back and west are 6,300 mm; at 63/126 of 250 mm/s 50.4 s, of the clock 0.504 s.
+            within("seconds for two rounds", 2 * 0.504 - 0.1, took, 2 * 0.504 + PATIENCE)
+            same("status", server.process.wait(20), 0)
+
+    is_tried_again(go_round)
 
 
 def interrogations():

@@ -1,18 +1,23 @@
 -- The part of an order that a run depends on.
-use Rattle.std.proofs.Common.{◌≡◌, ℕ, List, Option, Some, None, refl, subst}
+use Rattle.std.proofs.Common.{◌≡◌, ℕ, List, Option, Some, None, refl, subst, le-leb}
+use Rattle.std.specs.Prelude.{IsTrue, nat_le}
 use Rattle.std.specs.Borrow.{Bor}
 use Rattle.std.specs.Option.{option_copied}
+use Rattle.std.proofs.lemmas.Bool.{and_from}
 use Rattle.command_line.specs.declared.words.ServerOrder.{ServerOrder}
+use Rattle.command_line.specs.ServerLine.{IsNumberIfGiven}
 use Rattle.railway.specs.Railway.{RailwayState}
 use Rattle.roster.specs.Entry.{Entry}
 use Rattle.bus_log.specs.Decoders.{entries_of, specs_of}
 use Rattle.bus_server.specs.Applied.{initial_state}
+use Rattle.bus_server.specs.declared.pace.Pace.{Pace}
 use Rattle.bus_server.specs.Draws.{IsSeeded}
+use Rattle.bus_server.specs.Paces.{is_pace}
 use Rattle.bus_server.specs.Runs.{IsRun}
-use Rattle.lbserver.specs.Execution.{ServesOrder, clients_of, entries_in, unlogged}
+use Rattle.lbserver.specs.Execution.{ServesOrder, clients_of, entries_in, pace_of, unlogged}
 
-pub same_order : (a b : ServerOrder) (entries : List Entry) (railway : Option RailwayState) → a.turns ≡ b.turns → a.lose ≡ b.lose → a.seed ≡ b.seed → a.clients ≡ b.clients → ServesOrder a entries railway → ServesOrder b entries railway
-same_order a b entries railway turns lose seed clients served =
+pub same_order : (a b : ServerOrder) (entries : List Entry) (railway : Option RailwayState) → pace_of a.turns a.rate ≡ pace_of b.turns b.rate → a.lose ≡ b.lose → a.seed ≡ b.seed → a.clients ≡ b.clients → ServesOrder a entries railway → ServesOrder b entries railway
+same_order a b entries railway pace lose seed clients served =
     let start = served.0 in
     let losses = served.2.0 in (
       start,
@@ -20,7 +25,7 @@ same_order a b entries railway turns lose seed clients served =
       (
         losses,
         subst (λ (n : ℕ). IsSeeded n b.seed losses) lose (subst (λ (n : ℕ). IsSeeded a.lose n losses) seed served.2.1),
-        subst (λ (t : Option ℕ). start ≡ initial_state (specs_of entries) railway t losses) turns served.2.2,
+        subst (λ (p : Pace). start ≡ initial_state (specs_of entries) railway p losses) pace served.2.2,
       ),
       subst (λ (c : Option ℕ). IsRun (clients_of c) (unlogged start) (unlogged served.1)) clients served.3,
     )
@@ -28,3 +33,10 @@ same_order a b entries railway turns lose seed clients served =
 pub entries_copied : (roster : Option (Bor (List Entry))) → entries_of roster ≡ entries_in (option_copied roster)
 entries_copied None = refl
 entries_copied (Some roster) = refl
+
+-- a rate that is read is within its range
+pub has_pace : (text : Option (List ℕ)) (turns rate : Option ℕ) → IsNumberIfGiven text 1 100 rate → IsTrue (is_pace (pace_of turns rate))
+has_pace text (Some turns) rate is = refl
+has_pace text None None is = refl
+has_pace None None (Some rate) is = cc
+has_pace (Some text) None (Some rate) is = and_from (nat_le 1 rate) (nat_le rate 100) (le-leb 1 rate is.at_least) (le-leb rate 100 is.at_most)

@@ -1,6 +1,6 @@
 -- The effect of `lbserver` for the arguments after its name: it serves as they order, or writes the
 -- text that they ask for.
-use Rattle.std.specs.Prelude.{ℕ, ◌≡◌, ◌⊎◌, ◌-◌, ◌^◌, Bool, true, false, List, [], Option, Some, None, Result, Ok, Err}
+use Rattle.std.specs.Prelude.{ℕ, ◌≡◌, ◌⊎◌, ◌-◌, ◌^◌, Bool, IsTrue, true, false, List, [], Option, Some, None, Result, Ok, Err}
 use Rattle.std.specs.Io.KnownBytes.{Appends}
 use Rattle.command_line.specs.declared.words.ServerOrder.{ServerOrder}
 use Rattle.command_line.specs.ServerLine.{IsServerOrderOf}
@@ -10,7 +10,10 @@ use Rattle.roster.specs.Entry.{Entry}
 use Rattle.bus_log.specs.Decoders.{specs_of}
 use Rattle.bus_server.specs.declared.losses.Losses.{Losses}
 use Rattle.bus_server.specs.Applied.{ServerState, initial_state}
+use Rattle.bus_server.specs.declared.pace.Pace.{Pace}
+use Rattle.bus_server.specs.declared.pace.Pace.TheVariants.{AfterMessages, RealTime}
 use Rattle.bus_server.specs.Draws.{IsSeeded}
+use Rattle.bus_server.specs.Paces.{is_pace}
 use Rattle.railway.specs.Railway.{RailwayState}
 use Rattle.railway_plan.specs.Railways.{IsRailwayIn}
 use Rattle.bus_server.specs.Runs.{IsRun, RunSnapshot}
@@ -35,11 +38,21 @@ IsRailwayOf None entries railway = railway ≡ None
 IsRailwayOf (Some file) entries None = entries ≡ []
 IsRailwayOf (Some file) entries (Some railway) = (text : List ℕ) × IsRailwayIn entries text railway
 
--- a new server for an order: the decoders of its roster, a railway, its turns, and losses of its
--- share, drawn from its seed
+-- what turns follow: messages; or time, without a rate as fast as it passes
+abbrev pub pace_of : (turns rate : Option ℕ) → Pace
+pace_of (Some turns) rate = AfterMessages turns
+pace_of None (Some rate) = RealTime rate
+pace_of None None = RealTime 1
+
+-- the rate of an order is one of a server
+abbrev pub HasPace : ServerOrder → Type 0
+HasPace order = IsTrue (is_pace (pace_of order.turns order.rate))
+
+-- a new server for an order: the decoders of its roster, a railway, its turns and its rate, and
+-- losses of its share, drawn from its seed
 abbrev pub IsNewServer : ServerOrder → List Entry → Option RailwayState → ServerState → Type 0
 IsNewServer order entries railway start =
-    (losses : Losses) × IsSeeded order.lose order.seed losses × (start ≡ initial_state (specs_of entries) railway order.turns losses)
+    (losses : Losses) × IsSeeded order.lose order.seed losses × (start ≡ initial_state (specs_of entries) railway (pace_of order.turns order.rate) losses)
 
 -- sockets, the system's clock and standard output keep no logs
 abbrev pub unlogged : ServerState → RunSnapshot

@@ -5,7 +5,7 @@ ghost use Rattle.bus_log.specs.Verbosities.{verbosity_of};
 ghost use Rattle.bus_server.specs.Progress.{HasReported, ObservesLayout, state_of};
 ghost use Rattle.command_line.specs.declared.words.ServerOrder.{ServerOrder as OrderValue};
 ghost use Rattle.console.specs.Files.{IsRosterOf};
-ghost use Rattle.lbserver.specs.Execution.{IsNewServer, RunsWords, ServesOrder, ServesPlan, clients_of, ended_by_output, entries_in};
+ghost use Rattle.lbserver.specs.Execution.{HasPace, IsNewServer, RunsWords, ServesOrder, ServesPlan, clients_of, ended_by_output, entries_in, pace_of};
 
 use crate::answering::answer;
 use crate::clients::Clients;
@@ -16,7 +16,7 @@ use crate::reach::reachable;
 use crate::roster_file::read_roster;
 use crate::standard_output::StandardOutput;
 use bus_log::{LogQueue, Printer, Verbosity, decoders, print_listening, write_queued};
-use bus_server::{Losses, Server, Stop};
+use bus_server::{Losses, Pace, Server, Stop};
 use command_line::{FileName, ServerOrder, server_order};
 use console::RunFault;
 use railway::Railway;
@@ -90,6 +90,7 @@ fn with_roster<O: Write>(
     output: &mut StandardOutput<O>,
 ) -> Result<(), ServerFault>
     requires works { output.old.failed ≡ false }
+    requires pace { HasPace order.old }
     ensures serves { OnOk result
         ((roster : _) × IsRosterOf order.old.roster roster
         × ServesPlan order.old (entries_in roster)) }
@@ -107,6 +108,7 @@ fn with_plan<O: Write>(
     output: &mut StandardOutput<O>,
 ) -> Result<(), ServerFault>
     requires works { output.old.failed ≡ false }
+    requires pace { HasPace order.old }
     ensures serves { OnOk result (ServesPlan order.old (entries_of roster.entry)) }
     ensures failed { output.new.failed ≡ ended_by_output result }
 {
@@ -123,11 +125,13 @@ fn with_server<O: Write>(
     output: &mut StandardOutput<O>,
 ) -> Result<(), ServerFault>
     requires works { output.old.failed ≡ false }
+    requires pace { HasPace order.old }
     ensures serves { OnOk result (ServesOrder order.old (entries_of roster.entry) railway) }
     ensures failed { output.new.failed ≡ ended_by_output result }
 {
     let losses = Losses::new(order.lose, u64::from(order.seed));
-    let mut server = Server::new(rt.alloc(), decoders(roster), railway, order.turns, losses)?;
+    let pace = pace_of(order.turns, order.rate);
+    let mut server = Server::new(rt.alloc(), decoders(roster), railway, pace, losses)?;
     with_sockets(rt, order, roster, &mut server, output)
 }
 
@@ -295,6 +299,18 @@ fn serve<O: Write>(
         Err(Stop::Transport(_)) | Err(Stop::Clock(_)) => Err(ServerFault::Run(RunFault::Network)),
         Err(Stop::Observer(never)) => match never {},
         Err(Stop::AfterRound(fault)) => Err(ServerFault::from(fault)),
+    }
+}
+
+/// Returns what turns follow: messages, if the number after each is given, else time at this rate.
+fn pace_of(turns: Option<u8>, rate: Option<u8>) -> Pace
+    ensures { result ≡ pace_of turns rate }
+{
+    match turns {
+        Some(turns) => Pace::AfterMessages { turns },
+        None => Pace::RealTime {
+            rate: rate.unwrap_or(1),
+        },
     }
 }
 

@@ -3,7 +3,7 @@ ghost use Rattle.bus_log.specs.Decoders.{entries_of, specs_of};
 ghost use Rattle.bus_server.specs.Progress.{HasReported, ObservesLayout};
 
 use bus_log::{LOG_CAPACITY, LogQueue, PageStates, Printer, Verbosity, decoders};
-use bus_server::{Losses, Server};
+use bus_server::{Losses, Pace, Server};
 use mio::Poll;
 use roster::Roster;
 use sockets::Sockets;
@@ -118,7 +118,7 @@ impl<'a> Desk<'a> {
             rt.alloc(),
             decoders(roster),
             None,
-            Some(turns),
+            Pace::AfterMessages { turns },
             Losses::new(0, 0),
         )?;
         let sockets = bound(rt)?;

@@ -14,6 +14,7 @@ struct Held {
     octets: [u8; 4],
     port: u16,
     turns: Option<u8>,
+    rate: Option<u8>,
     clients: Option<u32>,
     track: bool,
     quiet: bool,
@@ -27,6 +28,7 @@ const DEFAULTS: Held = Held {
     octets: [127, 0, 0, 1],
     port: 1234,
     turns: None,
+    rate: None,
     clients: None,
     track: false,
     quiet: false,
@@ -36,7 +38,7 @@ const DEFAULTS: Held = Held {
 };
 
 /// Arguments, the roster that they name, and their other values.
-const ORDERS: [(&'static [&'static str], Option<&'static str>, Held); 7] = [
+const ORDERS: [(&'static [&'static str], Option<&'static str>, Held); 8] = [
     (&[], None, DEFAULTS),
     (
         &["--roster", "a b.toml", "--port", "1", "--turns", "0"],
@@ -76,6 +78,14 @@ const ORDERS: [(&'static [&'static str], Option<&'static str>, Held); 7] = [
         },
     ),
     (
+        &["--rate=100"],
+        None,
+        Held {
+            rate: Some(100),
+            ..DEFAULTS
+        },
+    ),
+    (
         &["--quiet"],
         None,
         Held {
@@ -108,6 +118,7 @@ fn values_of(order: &ServerOrder) -> Held {
         octets: order.address.octets(),
         port: order.port,
         turns: order.turns,
+        rate: order.rate,
         clients: order.clients,
         track: order.track,
         quiet: order.quiet,
@@ -132,7 +143,7 @@ fn orders(rt: HostRuntime) -> Result<(), Fail> {
 
 #[test]
 fn words_that_are_no_order(rt: HostRuntime) {
-    let rows: [&[&str]; 23] = [
+    let rows: [&[&str]; 26] = [
         &["--help"],
         &["help"],
         &["1234"],
@@ -146,6 +157,9 @@ fn words_that_are_no_order(rt: HostRuntime) {
         &["--host", "http://station"],
         &["--page-file", "a b.html"],
         &["--turns", "256"],
+        &["--rate", "0"],
+        &["--rate", "101"],
+        &["--rate", "2", "--turns", "0"],
         &["--clients", "-1"],
         &["--clients", "4294967296"],
         &["--track", "on"],
@@ -173,6 +187,7 @@ const ASKED: [(&'static [&'static str], &'static [&'static str]); 2] = [
             "Usage: lbserver",
             "anybody who can reach it can drive",
             "--port <P>",
+            "--rate <R>",
             "--clients <C>",
             "--track",
             "--quiet",
@@ -209,7 +224,7 @@ fn help_that_cannot_be_written(rt: HostRuntime) -> Result<(), Fail> {
 }
 
 /// Arguments, and parts of the text on standard error.
-const TOLD: [(&'static [&'static str], &'static [&'static str]); 4] = [
+const TOLD: [(&'static [&'static str], &'static [&'static str]); 5] = [
     (
         &["--port", "65536"],
         &["'65536'", "--port <P>", "0..=65535"],
@@ -217,6 +232,10 @@ const TOLD: [(&'static [&'static str], &'static [&'static str]); 4] = [
     (
         &["--address", "localhost"],
         &["the address is no IPv4 address", "Usage: lbserver"],
+    ),
+    (
+        &["--turns", "1", "--rate", "1"],
+        &["--rate cannot be used with --turns", "Usage: lbserver"],
     ),
     (
         &["--roster", "no such folder/layout.toml"],
