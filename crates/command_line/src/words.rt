@@ -87,7 +87,7 @@ pub struct ServerOrder {
     pub plan: Option<FileName>,
     /// Track turns after each message, 0 to 255. Without it the track runs in real time.
     pub turns: Option<u8>,
-    /// How many times as fast time passes, 1 to 100, without `turns`. Without it as fast as it does.
+    /// How many times as fast time passes, 1 to 100; never beside `turns`. Without it 1.
     pub rate: Option<u8>,
     /// The number of clients to serve before the server ends, at once with 0. Without it the server
     /// never ends.
