@@ -210,7 +210,7 @@ fn with_log<O: Write>(
     report_addresses(rt, &clients.sockets, &mut log)?;
     write_queued(&mut log, output, Duration::ZERO)?;
     let verbosity = Verbosity::of(order.track, order.quiet);
-    let mut printer = Printer::new(log, roster, verbosity, server.world());
+    let mut printer = Printer::new(log, roster, verbosity, server.world(), server.railway());
     let served = serve(rt, order, server, clients, &mut printer, output);
     if let Err(ServerFault::Output) = served {
         return served;
