@@ -8,7 +8,7 @@ use Rattle.command_line.specs.declared.words.ServerOrder.{ServerOrder}
 use Rattle.command_line.specs.ServerLine.{IsNumberIfGiven}
 use Rattle.railway.specs.Railway.{RailwayState}
 use Rattle.roster.specs.Entry.{Entry}
-use Rattle.bus_log.specs.Decoders.{entries_of, specs_of}
+use Rattle.bus_log.specs.Decoders.{entries_of, names_of, specs_of}
 use Rattle.bus_server.specs.Applied.{initial_state}
 use Rattle.bus_server.specs.declared.pace.Pace.{Pace}
 use Rattle.bus_server.specs.Draws.{IsSeeded}
@@ -25,7 +25,7 @@ same_order a b entries railway pace lose seed clients served =
       (
         losses,
         subst (λ (n : ℕ). IsSeeded n b.seed losses) lose (subst (λ (n : ℕ). IsSeeded a.lose n losses) seed served.2.1),
-        subst (λ (p : Pace). start ≡ initial_state (specs_of entries) railway p losses) pace served.2.2,
+        subst (λ (p : Pace). start ≡ initial_state (specs_of entries) (names_of entries) railway p losses) pace served.2.2,
       ),
       subst (λ (c : Option ℕ). IsRun (clients_of c) (unlogged start) (unlogged served.1)) clients served.3,
     )

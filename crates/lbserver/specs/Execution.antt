@@ -7,7 +7,7 @@ use Rattle.command_line.specs.ServerLine.{IsServerOrderOf}
 use Rattle.command_line.specs.Requests.{AsksServer}
 use Rattle.console.specs.Files.{IsRosterOf}
 use Rattle.roster.specs.Entry.{Entry}
-use Rattle.bus_log.specs.Decoders.{specs_of}
+use Rattle.bus_log.specs.Decoders.{names_of, specs_of}
 use Rattle.bus_server.specs.declared.losses.Losses.{Losses}
 use Rattle.bus_server.specs.Applied.{ServerState, initial_state}
 use Rattle.bus_server.specs.declared.pace.Pace.{Pace}
@@ -52,7 +52,7 @@ HasPace order = IsTrue (is_pace (pace_of order.turns order.rate))
 -- losses of its share, drawn from its seed
 abbrev pub IsNewServer : ServerOrder → List Entry → Option RailwayState → ServerState → Type 0
 IsNewServer order entries railway start =
-    (losses : Losses) × IsSeeded order.lose order.seed losses × (start ≡ initial_state (specs_of entries) railway (pace_of order.turns order.rate) losses)
+    (losses : Losses) × IsSeeded order.lose order.seed losses × (start ≡ initial_state (specs_of entries) (names_of entries) railway (pace_of order.turns order.rate) losses)
 
 -- sockets, the system's clock and standard output keep no logs
 abbrev pub unlogged : ServerState → RunSnapshot
