@@ -7,7 +7,6 @@ import tempfile
 import time
 
 from server_checks.common import (
-    PATIENCE,
     POWER_OFF,
     POWER_ON,
     SPEED_63,
@@ -72,7 +71,7 @@ def fast_time():
                     client.lines_until(report(3, True))
                 took = time.monotonic() - start
             # Main, east, back and west are 6,300 mm; at 63/126 of 250 mm/s 50.4 s, of the clock 0.504 s.
-            within("seconds for two rounds", 2 * 0.504 - 0.1, took, 2 * 0.504 + PATIENCE)
+            within("seconds for two rounds", 2 * 0.504 - 0.25, took, 2 * 0.504 + 0.25)
             same("status", server.process.wait(20), 0)
 
     is_tried_again(go_round)
