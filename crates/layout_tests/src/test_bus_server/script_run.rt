@@ -1,9 +1,11 @@
 //! A run with a script, and what its logs hold.
+ghost use Rattle.std.specs.Prelude.{◌≡◌, IsTrue};
+ghost use Rattle.bus_server.specs.Paces.{is_pace};
 
 use super::kept::{Entry, Seen};
 use super::memory::Input::Nothing;
 use super::memory::{FakeClock, Input, MemoryTransport, NoPages, Place, Recorder, ScriptEnded};
-use bus_server::{Losses, Server, Stop};
+use bus_server::{Losses, Pace, Server, Stop};
 use decoder_node::NodeList;
 use std::convert::Infallible;
 
@@ -26,13 +28,23 @@ pub(crate) struct Run {
     pub(crate) observed: Vec<Seen>,
 }
 
+/// Turns after messages, or in real time.
+fn pace_of(turns: Option<u8>) -> Pace
+    ensures { IsTrue (is_pace result) }
+{
+    match turns {
+        Some(turns) => Pace::AfterMessages { turns },
+        None => Pace::RealTime { rate: 1 },
+    }
+}
+
 /// Runs a new server without decoders.
 pub(crate) fn run_server<'a, R: Place>(rt: &'a R, setup: &Setup<'a>) -> Run {
     let mut server = Server::new(
         rt.alloc(),
         NodeList::new(),
         None,
-        setup.turns,
+        pace_of(setup.turns),
         Losses::new(0, 0),
     )
     .expect(rt, "memory");

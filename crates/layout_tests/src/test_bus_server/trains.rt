@@ -8,7 +8,7 @@ use super::memory::{FakeClock, Input, MemoryTransport, NoPages, Place};
 use super::script_run::text_to;
 use crate::test_railway::layout::{block, end_a, end_b};
 use bus::{Observer, Outcome};
-use bus_server::{Losses, Railway, Server};
+use bus_server::{Losses, Pace, Railway, Server};
 use decoder_cv::CvSet;
 use decoder_node::{NodeList, NodeSpec};
 use layout_core::World;
@@ -102,7 +102,7 @@ fn received<'a, R: Place>(
         rt.alloc(),
         copied(nodes.as_slice()),
         Some(railway),
-        None,
+        Pace::RealTime { rate: 1 },
         Losses::new(0, 0),
     )?;
     let mut transport = MemoryTransport {
