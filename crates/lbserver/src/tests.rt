@@ -4,4 +4,5 @@
 mod browsers;
 mod desk;
 mod text_clients;
+mod trains;
 mod words;

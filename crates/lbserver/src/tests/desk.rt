@@ -3,7 +3,7 @@ ghost use Rattle.bus_log.specs.Decoders.{entries_of, specs_of};
 ghost use Rattle.bus_server.specs.Progress.{HasReported, ObservesLayout};
 
 use bus_log::{LOG_CAPACITY, LogQueue, PageStates, Printer, Verbosity, decoders};
-use bus_server::{Losses, Pace, Server};
+use bus_server::{Losses, Pace, Railway, Server};
 use mio::Poll;
 use roster::Roster;
 use sockets::Sockets;
@@ -59,6 +59,8 @@ pub(crate) enum Step {
     At(u64, u32),
     /// This is the log so far.
     Printed(&'static str),
+    /// The log so far ends with this.
+    PrintedLast(&'static str),
 }
 
 /// The connections, by their numbers.
@@ -114,10 +116,21 @@ impl<'a> Desk<'a> {
         turns: u8,
         roster: Option<&'a Roster>,
     ) -> Result<Desk<'a>, Fail> {
+        Desk::with_railway(rt, turns, roster, None, Verbosity::Packets)
+    }
+
+    /// The same with a railway, or none, and a log of this verbosity.
+    pub(crate) fn with_railway<R: Place>(
+        rt: &R,
+        turns: u8,
+        roster: Option<&'a Roster>,
+        railway: Option<Railway>,
+        verbosity: Verbosity,
+    ) -> Result<Desk<'a>, Fail> {
         let server = Server::new(
             rt.alloc(),
             decoders(roster),
-            None,
+            railway,
             Pace::AfterMessages { turns },
             Losses::new(0, 0),
         )?;
@@ -125,8 +138,9 @@ impl<'a> Desk<'a> {
         let printer = Printer::new(
             LogQueue::new(rt.alloc())?,
             roster,
-            Verbosity::Packets,
+            verbosity,
             server.world(),
+            server.railway(),
         );
         Ok(Desk {
             server,
@@ -175,7 +189,11 @@ impl<'a> Desk<'a> {
                 self.rounds(*rounds)
             }
             Step::Printed(text) => {
-                assert!(rt; self.has_printed(text), "{text}");
+                assert!(rt; self.log() == text.as_bytes(), "{text}");
+                Ok(())
+            }
+            Step::PrintedLast(text) => {
+                assert!(rt; self.log().ends_with(text.as_bytes()), "{text}");
                 Ok(())
             }
             Step::IsGone(who) => {
@@ -217,9 +235,9 @@ impl<'a> Desk<'a> {
         Ok(told)
     }
 
-    /// Whether this is the log so far.
-    fn has_printed(&self, text: &str) -> bool {
-        self.printer.log().front(LOG_CAPACITY) == text.as_bytes()
+    /// The log so far.
+    fn log(&self) -> &[u8] {
+        self.printer.log().front(LOG_CAPACITY)
     }
 }
 
