@@ -29,6 +29,7 @@ observation_of (seen.Rejected client reason) = Observed (outcome.Rejected client
 observation_of (seen.Sent client message reply) = Observed (outcome.Sent client message.items (option_map (λ m. m.items) reply)) []
 observation_of (seen.Reported message) = Observed (outcome.Reported message.items) []
 observation_of (seen.TurnsRequested client turns) = Observed (outcome.TurnsRequested client turns) []
+observation_of (seen.NodesRequested client) = Observed (outcome.NodesRequested client) []
 observation_of (seen.TurnBegan packet) = Observed (outcome.TurnBegan (option_map (λ p. p.items) packet)) []
 observation_of (seen.Overflowed client) = Overflowed client
 observation_of (seen.Skipped micros) = Skipped micros

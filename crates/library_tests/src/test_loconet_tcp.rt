@@ -51,7 +51,12 @@ const TURNS: [(&[u8], Option<u16>); 12] = [
 ];
 
 // Texts without a request. The line of the last has not ended.
-const IDLE: [&[u8]; 10] = [
+const IDLE: [&[u8]; 15] = [
+    b"NODES 1\n",
+    b"NODES \n",
+    b" NODES\n",
+    b"NODESX\n",
+    b"nodes\n",
     b"TURNS1\n",
     b"turns 1\n",
     b"SENDX 83 7C\n",
@@ -97,6 +102,13 @@ fn reads_lines(rt: HostRuntime) -> Result<(), Fail> {
         assert_eq!(rt;
             request_in(&rt, &mut RequestReader::default(), text),
             Some(Request::Turns(count)),
+            "{text:?}"
+        );
+    }
+    for text in [b"NODES\r\n".as_slice(), b"\nNODES\n".as_slice()] {
+        assert_eq!(rt;
+            request_in(&rt, &mut RequestReader::default(), text),
+            Some(Request::Nodes),
             "{text:?}"
         );
     }

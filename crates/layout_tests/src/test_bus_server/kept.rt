@@ -26,6 +26,7 @@ pub enum Seen {
     Sent(u8, Vec<u8>, Option<Vec<u8>>),
     Reported(Vec<u8>),
     TurnsRequested(u8, Result<u16, TurnsError>),
+    NodesRequested(u8),
     TurnBegan(Option<Vec<u8>>),
     Overflowed(u8),
     Skipped(u64),

@@ -139,8 +139,9 @@ fn waits_for_messages(rt: HostRuntime) {
     assert_eq!(rt; turns(run.observed.as_slice()), 1);
 }
 
-/// What the first of two clients requests, with what follows: the turns that pass, its answers, and the messages.
-const REQUESTS: [(&[u8], Option<u8>, u64, &[u8]); 5] = [
+/// What the first of two clients requests of a layout without decoders, with what follows: the turns that pass, its answers,
+/// and the messages.
+const REQUESTS: [(&[u8], Option<u8>, u64, &[u8]); 7] = [
     (b"TURNS 5\n", Some(2), 5, b"TURNS OK\r\n"),
     (
         b"TURNS 1\nTURNS 9\n",
@@ -161,11 +162,14 @@ const REQUESTS: [(&[u8], Option<u8>, u64, &[u8]); 5] = [
         b"TURNS ERROR no number from 1 to 10000\r\n",
     ),
     (b"TURNS 5\n", None, 0, b"TURNS ERROR real time\r\n"),
+    (b"NODES\n", None, 0, b"NODES OK\r\n"),
+    // The second request begins the answer anew.
+    (b"NODES\nNODES\n", Some(2), 0, b"NODES OK\r\n"),
 ];
 
-/// Turns on request: the client that requests them is answered, and nobody else.
+/// Turns, and how decoders stand, on request: the client that requests them is answered, and nobody else.
 #[test]
-fn requested_turns(rt: HostRuntime) {
+fn requests_are_answered(rt: HostRuntime) {
     for (text, after_message, count, answers) in REQUESTS {
         let script = [Connects, Connects, Sends(0, text), Nothing];
         let setup = Setup {

@@ -5,8 +5,7 @@ ghost use Rattle.bus_server.specs.Paces.{is_pace};
 use super::kept::{Entry, Seen};
 use super::memory::Input::Nothing;
 use super::memory::{FakeClock, Input, MemoryTransport, NoPages, Place, Recorder, ScriptEnded};
-use bus_server::{Losses, Pace, Server, Stop};
-use decoder_node::NodeList;
+use bus_server::{Losses, NamedNodes, Pace, Server, Stop};
 use std::convert::Infallible;
 
 /// What is given to a run: see [`MemoryTransport`], [`FakeClock`] and [`Server`].
@@ -42,7 +41,7 @@ fn pace_of(turns: Option<u8>) -> Pace
 pub(crate) fn run_server<'a, R: Place>(rt: &'a R, setup: &Setup<'a>) -> Run {
     let mut server = Server::new(
         rt.alloc(),
-        NodeList::new(),
+        NamedNodes::new(),
         None,
         pace_of(setup.turns),
         Losses::new(0, 0),

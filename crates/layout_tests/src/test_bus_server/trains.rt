@@ -2,13 +2,14 @@
 //! Personal Use Edition 1.0 (OPC_INPUT_REP): in hexadecimal IN2 has the control bit 40, 20 for the
 //! odd address of sensor 2, and 10 for an occupied block.
 ghost use Rattle.std.specs.Prelude.{◌≡◌, ◌≤◌, None, length};
+ghost use Rattle.bus_server.specs.Names.{specs_of};
 
 use super::memory::Input::{Connects, Nothing, Sends};
 use super::memory::{FakeClock, Input, MemoryTransport, NoPages, Place};
 use super::script_run::text_to;
 use crate::test_railway::layout::{block, end_a, end_b};
 use bus::{Observer, Outcome};
-use bus_server::{Losses, Pace, Railway, Server};
+use bus_server::{Losses, NamedNode, NamedNodes, Pace, Railway, Server};
 use decoder_cv::CvSet;
 use decoder_node::{NodeList, NodeSpec};
 use layout_core::World;
@@ -78,16 +79,16 @@ fn decoders() -> Result<NodeList, Fail> {
     Ok(nodes)
 }
 
-/// Returns the same decoders.
-fn copied(nodes: &[NodeSpec]) -> NodeList
+/// Returns the same decoders under one name.
+fn named(nodes: &[NodeSpec]) -> NamedNodes
     requires { length nodes.now ≤ 64 }
-    ensures { result.items ≡ nodes.now }
+    ensures { specs_of result.items ≡ nodes.now }
 {
-    let mut copy = NodeList::new();
+    let mut named = NamedNodes::new();
     for node in nodes {
-        copy.push(*node);
+        named.push(NamedNode::new("shunter", *node));
     }
-    copy
+    named
 }
 
 /// Runs a new server with the train, and returns what clients 0 and 1 received.
@@ -100,7 +101,7 @@ fn received<'a, R: Place>(
     let railway = Railway::new(ring()?, &nodes).map_err(|_| "plan")?;
     let mut server = Server::new(
         rt.alloc(),
-        copied(nodes.as_slice()),
+        named(nodes.as_slice()),
         Some(railway),
         Pace::RealTime { rate: 1 },
         Losses::new(0, 0),
@@ -179,5 +180,40 @@ RECEIVE B0 78 07 30\r\nRECEIVE B0 79 07 31\r\nRECEIVE B0 7A 07 32\r\nRECEIVE B0 
 fn interrogation_is_answered_once(rt: HostRuntime) -> Result<(), Fail> {
     let (_, other) = received(&rt, &ASKS, &[0; 4])?;
     assert!(rt; other.as_slice() == ANSWERED);
+    Ok(())
+}
+
+/// Client 0 asks how the decoders stand before it drives, and a tenth of a second after.
+const ASKS_NODES: [Input<'static>; 11] = [
+    Connects,
+    Connects,
+    Sends(0, b"NODES\n"),
+    Nothing,
+    Nothing,
+    Sends(0, b"SEND BF 00 03 43\nSEND BA 01 01 45\n"),
+    Sends(0, b"SEND 83 7C\n"),
+    Sends(0, b"SEND A0 01 7F 21\n"),
+    Sends(0, b"NODES\n"),
+    Nothing,
+    Nothing,
+];
+
+/// What client 0 receives at first. Client 1 receives only the messages.
+const STANDS: &[u8] = b"VERSION lbserver station\r\n\
+NODE node shunter short 3 stop forward F 0000000000000\r\nNODES OK\r\n\
+RECEIVE BF 00 03 43\r\nSENT OK\r\n";
+
+/// And at last.
+const RUNS: &[u8] = b"RECEIVE A0 01 7F 21\r\nSENT OK\r\n\
+NODE node shunter short 3 step 126 of 128 forward F 0000000000000\r\nNODES OK\r\n";
+
+#[test]
+fn decoders_are_told(rt: HostRuntime) -> Result<(), Fail> {
+    let readings = [0, 0, 0, 0, 0, 0, 0, 100_000, 0, 0, 0];
+    let (asker, other) = received(&rt, &ASKS_NODES, &readings)?;
+    assert!(rt; asker.as_slice().starts_with(STANDS));
+    assert!(rt; asker.as_slice().ends_with(RUNS));
+    assert!(rt; other.as_slice().starts_with(b"VERSION lbserver station\r\nRECEIVE BF 00 03 43\r\n"));
+    assert!(rt; other.as_slice().ends_with(b"RECEIVE A0 01 7F 21\r\n"));
     Ok(())
 }
