@@ -151,6 +151,18 @@ class Client(Throttle):
         if line != "TURNS OK":
             raise StationError(line)
 
+    def nodes(self) -> dict[str, State]:
+        """How the decoders of the roster stand now, by their names. Only `lbserver` answers this request."""
+        if self.lines.closed:
+            raise ClosedError("the client is closed")
+        self.stream.sendall(b"NODES\r\n")
+        nodes: dict[str, State] = {}
+        while (line := self.line()) != "NODES OK":
+            found = read_node_line(line)
+            if found is not None:
+                nodes[found[0]] = found[1]
+        return nodes
+
     def _refusal(self) -> Reply | None:
         """The reply to the message that was sent last, if the next line is one."""
         own = message_hex(0xBB, 1, 0)

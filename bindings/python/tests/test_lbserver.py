@@ -183,6 +183,27 @@ class TestClient(unittest.TestCase):
                 client.turns(1)
         self.assertEqual(received, ["TURNS 16", "TURNS 10000", "TURNS 1", "TURNS 1", ""])
 
+    def test_nodes(self):
+        with scripted(
+            ["VERSION x"],
+            [
+                "RECEIVE 83 7C",
+                "NODE node shunter short 3 step 63 of 128 forward F 0000000000000",
+                "RECEIVE 82 7D",
+                "NODE node yard module 1 outputs 10000000",
+                "NODES OK",
+            ],
+            ["NODES OK"],
+        ) as (port, received):
+            with Client("127.0.0.1", port) as client:
+                nodes = client.nodes()
+                self.assertEqual(list(nodes), ["shunter", "yard"])
+                self.assertEqual(nodes["shunter"].step, 63)
+                self.assertEqual(client.nodes(), {})
+            with self.assertRaises(ClosedError):
+                client.nodes()
+        self.assertEqual(received, ["NODES", "NODES", ""])
+
     def test_rejected_and_closed(self):
         with scripted(["ERROR no place"]) as (port, _):
             with self.assertRaisesRegex(ConnectionError, "rejected: ERROR no place"):
@@ -238,6 +259,8 @@ class TestServer(unittest.TestCase):
             self.assertEqual(server.nodes, {})
             server.turns(16)
             server.wait_for_node("shunter", step=63)
+            with server.client() as client:
+                self.assertEqual(client.nodes()["shunter"].step, 63)
         with Server(roster=ROSTER) as server:
             with self.assertRaisesRegex(StationError, "TURNS ERROR real time"):
                 server.turns(1)
