@@ -10,10 +10,12 @@ from server_checks.common import (
     LAYOUT,
     POWER_OFF,
     POWER_ON,
+    SHUNTER,
     holds,
     is_tried_again,
     printed_after,
     receive,
+    roster_of,
     run,
     same,
     send,
@@ -93,6 +95,31 @@ def many_messages_in_one_write():
             page.write(send(*texts))
             wanted = [line for text in texts for line in [*receive(text), "SENT OK"]]
             same("the sender", [page.line() for _ in wanted], wanted)
+
+
+def nodes():
+    """NODES: a client receives how the decoders stand, and the others do not; with 64 decoders, with none"""
+    yard = "NODE node yard module 1 outputs 00000000"
+    with serve(*LAYOUT, "--turns", "16") as server, Client(server) as client, Client(server) as other:
+        client.write(["NODES"])
+        same("at first", client.lines_until("NODES OK"), [f"NODE {SHUNTER.format('stop')}", yard, "NODES OK"])
+        client.send(0xA0, client.take(3), 0x40)
+        client.write(["NODES"])
+        found = client.lines_until("NODES OK")
+        same("after a speed", found, [f"NODE {SHUNTER.format('step 63 of 128')}", yard, "NODES OK"])
+        other.write(["NODES x", "nodes", *send("81 7E")])
+        lines = other.lines_until("SENT OK")
+        same("the other", lines[0], "RECEIVE 83 7C")
+        same("the other's NODE lines", [line for line in lines if line.startswith("NODE")], [])
+    with roster_of(64) as file, serve("--roster", file) as server, Client(server) as client:
+        client.write(["NODES", *send(*[POWER_ON] * 200)])
+        lines = client.lines_until("NODES OK")
+        same("answers to 200 messages", sum(not line.startswith("NODE") for line in lines), 400)
+        wanted = [f"NODE node loco-{i} short 3 stop forward F 0000000000000" for i in range(64)]
+        same("64 decoders", [line for line in lines if line.startswith("NODE ")], wanted)
+    with serve() as server, Client(server) as client:
+        client.write(["NODES"])
+        same("without a roster", client.line(), "NODES OK")
 
 
 def all_hear_the_same():
