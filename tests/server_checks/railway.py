@@ -1,4 +1,4 @@
-"""The option --plan: what sensors report of trains, worked out from examples/oval.toml and LocoNet Personal Use Edition 1.0."""
+"""The option --plan: what sensors report of trains and what the log says of them, worked out from examples/oval.toml and LocoNet Personal Use Edition 1.0."""
 
 import os
 import re
@@ -14,6 +14,7 @@ from server_checks.common import (
     USE_1,
     holds,
     is_tried_again,
+    printed_after,
     program,
     receive,
     run,
@@ -25,6 +26,9 @@ from server_checks.common import (
 from serving import TOP, Client, message_hex
 
 OVAL = ["--roster", "examples/oval-roster.toml", "--plan", "examples/oval.toml"]
+
+# OPC_SW_REQ: turnout 2 thrown, on.
+THROW_2 = message_hex(0xB0, 0x01, 0x10)
 
 # The eight requests of an interrogation ask for turnouts 1017 to 1020. One of them is answered.
 INTERROGATION = [message_hex(0xB0, sw1, sw2) for sw2 in (0x27, 0x07) for sw1 in (0x78, 0x79, 0x7A, 0x7B)]
@@ -75,6 +79,33 @@ def fast_time():
             same("status", server.process.wait(20), 0)
 
     is_tried_again(go_round)
+
+
+def moves(server):
+    """The lines of blocks and trains of the log, once the power is off."""
+    lines = printed_after(server, f"message {POWER_OFF}  track power off")
+    return [line for line in lines if line.split()[0] in ("block", "derailed", "conflict")]
+
+
+def conflicts():
+    """--plan: the log has blocks that become occupied and free, and two trains in a block"""
+    with serve(*OVAL, "--turns", "1", "--clients", "1") as server:
+        with Client(server) as driver:
+            # At 125 mm/s the front is in east after 500 mm and in back after 1700, the rear leaves main after 800 and east
+            # after 2000: 16 s, of 2900 turns of at least 5.796 ms. They last 31.2 s at most, and back ends after 4100 mm.
+            drive(driver, 2900)
+            wanted = ["block east occupied (shunter)", "block main free", "conflict back: shunter, express", "block east free"]
+            same("the log", moves(server), wanted)
+
+
+def derailments():
+    """--plan: the log has a train that meets a turnout that lies against it, once"""
+    with serve(*OVAL, "--turns", "1", "--clients", "1") as server:
+        with Client(server) as driver:
+            driver.write(send(POWER_ON, THROW_2))
+            driver.lines_until("SENT OK")
+            drive(driver, 1300)
+            same("the log", moves(server), ["derailed shunter in main"])
 
 
 def interrogations():

@@ -1,6 +1,6 @@
 -- What the logs of a run hold, as contracts see it.
-use Rattle.std.specs.Prelude.{List, [], ◌∷◌, map, option_map}
-use Rattle.bus.specs.Observations.{Observation, Observed, Overflowed, Skipped}
+use Rattle.std.specs.Prelude.{List, [], ◌∷◌, None, map, option_map}
+use Rattle.bus_server.specs.Observations.{Observation, Observed, Overflowed, Skipped}
 use Rattle.loconet_tcp.specs.declared.outcome.Outcome.TheVariants as outcome
 use Rattle.bus_server.specs.TransportEvents.{Polled, TransportEvent, Accepted, Received, PeerClosed, Written, ServerClosed, ReadBlocked, WriteBlocked, NonePending, Refused}
 use Rattle.layout_tests.specs.declared.test_bus_server.kept.Entry.{Entry}
@@ -22,14 +22,14 @@ events_of_entry entry.NonePending = NonePending ∷ []
 events_of_entry entry.Refused = Refused ∷ []
 
 abbrev pub observation_of : Seen → Observation
-observation_of seen.Nothing = Observed outcome.Nothing []
-observation_of (seen.Connected client) = Observed (outcome.Connected client) []
-observation_of (seen.Disconnected client) = Observed (outcome.Disconnected client) []
-observation_of (seen.Rejected client reason) = Observed (outcome.Rejected client reason) []
-observation_of (seen.Sent client message reply) = Observed (outcome.Sent client message.items (option_map (λ m. m.items) reply)) []
-observation_of (seen.Reported message) = Observed (outcome.Reported message.items) []
-observation_of (seen.TurnsRequested client turns) = Observed (outcome.TurnsRequested client turns) []
-observation_of (seen.NodesRequested client) = Observed (outcome.NodesRequested client) []
-observation_of (seen.TurnBegan packet) = Observed (outcome.TurnBegan (option_map (λ p. p.items) packet)) []
+observation_of seen.Nothing = Observed outcome.Nothing [] None
+observation_of (seen.Connected client) = Observed (outcome.Connected client) [] None
+observation_of (seen.Disconnected client) = Observed (outcome.Disconnected client) [] None
+observation_of (seen.Rejected client reason) = Observed (outcome.Rejected client reason) [] None
+observation_of (seen.Sent client message reply) = Observed (outcome.Sent client message.items (option_map (λ m. m.items) reply)) [] None
+observation_of (seen.Reported message) = Observed (outcome.Reported message.items) [] None
+observation_of (seen.TurnsRequested client turns) = Observed (outcome.TurnsRequested client turns) [] None
+observation_of (seen.NodesRequested client) = Observed (outcome.NodesRequested client) [] None
+observation_of (seen.TurnBegan packet) = Observed (outcome.TurnBegan (option_map (λ p. p.items) packet)) [] None
 observation_of (seen.Overflowed client) = Overflowed client
 observation_of (seen.Skipped micros) = Skipped micros

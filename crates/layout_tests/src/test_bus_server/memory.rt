@@ -1,14 +1,14 @@
 //! A transport, a clock and an observer in memory, each with its log. Where there is no memory for it, the test ends.
-ghost use Rattle.std.specs.Prelude.{◌≡◌, ◌∷◌, ◌++◌, [], List, Some, false, map, option_map};
+ghost use Rattle.std.specs.Prelude.{◌≡◌, ◌∷◌, ◌++◌, [], List, None, Some, false, map, option_copied, option_map};
 ghost use Rattle.std.specs.List.{flat_map};
 ghost use Rattle.decoder_node.specs.declared.node.NodeSpec.{NodeSpec};
 ghost use Rattle.layout_core.specs.Nodes.{spec_of};
-ghost use Rattle.bus.specs.Observations.{Observed};
+ghost use Rattle.bus_server.specs.Observations.{Observed};
 ghost use Rattle.layout_tests.specs.Kept.{events_of_entry, observation_of};
 
 use super::kept::{Entry, Seen};
-use bus::{Observer, Outcome};
-use bus_server::{AfterRound, IoOutcome, TimeSource, Transport};
+use bus::Outcome;
+use bus_server::{AfterRound, IoOutcome, Observer, Railway, TimeSource, Transport};
 use dcc_packet::Packet;
 use layout_core::World;
 use ln_frame::Msg;
@@ -164,7 +164,7 @@ impl<R: Place> TimeSource for FakeClock<'_, R> {
     }
 }
 
-/// An observer of a layout without decoders. It keeps what it observed.
+/// An observer of a layout without decoders and without a railway. It keeps what it observed.
 #[derive(Drop)]
 pub(crate) struct Recorder<'a, R> {
     pub(crate) rt: &'a R,
@@ -187,7 +187,13 @@ impl<R: Place> Observer for Recorder<'_, R> {
 
     ghost observed = { λ recorder. Some (map observation_of recorder.log.items) };
 
-    fn observe(&mut self, outcome: &Outcome, _world: &World) -> Result<(), Infallible> {
+    fn observe(
+        &mut self,
+        outcome: &Outcome,
+        _world: &World,
+        railway: Option<&Railway>,
+    ) -> Result<(), Infallible> {
+        refuse_railway(self.rt, railway);
         let seen = seen_of(self.rt, outcome);
         self.keep(seen);
         Ok(())
@@ -204,9 +210,16 @@ impl<R: Place> Observer for Recorder<'_, R> {
     }
 }
 
+/// Ends the test if there is a railway, which an observer cannot keep.
+fn refuse_railway<R: Place>(rt: &R, railway: Option<&Railway>)
+    ensures { option_copied railway.entry ≡ None }
+{
+    assert!(rt; railway.is_none(), "a railway");
+}
+
 /// What an observer keeps of an outcome.
 fn seen_of<R: Place>(rt: &R, outcome: &Outcome) -> Seen
-    ensures { observation_of result ≡ Observed outcome.now [] }
+    ensures { observation_of result ≡ Observed outcome.now [] None }
 {
     match outcome {
         Outcome::Nothing => Seen::Nothing,

@@ -8,8 +8,8 @@ use super::memory::Input::{Connects, Nothing, Sends};
 use super::memory::{FakeClock, Input, MemoryTransport, NoPages, Place};
 use super::script_run::text_to;
 use crate::test_railway::layout::{block, end_a, end_b};
-use bus::{Observer, Outcome};
-use bus_server::{Losses, NamedNode, NamedNodes, Pace, Railway, Server};
+use bus::Outcome;
+use bus_server::{Losses, NamedNode, NamedNodes, Observer, Pace, Railway, Server};
 use decoder_cv::CvSet;
 use decoder_node::{NodeList, NodeSpec};
 use layout_core::World;
@@ -30,7 +30,12 @@ impl Observer for Unrecorded {
 
     ghost observed = { λ _. None };
 
-    fn observe(&mut self, _outcome: &Outcome, _world: &World) -> Result<(), Infallible> {
+    fn observe(
+        &mut self,
+        _outcome: &Outcome,
+        _world: &World,
+        _railway: Option<&Railway>,
+    ) -> Result<(), Infallible> {
         Ok(())
     }
 
@@ -213,7 +218,11 @@ fn decoders_are_told(rt: HostRuntime) -> Result<(), Fail> {
     let (asker, other) = received(&rt, &ASKS_NODES, &readings)?;
     assert!(rt; asker.as_slice().starts_with(STANDS));
     assert!(rt; asker.as_slice().ends_with(RUNS));
-    assert!(rt; other.as_slice().starts_with(b"VERSION lbserver station\r\nRECEIVE BF 00 03 43\r\n"));
+    assert!(rt;
+        other
+            .as_slice()
+            .starts_with(b"VERSION lbserver station\r\nRECEIVE BF 00 03 43\r\n")
+    );
     assert!(rt; other.as_slice().ends_with(b"RECEIVE A0 01 7F 21\r\n"));
     Ok(())
 }
