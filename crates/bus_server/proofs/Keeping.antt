@@ -162,17 +162,17 @@ left_is_not_late client observed old new happened =
 no_cons : {A B : Type 0} (x : A) (xs : List A) → [] ≡ x ∷ xs → B
 no_cons x xs h = cc
 
-nothing_due : (event : Event) (observed : Observation) (events : List Event) (old new : ServerState) → AreTurns 0 (event ∷ events) → old.due ≡ [] → RunsEvent event observed old new → ⊥
+nothing_due : (event : Event) (observed : Observation) (events : List Event) (old new : ServerState) → AreTurns 0 (event ∷ events) → old.unreported ≡ [] → RunsEvent event observed old new → ⊥
 nothing_due (Connects client) observed events old new are none h = are
 nothing_due (Receives client byte) observed events old new are none h = are
 nothing_due (Disconnects client) observed events old new are none h = are
 nothing_due (Elapses micros missed) observed events old new are none h = are
 nothing_due (Turn missed) observed events old new are none h = are
-nothing_due (Reports sensor occupied) observed events old new are none h = no_cons (record { sensor = sensor; occupied = occupied }) new.due (sym none ∙ h.due)
+nothing_due (Reports sensor occupied) observed events old new are none h = no_cons (record { sensor = sensor; occupied = occupied }) new.unreported (sym none ∙ h.unreported)
 
 -- the event makes no sensor report
 abbrev IsSilent : Event → ServerState → Type 0
-IsSilent event old = (observed : Observation) (new : ServerState) → RunsEvent event observed old new → new.due ≡ []
+IsSilent event old = (observed : Observation) (new : ServerState) → RunsEvent event observed old new → new.unreported ≡ []
 
 first_alone : (event : Event) (one : LoggedEvent) (behind : List LoggedEvent) (old new : ServerState) → one.event ≡ event → IsSilent event old → AreTurns 0 (events_of behind) → RunsEvents (one ∷ behind) old new → RunsEvent event one.observed old new
 first_alone event one [] old new same silent none h = subst (λ (e : Event). RunsEvent e one.observed old new) same (subst (λ (s : ServerState). RunsEvent one.event one.observed old s) (sym h.2) h.1)
@@ -195,11 +195,11 @@ none_joining (AfterMessages turns) client = refl
 
 pub only_leaves : (client : ℕ) (applied : List LoggedEvent) (old new : ServerState) → RunsEventWithTurns (Disconnects client) applied old new → (observed : Observation) × RunsEvent (Disconnects client) observed old new
 only_leaves client applied old new brings =
-    alone old.pace (Disconnects client) (Disconnected client) applied old new (no_turns old.pace client) (λ observed after h. h.due.1) brings.1 brings.2
+    alone old.pace (Disconnects client) (Disconnected client) applied old new (no_turns old.pace client) (λ observed after h. h.unreported.1) brings.1 brings.2
 
 pub only_joins : (client : ℕ) (applied : List LoggedEvent) (old new : ServerState) → RunsEventWithTurns (Connects client) applied old new → (observed : Observation) × RunsEvent (Connects client) observed old new
 only_joins client applied old new brings =
-    alone old.pace (Connects client) (Connected client) applied old new (none_joining old.pace client) (λ observed after h. h.due.1) brings.1 brings.2
+    alone old.pace (Connects client) (Connected client) applied old new (none_joining old.pace client) (λ observed after h. h.unreported.1) brings.1 brings.2
 
 -- A client joins.
 

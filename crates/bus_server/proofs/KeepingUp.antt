@@ -22,7 +22,7 @@ use Rattle.loconet_tcp.specs.Requests.{bytes_of, is_nodes, is_send, is_turns, pa
 use Rattle.loconet_tcp.specs.Text.{is_end}
 use Rattle.loconet_tcp.specs.Texts.{reply_text, text_for}
 use Rattle.loconet_tcp.specs.declared.outcome.Outcome.{Outcome}
-use Rattle.loconet_tcp.specs.declared.outcome.Outcome.TheVariants.{Connected, NodesRequested, Nothing, Rejected, Sent, TurnBegan, TurnsRequested}
+use Rattle.loconet_tcp.specs.declared.outcome.Outcome.TheVariants.{Connected, Nothing, Rejected, Sent, TurnBegan, TurnsRequested}
 use Rattle.loconet_tcp.specs.declared.request.Reason.{Reason}
 use Rattle.loconet_tcp.specs.declared.request.Reason.TheVariants.{NoMessage, NotHex, TooLong, WrongCheck}
 use Rattle.loconet_tcp.specs.declared.request.TurnsError.{TurnsError}
@@ -186,21 +186,21 @@ no_reports bus nodes (Turn missed) = refl
 no_cons : {A B : Type 0} (x : A) (xs : List A) → [] ≡ x ∷ xs → B
 no_cons x xs h = cc
 
-none_due : (event : Event) (observed : Observation) (old new : ServerState) → RunsEvent event observed old new → old.due ≡ [] → is_report event ≡ false
-none_due (Reports sensor occupied) observed old new runs none = no_cons (record { sensor = sensor; occupied = occupied }) new.due (sym none ∙ runs.due)
+none_due : (event : Event) (observed : Observation) (old new : ServerState) → RunsEvent event observed old new → old.unreported ≡ [] → is_report event ≡ false
+none_due (Reports sensor occupied) observed old new runs none = no_cons (record { sensor = sensor; occupied = occupied }) new.unreported (sym none ∙ runs.unreported)
 none_due (Connects client) observed old new runs none = refl
 none_due (Receives client byte) observed old new runs none = refl
 none_due (Disconnects client) observed old new runs none = refl
 none_due (Elapses micros missed) observed old new runs none = refl
 none_due (Turn missed) observed old new runs none = refl
 
-made_due : (event : Event) (observed : Observation) (old new : ServerState) → RunsEvent event observed old new → old.due ≡ [] → new.due ≡ reports_after old.bus old.nodes event old.railway
-made_due (Reports sensor occupied) observed old new runs none = no_cons (record { sensor = sensor; occupied = occupied }) new.due (sym none ∙ runs.due)
-made_due (Connects client) observed old new runs none = runs.due.1
-made_due (Receives client byte) observed old new runs none = runs.due.1
-made_due (Disconnects client) observed old new runs none = runs.due.1
-made_due (Elapses micros missed) observed old new runs none = runs.due.1
-made_due (Turn missed) observed old new runs none = runs.due.1
+made_due : (event : Event) (observed : Observation) (old new : ServerState) → RunsEvent event observed old new → old.unreported ≡ [] → new.unreported ≡ reports_after old.bus old.nodes event old.railway
+made_due (Reports sensor occupied) observed old new runs none = no_cons (record { sensor = sensor; occupied = occupied }) new.unreported (sym none ∙ runs.unreported)
+made_due (Connects client) observed old new runs none = runs.unreported.1
+made_due (Receives client byte) observed old new runs none = runs.unreported.1
+made_due (Disconnects client) observed old new runs none = runs.unreported.1
+made_due (Elapses micros missed) observed old new runs none = runs.unreported.1
+made_due (Turn missed) observed old new runs none = runs.unreported.1
 
 still_without : (event : Event) (observed : Observation) (old new : ServerState) → RunsEvent event observed old new → IsWithoutRailway old → IsWithoutRailway new
 still_without event observed old new runs h = (

@@ -63,12 +63,12 @@ known-append sensor first second level =
 
 -- One event.
 
-same_known : (block sensor : ℕ) (level : Bool) (old new : ServerState) → new.railway ≡ old.railway → new.due ≡ old.due → IsKnown block sensor level old → IsKnown block sensor level new
-same_known block sensor level old new railway due h = (h.0, railway ∙ h.1, h.2, h.3, ap (λ (d : List SensorReport). level_after d sensor level) due ∙ h.4)
+same_known : (block sensor : ℕ) (level : Bool) (old new : ServerState) → new.railway ≡ old.railway → new.unreported ≡ old.unreported → IsKnown block sensor level old → IsKnown block sensor level new
+same_known block sensor level old new railway unreported h = (h.0, railway ∙ h.1, h.2, h.3, ap (λ (d : List SensorReport). level_after d sensor level) unreported ∙ h.4)
 
-elapsed_known : SensorLaws → (block sensor micros : ℕ) (level : Bool) (nodes : List Node) (old new : ServerState) → old.due ≡ [] → new.railway ≡ railway_elapsed old.railway micros nodes
-    → new.due ≡ reports_elapsed old.railway micros nodes → IsKnown block sensor level old → IsKnown block sensor level new
-elapsed_known laws block sensor micros level nodes old new none trains due h =
+elapsed_known : SensorLaws → (block sensor micros : ℕ) (level : Bool) (nodes : List Node) (old new : ServerState) → old.unreported ≡ [] → new.railway ≡ railway_elapsed old.railway micros nodes
+    → new.unreported ≡ reports_elapsed old.railway micros nodes → IsKnown block sensor level old → IsKnown block sensor level new
+elapsed_known laws block sensor micros level nodes old new none trains unreported h =
     let railway : RailwayState = h.0 in
     let reports : List SensorReport = reports_in railway micros nodes in
     let known : level ≡ is_occupied railway.trains block = sym (ap (λ (d : List SensorReport). level_after d sensor level) none) ∙ h.4 in (
@@ -76,7 +76,7 @@ elapsed_known laws block sensor micros level nodes old new none trains due h =
       trains ∙ ap (λ (r : Option RailwayState). railway_elapsed r micros nodes) h.1,
       laws.whole railway nodes micros h.2,
       h.3,
-      ap (λ (d : List SensorReport). level_after d sensor level) (due ∙ ap (λ (r : Option RailwayState). reports_elapsed r micros nodes) h.1)
+      ap (λ (d : List SensorReport). level_after d sensor level) (unreported ∙ ap (λ (r : Option RailwayState). reports_elapsed r micros nodes) h.1)
           ∙ ap (λ (l : Bool). level_after reports sensor l) known
           ∙ ap (λ (all : List SensorReport). level_after all sensor (is_occupied railway.trains block)) (sym (append-nil reports))
           ∙ laws.after railway (TimeElapses micros nodes ∷ []) block sensor h.2 h.3.0 h.3.1,
@@ -89,23 +89,23 @@ asked_level laws false level block sensor railway whole is known = known
 
 event_known : SensorLaws → (block sensor : ℕ) (level : Bool) (event : Event) (observed : Observation) (old new : ServerState) → RunsEvent event observed old new → IsKnown block sensor level old
     → IsKnown block sensor (level_after (reports_among (event ∷ [])) sensor level) new
-event_known laws block sensor level (Connects client) observed old new runs h = same_known block sensor level old new runs.railway (runs.due.1 ∙ sym runs.due.0) h
-event_known laws block sensor level (Disconnects client) observed old new runs h = same_known block sensor level old new runs.railway (runs.due.1 ∙ sym runs.due.0) h
+event_known laws block sensor level (Connects client) observed old new runs h = same_known block sensor level old new runs.railway (runs.unreported.1 ∙ sym runs.unreported.0) h
+event_known laws block sensor level (Disconnects client) observed old new runs h = same_known block sensor level old new runs.railway (runs.unreported.1 ∙ sym runs.unreported.0) h
 event_known laws block sensor level (Receives client byte) observed old new runs h =
     let railway : RailwayState = h.0 in
     let asks : Bool = asks_sensors (outcome_of old.bus (Receives client byte)) in
-    let known : level ≡ is_occupied railway.trains block = sym (ap (λ (d : List SensorReport). level_after d sensor level) runs.due.0) ∙ h.4 in (
+    let known : level ≡ is_occupied railway.trains block = sym (ap (λ (d : List SensorReport). level_after d sensor level) runs.unreported.0) ∙ h.4 in (
       railway,
       runs.railway ∙ h.1,
       h.2,
       h.3,
-      ap (λ (d : List SensorReport). level_after d sensor level) (runs.due.1 ∙ ap (λ (r : Option RailwayState). if asks then full_report r else []) h.1)
+      ap (λ (d : List SensorReport). level_after d sensor level) (runs.unreported.1 ∙ ap (λ (r : Option RailwayState). if asks then full_report r else []) h.1)
           ∙ asked_level laws asks level block sensor railway h.2 h.3 known,
     )
 event_known laws block sensor level (Reports reporting occupied) observed old new runs h =
-    (h.0, runs.railway ∙ h.1, h.2, h.3, sym (ap (λ (d : List SensorReport). level_after d sensor level) runs.due) ∙ h.4)
-event_known laws block sensor level (Elapses micros missed) observed old new runs h = elapsed_known laws block sensor micros level old.nodes old new runs.due.0 runs.railway runs.due.1 h
-event_known laws block sensor level (Turn missed) observed old new runs h = elapsed_known laws block sensor old.bus.remaining level old.nodes old new runs.due.0 runs.railway runs.due.1 h
+    (h.0, runs.railway ∙ h.1, h.2, h.3, sym (ap (λ (d : List SensorReport). level_after d sensor level) runs.unreported) ∙ h.4)
+event_known laws block sensor level (Elapses micros missed) observed old new runs h = elapsed_known laws block sensor micros level old.nodes old new runs.unreported.0 runs.railway runs.unreported.1 h
+event_known laws block sensor level (Turn missed) observed old new runs h = elapsed_known laws block sensor old.bus.remaining level old.nodes old new runs.unreported.0 runs.railway runs.unreported.1 h
 
 pub becomes_known : SensorLaws → (block sensor client byte : ℕ) (level : Bool) (railway : RailwayState) (observed : Observation) (old new : ServerState) → old.railway ≡ Some railway
     → IsTrue (is_railway railway) → IsSensorOf block sensor railway → asks_sensors (outcome_of old.bus (Receives client byte)) ≡ true → RunsEvent (Receives client byte) observed old new
@@ -116,7 +116,7 @@ becomes_known laws block sensor client byte level railway observed old new besid
   whole,
   is,
   ap (λ (d : List SensorReport). level_after d sensor level)
-      (runs.due.1 ∙ ap (λ (a : Bool). if a then full_report old.railway else []) asks ∙ ap full_report beside)
+      (runs.unreported.1 ∙ ap (λ (a : Bool). if a then full_report old.railway else []) asks ∙ ap full_report beside)
       ∙ laws.full railway block sensor level whole is.0 is.1,
 )
 

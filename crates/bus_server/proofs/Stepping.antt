@@ -16,19 +16,19 @@ use Rattle.bus_server.specs.Sensors.{IsDue, IsWithinTurn, asks_sensors, full_rep
 use Rattle.bus_server.specs.Steps.{RunsOnBus, with_trains_run}
 
 -- the bus runs an event once what decoders miss is drawn and trains have run
-runs : (event : Event) (observed : Observation) (losses : Losses) (railway : Option RailwayState) (due : List SensorReport) (old new : ServerState)
-    → RunsOnBus event observed (record old { losses = losses; railway = railway; due = due }) new
+runs : (event : Event) (observed : Observation) (losses : Losses) (railway : Option RailwayState) (unreported : List SensorReport) (old new : ServerState)
+    → RunsOnBus event observed (record old { losses = losses; railway = railway; unreported = unreported }) new
     → IsWithinTurn event old.bus → IsDrawn event old.bus (length old.nodes) old.losses losses
     → railway ≡ railway_after old.bus old.nodes event old.railway
-    → IsDue event (reports_after old.bus old.nodes event old.railway) old.due new.due
+    → IsDue event (reports_after old.bus old.nodes event old.railway) old.unreported new.unreported
     → RunsEvent event observed old new
-runs event observed losses railway due old new h piece drawn trains reports = record {
+runs event observed losses railway unreported old new h piece drawn trains reports = record {
   legal = h.legal;
   bus = h.bus;
   nodes = h.nodes;
   piece = piece;
   railway = h.railway ∙ trains;
-  due = reports;
+  unreported = reports;
   queues = h.queues;
   names = h.names;
   answers = h.answers;
@@ -40,66 +40,66 @@ runs event observed losses railway due old new h piece drawn trains reports = re
 }
 
 -- an event of a client takes no time
-pub client_runs : (event : Event) (observed : Observation) (old new : ServerState) → is_time event ≡ false → old.due ≡ []
+pub client_runs : (event : Event) (observed : Observation) (old new : ServerState) → is_time event ≡ false → old.unreported ≡ []
     → RunsOnBus event observed old new → RunsEvent event observed old new
-client_runs (Connects client) observed old new time none h = runs (Connects client) observed old.losses old.railway old.due old new h tt refl refl (none, h.due ∙ none)
-client_runs (Disconnects client) observed old new time none h = runs (Disconnects client) observed old.losses old.railway old.due old new h tt refl refl (none, h.due ∙ none)
+client_runs (Connects client) observed old new time none h = runs (Connects client) observed old.losses old.railway old.unreported old new h tt refl refl (none, h.unreported ∙ none)
+client_runs (Disconnects client) observed old new time none h = runs (Disconnects client) observed old.losses old.railway old.unreported old new h tt refl refl (none, h.unreported ∙ none)
 client_runs (Receives client byte) observed old new time none h =
-    runs (Receives client byte) observed old.losses old.railway old.due old new h tt refl refl (
+    runs (Receives client byte) observed old.losses old.railway old.unreported old new h tt refl refl (
       none,
-      h.due ∙ ap (λ (due : List SensorReport). if asks_sensors (outcome_of old.bus (Receives client byte)) then full_report old.railway else due) none,
+      h.unreported ∙ ap (λ (unreported : List SensorReport). if asks_sensors (outcome_of old.bus (Receives client byte)) then full_report old.railway else unreported) none,
     )
 client_runs (Reports sensor occupied) observed old new time none h = cc
 client_runs (Elapses micros missed) observed old new time none h = cc
 client_runs (Turn missed) observed old new time none h = cc
 
 -- time asks no sensor
-time_due : (ends : Bool) (packet : Option (List ℕ)) (all due : List SensorReport)
-    → (if asks_sensors (if ends then TurnBegan packet else Nothing) then all else due) ≡ due
-time_due true packet all due = refl
-time_due false packet all due = refl
+time_due : (ends : Bool) (packet : Option (List ℕ)) (all unreported : List SensorReport)
+    → (if asks_sensors (if ends then TurnBegan packet else Nothing) then all else unreported) ≡ unreported
+time_due true packet all unreported = refl
+time_due false packet all unreported = refl
 
 pub elapse_runs : (micros missed : ℕ) (observed : Observation) (losses : Losses) (old drawn ready new : ServerState)
-    → micros ≤ old.bus.remaining → old.due ≡ [] → IsDrawn (Elapses micros missed) old.bus (length old.nodes) old.losses losses
+    → micros ≤ old.bus.remaining → old.unreported ≡ [] → IsDrawn (Elapses micros missed) old.bus (length old.nodes) old.losses losses
     → drawn ≡ record old { losses = losses } → ready ≡ with_trains_run micros drawn
     → RunsOnBus (Elapses micros missed) observed ready new → RunsEvent (Elapses micros missed) observed old new
-elapse_runs micros missed observed losses old drawn ready new piece none draws is_drawn is_ready h =
+elapse_runs micros missed observed losses old drawn ready new piece none draws is_drawn is_run h =
     let trains : Option RailwayState = railway_elapsed old.railway micros old.nodes in
     let reports : List SensorReport = reports_elapsed old.railway micros old.nodes in
-    let on_bus : RunsOnBus (Elapses micros missed) observed (record old { losses = losses; railway = trains; due = reports }) new =
-    subst (λ (s : ServerState). RunsOnBus (Elapses micros missed) observed s new) (is_ready ∙ ap (with_trains_run micros) is_drawn) h in
+    let on_bus : RunsOnBus (Elapses micros missed) observed (record old { losses = losses; railway = trains; unreported = reports }) new =
+    subst (λ (s : ServerState). RunsOnBus (Elapses micros missed) observed s new) (is_run ∙ ap (with_trains_run micros) is_drawn) h in
     runs (Elapses micros missed) observed losses trains reports old new on_bus piece draws refl
-    (none, on_bus.due ∙ time_due (nat_le old.bus.remaining micros) (packet_of_turn old.bus.station) (full_report trains) reports)
+    (none, on_bus.unreported ∙ time_due (nat_le old.bus.remaining micros) (packet_of_turn old.bus.station) (full_report trains) reports)
 
 pub turn_runs : (micros missed : ℕ) (observed : Observation) (losses : Losses) (old drawn ready new : ServerState)
-    → micros ≡ old.bus.remaining → old.due ≡ [] → IsDrawn (Turn missed) old.bus (length old.nodes) old.losses losses
+    → micros ≡ old.bus.remaining → old.unreported ≡ [] → IsDrawn (Turn missed) old.bus (length old.nodes) old.losses losses
     → drawn ≡ record old { losses = losses } → ready ≡ with_trains_run micros drawn
     → RunsOnBus (Turn missed) observed ready new → RunsEvent (Turn missed) observed old new
-turn_runs micros missed observed losses old drawn ready new lasts none draws is_drawn is_ready h =
+turn_runs micros missed observed losses old drawn ready new lasts none draws is_drawn is_run h =
     let trains : Option RailwayState = railway_elapsed old.railway old.bus.remaining old.nodes in
     let reports : List SensorReport = reports_elapsed old.railway old.bus.remaining old.nodes in
-    let on_bus : RunsOnBus (Turn missed) observed (record old { losses = losses; railway = trains; due = reports }) new =
+    let on_bus : RunsOnBus (Turn missed) observed (record old { losses = losses; railway = trains; unreported = reports }) new =
     subst (λ (s : ServerState). RunsOnBus (Turn missed) observed s new)
-    (is_ready ∙ ap (with_trains_run micros) is_drawn ∙ ap (λ (n : ℕ). with_trains_run n (record old { losses = losses })) lasts) h in
-    runs (Turn missed) observed losses trains reports old new on_bus tt draws refl (none, on_bus.due)
+    (is_run ∙ ap (with_trains_run micros) is_drawn ∙ ap (λ (n : ℕ). with_trains_run n (record old { losses = losses })) lasts) h in
+    runs (Turn missed) observed losses trains reports old new on_bus tt draws refl (none, on_bus.unreported)
 
 pub report_runs : (report : SensorReport) (rest : List SensorReport) (observed : Observation) (old ready new : ServerState)
-    → old.due ≡ report ∷ rest → ready ≡ record old { due = rest }
+    → old.unreported ≡ report ∷ rest → ready ≡ record old { unreported = rest }
     → RunsOnBus (Reports report.sensor report.occupied) observed ready new → RunsEvent (Reports report.sensor report.occupied) observed old new
-report_runs report rest observed old ready new is is_ready h =
+report_runs report rest observed old ready new is is_run h =
     let event : Event = Reports report.sensor report.occupied in
-    let on_bus : RunsOnBus event observed (record old { due = rest }) new = subst (λ (s : ServerState). RunsOnBus event observed s new) is_ready h in
-    runs event observed old.losses old.railway rest old new on_bus tt refl refl (is ∙ ap (λ (due : List SensorReport). report ∷ due) (sym on_bus.due))
+    let on_bus : RunsOnBus event observed (record old { unreported = rest }) new = subst (λ (s : ServerState). RunsOnBus event observed s new) is_run h in
+    runs event observed old.losses old.railway rest old new on_bus tt refl refl (is ∙ ap (λ (unreported : List SensorReport). report ∷ unreported) (sym on_bus.unreported))
 
 -- the report that is due next
 
 same_some : (a b : SensorReport) → Some a ≡ Some b → a ≡ b
 same_some a b h = ap (λ (o : Option SensorReport). unwrap_or o a) h
 
-pub first_due : (due : List SensorReport) (report : SensorReport) → Some report ≡ slice_get due 0 → due ≡ report ∷ drop 1 due
+pub first_due : (unreported : List SensorReport) (report : SensorReport) → Some report ≡ slice_get unreported 0 → unreported ≡ report ∷ drop 1 unreported
 first_due [] report h = cc
 first_due (first ∷ rest) report h = ap (λ (r : SensorReport). r ∷ rest) (sym (same_some report first h))
 
-pub none_due : (due : List SensorReport) → None ≡ slice_get due 0 → due ≡ []
+pub none_due : (unreported : List SensorReport) → None ≡ slice_get unreported 0 → unreported ≡ []
 none_due [] h = refl
 none_due (first ∷ rest) h = cc

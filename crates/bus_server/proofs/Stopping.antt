@@ -10,7 +10,7 @@ use Rattle.bus.specs.Log.{Extends}
 use Rattle.bus_server.specs.Observations.{Observation}
 use Rattle.bus_server.specs.declared.running.Stop.{Stop}
 use Rattle.bus_server.specs.declared.running.Stop.TheVariants.{Transport, Clock, Observer, AfterRound}
-use Rattle.bus_server.specs.Applied.{AppliesAll, Handled, LoggedEvent, ServerState, events_of, longest_wait, observations_in, observations_of, overflow_notice, transport_events, with_backlog, round_start}
+use Rattle.bus_server.specs.Applied.{AppliesAll, Handled, LoggedEvent, ServerState, events_of, observations_in, observations_of, overflow_notice, transport_events, with_backlog, round_start}
 use Rattle.bus_server.specs.Progress.{Snapshot}
 use Rattle.bus_server.specs.Rounds.{IsRound}
 use Rattle.bus_server.specs.declared.pace.Pace.{Pace}

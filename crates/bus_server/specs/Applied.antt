@@ -35,7 +35,7 @@ pub record ServerState : Type 0 where
   pub nodes : List Node
   pub names : List (List ℕ)
   pub railway : Option RailwayState
-  pub due : List SensorReport
+  pub unreported : List SensorReport
   pub queues : SendQueues
   pub answers : Answers
   pub losses : Losses
@@ -50,7 +50,7 @@ initial_state nodes names railway pace losses = record {
   nodes = map node_of nodes;
   names = names;
   railway = railway;
-  due = [];
+  unreported = [];
   queues = replicate 8 None;
   answers = replicate 8 None;
   losses = losses;
@@ -73,7 +73,7 @@ pub record RunsEvent (event : Event) (observed : Observation) (old new : ServerS
   pub nodes : HaveHeard old.bus.station (layout_event old.bus event) old.nodes new.nodes
   pub piece : IsWithinTurn event old.bus
   pub railway : new.railway ≡ railway_after old.bus old.nodes event old.railway
-  pub due : IsDue event (reports_after old.bus old.nodes event old.railway) old.due new.due
+  pub unreported : IsDue event (reports_after old.bus old.nodes event old.railway) old.unreported new.unreported
   pub queues : new.queues ≡ queues_after (outcome_of old.bus event) old.queues
   pub names : new.names ≡ old.names
   pub answers : new.answers ≡ answers_after (outcome_of old.bus event) old.answers

@@ -26,7 +26,7 @@ IsUpToDate client state = HasEmptyQueue client state × (has_overflowed state cl
 
 -- no railway is beside the bus, so that no sensor reports
 abbrev pub IsWithoutRailway : ServerState → Type 0
-IsWithoutRailway state = (state.railway ≡ None) × (state.due ≡ [])
+IsWithoutRailway state = (state.railway ≡ None) × (state.unreported ≡ [])
 
 -- In a run of a server without a railway that begins when nothing is queued for a client, the
 -- server does not close its connection if it keeps up, whatever the other clients do. (With a

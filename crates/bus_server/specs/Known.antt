@@ -31,7 +31,7 @@ abbrev pub IsKnown : (block sensor : ℕ) → (level : Bool) → ServerState →
 IsKnown block sensor level state =
     (railway : RailwayState) × (state.railway ≡ Some railway) × IsTrue (is_railway railway)
     × IsSensorOf block sensor railway
-    × (level_after state.due sensor level ≡ is_occupied railway.trains block)
+    × (level_after state.unreported sensor level ≡ is_occupied railway.trains block)
 
 -- It stays so in every run, by the reports in it.
 abbrev pub StaysKnown : Type 0

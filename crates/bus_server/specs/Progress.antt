@@ -19,7 +19,7 @@ state_of hub = record {
   nodes = hub.bus.world.nodes;
   names = names_of hub.answers.nodes.items;
   railway = hub.sensors.railway;
-  due = hub.sensors.due.items;
+  unreported = hub.sensors.unreported.items;
   queues = hub.queues;
   answers = hub.answers.under_way;
   losses = hub.losses;
@@ -34,7 +34,7 @@ ObservesLayout decoder_specs hub = map spec_of hub.bus.world.nodes ≡ decoder_s
 
 -- all that sensors were to report has been reported
 abbrev pub HasReported : Hub → Type 0
-HasReported hub = hub.sensors.due.items ≡ []
+HasReported hub = hub.sensors.unreported.items ≡ []
 
 -- one moment: the transport's log, the observer's, and the server
 pub record Snapshot : Type 0 where

@@ -18,7 +18,7 @@ use Rattle.bus_server.specs.Sensors.{asks_sensors, full_report, is_report, railw
 abbrev pub with_trains_run : (micros : ℕ) → ServerState → ServerState
 with_trains_run micros state = record state {
   railway = railway_elapsed state.railway micros state.nodes;
-  due = reports_elapsed state.railway micros state.nodes;
+  unreported = reports_elapsed state.railway micros state.nodes;
 }
 
 -- The bus runs an event, once trains have run in its time: nothing of the railway changes, but a
@@ -28,8 +28,8 @@ pub record RunsOnBus (event : Event) (observed : Observation) (old new : ServerS
   pub bus : new.bus ≡ after_event old.bus event
   pub nodes : HaveHeard old.bus.station (layout_event old.bus event) old.nodes new.nodes
   pub railway : new.railway ≡ old.railway
-  pub due : new.due
-      ≡ (if asks_sensors (outcome_of old.bus event) then full_report old.railway else old.due)
+  pub unreported : new.unreported
+      ≡ (if asks_sensors (outcome_of old.bus event) then full_report old.railway else old.unreported)
   pub queues : new.queues ≡ queues_after (outcome_of old.bus event) old.queues
   pub names : new.names ≡ old.names
   pub answers : new.answers ≡ answers_after (outcome_of old.bus event) old.answers

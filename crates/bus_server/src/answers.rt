@@ -1,5 +1,5 @@
 //! The answers to clients that ask how the decoders stand.
-ghost use Rattle.std.specs.Prelude.{◌≡◌, ◌<◌, ◌≤◌, ℕ, List, IsTrue, None, [], is_some, length, map, replicate, slice_set};
+ghost use Rattle.std.specs.Prelude.{◌≡◌, ◌<◌, ◌≤◌, ℕ, List, IsTrue, None, is_some, length, map, replicate, slice_set};
 ghost use Rattle.std.specs.List.{list_any, slice_index_or};
 ghost use Rattle.decoder_node.specs.declared.node.NodeSpec.{NodeSpec as NodeSpecValue};
 ghost use Rattle.layout_core.specs.declared.node.Node.{Node};

@@ -153,7 +153,7 @@ impl Hub {
         ensures none { IfNone result
             (HasReported self.new × (state_of self.new ≡ state_of self.old)) }
         ensures fewer { OnSome result
-            (length self.new.sensors.due.items < length self.old.sensors.due.items) }
+            (length self.new.sensors.unreported.items < length self.old.sensors.unreported.items) }
         ensures happens { IfSome result (λ outcome. (sensor : ℕ) × (occupied : Bool)
             × RunsEvent (Reports sensor occupied)
             (Observed outcome self.new.bus.world.nodes self.new.sensors.railway)
@@ -209,7 +209,7 @@ impl Hub {
     pub(crate) fn start_round(&mut self)
         ensures state { state_of self.new ≡ round_start (state_of self.old) }
         ensures bus { self.new.bus ≡ self.old.bus }
-        ensures due { self.new.sensors.due.items ≡ self.old.sensors.due.items }
+        ensures unreported { self.new.sensors.unreported.items ≡ self.old.sensors.unreported.items }
     {
         self.has_backlog = false;
         enqueue_lines(&mut self.queues, &self.answers, self.bus.world());
@@ -221,7 +221,7 @@ impl Hub {
         ensures state { state_of self.new ≡ backlog_after refused (state_of self.old) }
         ensures specs { map spec_of self.new.bus.world.nodes
             ≡ map spec_of self.old.bus.world.nodes }
-        ensures due { self.new.sensors.due.items ≡ self.old.sensors.due.items }
+        ensures unreported { self.new.sensors.unreported.items ≡ self.old.sensors.unreported.items }
     {
         if refused > 0 {
             self.has_backlog = true;
@@ -234,7 +234,7 @@ impl Hub {
         ensures wrote { WritesFront client result (W.log transport.old) (W.log transport.new)
             (state_of self.old) (state_of self.new) }
         ensures bus { self.new.bus ≡ self.old.bus }
-        ensures due { self.new.sensors.due.items ≡ self.old.sensors.due.items }
+        ensures unreported { self.new.sensors.unreported.items ≡ self.old.sensors.unreported.items }
     {
         let piece = front(&self.queues, client);
         if piece.is_empty() {

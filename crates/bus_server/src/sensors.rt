@@ -14,56 +14,56 @@ use railway::{Railway, Reports};
 pub(crate) struct Sensors {
     pub(crate) railway: Option<Railway>,
     /// In the order in which they are reported.
-    pub(crate) due: Reports,
-    ghost valid: { list_all is_report due.items ≡ true },
+    pub(crate) unreported: Reports,
+    ghost valid: { list_all is_report unreported.items ≡ true },
 }
 
 impl Sensors {
     /// The sensors of a railway, or none. Nothing is due.
     pub(crate) fn new(railway: Option<Railway>) -> Sensors
         ensures railway { result.railway ≡ railway }
-        ensures due { result.due.items ≡ [] }
+        ensures unreported { result.unreported.items ≡ [] }
     {
         Sensors {
             railway,
-            due: Reports::new(),
+            unreported: Reports::new(),
         }
     }
 
     /// Lets the trains run for `micros` microseconds, as the decoders do now. What the sensors
     /// report of it is due.
     pub(crate) fn elapse(&mut self, micros: u32, world: &World)
-        requires reported { self.old.due.items ≡ [] }
+        requires reported { self.old.unreported.items ≡ [] }
         ensures railway { self.new.railway
             ≡ railway_elapsed self.old.railway micros world.now.nodes }
-        ensures due { self.new.due.items
+        ensures unreported { self.new.unreported.items
             ≡ reports_elapsed self.old.railway micros world.now.nodes }
     {
         if let Some(railway) = &mut self.railway {
-            self.due = railway.elapse(micros, world);
+            self.unreported = railway.elapse(micros, world);
         }
     }
 
     /// Makes a report of each sensor due, if an outcome is that of a message that asks for it.
     pub(crate) fn answer(&mut self, outcome: &Outcome)
         ensures railway { self.new.railway ≡ self.old.railway }
-        ensures due { self.new.due.items
+        ensures unreported { self.new.unreported.items
             ≡ (if asks_sensors outcome.now then full_report self.old.railway
-            else self.old.due.items) }
+            else self.old.unreported.items) }
     {
         if asks_sensors(outcome) {
-            self.due = full_report(&self.railway);
+            self.unreported = full_report(&self.railway);
         }
     }
 
     /// Takes the report that is due next.
     pub(crate) fn next(&mut self) -> Option<SensorReport>
         ensures railway { self.new.railway ≡ self.old.railway }
-        ensures first { result ≡ slice_get self.old.due.items 0 }
-        ensures rest { self.new.due.items ≡ drop 1 self.old.due.items }
+        ensures first { result ≡ slice_get self.old.unreported.items 0 }
+        ensures rest { self.new.unreported.items ≡ drop 1 self.old.unreported.items }
         ensures sensor { IfSome result (λ report. IsTrue (is_report report)) }
     {
-        self.due.pop_at(0)
+        self.unreported.pop_at(0)
     }
 }
 

@@ -1,4 +1,4 @@
-use Rattle.std.proofs.Common.{ℕ, List, [], ◌++◌, length, ap, ap₂, sym, ◌∙◌, arith}
+use Rattle.std.proofs.Common.{ℕ, List, ◌++◌, length, ap, ap₂, sym, ◌∙◌, arith}
 use Rattle.std.proofs.lemmas.List.{length-map}
 use Rattle.loconet_tcp.specs.ClientLines.{node_text, nodes_ok_text}
 use Rattle.bus_server.specs.declared.named_node.NamedNode.{NamedNode}

@@ -9,6 +9,6 @@ use Rattle.bus_server.proofs.hub.Hub.run_trains.Goals as goal
 pub returns : goal.returns
 returns c =
     let old = c.args.self.now in
-    ap₂ (λ (railway : Option RailwayState) (due : List SensorReport). record (state_of old) { railway = railway; due = due })
+    ap₂ (λ (railway : Option RailwayState) (unreported : List SensorReport). record (state_of old) { railway = railway; unreported = unreported })
     (c.elapse.ensures.railway ∙ ap (λ (world : World). railway_elapsed old.sensors.railway c.args.micros world.nodes) c.world.ensures)
-    (c.elapse.ensures.due ∙ ap (λ (world : World). reports_elapsed old.sensors.railway c.args.micros world.nodes) c.world.ensures)
+    (c.elapse.ensures.unreported ∙ ap (λ (world : World). reports_elapsed old.sensors.railway c.args.micros world.nodes) c.world.ensures)

@@ -10,4 +10,4 @@ invariant-loop-report g l = record {
 }
 
 abbrev pub decreases-loop-report : goal.decreases-loop-report
-decreases-loop-report g l = length l.self.hub.sensors.due.items
+decreases-loop-report g l = length l.self.hub.sensors.unreported.items

@@ -25,7 +25,7 @@ loop-piece-preserved g c =
     let wrote = c.in-Bytes.ensures.wrote in
     record {
       observes = ap (λ (bus : Bus). map spec_of bus.world.nodes) c.in-Bytes.ensures.bus ∙ first.invariant.observes;
-      reported = c.in-Bytes.ensures.due ∙ first.invariant.reported;
+      reported = c.in-Bytes.ensures.unreported ∙ first.invariant.reported;
       served =
           calm_then (HasPut client first._piece) (IsPiece client) (HasPut client (first._piece + 1)) (snapshot (g.W.Transport.log c.args.transport.now) (g.P.Observer.observed c.args.observer.now) c.args.self.now.hub) before after
           (λ these those kept put one. more_pieces client first._piece these those before.state after.state put one)
