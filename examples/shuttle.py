@@ -61,7 +61,8 @@ class Trains:
     def run(self, thrown, forward, passes):
         """Lays the turnouts, and lets each train run until it has left its line. A train without one stands."""
         for number, is_thrown in enumerate(thrown):
-            self.send(0xB0, number, 0x10 if is_thrown else 0x30)  # OPC_SW_REQ
+            for output in (0x10, 0x00):  # its output on, and off again
+                self.send(0xB0, number, output | (0x00 if is_thrown else 0x20))  # OPC_SW_REQ
         under_way = {line: slot for line, slot in zip(passes, self.slots) if line}
         for slot in under_way.values():
             self.send(0xA1, slot, 0x00 if forward else 0x20)  # OPC_LOCO_DIRF
