@@ -10,6 +10,7 @@ pub mod Runs
 pub mod Occupying
 pub mod Changing
 pub mod Meeting
+pub mod Staying
 pub mod Times
 pub mod Sensors
 pub mod Observing

@@ -9,5 +9,6 @@ pub mod Places
 pub mod Railway
 pub mod Reports
 pub mod Running
+pub mod Staying
 pub mod Trains
 pub mod Turnouts

@@ -1,7 +1,8 @@
 //! What the sensors report.
-ghost use Rattle.std.specs.Prelude.{◌≡◌, ◌≤◌, ◌<◌, ◌+◌, ◌++◌, length};
+ghost use Rattle.std.specs.Prelude.{◌≡◌, ◌≤◌, ◌<◌, ◌+◌, ◌++◌, length, slice_get, true};
 ghost use Rattle.arrayvec.specs.ArrayVec.{array_vec_len};
 ghost use Rattle.railway.specs.Reports.{change_of, changes, changes_from, full, is_occupied, occupies};
+ghost use Rattle.railway.specs.Staying.{AllStay, stays};
 
 use crate::block::Block;
 use crate::plan::MAX_BLOCKS;
@@ -32,15 +33,46 @@ pub(crate) fn is_occupied(trains: &[TrainState], block: usize) -> bool
 }
 
 /// Returns what the sensors report as trains move: first those whose block becomes occupied, then
-/// those whose block becomes free.
+/// those whose block becomes free. No block is looked at while each train stays where it is.
+#[tactic(auto, using(crate::proofs::Staying::no_changes))]
 pub(crate) fn changes(blocks: &[Block], was: &[TrainState], is: &[TrainState]) -> Reports
     requires { length blocks.now ≤ 64 }
     ensures { result.items ≡ changes blocks.now was.now is.now }
 {
     let mut reports = ArrayVec::new();
+    if all_stay(was, is) {
+        return reports;
+    }
     add_changes(&mut reports, true, blocks, was, is);
     add_changes(&mut reports, false, blocks, was, is);
     reports
+}
+
+/// Returns whether both ends of each train are in the blocks in which they were.
+fn all_stay(was: &[TrainState], is: &[TrainState]) -> bool
+    ensures { result ≡ true → AllStay was.now is.now }
+{
+    if was.len() != is.len() {
+        return false;
+    }
+    for i in 0..is.len() {
+        if !stays(was, is, i) {
+            return false;
+        }
+    }
+    true
+}
+
+fn stays(was: &[TrainState], is: &[TrainState], i: usize) -> bool
+    ensures { result ≡ stays (slice_get was.now i) (slice_get is.now i) }
+{
+    match (was.get(i), is.get(i)) {
+        (None, None) => true,
+        (Some(was), Some(is)) => {
+            was.front.block == is.front.block && was.rear.block == is.rear.block
+        }
+        _ => false,
+    }
 }
 
 /// Adds the reports of those that change to one level.
