@@ -173,25 +173,28 @@ impl Railway {
         self.trains.as_slice()
     }
 
-    /// Returns the turnouts, as they lie.
+    /// Returns the turnouts, as they lie: at most 64.
     pub fn turnouts(&self) -> &[TurnoutState]
         ensures turnouts { result.now ≡ self.now.network.turnouts }
+        ensures few { length result.now ≤ 64 }
     {
         let track = &self.track;
         track.turnouts.as_slice()
     }
 
-    /// Returns the blocks of the plan.
+    /// Returns the blocks of the plan: at most 64.
     pub fn blocks(&self) -> &[Block]
         ensures blocks { result.now ≡ self.now.network.blocks }
+        ensures few { length result.now ≤ 64 }
     {
         let track = &self.track;
         track.blocks.as_slice()
     }
 
-    /// Returns the joints of the plan.
+    /// Returns the joints of the plan: at most 128.
     pub fn joints(&self) -> &[Joint]
         ensures joints { result.now ≡ self.now.network.joints }
+        ensures few { length result.now ≤ 128 }
     {
         let track = &self.track;
         track.joints.as_slice()
