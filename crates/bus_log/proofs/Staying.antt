@@ -1,15 +1,14 @@
 -- Nothing is printed of trains that stay where they are.
-use Rattle.std.proofs.Common.{◌≡◌, ◌<◌, ◌≤◌, ◌+◌, ◌-◌, ◌∙◌, ℕ, zero, suc, Bool, true, false, if◌then◌else◌, inl, inr, List, [], ◌∷◌, ◌++◌, length, Option, Some, None, refl, ap, ap₂, sym, subst, arith, eqb-true}
+use Rattle.std.proofs.Common.{◌≡◌, ◌<◌, ◌≤◌, ◌+◌, ◌-◌, ◌∙◌, ℕ, zero, suc, Bool, true, false, if◌then◌else◌, inl, inr, List, [], ◌∷◌, ◌++◌, length, Option, Some, None, refl, ap, ap₂, subst, arith, eqb-true}
 use Rattle.std.specs.Prelude.{◌==◌, ◌&&◌, ◌||◌, not, slice_get}
 use Rattle.std.proofs.lemmas.Bool.{and_parts, cases_lt}
 use Rattle.railway.specs.declared.block.Block.{Block}
 use Rattle.railway.specs.declared.conflict.Conflict.{Conflict}
 use Rattle.railway.specs.declared.train.TrainState.{TrainState}
 use Rattle.railway.specs.Conflicts.{first_in}
-use Rattle.railway.specs.Reports.{occupies}
 use Rattle.railway.specs.Turnouts.{same_bool}
 use Rattle.roster.specs.Entry.{Entry}
-use Rattle.bus_log.specs.RailwayLines.{AllStay, are_in, block_lines, block_name, change_lines, conflict_line, conflict_lines, derailed_line, derailed_lines, front_of, is_derailed, is_in, is_new, lines_of_each, meeting_lines, moved_lines, pair_lines, stays, train_lines, train_name}
+use Rattle.bus_log.specs.RailwayLines.{AllStay, are_in, block_lines, block_name, change_lines, conflict_line, conflict_lines, derailed_line, derailed_lines, front_of, is_derailed, is_in, meeting_lines, moved_lines, pair_lines, stays, train_name}
 use Rattle.bus_log.proofs.EachLine.{each_empty}
 
 same : (a b : Bool) → same_bool a b ≡ true → a ≡ b

@@ -1,4 +1,4 @@
-use Rattle.std.proofs.Common.{◌≡◌, ◌+◌, ◌-◌, length}
+use Rattle.std.proofs.Common.{◌≡◌, ◌-◌, length}
 use Rattle.bus_log.specs.Decoders.{entries_of}
 use Rattle.bus_log.specs.LogQueues.{after_lines}
 use Rattle.bus_log.specs.RailwayLines.{block_lines, lines_of_each}
