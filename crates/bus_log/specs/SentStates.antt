@@ -1,42 +1,23 @@
--- The decoder states that a page has received.
-use Rattle.std.specs.Prelude.{ℕ, zero, suc, ◌<◌, ◌≡◌, Bool, true, false, if◌then◌else◌, List, [], ◌∷◌, ◌++◌, length, replicate, Option, Some, None}
-use Rattle.layout_core.specs.declared.decoder_state.DecoderState.{DecoderState}
-use Rattle.layout_core.specs.DecoderStates.{same_decoder_state}
-use Rattle.roster.specs.Entry.{Entry}
+-- What a page has received: the last state of each item, that is each decoder and each part and
+-- train of a plan, whose present states and messages are two lists in one order.
+use Rattle.std.specs.Prelude.{ℕ, zero, suc, ◌≡◌, Bool, true, false, if◌then◌else◌, List, [], ◌∷◌, ◌++◌, replicate, Option, Some, None}
 use Rattle.bus.specs.Log.{Extends}
 use Rattle.bus_server.specs.PageEvents.{PageEvent, Opening, Offer, Sending}
-use Rattle.bus_log.specs.Lines.{node_message}
-
--- whether the present state of a decoder, by its index in the roster, is the last one sent
-abbrev pub is_sent : (sent : List (Option DecoderState)) → (decoder_states : List DecoderState) → (decoder : ℕ) → Bool
-is_sent [] decoder_states decoder = false
-is_sent (last ∷ sent) [] decoder = false
-is_sent (None ∷ sent) (now ∷ decoder_states) zero = false
-is_sent (Some last ∷ sent) (now ∷ decoder_states) zero = same_decoder_state last now
-is_sent (last ∷ sent) (now ∷ decoder_states) (suc decoder) = is_sent sent decoder_states decoder
-
--- whether the present states of all decoders before this one were sent
-abbrev pub AreSent : (sent : List (Option DecoderState)) → (decoder_states : List DecoderState) → (before : ℕ) → Type 0
-AreSent sent decoder_states before = (decoder : ℕ) → decoder < before → is_sent sent decoder_states decoder ≡ true
-
--- the first decoder whose present state was not sent
-pub record IsUnsent (sent : List (Option DecoderState)) (decoder_states : List DecoderState) (decoder : ℕ) : Type 0 where
-  pub is_there : decoder < length decoder_states
-  pub is_first : AreSent sent decoder_states decoder
-  pub is_unsent : is_sent sent decoder_states decoder ≡ false
+use Rattle.bus_log.specs.declared.page_items.ItemState.{ItemState}
+use Rattle.bus_log.specs.PageItems.{same_item_state}
 
 -- whether the state last sent is this one
-abbrev pub is_last : Option DecoderState → DecoderState → Bool
+abbrev pub is_last : Option ItemState → ItemState → Bool
 is_last None now = false
-is_last (Some last) now = same_decoder_state last now
+is_last (Some last) now = same_item_state last now
 
--- the messages of all decoders whose present state was not sent, in the roster's order
-abbrev pub unsent_messages : List Entry → (sent : List (Option DecoderState)) → (decoder_states : List DecoderState) → List (List ℕ)
-unsent_messages [] sent decoder_states = []
-unsent_messages (entry ∷ entries) [] decoder_states = []
-unsent_messages (entry ∷ entries) (last ∷ sent) [] = []
-unsent_messages (entry ∷ entries) (last ∷ sent) (now ∷ decoder_states) =
-    (if is_last last now then [] else node_message entry now ∷ []) ++ unsent_messages entries sent decoder_states
+-- the messages of all items whose present state was not sent, in order
+abbrev pub unsent_messages : (messages : List (List ℕ)) → (sent : List (Option ItemState)) → (states : List ItemState) → List (List ℕ)
+unsent_messages [] sent states = []
+unsent_messages (message ∷ messages) [] states = []
+unsent_messages (message ∷ messages) (last ∷ sent) [] = []
+unsent_messages (message ∷ messages) (last ∷ sent) (now ∷ states) =
+    (if is_last last now then [] else message ∷ []) ++ unsent_messages messages sent states
 
 -- each message is sent until one is not accepted: after the first `count`
 abbrev pub sendings : (client count : ℕ) → (messages : List (List ℕ)) → List PageEvent
@@ -45,38 +26,41 @@ sendings client zero (message ∷ messages) = Sending client message false ∷ [
 sendings client (suc count) (message ∷ messages) = Sending client message true ∷ sendings client count messages
 
 -- the states last sent, once the first `count` messages due were accepted
-abbrev pub sent_after : (count : ℕ) → (sent : List (Option DecoderState)) → (decoder_states : List DecoderState) → List (Option DecoderState)
-sent_after count [] decoder_states = []
+abbrev pub sent_after : (count : ℕ) → (sent : List (Option ItemState)) → (states : List ItemState) → List (Option ItemState)
+sent_after count [] states = []
 sent_after count (last ∷ sent) [] = last ∷ sent
-sent_after zero (last ∷ sent) (now ∷ decoder_states) = last ∷ sent
-sent_after (suc count) (last ∷ sent) (now ∷ decoder_states) =
-    if is_last last now then last ∷ sent_after (suc count) sent decoder_states else Some now ∷ sent_after count sent decoder_states
+sent_after zero (last ∷ sent) (now ∷ states) = last ∷ sent
+sent_after (suc count) (last ∷ sent) (now ∷ states) =
+    if is_last last now then last ∷ sent_after (suc count) sent states else Some now ∷ sent_after count sent states
 
--- A page is sent the messages due, in the roster's order, until it would block.
-abbrev pub SendsUnsent : (client : ℕ) → List Entry → (decoder_states : List DecoderState) → (sent sent_then : List (Option DecoderState)) → (log log_then : Option (List PageEvent)) → Type 0
-SendsUnsent client entries decoder_states sent sent_then log log_then =
-    (count : ℕ) × (sent_then ≡ sent_after count sent decoder_states)
-    × Extends log log_then (sendings client count (unsent_messages entries sent decoder_states))
+-- A page is sent the messages due, in order, until it would block.
+abbrev pub SendsUnsent : (client : ℕ) → (messages : List (List ℕ)) → (states : List ItemState) → (sent sent_then : List (Option ItemState)) → (log log_then : Option (List PageEvent)) → Type 0
+SendsUnsent client messages states sent sent_then log log_then =
+    (count : ℕ) × (sent_then ≡ sent_after count sent states)
+    × Extends log log_then (sendings client count (unsent_messages messages sent states))
 
--- a page that has just opened was sent nothing
-abbrev pub known_sent : (is_new : Bool) → List (Option DecoderState) → List (Option DecoderState)
-known_sent is_new sent = if is_new then replicate 64 None else sent
+-- what a page that has just opened was sent, of at most 384 items
+unfoldable pub nothing_sent : List (Option ItemState)
+nothing_sent = replicate 384 None
+
+abbrev pub known_sent : (is_new : Bool) → List (Option ItemState) → List (Option ItemState)
+known_sent is_new sent = if is_new then nothing_sent else sent
 
 -- A page that accepts messages is sent the messages due, and no other client is sent any.
-abbrev pub SendsIf : (is_writable : Bool) → (client : ℕ) → List Entry → (decoder_states : List DecoderState) → (sent sent_then : List (Option DecoderState)) → (log log_then : Option (List PageEvent)) → Type 0
-SendsIf true client entries decoder_states sent sent_then log log_then = SendsUnsent client entries decoder_states sent sent_then log log_then
-SendsIf false client entries decoder_states sent sent_then log log_then = (sent_then ≡ sent) × (log_then ≡ log)
+abbrev pub SendsIf : (is_writable : Bool) → (client : ℕ) → (messages : List (List ℕ)) → (states : List ItemState) → (sent sent_then : List (Option ItemState)) → (log log_then : Option (List PageEvent)) → Type 0
+SendsIf true client messages states sent sent_then log log_then = SendsUnsent client messages states sent sent_then log log_then
+SendsIf false client messages states sent sent_then log log_then = (sent_then ≡ sent) × (log_then ≡ log)
 
 -- one client: whether it is a page that has just opened, whether it accepts messages, and the
 -- messages that it is sent
-abbrev pub ServesPage : (client : ℕ) → List Entry → (decoder_states : List DecoderState) → (sent sent_then : List (Option DecoderState)) → (log log_then : Option (List PageEvent)) → Type 0
-ServesPage client entries decoder_states sent sent_then log log_then =
+abbrev pub ServesPage : (client : ℕ) → (messages : List (List ℕ)) → (states : List ItemState) → (sent sent_then : List (Option ItemState)) → (log log_then : Option (List PageEvent)) → Type 0
+ServesPage client messages states sent sent_then log log_then =
     (is_new : Bool) × (is_writable : Bool) × (asked : Option (List PageEvent)) × Extends log asked (Opening client is_new ∷ Offer client is_writable ∷ [])
-    × SendsIf is_writable client entries decoder_states (known_sent is_new sent) sent_then asked log_then
+    × SendsIf is_writable client messages states (known_sent is_new sent) sent_then asked log_then
 
 -- each client from this one on, in order
-abbrev pub ServesPages : (client : ℕ) → List Entry → (decoder_states : List DecoderState) → (sent sent_then : List (List (Option DecoderState))) → (log log_then : Option (List PageEvent)) → Type 0
-ServesPages client entries decoder_states [] sent_then log log_then = (sent_then ≡ []) × (log_then ≡ log)
-ServesPages client entries decoder_states (sent ∷ others) [] log log_then = ⊥
-ServesPages client entries decoder_states (sent ∷ others) (sent_then ∷ others_then) log log_then =
-    (mid : Option (List PageEvent)) × ServesPage client entries decoder_states sent sent_then log mid × ServesPages (suc client) entries decoder_states others others_then mid log_then
+abbrev pub ServesPages : (client : ℕ) → (messages : List (List ℕ)) → (states : List ItemState) → (sent sent_then : List (List (Option ItemState))) → (log log_then : Option (List PageEvent)) → Type 0
+ServesPages client messages states [] sent_then log log_then = (sent_then ≡ []) × (log_then ≡ log)
+ServesPages client messages states (sent ∷ others) [] log log_then = ⊥
+ServesPages client messages states (sent ∷ others) (sent_then ∷ others_then) log log_then =
+    (mid : Option (List PageEvent)) × ServesPage client messages states sent sent_then log mid × ServesPages (suc client) messages states others others_then mid log_then

@@ -15,9 +15,10 @@ ghost use Rattle.bus_log.specs.Lines.{changed_lines, client_line, is_slot_read, 
 
 use crate::log_queue::LogQueue;
 use crate::messages::print_message;
+use crate::plan_messages::PageMessage;
 use crate::railway_lines::{Trains, keep_trains, print_railway, trains_of};
 use crate::verbosity::Verbosity;
-use arrayvec::{ArrayString, ArrayVec};
+use arrayvec::ArrayVec;
 use bus::Outcome;
 use bus_server::{NamedNode, NamedNodes, Observer};
 use dcc_packet::{Packet, idle};
@@ -29,9 +30,6 @@ use railway::Railway;
 use roster::Roster;
 use show_text::{Line, track_line};
 use std::convert::Infallible;
-
-/// A message to a page about a decoder: at most five bytes longer than a line.
-pub type NodeMessage = ArrayString<645>;
 
 /// The states of the decoders, in the order of their roster.
 type DecoderStates = ArrayVec<DecoderState, MAX_NODES>;
@@ -123,14 +121,14 @@ impl<'a> Printer<'a> {
     }
 
     /// Returns the message to a page about a decoder: `NODE` and its line.
-    pub fn message(&self, decoder: usize, world: &World) -> NodeMessage
+    pub fn message(&self, decoder: usize, world: &World) -> PageMessage
         requires decoders { map spec_of world.now.nodes ≡ specs_of (entries_of self.now.roster) }
         requires decoder { decoder < length world.now.nodes }
         ensures { (entry : Entry) → (node : NodeValue) → result.bytes
             ≡ node_message (slice_index_or (entries_of self.now.roster) decoder entry)
             (decoder_state_of (slice_index_or world.now.nodes decoder node)) }
     {
-        let mut message = NodeMessage::new();
+        let mut message = PageMessage::new();
         message.push_str("NODE ");
         message.push_str(self.line(decoder, world).as_str());
         message

@@ -311,7 +311,7 @@ fn front_of<'a>(blocks: &'a [Block], trains: &[TrainState], i: usize) -> &'a str
 }
 
 /// Returns the name of a block.
-fn block_name<'a>(blocks: &'a [Block], i: usize) -> &'a str
+pub(crate) fn block_name<'a>(blocks: &'a [Block], i: usize) -> &'a str
     ensures name { result.now ≡ block_name (slice_get blocks.now i) }
     ensures most { length result.now ≤ 32 }
 {
@@ -334,7 +334,7 @@ fn train_name<'a>(roster: Option<&'a Roster>, trains: &[TrainState], i: usize) -
 }
 
 /// Returns the name of a decoder of a roster.
-fn decoder_name<'a>(roster: Option<&'a Roster>, i: usize) -> &'a str
+pub(crate) fn decoder_name<'a>(roster: Option<&'a Roster>, i: usize) -> &'a str
     ensures name { result.now ≡ decoder_name (slice_get (entries_of roster.entry) i) }
     ensures most { length result.now ≤ 16 }
 {

@@ -1,18 +1,17 @@
-//! The decoder states that pages have received.
-ghost use Rattle.std.specs.Prelude.{◌≡◌, ◌<◌, ◌==◌, ◌||◌, List, ℕ, IfSome, None, Some, false, length, map, replicate, slice_index_or, slice_set, true};
-ghost use Rattle.layout_core.specs.declared.decoder_state.DecoderState.{DecoderState as DecoderStateValue};
-ghost use Rattle.layout_core.specs.declared.node.Node.{Node as NodeValue};
-ghost use Rattle.layout_core.specs.DecoderStates.{decoder_state_of};
+//! What pages have received of the decoders, the plan and its trains.
+ghost use Rattle.std.specs.Prelude.{◌≡◌, ◌<◌, None, get_or, length, map, option_copied, replicate};
 ghost use Rattle.layout_core.specs.Nodes.{spec_of};
-ghost use Rattle.bus_log.specs.SentStates.{AreSent, IsUnsent, SendsUnsent, ServesPage, ServesPages, is_sent, known_sent};
 ghost use Rattle.bus_log.specs.Decoders.{entries_of, specs_of};
+ghost use Rattle.bus_log.specs.PageItems.{item_messages, item_states};
+ghost use Rattle.bus_log.specs.SentStates.{SendsUnsent, ServesPage, ServesPages, is_last, known_sent, nothing_sent};
 
+use crate::page_items::{ItemState, MAX_ITEMS, item_message, item_state, items};
 use crate::printer::Printer;
 use bus_server::{MAX_CLIENTS, PageClients};
-use decoder_node::MAX_NODES;
-use layout_core::{DecoderState, World};
+use layout_core::World;
+use railway::Railway;
 
-/// The decoder states that each client's page has received.
+/// What each client's page has received.
 #[derive(Clone, Copy)]
 pub struct PageStates {
     pub(crate) page_states: [SentStates; MAX_CLIENTS],
@@ -22,75 +21,81 @@ pub struct PageStates {
 impl PageStates {
     /// Creates the states of pages that have received nothing.
     pub fn new() -> PageStates
-        ensures { map (λ states. states.sent) result.page_states ≡ replicate 8 (replicate 64 None) }
+        ensures nothing { map (λ states. states.sent) result.page_states
+            ≡ replicate 8 nothing_sent }
     {
         PageStates {
             page_states: [SentStates::new(); MAX_CLIENTS],
         }
     }
 
-    /// Sends each page the decoder states that it has not received, in the roster's order, until it
-    /// would block.
+    /// Sends each page, until it would block, the messages of the decoders, in the roster's order,
+    /// and of the blocks, joints, turnouts and trains, in the plan's order, whose present states it
+    /// has not received.
     pub fn send_all<G: PageClients>(
         &mut self,
         page_clients: &mut G,
         printer: &Printer<'_>,
         world: &World,
+        railway: Option<&Railway>,
     )
         requires { map spec_of world.now.nodes ≡ specs_of (entries_of printer.now.roster) }
-        ensures { ServesPages 0 (entries_of printer.now.roster)
-            (map decoder_state_of world.now.nodes)
+        ensures pages { ServesPages 0
+            (item_messages (entries_of printer.now.roster) world.now.nodes
+            (option_copied railway.entry))
+            (item_states world.now.nodes (option_copied railway.entry))
             (map (λ states. states.sent) self.old.page_states)
             (map (λ states. states.sent) self.new.page_states)
             (G.page_log page_clients.old) (G.page_log page_clients.new) }
     {
         for client in 0..MAX_CLIENTS {
             let mut sent_states = self.page_states[client];
-            sent_states.serve(page_clients, client, printer, world);
+            sent_states.serve(page_clients, client, printer, world, railway);
             self.page_states[client] = sent_states;
         }
     }
 }
 
-/// The last state of each decoder that one page has received, in the order of the roster.
+/// The last state of each item that one page has received.
 #[derive(Clone, Copy)]
-pub struct SentStates {
-    pub(crate) sent: [Option<DecoderState>; MAX_NODES],
-    ghost places: { length sent ≡ 64 },
+pub(crate) struct SentStates {
+    pub(crate) sent: [Option<ItemState>; MAX_ITEMS],
+    ghost places: { length sent ≡ 384 },
 }
 
 impl SentStates {
     /// Creates the states of a page that has received nothing.
-    pub fn new() -> SentStates
-        ensures nothing { result.sent ≡ replicate 64 None }
-        ensures sent_before { (decoder_states : List DecoderStateValue) → (decoder : ℕ)
-            → is_sent result.sent decoder_states decoder ≡ false }
+    #[tactic(auto, unfolding(crate::specs::SentStates::nothing_sent))]
+    fn new() -> SentStates
+        ensures { result.sent ≡ nothing_sent }
     {
         SentStates {
-            sent: [None; MAX_NODES],
+            sent: [None; MAX_ITEMS],
         }
     }
 
-    /// Sends a client the decoder states that it has not received, if it is a page that accepts
-    /// messages.
+    /// Sends a client what it has not received, if it is a page that accepts messages.
     fn serve<G: PageClients>(
         &mut self,
         page_clients: &mut G,
         client: usize,
         printer: &Printer<'_>,
         world: &World,
+        railway: Option<&Railway>,
     )
         requires client { client < 8 }
         requires decoders { map spec_of world.now.nodes ≡ specs_of (entries_of printer.now.roster) }
-        ensures { ServesPage client (entries_of printer.now.roster)
-            (map decoder_state_of world.now.nodes)
+        ensures { ServesPage client
+            (item_messages (entries_of printer.now.roster) world.now.nodes
+            (option_copied railway.entry))
+            (item_states world.now.nodes (option_copied railway.entry))
             self.old.sent self.new.sent (G.page_log page_clients.old)
             (G.page_log page_clients.new) }
     {
         let is_new = page_clients.take_just_opened(client);
         self.reset_if(is_new);
         if page_clients.is_writable(client) {
-            self.send(page_clients, client, printer, world);
+            self.send(page_clients, client, printer, world, railway);
         }
     }
 
@@ -103,77 +108,48 @@ impl SentStates {
         }
     }
 
-    /// Sends a page the present state of each decoder that it has not received, in the roster's
-    /// order, until it would block.
+    /// Sends a page the message of each item whose present state it has not received, in order,
+    /// until it would block.
     fn send<G: PageClients>(
         &mut self,
         page_clients: &mut G,
         client: usize,
         printer: &Printer<'_>,
         world: &World,
+        railway: Option<&Railway>,
     )
         requires client { client < 8 }
         requires decoders { map spec_of world.now.nodes ≡ specs_of (entries_of printer.now.roster) }
-        ensures { SendsUnsent client (entries_of printer.now.roster)
-            (map decoder_state_of world.now.nodes)
+        ensures { SendsUnsent client
+            (item_messages (entries_of printer.now.roster) world.now.nodes
+            (option_copied railway.entry))
+            (item_states world.now.nodes (option_copied railway.entry))
             self.old.sent self.new.sent (G.page_log page_clients.old)
             (G.page_log page_clients.new) }
     {
-        for decoder in 0..world.nodes() {
-            if self.is_sent(decoder, world) {
+        for item in 0..items(world, railway) {
+            let Some(now) = item_state(world, railway, item) else {
+                return;
+            };
+            if self.is_sent(item, &now) {
                 continue;
             }
-            let message = printer.message(decoder, world);
+            let message = item_message(printer, world, railway, item);
             if !page_clients.send(client, message.as_str()) {
                 return;
             }
-            self.mark_sent(decoder, world);
+            self.sent[item] = Some(now);
         }
     }
 
-    /// Returns the index in the roster of the first decoder whose present state has not been sent,
-    /// or `None` if all were.
-    pub fn next_unsent(&self, world: &World) -> Option<usize>
-        ensures next_unsent { IfSome result
-            (λ decoder. IsUnsent self.now.sent (map decoder_state_of world.now.nodes) decoder) }
-        ensures most { IfSome result (λ decoder. decoder < 64) }
-        ensures none { result ≡ None
-            → AreSent self.now.sent (map decoder_state_of world.now.nodes)
-            (length world.now.nodes) }
+    /// Whether this state of an item was the last one sent.
+    fn is_sent(&self, item: usize, now: &ItemState) -> bool
+        requires { item < 384 }
+        ensures { result ≡ is_last (get_or self.now.sent item None) now.now }
     {
-        for decoder in 0..world.nodes() {
-            if !self.is_sent(decoder, world) {
-                return Some(decoder);
-            }
-        }
-        None
-    }
-
-    /// Whether the present state of a decoder has been sent.
-    fn is_sent(&self, decoder: usize, world: &World) -> bool
-        requires decoder { decoder < length world.now.nodes }
-        requires most { decoder < 64 }
-        ensures { result ≡ is_sent self.now.sent (map decoder_state_of world.now.nodes) decoder }
-    {
-        match &self.sent[decoder] {
-            Some(last) => last.is_same(&world.decoder_state(decoder)),
+        match &self.sent[item] {
+            Some(last) => last.is_same(now),
             None => false,
         }
-    }
-
-    /// Records the present state of a decoder as sent. The records of the others stay.
-    pub fn mark_sent(&mut self, decoder: usize, world: &World)
-        requires decoder { decoder < length world.now.nodes }
-        requires most { decoder < 64 }
-        // One entry is set, and no other changes.
-        ensures set { (none : NodeValue) → self.new.sent
-            ≡ slice_set self.old.sent decoder
-            (Some (decoder_state_of (slice_index_or world.now.nodes decoder none))) }
-        ensures sent_before { (other : ℕ) → other < length world.now.nodes
-            → is_sent self.new.sent (map decoder_state_of world.now.nodes) other
-            ≡ (other == decoder) || is_sent self.old.sent (map decoder_state_of world.now.nodes)
-            other }
-    {
-        self.sent[decoder] = Some(world.decoder_state(decoder));
     }
 }

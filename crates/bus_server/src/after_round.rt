@@ -1,4 +1,4 @@
-//! What a program does between two rounds, as sending decoder states to pages.
+//! What a program does between two rounds, as sending decoder states and trains to pages.
 ghost use Rattle.std.specs.Prelude.{◌≡◌, [], Bool, map};
 ghost use Rattle.input_text.specs.Write.{failed_after};
 ghost use Rattle.layout_core.specs.Nodes.{spec_of};
@@ -7,6 +7,7 @@ ghost use Rattle.bus.specs.Log.{Extends};
 use crate::observer::Observer;
 use crate::transport::Transport;
 use layout_core::World;
+use railway::Railway;
 
 /// What a program does between two rounds.
 pub trait AfterRound<W: Transport, P: Observer> {
@@ -16,12 +17,14 @@ pub trait AfterRound<W: Transport, P: Observer> {
     /// Whether it has failed.
     ghost failed: { Self → Bool };
 
-    /// Does it. Nothing is read or written for the bus, and nothing is observed.
+    /// Does it, for a layout and the railway beside it, if there is one. Nothing is read or written
+    /// for the bus, and nothing is observed.
     fn after_round(
         &mut self,
         transport: &mut W,
         observer: &mut P,
         world: &World,
+        railway: Option<&Railway>,
     ) -> Result<(), Self::Fault>
         requires observes { map spec_of world.now.nodes ≡ P.decoder_specs observer.old }
         ensures decoder_specs { P.decoder_specs observer.new ≡ P.decoder_specs observer.old }

@@ -117,7 +117,7 @@ impl Server {
             return Err(Stop::Observer(fault));
         }
         self.elapse::<W, C, P, A>(clock, observer)?;
-        match after_round.after_round(transport, observer, self.world()) {
+        match after_round.after_round(transport, observer, self.world(), self.railway()) {
             Ok(()) => Ok(()),
             Err(fault) => Err(Stop::AfterRound(fault)),
         }

@@ -1,4 +1,4 @@
-//! The clients of the bus on their sockets, and the decoder states that their pages have received.
+//! The clients of the bus on their sockets, and what their pages have received.
 ghost use Rattle.std.specs.Prelude.{None};
 
 use crate::standard_output::{STANDARD_OUTPUT, StandardOutput};
@@ -8,6 +8,7 @@ use console::WriteError;
 use layout_core::World;
 use mio::Poll;
 use mio::net::TcpListener;
+use railway::Railway;
 use sockets::{Sockets, Stopwatch};
 use std::alloc::AllocGlobal;
 use std::io;
@@ -15,8 +16,7 @@ use std::io::Write;
 use std::net::{Net, SocketAddr};
 use std::time::{Clock, Duration};
 
-/// The sockets, the decoder states that the page at each client index has received, and the clock
-/// that measures the deadlines of HTTP connections.
+/// The sockets, what the page at each client index has received, and the clock that measures the deadlines of HTTP connections.
 #[derive(Drop)]
 pub(crate) struct Clients<'a, R> {
     pub(crate) sockets: Sockets,
@@ -90,8 +90,8 @@ impl<R: Clock> Transport for Clients<'_, R> {
     }
 }
 
-/// Between two rounds pages receive the decoder states, and the queued lines of the log are
-/// written.
+/// Between two rounds pages receive the states of decoders and trains, and the queued lines of the
+/// log are written.
 impl<'w, 'p, R: Clock, O: Write> AfterRound<Clients<'w, R>, Printer<'p>> for StandardOutput<O> {
     type Fault = WriteError;
 
@@ -102,10 +102,11 @@ impl<'w, 'p, R: Clock, O: Write> AfterRound<Clients<'w, R>, Printer<'p>> for Sta
         transport: &mut Clients<'w, R>,
         printer: &mut Printer<'p>,
         world: &World,
+        railway: Option<&Railway>,
     ) -> Result<(), WriteError> {
         transport
             .page_states
-            .send_all(&mut transport.sockets, printer, world);
+            .send_all(&mut transport.sockets, printer, world, railway);
         printer.write_queued(self, Duration::ZERO)
     }
 }

@@ -12,6 +12,7 @@ use bus_server::{AfterRound, IoOutcome, Observer, Railway, TimeSource, Transport
 use dcc_packet::Packet;
 use layout_core::World;
 use ln_frame::Msg;
+use railway::Railway;
 use std::convert::Infallible;
 use std::process::Abort;
 
@@ -276,6 +277,7 @@ impl<W: Transport, P: Observer> AfterRound<W, P> for NoPages {
         _transport: &mut W,
         _observer: &mut P,
         _world: &World,
+        _railway: Option<&Railway>,
     ) -> Result<(), Infallible> {
         Ok(())
     }

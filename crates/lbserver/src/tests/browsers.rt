@@ -13,15 +13,15 @@ const PAGE_REPLY: &'static str =
     "HTTP/1.1 200 OK\r\nContent-Type: text/html; charset=utf-8\r\nContent-Length: 37\r\nConnection: close\r\nCache-Control: no-store\r\nX-Content-Type-Options: nosniff\r\nReferrer-Policy: no-referrer\r\nContent-Security-Policy: default-src 'none'; style-src 'unsafe-inline'; script-src 'unsafe-inline'; connect-src 'self'; img-src data:; base-uri 'none'; form-action 'none'; frame-ancestors 'none'\r\n\r\n<!DOCTYPE html><title>Station</title>";
 
 /// The handshake of RFC 6455, section 1.3, of a page of this server.
-const JOINS: &'static [u8] =
+pub(crate) const JOINS: &'static [u8] =
     b"GET /bus HTTP/1.1\r\nHost: 127.0.0.1:8080\r\nUpgrade: websocket\r\nConnection: Upgrade\r\nSec-WebSocket-Key: dGhlIHNhbXBsZSBub25jZQ==\r\nOrigin: http://127.0.0.1:8080\r\nSec-WebSocket-Version: 13\r\n\r\n";
 
 /// The response to that handshake.
-const JOINED: &'static str =
+pub(crate) const JOINED: &'static str =
     "HTTP/1.1 101 Switching Protocols\r\nconnection: Upgrade\r\nupgrade: websocket\r\nsec-websocket-accept: s3pPLMBiTxaQ9kYGzzhZRbK+xOo=\r\n\r\n";
 
 /// The version message that a page receives first.
-const GREETING: &'static str = "VERSION lbserver station";
+pub(crate) const GREETING: &'static str = "VERSION lbserver station";
 
 /// Requests, and the beginnings of their responses.
 const REPLIES: [(&'static [u8], &'static [&'static str]); 10] = [

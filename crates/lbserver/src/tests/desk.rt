@@ -159,8 +159,12 @@ impl<'a> Desk<'a> {
             if let Err(never) = self.server.round(&mut self.sockets, &mut self.printer) {
                 match never {}
             }
-            self.page_states
-                .send_all(&mut self.sockets, &self.printer, self.server.world());
+            self.page_states.send_all(
+                &mut self.sockets,
+                &self.printer,
+                self.server.world(),
+                self.server.railway(),
+            );
         }
         Ok(())
     }

@@ -1,6 +1,7 @@
-//! What the log says of blocks and trains.
+//! What the log and pages say of blocks and trains.
 
-use crate::tests::desk::Step::{Connects, PrintedLast, Writes};
+use crate::tests::browsers::{GREETING, JOINED, JOINS};
+use crate::tests::desk::Step::{Browses, Connects, PrintedLast, Reads, ReceivesMessages, Writes};
 use crate::tests::desk::{Desk, Step};
 use bus_log::Verbosity;
 use std::test::Fail;
@@ -27,8 +28,8 @@ block = [
     { name = \"near\", length = 1000 },
     { name = \"mid\", length = 1000 },
     { name = \"far\", length = 1000 },
-    { name = \"side\", length = 1000 },
-    { name = \"tail\", length = 1000 },
+    { name = \"side\", length = 1000, a = [-20, 5], b = [300, -10000] },
+    { name = \"tail\", length = 1000, b = [7, 0] },
 ]
 joint = [{ ends = [\"near.b\", \"mid.a\"] }, { ends = [\"mid.b\", \"far.a\"] }]
 turnout = [{ switch = 1, common = \"tail.a\", closed = \"side.b\", thrown = \"far.b\" }]
@@ -72,4 +73,67 @@ fn blocks_and_trains_are_printed(rt: HostRuntime) -> Result<(), Fail> {
     let railway = railway_plan::read_railway(rt.alloc(), PLAN, &roster).map_err(|_| "plan")?;
     let mut desk = Desk::with_railway(&rt, 0, Some(&roster), Some(railway), Verbosity::Normal)?;
     desk.play(&rt, RUNS)
+}
+
+/// A page receives the decoders, the plan and its trains when it connects. After [`RUNS`] the
+/// shunter is at the end of `far`, 10 tenths of it from end a.
+const PAGES: &'static [Step] = &[
+    Browses(1),
+    Writes(1, JOINS),
+    Reads(1, &[JOINED]),
+    ReceivesMessages(
+        1,
+        &[
+            GREETING,
+            "NODE node shunter short 3 stop forward F 0000000000000",
+            "NODE node express short 5 stop forward F 0000000000000",
+            "NODE node yard module 1 outputs 00000000",
+            "BLOCK near 1000",
+            "BLOCK mid 1000",
+            "BLOCK far 1000",
+            "BLOCK side 1000 a -20 5 b 300 -10000",
+            "BLOCK tail 1000 b 7 0",
+            "JOINT near.b mid.a",
+            "JOINT mid.b far.a",
+            "TURNOUT 1 tail.a side.b far.b",
+            "TRAIN shunter near 9 b near",
+            "TRAIN express far 5 b far",
+        ],
+    ),
+];
+
+/// The same for a page that connects after the run.
+const LATER_PAGES: &'static [Step] = &[
+    Browses(2),
+    Writes(2, JOINS),
+    Reads(2, &[JOINED]),
+    ReceivesMessages(
+        2,
+        &[
+            GREETING,
+            "NODE node shunter short 3 step 126 of 128 forward F 0000000000000",
+            "NODE node express short 5 stop forward F 0000000000000",
+            "NODE node yard module 1 outputs 00000000",
+            "BLOCK near 1000",
+            "BLOCK mid 1000",
+            "BLOCK far 1000",
+            "BLOCK side 1000 a -20 5 b 300 -10000",
+            "BLOCK tail 1000 b 7 0",
+            "JOINT near.b mid.a",
+            "JOINT mid.b far.a",
+            "TURNOUT 1 tail.a side.b far.b",
+            "TRAIN shunter far 10 b far derailed",
+            "TRAIN express far 5 b far",
+        ],
+    ),
+];
+
+#[test]
+fn a_page_is_told_the_plan(rt: HostRuntime) -> Result<(), Fail> {
+    let roster = roster::read(rt.alloc(), ROSTER)?;
+    let railway = railway_plan::read_railway(rt.alloc(), PLAN, &roster).map_err(|_| "plan")?;
+    let mut desk = Desk::with_railway(&rt, 0, Some(&roster), Some(railway), Verbosity::Normal)?;
+    desk.play(&rt, PAGES)?;
+    desk.play(&rt, RUNS)?;
+    desk.play(&rt, LATER_PAGES)
 }

@@ -1,36 +1,44 @@
-use Rattle.std.proofs.Common.{◌≡◌, ◌<◌, List, Option, arith, get_or, length, map, set, subst, sym}
+use Rattle.std.proofs.Common.{◌≡◌, ◌<◌, List, Option, arith, get_or, length, map, option_copied, set, subst, sym}
 use Rattle.std.proofs.lemmas.List.{get_or-map, length-map, map-set}
-use Rattle.layout_core.specs.declared.decoder_state.DecoderState.{DecoderState}
-use Rattle.layout_core.specs.DecoderStates.{decoder_state_of}
-use Rattle.bus_log.specs.Decoders.{entries_of}
+use Rattle.bus_log.specs.declared.page_items.ItemState.{ItemState}
 use Rattle.bus_log.specs.declared.sent_states.SentStates.{SentStates}
+use Rattle.bus_log.specs.Decoders.{entries_of}
+use Rattle.bus_log.specs.PageItems.{item_messages, item_states}
 use Rattle.bus_log.specs.SentStates.{ServesPage}
 use Rattle.bus_log.proofs.Sending.{pages-all, pages-more, pages-none}
 use Rattle.bus_log.proofs.sent_states.PageStates.send_all.Goals as goal
 
 pub loop-client-init : goal.loop-client-init
 loop-client-init g c =
-    pages-all (entries_of c.args.printer.now.roster) (map decoder_state_of c.args.world.now.nodes) (map (λ states. states.sent) c.args.self.now.page_states) (g.G.PageClients.page_log c.args.page_clients.now)
+    let messages = item_messages (entries_of c.args.printer.now.roster) c.args.world.now.nodes (option_copied c.args.railway) in
+    let items = item_states c.args.world.now.nodes (option_copied c.args.railway) in
+    pages-all messages items (map (λ states. states.sent) c.args.self.now.page_states) (g.G.PageClients.page_log c.args.page_clients.now)
 
 pub loop-client-preserved : goal.loop-client-preserved
 loop-client-preserved g c =
+    let messages = item_messages (entries_of c.args.printer.now.roster) c.args.world.now.nodes (option_copied c.args.railway) in
+    let items = item_states c.args.world.now.nodes (option_copied c.args.railway) in
     let i = c.loop-client.client in
     let states : List SentStates = c.loop-client.self.page_states in
-    let sent : List (Option DecoderState) = c.index-self-client.result.sent in
+    let sent : List (Option ItemState) = c.index-self-client.result.sent in
     let log = g.G.PageClients.page_log c.loop-client.page_clients in
     let mid = g.G.PageClients.page_log c.serve.new.page_clients in
     let below : i < length states = omega (arith, c.loop-client-test.true, c.loop-client.self.clients) in
     let at : get_or (map (λ (s : SentStates). s.sent) states) i sent ≡ (get_or states i c.index-self-client.result).sent =
     get_or-map (λ (s : SentStates). s.sent) states i c.index-self-client.result sent below in
-    let one : ServesPage i (entries_of c.args.printer.now.roster) (map decoder_state_of c.args.world.now.nodes) (get_or (map (λ (s : SentStates). s.sent) states) i sent) c.serve.new.self.sent log mid =
-    subst (λ (ls : List (Option DecoderState)). ServesPage i (entries_of c.args.printer.now.roster) (map decoder_state_of c.args.world.now.nodes) ls c.serve.new.self.sent log mid) (sym at) c.serve.ensures in
-    pages-more (entries_of c.args.printer.now.roster) (map decoder_state_of c.args.world.now.nodes) (map (λ states. states.sent) c.args.self.now.page_states) (g.G.PageClients.page_log c.args.page_clients.now)
+    let one : ServesPage i messages items (get_or (map (λ (s : SentStates). s.sent) states) i sent) c.serve.new.self.sent log mid =
+    subst (λ (ls : List (Option ItemState)). ServesPage i messages items ls c.serve.new.self.sent log mid) (sym at) c.serve.ensures in
+    pages-more messages items (map (λ states. states.sent) c.args.self.now.page_states) (g.G.PageClients.page_log c.args.page_clients.now)
     (map (λ (s : SentStates). s.sent) states) (map (λ (s : SentStates). s.sent) (set states i c.serve.new.self)) c.serve.new.self.sent log mid i sent
     (omega (arith, below, length-map states (λ (s : SentStates). s.sent)))
     (map-set (λ (s : SentStates). s.sent) states i c.serve.new.self) one c.loop-client.invariant
 
 pub returns : goal.returns
 returns g c =
-    pages-none (entries_of c.args.printer.now.roster) (map decoder_state_of c.args.world.now.nodes) (map (λ states. states.sent) c.args.self.now.page_states) (g.G.PageClients.page_log c.args.page_clients.now)
-    (map (λ states. states.sent) c.loop-client.self.page_states) (g.G.PageClients.page_log c.loop-client.page_clients) c.loop-client.client
-    (omega (arith, c.loop-client-test.false, c.loop-client.self.clients, length-map c.loop-client.self.page_states (λ states. states.sent))) c.loop-client.invariant
+    let messages = item_messages (entries_of c.args.printer.now.roster) c.args.world.now.nodes (option_copied c.args.railway) in
+    let items = item_states c.args.world.now.nodes (option_copied c.args.railway) in
+    record {
+      pages = pages-none messages items (map (λ states. states.sent) c.args.self.now.page_states) (g.G.PageClients.page_log c.args.page_clients.now)
+          (map (λ states. states.sent) c.loop-client.self.page_states) (g.G.PageClients.page_log c.loop-client.page_clients) c.loop-client.client
+          (omega (arith, c.loop-client-test.false, c.loop-client.self.clients, length-map c.loop-client.self.page_states (λ states. states.sent))) c.loop-client.invariant;
+    }
