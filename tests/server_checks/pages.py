@@ -29,6 +29,7 @@ from server_checks.common import (
     within,
 )
 from server_checks.losses import DECODERS
+from server_checks.railway import OVAL, drive
 from serving import TOP, Client, Page, client_frame, free_port, read_head, upgrade_request
 
 
@@ -280,3 +281,64 @@ def check_decoders(page, motion):
     lines = [page.line() for _ in range(DECODERS + 1)]
     wanted = [f"NODE node loco-{i} short 3 {motion} forward F 0000000000000" for i in range(DECODERS)]
     same("decoders", sorted(lines[1:]), sorted(wanted))
+
+
+# What a page receives of examples/oval.toml and its roster. The shunter's front is 1,000 mm of 1,500 from end a, the
+# express's 1,500 of 2,400: 6.7 and 6.25 tenths.
+OVAL_PLAN = [
+    "VERSION lbserver station",
+    "NODE node shunter short 3 stop forward F 0000000000000",
+    "NODE node express short 5 stop forward F 0000000000000",
+    "NODE node yard module 1 outputs 00000000",
+    "BLOCK main 1500 a 300 100 b 700 100",
+    "BLOCK siding 1500 a 300 200 b 700 200",
+    "BLOCK east 1200 a 800 100 b 800 400",
+    "BLOCK back 2400 a 700 450 b 300 450",
+    "BLOCK west 1200 a 200 400 b 200 100",
+    "JOINT east.b back.a",
+    "JOINT back.b west.a",
+    "TURNOUT 1 west.b main.a siding.a",
+    "TURNOUT 2 east.a main.b siding.b",
+    "TRAIN shunter main 6 b main",
+    "TRAIN express back 6 b back",
+]
+
+# The way of the shunter, 300 mm long: its rear is in east when its front is 300 mm, 2.5 tenths, behind end a.
+ON_MAIN = [f"TRAIN shunter main {tenths} b main" for tenths in (7, 8, 9, 10)]
+INTO_EAST = [f"TRAIN shunter east {tenths} b main" for tenths in (0, 1, 2)]
+ON_EAST = [f"TRAIN shunter east {tenths} b east" for tenths in (2, 3, 4, 5, 6, 7, 8, 9, 10)]
+DERAILED = "TRAIN shunter main 10 b main derailed"
+
+# Turnout 2 is thrown.
+THROW_2 = "B0 01 10 5E"
+
+
+def plans():
+    """--plan: a page receives the plan once, and each train again when it has moved or derailed; no other client does"""
+    # The front is 500 mm before the end of main. 1,200 turns last 6.9 s or more, and with those of messages at most
+    # 13.2 s: at 125 mm/s that is 860 to 1,650 mm.
+    check_moves([], ON_MAIN + INTO_EAST + ON_EAST, ON_EAST)
+    check_moves(send(POWER_ON, THROW_2), [*ON_MAIN, DERAILED], [DERAILED])
+    with serve(*OVAL[:2], "--turns", "1", page=True) as server, Page(server) as page:
+        page.write(send(POWER_ON))
+        wanted = [*OVAL_PLAN[:4], f"RECEIVE {POWER_ON}"]
+        same("without a plan", [page.line() for _ in wanted], wanted)
+
+
+def check_moves(first, way, ends):
+    """A page receives the trains of a drive: some of a way, in order and each once, and last one of its ends."""
+    with serve(*OVAL, "--turns", "20", page=True) as server, Page(server) as page, Client(server) as client:
+        same("the plan", [page.line() for _ in OVAL_PLAN], OVAL_PLAN)
+        client.write(first)
+        heard = drive(client, 1200)
+        client.write(send("81 7E"))
+        heard += client.lines_until("RECEIVE 81 7E")
+        told = [line for line in page.lines_until("RECEIVE 81 7E") if not line.startswith(("RECEIVE ", "NODE "))]
+        holds(f"its trains on their way: {told}", told == [line for line in way if line in told])
+        holds(f"the last: {told}", told[-1:] and told[-1] in ends)
+        words = {line.split(" ")[0] for line in heard}
+        same("another client", words - {"RECEIVE", "SENT", "TURNS"}, set())
+        with Page(server) as other:
+            wanted = [line for line in OVAL_PLAN if line.startswith(("BLOCK", "JOINT", "TURNOUT"))] + [told[-1], OVAL_PLAN[-1]]
+            seen = [other.line() for _ in OVAL_PLAN]
+            same("a page that opens later", seen[4:], wanted)
