@@ -12,7 +12,6 @@ use bus_server::{AfterRound, IoOutcome, Observer, Railway, TimeSource, Transport
 use dcc_packet::Packet;
 use layout_core::World;
 use ln_frame::Msg;
-use railway::Railway;
 use std::convert::Infallible;
 use std::process::Abort;
 
