@@ -313,7 +313,7 @@ DERAILED = "TRAIN shunter main 10 b main derailed"
 THROW_2 = "B0 01 10 5E"
 
 
-def plans():
+def plans_on_pages():
     """--plan: a page receives the plan once, and each train again when it has moved or derailed; no other client does"""
     # The front is 500 mm before the end of main. 1,200 turns last 6.9 s or more, and with those of messages at most
     # 13.2 s: at 125 mm/s that is 860 to 1,650 mm.
