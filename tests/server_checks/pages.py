@@ -315,8 +315,8 @@ THROW_2 = "B0 01 10 5E"
 
 def plans_on_pages():
     """--plan: a page receives the plan once, and each train again when it has moved or derailed; no other client does"""
-    # The front is 500 mm before the end of main. 1,200 turns last 6.9 s or more, and with those of messages at most
-    # 13.2 s: at 125 mm/s that is 860 to 1,650 mm.
+    # The front is 500 mm before the end of main. 1,150 turns last 6.6 s or more, and with those of messages at most
+    # 13.3 s: at 125 mm/s that is 830 to 1,660 mm.
     check_moves([], ON_MAIN + INTO_EAST + ON_EAST, ON_EAST)
     check_moves(send(POWER_ON, THROW_2), [*ON_MAIN, DERAILED], [DERAILED])
     with serve(*OVAL[:2], "--turns", "1", page=True) as server, Page(server) as page:
@@ -330,9 +330,11 @@ def check_moves(first, way, ends):
     with serve(*OVAL, "--turns", "20", page=True) as server, Page(server) as page, Client(server) as client:
         same("the plan", [page.line() for _ in OVAL_PLAN], OVAL_PLAN)
         client.write(first)
-        heard = drive(client, 1200)
-        client.write(send("81 7E"))
-        heard += client.lines_until("RECEIVE 81 7E")
+        heard = drive(client, 1150)
+        # A train also runs without power, until its decoder receives a stop.
+        for text in (POWER_ON, STOP, "81 7E"):
+            client.write(send(text))
+            heard += client.lines_until(f"RECEIVE {text}")
         told = [line for line in page.lines_until("RECEIVE 81 7E") if not line.startswith(("RECEIVE ", "NODE "))]
         holds(f"its trains on their way: {told}", told == [line for line in way if line in told])
         holds(f"the last: {told}", told[-1:] and told[-1] in ends)
@@ -342,3 +344,22 @@ def check_moves(first, way, ends):
             wanted = [line for line in OVAL_PLAN if line.startswith(("BLOCK", "JOINT", "TURNOUT"))] + [told[-1], OVAL_PLAN[-1]]
             seen = [other.line() for _ in OVAL_PLAN]
             same("a page that opens later", seen[4:], wanted)
+
+
+def trains_on_pages():
+    """--plan: a page receives each tenth of a block that a train passes, once"""
+
+    def pass_blocks():
+        with serve(*OVAL, "--rate", "20", page=True) as server, Page(server) as page, Client(server) as client:
+            client.write(send(TAKE_3, USE_1, POWER_ON, SPEED_63))
+            last = ON_EAST[-2]
+            lines = page.lines_until(last)
+            # A front is 10 tenths from end a only where it touches end b.
+            told, wanted = (
+                [line for line in found if line.startswith("TRAIN ") and " 10 " not in line]
+                for found in (lines, OVAL_PLAN + ON_MAIN + INTO_EAST + ON_EAST)
+            )
+            same("the trains", told, wanted)
+
+    # A tenth of main takes 60 milliseconds.
+    is_tried_again(pass_blocks)
