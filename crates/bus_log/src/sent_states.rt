@@ -15,7 +15,6 @@ use railway::Railway;
 #[derive(Clone, Copy)]
 pub struct PageStates {
     pub(crate) page_states: [SentStates; MAX_CLIENTS],
-    ghost clients: { length page_states ≡ 8 },
 }
 
 impl PageStates {
@@ -48,11 +47,29 @@ impl PageStates {
             (map (λ states. states.sent) self.new.page_states)
             (G.page_log page_clients.old) (G.page_log page_clients.new) }
     {
-        for client in 0..MAX_CLIENTS {
-            let mut sent_states = self.page_states[client];
-            sent_states.serve(page_clients, client, printer, world, railway);
-            self.page_states[client] = sent_states;
-        }
+        serve_all(&mut self.page_states, page_clients, printer, world, railway);
+    }
+}
+
+/// Serves each client in turn.
+fn serve_all<G: PageClients>(
+    page_states: &mut [SentStates; MAX_CLIENTS],
+    page_clients: &mut G,
+    printer: &Printer<'_>,
+    world: &World,
+    railway: Option<&Railway>,
+)
+    requires { map spec_of world.now.nodes ≡ specs_of (entries_of printer.now.roster) }
+    ensures { ServesPages 0
+        (item_messages (entries_of printer.now.roster) world.now.nodes
+        (option_copied railway.entry))
+        (item_states world.now.nodes (option_copied railway.entry))
+        (map (λ states. states.sent) page_states.old)
+        (map (λ states. states.sent) page_states.new)
+        (G.page_log page_clients.old) (G.page_log page_clients.new) }
+{
+    for client in 0..MAX_CLIENTS {
+        page_states[client].serve(page_clients, client, printer, world, railway);
     }
 }
 
