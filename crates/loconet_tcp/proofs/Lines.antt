@@ -1,6 +1,6 @@
 -- How one more byte changes the requests of a text.
 use Rattle.std.proofs.Common.{◌≡◌, ℕ, ◌+◌, ◌<◌, ◌≤◌, Bool, true, false, List, [], ◌∷◌, ◌++◌, suc, length, take, Option, Some, None, refl, ap, ap₂, sym, ◌∙◌, inl, inr, arith, if◌then◌else◌, nat_eq, nat_le, ◌&&◌, not, length-append}
-use Rattle.std.specs.Prelude.{codes}
+use Rattle.std.specs.Prelude.{Err, codes}
 use Rattle.std.specs.Str.{bytes_eq}
 use Rattle.std.specs.Char.{is_ascii_digit}
 use Rattle.std.specs.Str.Parse.{digits_value}
@@ -10,11 +10,12 @@ use Rattle.std.proofs.lemmas.Bool.{and_parts, not-true, lt-leb, lt-ltb, le-ltb, 
 use Rattle.std.proofs.lemmas.List.{append-nil, append_assoc, length-drop, length-take}
 use Rattle.std.proofs.lemmas.Slice.Eq.{bytes_eq-Decides}
 use Rattle.loconet_tcp.specs.declared.request.Request.{Request}
-use Rattle.loconet_tcp.specs.declared.request.Request.TheVariants.{Invalid, Turns, Nodes}
+use Rattle.loconet_tcp.specs.declared.request.Request.TheVariants.{Invalid, Turns, Nodes, Place}
+use Rattle.loconet_tcp.specs.declared.request.PlaceError.TheVariants as place_error
 use Rattle.loconet_tcp.specs.declared.request.Reason.TheVariants.{TooLong}
 use Rattle.loconet_tcp.specs.Text.{is_end, is_open, onto_line, lines_of}
 use Rattle.ascii_words.specs.Words.{words_of, is_blank}
-use Rattle.loconet_tcp.specs.Requests.{request_of, parse_send, bytes_of, in_range, is_nodes, is_send, is_turns, turns_of}
+use Rattle.loconet_tcp.specs.Requests.{request_of, parse_place, parse_send, bytes_of, in_range, is_nodes, is_place, is_send, is_turns, turns_of}
 use Rattle.show_text.specs.Words.{decimal_of}
 use Rattle.loconet_tcp.specs.Reading.{requests_in, requests_of, request_of_byte, kept_after, requests_along}
 
@@ -72,9 +73,9 @@ first-front (x ∷ xs) ys (w ∷ word) h =
     ∙ goes_on (is_blank x) x w (before_first is_blank (xs ++ ys)) (before_first is_blank xs) word (first-front xs ys word (omega arith))
     ∙ sym (ap (λ (line : List ℕ). bytes_eq line (w ∷ word)) (before-cons x xs))
 
--- the request of a line, by whether it is a `SEND` or a `TURNS` line and whether it is too long
-abbrev asked_when : Bool → Bool → Bool → Request → Option ℕ → Option Request
-asked_when send turns long request count = if send then Some (if long then Invalid TooLong else request) else if turns then Some (Turns count) else None
+-- the request of a line that is too long, by whether it is a `SEND`, a `TURNS` or a `PLACE` line
+abbrev asked_long : (send turns place : Bool) → Option Request
+asked_long send turns place = if send then Some (Invalid TooLong) else if turns then Some (Turns None) else if place then Some (Place (Err place_error.TooLong)) else None
 
 -- the text after the first blank of a long line writes no number
 no_number : (some few digits : Bool) (n : ℕ) → few ≡ false → (if some && few && digits then Some n else None) ≡ None
@@ -99,22 +100,30 @@ no_nodes line h is =
     let size : length line ≡ 5 = ap length same in
     absurd (omega (arith, size, h))
 
-request-turns : (line : List ℕ) (turns nodes : Bool) → 400 < length line → is_turns line ≡ turns → is_nodes line ≡ nodes
-    → (if turns then Some (Turns (turns_of (after_first is_blank line))) else if nodes then Some Nodes else None) ≡ (if turns then Some (Turns None) else None)
-request-turns line true nodes h is is_nodes = ap (λ (count : Option ℕ). Some (Turns count)) (turns-too_long line h is)
-request-turns line false true h is is_nodes = no_nodes line h is_nodes
-request-turns line false false h is is_nodes = refl
+-- the request of a line that is no `SEND` line, by whether it is too long
+abbrev other_request : (line : List ℕ) → (long turns place nodes : Bool) → Option Request
+other_request line long turns place nodes =
+    if turns then Some (Turns (turns_of (after_first is_blank line)))
+    else if place then Some (Place (if long then Err place_error.TooLong else parse_place (words_of (after_first is_blank line))))
+    else if nodes then Some Nodes else None
 
-request-too_long : (line : List ℕ) → 400 < length line → request_of line ≡ asked_when (is_send line) (is_turns line) true (Invalid TooLong) None
+request-turns : (line : List ℕ) (turns place nodes : Bool) → 400 < length line → is_turns line ≡ turns → is_nodes line ≡ nodes
+    → other_request line true turns place nodes ≡ asked_long false turns place
+request-turns line true place nodes h is is_nodes = ap (λ (count : Option ℕ). Some (Turns count)) (turns-too_long line h is)
+request-turns line false true nodes h is is_nodes = refl
+request-turns line false false true h is is_nodes = no_nodes line h is_nodes
+request-turns line false false false h is is_nodes = refl
+
+request-too_long : (line : List ℕ) → 400 < length line → request_of line ≡ asked_long (is_send line) (is_turns line) (is_place line)
 request-too_long line h =
-    let others : Option Request = if is_turns line then Some (Turns (turns_of (after_first is_blank line))) else if is_nodes line then Some Nodes else None in
-    ap (λ (long : Bool). if is_send line then Some (if long then Invalid TooLong else parse_send (bytes_of (words_of (after_first is_blank line)))) else others) (lt-ltb 400 (length line) h)
-    ∙ ap (λ (other : Option Request). if is_send line then Some (Invalid TooLong) else other) (request-turns line (is_turns line) (is_nodes line) h refl refl)
+    ap (λ (long : Bool). if is_send line then Some (if long then Invalid TooLong else parse_send (bytes_of (words_of (after_first is_blank line)))) else other_request line long (is_turns line) (is_place line) (is_nodes line)) (lt-ltb 400 (length line) h)
+    ∙ ap (λ (other : Option Request). if is_send line then Some (Invalid TooLong) else other) (request-turns line (is_turns line) (is_place line) (is_nodes line) h refl refl)
 
 request-long : (xs ys : List ℕ) → length xs ≡ 401 → request_of (xs ++ ys) ≡ request_of xs
 request-long xs ys h =
     request-too_long (xs ++ ys) (omega (arith, length-append xs ys))
-    ∙ ap₂ (λ (send turns : Bool). asked_when send turns true (Invalid TooLong) None) (first-front xs ys (codes "SEND") (omega arith)) (first-front xs ys (codes "TURNS") (omega arith))
+    ∙ ap₂ (λ (send turns : Bool). asked_long send turns (is_place (xs ++ ys))) (first-front xs ys (codes "SEND") (omega arith)) (first-front xs ys (codes "TURNS") (omega arith))
+    ∙ ap (asked_long (is_send xs) (is_turns xs)) (first-front xs ys (codes "PLACE") (omega arith))
     ∙ sym (request-too_long xs (omega arith))
 
 -- The effect of each kind of byte.

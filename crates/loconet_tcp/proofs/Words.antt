@@ -1,6 +1,7 @@
 -- What one more word adds to the bytes written, and to whether all words are pairs.
-use Rattle.std.proofs.Common.{◌≡◌, ℕ, ◌<◌, true, false, ◌&&◌, List, [], ◌∷◌, ◌++◌, length, Option, Some, None, append_assoc, append-nil, refl, ap, sym, ◌∙◌, arith}
+use Rattle.std.proofs.Common.{◌≡◌, ℕ, ◌<◌, ◌≤◌, true, false, ◌&&◌, List, [], ◌∷◌, ◌++◌, length, take, Option, Some, None, append_assoc, append-nil, refl, ap, sym, ◌∙◌, arith}
 use Rattle.std.specs.Option.{is_some}
+use Rattle.std.proofs.lemmas.List.{take_all}
 use Rattle.ascii_words.specs.Words.{words_of, with_piece, pair_of}
 use Rattle.loconet_tcp.specs.Requests.{led_by, leading_bytes, are_pairs}
 
@@ -61,3 +62,7 @@ pair-length [] byte h = cc
 pair-length (a ∷ []) byte h = cc
 pair-length (a ∷ b ∷ []) byte h = refl
 pair-length (a ∷ b ∷ d ∷ more) byte h = cc
+
+-- a word of at most 33 bytes is kept whole
+pub kept_whole : (word : List ℕ) → length word ≤ 33 → take 33 word ≡ word
+kept_whole word short = take_all 33 word short

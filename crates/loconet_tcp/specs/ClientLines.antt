@@ -1,9 +1,11 @@
 -- The lines sent to a client, in LocoNet over TCP. The words after SENT ERROR, VERSION and ERROR,
--- and the lines that begin with TURNS or NODE, are this project's own.
+-- and the lines that begin with TURNS, PLACE or NODE, are this project's own.
 use Rattle.std.specs.Prelude.{ℕ, ◌/◌, ◌%◌, List, [], ◌∷◌, ◌++◌, codes, Result, Ok, Err}
 use Rattle.std.specs.List.{flat_map}
 use Rattle.ascii_words.specs.Words.{hex_char}
 use Rattle.loconet_tcp.specs.declared.request.Reason.{Reason}
+use Rattle.loconet_tcp.specs.declared.request.PlaceError.{PlaceError}
+use Rattle.loconet_tcp.specs.declared.request.PlaceError.TheVariants as place_error
 use Rattle.loconet_tcp.specs.declared.request.TurnsError.{TurnsError}
 use Rattle.loconet_tcp.specs.declared.request.TurnsError.TheVariants.{RealTime, NoNumber}
 use Rattle.loconet_tcp.specs.declared.request.Reason.TheVariants.{TooLong, NotHex, NoMessage, WrongCheck}
@@ -45,6 +47,20 @@ turns_error_text NoNumber = codes "no number from 1 to 10000"
 abbrev pub turns_text : Result ℕ TurnsError → List ℕ
 turns_text (Ok count) = codes "TURNS OK" ++ line_end
 turns_text (Err error) = codes "TURNS ERROR " ++ turns_error_text error ++ line_end
+
+abbrev pub place_error_text : PlaceError → List ℕ
+place_error_text place_error.NoPlan = codes "no plan"
+place_error_text place_error.TooLong = codes "line too long"
+place_error_text place_error.NoNumber = codes "no number of millimetres"
+place_error_text place_error.NoEnd = codes "no end a or b"
+place_error_text place_error.UnknownTrain = codes "no such train"
+place_error_text place_error.UnknownBlock = codes "no such block"
+place_error_text place_error.OffTrack = codes "the train does not fit there"
+
+-- the train was put where the client requested it, or was not, for this reason
+abbrev pub place_text : {Done : Type 0} → Result Done PlaceError → List ℕ
+place_text (Ok done) = codes "PLACE OK" ++ line_end
+place_text (Err error) = codes "PLACE ERROR " ++ place_error_text error ++ line_end
 
 -- how a decoder stands, by its line
 abbrev pub node_text : (line : List ℕ) → List ℕ

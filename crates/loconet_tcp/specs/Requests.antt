@@ -1,14 +1,19 @@
 -- The request of a client's line, in LocoNet over TCP. The protocol leaves open the longest line,
 -- the case of the digits, the tab as a blank and the replies to invalid lines: these are rules of
--- this project. So are the words TURNS and NODES, which other servers pass over.
-use Rattle.std.specs.Prelude.{ℕ, Bool, ◌&&◌, if◌then◌else◌, nat_le, nat_lt, List, [], ◌∷◌, length, Option, Some, None, codes}
+-- this project. So are the words TURNS, NODES and PLACE, which other servers pass over.
+use Rattle.std.specs.Prelude.{ℕ, Bool, ◌&&◌, if◌then◌else◌, nat_le, nat_lt, List, [], ◌∷◌, length, take, Option, Some, None, Result, Ok, Err, codes}
 use Rattle.std.specs.List.{list_all, before_first, after_first}
 use Rattle.std.specs.Option.{is_some}
 use Rattle.std.specs.Str.{bytes_eq}
 use Rattle.ascii_words.specs.Words.{is_blank, words_of, pair_of}
 use Rattle.ln_frame.specs.Message.{has_form, is_whole}
 use Rattle.loconet_tcp.specs.declared.request.Request.{Request}
-use Rattle.loconet_tcp.specs.declared.request.Request.TheVariants.{Send, Invalid, Turns, Nodes}
+use Rattle.loconet_tcp.specs.declared.request.Request.TheVariants.{Send, Invalid, Turns, Nodes, Place}
+use Rattle.loconet_tcp.specs.declared.request.Facing.{Facing}
+use Rattle.loconet_tcp.specs.declared.request.Facing.TheVariants.{A, B}
+use Rattle.loconet_tcp.specs.declared.request.PlaceError.{PlaceError}
+use Rattle.loconet_tcp.specs.declared.request.PlaceError.TheVariants as place_error
+use Rattle.loconet_tcp.specs.declared.request.Placement.{Placement}
 use Rattle.show_text.specs.Words.{decimal_of}
 use Rattle.loconet_tcp.specs.declared.request.Reason.TheVariants.{TooLong, NotHex, NoMessage, WrongCheck}
 
@@ -50,6 +55,41 @@ is_turns line = bytes_eq (before_first is_blank line) (codes "TURNS")
 abbrev pub is_nodes : List ℕ → Bool
 is_nodes line = bytes_eq line (codes "NODES")
 
+-- it is PLACE
+abbrev pub is_place : List ℕ → Bool
+is_place line = bytes_eq (before_first is_blank line) (codes "PLACE")
+
+-- the end that a word names
+abbrev pub end_named : List ℕ → Result (Option Facing) PlaceError
+end_named word =
+    if bytes_eq word (codes "a") then Ok (Some A)
+    else if bytes_eq word (codes "b") then Ok (Some B) else Err place_error.NoEnd
+
+-- the end that a train is to face by the words after the number: one of the two, or that it faces
+abbrev pub facing_of : List (List ℕ) → Result (Option Facing) PlaceError
+facing_of [] = Ok None
+facing_of (word ∷ []) = end_named word
+facing_of (word ∷ other ∷ words) = Err place_error.NoEnd
+
+-- a train, a block, how far the front is from end a, and the end that it faces; of a name 33 bytes
+-- count, one more than the longest has
+abbrev pub placement_of : (train block : List ℕ) → Option ℕ → Result (Option Facing) PlaceError
+    → Result Placement PlaceError
+placement_of train block None facing = Err place_error.NoNumber
+placement_of train block (Some front) (Err error) = Err error
+placement_of train block (Some front) (Ok facing) = Ok (record {
+  train = record { items = take 33 train };
+  block = record { items = take 33 block };
+  front = front;
+  facing = facing;
+})
+
+-- where the words after PLACE put a train
+abbrev pub parse_place : List (List ℕ) → Result Placement PlaceError
+parse_place (train ∷ block ∷ front ∷ words) =
+    placement_of train block (decimal_of front) (facing_of words)
+parse_place other = Err place_error.NoNumber
+
 -- a number of turns that can be requested
 abbrev pub in_range : Option ℕ → Option ℕ
 in_range None = None
@@ -61,11 +101,14 @@ turns_of text = in_range (decimal_of text)
 
 -- A line that begins with the word SEND requests to send the bytes of the words after it, if the
 -- line has at most 400 characters. One that begins with TURNS and a blank requests the number of
--- turns that the rest of the line writes (own). The line NODES asks how the decoders stand (own).
--- Every other line makes no request.
+-- turns that the rest of the line writes (own). One that begins with PLACE requests to put a train
+-- where the words after it say, if the line has at most 400 characters (own). The line NODES asks
+-- how the decoders stand (own). Every other line makes no request.
 abbrev pub request_of : List ℕ → Option Request
 request_of line =
     if is_send line then Some (if nat_lt 400 (length line) then Invalid TooLong
     else parse_send (bytes_of (words_of (after_first is_blank line))))
     else if is_turns line then Some (Turns (turns_of (after_first is_blank line)))
+    else if is_place line then Some (Place (if nat_lt 400 (length line) then Err place_error.TooLong
+    else parse_place (words_of (after_first is_blank line))))
     else if is_nodes line then Some Nodes else None

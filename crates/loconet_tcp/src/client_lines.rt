@@ -1,9 +1,9 @@
 //! The lines sent to a client. Each ends with a carriage return and a line feed.
-ghost use Rattle.std.specs.Prelude.{◌≡◌, ◌+◌, ◌*◌, ◌<◌, ◌≤◌, ◌++◌, length, Err};
+ghost use Rattle.std.specs.Prelude.{◌≡◌, ◌+◌, ◌*◌, ◌<◌, ◌≤◌, ◌++◌, codes, length, Err};
 ghost use Rattle.arrayvec.specs.ArrayVec.{array_vec_len};
-ghost use Rattle.loconet_tcp.specs.ClientLines.{hex_word, hex_words, line_end, receive_text, sent_ok_text, reason_text, sent_error_text, turns_error_text, turns_text, node_text, nodes_ok_text, version_text, server_full_text};
+ghost use Rattle.loconet_tcp.specs.ClientLines.{hex_word, hex_words, line_end, receive_text, sent_ok_text, reason_text, sent_error_text, place_error_text, place_text, turns_error_text, turns_text, node_text, nodes_ok_text, version_text, server_full_text};
 
-use crate::request::{Reason, TurnsError};
+use crate::request::{PlaceError, Reason, TurnsError};
 use arrayvec::ArrayVec;
 use ascii_words::hex_char;
 use ln_frame::Msg;
@@ -69,6 +69,31 @@ fn push_turns_error(text: &mut Text, error: TurnsError)
     push_all(text, b"\r\n");
 }
 
+/// Appends `PLACE OK`: the train was put where the client requested it; or `PLACE ERROR` and the
+/// reason in plain words. At most 43 bytes in all.
+pub fn push_place(text: &mut Text, answer: &Result<(), PlaceError>)
+    requires { array_vec_len text.old + 43 ≤ 800 }
+    ensures text { text.new.items ≡ text.old.items ++ place_text answer.now }
+    ensures most { array_vec_len text.new ≤ array_vec_len text.old + 43 }
+{
+    match answer {
+        Ok(()) => push_all(text, b"PLACE OK\r\n"),
+        Err(error) => push_place_error(text, *error),
+    }
+}
+
+/// Appends `PLACE ERROR` and the reason.
+fn push_place_error(text: &mut Text, error: PlaceError)
+    requires { array_vec_len text.old + 43 ≤ 800 }
+    ensures text { text.new.items
+        ≡ text.old.items ++ (codes "PLACE ERROR " ++ place_error_text error ++ line_end) }
+    ensures most { array_vec_len text.new ≤ array_vec_len text.old + 43 }
+{
+    push_all(text, b"PLACE ERROR ");
+    push_all(text, words_of_place(error));
+    push_all(text, b"\r\n");
+}
+
 /// Appends `NODE` and the line of a decoder, 7 bytes longer than the line.
 pub fn push_node(text: &mut Text, line: &[u8])
     requires { array_vec_len text.old + length line.now + 7 ≤ 800 }
@@ -128,6 +153,22 @@ fn words_of_turns(error: TurnsError) -> &'static [u8]
     match error {
         TurnsError::RealTime => b"real time",
         TurnsError::NoNumber => b"no number from 1 to 10000",
+    }
+}
+
+/// The reason in plain words, at most 28 bytes.
+fn words_of_place(error: PlaceError) -> &'static [u8]
+    ensures words { result.now ≡ place_error_text error }
+    ensures most { length result.now ≤ 28 }
+{
+    match error {
+        PlaceError::NoPlan => b"no plan",
+        PlaceError::TooLong => b"line too long",
+        PlaceError::NoNumber => b"no number of millimetres",
+        PlaceError::NoEnd => b"no end a or b",
+        PlaceError::UnknownTrain => b"no such train",
+        PlaceError::UnknownBlock => b"no such block",
+        PlaceError::OffTrack => b"the train does not fit there",
     }
 }
 

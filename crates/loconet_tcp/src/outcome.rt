@@ -4,9 +4,9 @@ ghost use Rattle.arrayvec.specs.ArrayVec.{array_vec_len};
 ghost use Rattle.loconet_tcp.specs.Texts.{text_for};
 
 use crate::client_lines::{
-    Text, push_receive, push_sent_error, push_sent_ok, push_turns, push_version,
+    Text, push_place, push_receive, push_sent_error, push_sent_ok, push_turns, push_version,
 };
-use crate::request::{Reason, TurnsError};
+use crate::request::{PlaceError, Placement, Reason, TurnsError};
 use dcc_packet::Packet;
 use ln_frame::Msg;
 
@@ -50,6 +50,18 @@ pub enum Outcome {
     NodesRequested {
         client: u8,
     },
+    /// A client requested to put a train on the track, or its line did not say where. A bus has no
+    /// trains; clients receive nothing of this event.
+    PlaceRequested {
+        client: u8,
+        placement: Result<Placement, PlaceError>,
+    },
+    /// A train was put where a client requested it, or was not; the client alone receives the
+    /// answer.
+    Placed {
+        client: u8,
+        answer: Result<(), PlaceError>,
+    },
     /// A turn began and sent this packet, or none while the track power is off. Clients receive
     /// nothing.
     TurnBegan {
@@ -76,6 +88,10 @@ impl Outcome {
                 client: asker,
                 turns,
             } if *asker == client => push_turns(text, turns),
+            Outcome::Placed {
+                client: asker,
+                answer,
+            } if *asker == client => push_place(text, answer),
             Outcome::Sent {
                 client: sender,
                 message,

@@ -1,9 +1,9 @@
 //! Parsing a line.
-ghost use Rattle.std.specs.Prelude.{◌≡◌, ◌≤◌, length, None, Some, MatchOption};
-ghost use Rattle.ascii_words.specs.Words.{words_of};
-ghost use Rattle.loconet_tcp.specs.Requests.{are_pairs, bytes_of, leading_bytes, parse_send, request_of, turns_of};
+ghost use Rattle.std.specs.Prelude.{◌≡◌, ◌≤◌, [], if◌then◌else◌, length, nat_lt, take, None, Some, Err, MatchOption};
+ghost use Rattle.ascii_words.specs.Words.{with_piece, words_of};
+ghost use Rattle.loconet_tcp.specs.Requests.{are_pairs, bytes_of, end_named, facing_of, leading_bytes, parse_place, parse_send, placement_of, request_of, turns_of};
 
-use crate::request::{Reason, Request};
+use crate::request::{Facing, LONGEST_WORD, PlaceError, Placement, Reason, Request, Word};
 use arrayvec::ArrayVec;
 use ascii_words::{cut_piece, hex_pair};
 use ln_frame::Msg;
@@ -31,6 +31,9 @@ pub(crate) fn parse_line(line: &[u8]) -> Option<Request>
     if first == b"TURNS".as_slice() {
         return Some(Request::Turns(turns_of(rest)));
     }
+    if first == b"PLACE".as_slice() {
+        return Some(Request::Place(parse_place_line(line.len(), rest)));
+    }
     if first != b"SEND".as_slice() {
         return if line == b"NODES".as_slice() {
             Some(Request::Nodes)
@@ -42,6 +45,117 @@ pub(crate) fn parse_line(line: &[u8]) -> Option<Request>
         return Some(Request::Invalid(Reason::TooLong));
     }
     Some(parse_send(rest))
+}
+
+/// Returns where a `PLACE` line of this length puts a train, by the words after `PLACE`.
+fn parse_place_line(len: usize, words: &[u8]) -> Result<Placement, PlaceError>
+    ensures { result
+        ≡ (if nat_lt 400 len then Err PlaceError.TooLong else parse_place (words_of words.now)) }
+{
+    if len > LONGEST_LINE {
+        return Err(PlaceError::TooLong);
+    }
+    parse_place(words)
+}
+
+/// Returns where the words after `PLACE` put a train.
+fn parse_place(words: &[u8]) -> Result<Placement, PlaceError>
+    ensures { result ≡ parse_place (words_of words.now) }
+{
+    let (train, rest) = next_word(words);
+    let (block, rest) = next_word(rest);
+    let (front, rest) = next_word(rest);
+    placement_of(train, block, decimal(front), facing_of(rest))
+}
+
+/// Returns where a train is put, or the first reason why the line does not say it.
+fn placement_of(
+    train: &[u8],
+    block: &[u8],
+    front: Option<u32>,
+    facing: Result<Option<Facing>, PlaceError>,
+) -> Result<Placement, PlaceError>
+    ensures { result ≡ placement_of train.now block.now front facing }
+{
+    let Some(front) = front else {
+        return Err(PlaceError::NoNumber);
+    };
+    match facing {
+        Ok(facing) => Ok(Placement {
+            train: kept_word(train),
+            block: kept_word(block),
+            front,
+            facing,
+        }),
+        Err(error) => Err(error),
+    }
+}
+
+/// Returns the first 33 bytes of a word.
+#[tactic(auto, using(crate::proofs::Words::kept_whole))]
+fn kept_word(word: &[u8]) -> Word
+    ensures { result.items ≡ take 33 word.now }
+{
+    if word.len() <= LONGEST_WORD {
+        copied(word)
+    } else {
+        copied(&word[..LONGEST_WORD])
+    }
+}
+
+fn copied(word: &[u8]) -> Word
+    requires { length word.now ≤ 33 }
+    ensures { result.items ≡ word.now }
+{
+    let mut copy = Word::new();
+    for byte in word {
+        copy.push(*byte);
+    }
+    copy
+}
+
+/// Returns the end that the words after the number name, or `None` if there are none.
+fn facing_of(words: &[u8]) -> Result<Option<Facing>, PlaceError>
+    ensures { result ≡ facing_of (words_of words.now) }
+{
+    let (word, rest) = next_word(words);
+    let (other, _rest) = next_word(rest);
+    if word.is_empty() {
+        Ok(None)
+    } else if other.is_empty() {
+        end_named(word)
+    } else {
+        Err(PlaceError::NoEnd)
+    }
+}
+
+/// Returns the end that a word names.
+fn end_named(word: &[u8]) -> Result<Option<Facing>, PlaceError>
+    ensures { result ≡ end_named word.now }
+{
+    if word == b"a".as_slice() {
+        Ok(Some(Facing::A))
+    } else if word == b"b".as_slice() {
+        Ok(Some(Facing::B))
+    } else {
+        Err(PlaceError::NoEnd)
+    }
+}
+
+/// Returns the first word of a text, empty if it has none, and the text after it.
+fn next_word(text: &[u8]) -> (&[u8], &[u8])
+    ensures words { words_of text.now ≡ with_piece result.0.now (words_of result.1.now) }
+    ensures none { result.0.now ≡ [] → words_of result.1.now ≡ [] }
+{
+    let mut rest = text;
+    while !rest.is_empty() {
+        let (piece, behind) = cut_piece(rest);
+        if !piece.is_empty() {
+            return (piece, behind);
+        }
+        rest = behind;
+    }
+    (&[], &[])
 }
 
 /// Returns the number of turns that a text writes in decimal digits, 1 to 10,000.

@@ -1,8 +1,10 @@
 //! The requests that a line can make. Specs that name these types are cited from other files only.
 
+use arrayvec::ArrayVec;
 use ln_frame::Msg;
 
-/// The request of a line that begins with the word `SEND` or `TURNS`, or of the line `NODES`.
+/// The request of a line that begins with the word `SEND`, `TURNS` or `PLACE`, or of the line
+/// `NODES`.
 #[derive(Debug, Drop, PartialEq, Eq)]
 pub enum Request {
     /// Send this message.
@@ -13,6 +15,35 @@ pub enum Request {
     Turns(Option<u16>),
     /// Tell how the decoders stand.
     Nodes,
+    /// Put a train on the track; or why the line does not say where.
+    Place(Result<Placement, PlaceError>),
+}
+
+/// The most bytes that are kept of a name: one more than the longest has, so that a longer word is
+/// no name.
+pub const LONGEST_WORD: usize = 33;
+
+/// A word that names a train or a block.
+pub type Word = ArrayVec<u8, LONGEST_WORD>;
+
+/// Where a train is to be put, by the words of a line.
+#[derive(Debug, Drop, PartialEq, Eq)]
+pub struct Placement {
+    /// The name of the train's decoder.
+    pub train: Word,
+    /// The name of the block.
+    pub block: Word,
+    /// How far the front of the train is from end A of the block, in millimetres.
+    pub front: u32,
+    /// The end that the front faces; `None`: the one that it faces now.
+    pub facing: Option<Facing>,
+}
+
+/// The end of a block that a train faces.
+#[derive(Clone, Copy, Debug, PartialEq, Eq)]
+pub enum Facing {
+    A,
+    B,
 }
 
 /// Why nothing is sent. The first reason that applies is reported.
@@ -35,4 +66,23 @@ pub enum TurnsError {
     RealTime,
     /// The line has no number from 1 to 10,000.
     NoNumber,
+}
+
+/// Why a train is not put on the track. The first reason that applies is reported.
+#[derive(Clone, Copy, Debug, PartialEq, Eq)]
+pub enum PlaceError {
+    /// There is no track plan.
+    NoPlan,
+    /// The line has more than 400 characters.
+    TooLong,
+    /// The third word after `PLACE` is no number of one to seven digits.
+    NoNumber,
+    /// What follows the number is neither `a` nor `b`.
+    NoEnd,
+    /// No train has a decoder of this name.
+    UnknownTrain,
+    /// No block has this name.
+    UnknownBlock,
+    /// The train does not fit into the block there.
+    OffTrack,
 }
