@@ -8,6 +8,8 @@ use Rattle.railway.specs.declared.fault.PlaceFault.{PlaceFault}
 use Rattle.railway.specs.declared.fault.PlaceFault.TheVariants.{UnknownTrain, UnknownBlock, OffTrack}
 use Rattle.railway.specs.declared.train.Position.{Position}
 use Rattle.railway.specs.declared.train.TrainState.{TrainState}
+use Rattle.railway.specs.Course.{Happening, after, unless_refused}
+use Rattle.railway.specs.Course.Happening.{Elapses, Places}
 use Rattle.railway.specs.Faults.{is_train_length}
 use Rattle.railway.specs.Network.{is_sound, is_whole}
 use Rattle.railway.specs.Railway.{RailwayState, fits_in, is_railway, is_train, place_fault, place_unless, placed_in, replaced}
@@ -46,3 +48,18 @@ placed-railway r i position is h =
     let fits_all = (and_parts (is_train_length n.blocks old.length) (is_within n.blocks old) (and_parts (is_train_length n.blocks old.length && is_within n.blocks old) (is_whole n old) was).0).0 in
     let new = placed-train n old.decoder old.top old.length position (ltb-true position.block (length n.blocks) (unless-none _ _ second.0)) fits_all (unless-none _ _ second.1) in
     and_from (is_sound n) (list_all (is_train n) (slice_set r.trains i (replaced old position))) parts.0 (all-set (is_train n) r.trains i (replaced old position) parts.1 new)
+
+-- so does an attempt to put one back
+pub places-railway : (r : RailwayState) (i : ℕ) (position : Position) → is_railway r ≡ true → is_railway (after r (Places i position)) ≡ true
+places-railway r i position is = either (place_fault r i position) refl where
+  either : (fault : Option PlaceFault) → place_fault r i position ≡ fault → is_railway (unless_refused fault (placed_in r i position) r) ≡ true
+  either None e = placed-railway r i position is e
+  either (Some fault) e = is
+
+-- the blocks stay
+pub same-blocks : (r : RailwayState) (happening : Happening) → (after r happening).network.blocks ≡ r.network.blocks
+same-blocks r (Elapses micros nodes) = refl
+same-blocks r (Places i position) = either (place_fault r i position) where
+  either : (fault : Option PlaceFault) → (unless_refused fault (placed_in r i position) r).network.blocks ≡ r.network.blocks
+  either None = refl
+  either (Some fault) = refl

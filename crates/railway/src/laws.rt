@@ -11,7 +11,7 @@ ghost use Rattle.railway.specs.declared.train.Place.{Place};
 ghost use Rattle.railway.specs.declared.train.TrainState.{TrainState};
 ghost use Rattle.railway.specs.Blocks.{default_block};
 ghost use Rattle.railway.specs.Conflicts.{conflict_in};
-ghost use Rattle.railway.specs.Course.{Happening, after_all, reports_of_all};
+ghost use Rattle.railway.specs.Course.{Happening, after, after_all, reports_of_all};
 ghost use Rattle.railway.specs.Laws.{AreChanges, IsConflict, IsOnRails, leading, way_of};
 ghost use Rattle.railway.specs.Network.{Network, exit_of, is_sound, onward, way_on};
 ghost use Rattle.railway.specs.Places.{span};
@@ -44,6 +44,16 @@ pub fn time_adds_up()
         → elapsed (elapsed railway these nodes) those nodes
         ≡ elapsed railway (these + those) nodes }
 {}
+
+/// What holds of every railway holds after whatever happens to it, and its blocks stay.
+pub fn railways_are_kept()
+    ensures kept { (railway : RailwayState) (happening : Happening)
+        → IsTrue (is_railway railway) → IsTrue (is_railway (after railway happening)) }
+    ensures blocks { (railway : RailwayState) (happening : Happening)
+        → (after railway happening).network.blocks ≡ railway.network.blocks }
+{
+    time_adds_up();
+}
 
 /// A train that nothing stops goes as far as its speed times the time, and stays on the rails.
 pub fn ways_are_speed_times_time()

@@ -1,28 +1,19 @@
-use Rattle.std.proofs.Common.{◌≡◌, ℕ, ◌<◌, List, [], ◌∷◌, length, Option, Some, None, true, refl, ap, subst, ◌∙◌}
+use Rattle.std.proofs.Common.{◌≡◌, ℕ, ◌<◌, List, [], ◌∷◌, length, Some, true, refl, ap, subst, ◌∙◌}
 use Rattle.std.proofs.lemmas.Bool.{and_parts}
 use Rattle.std.specs.List.{list_all, slice_index_or}
 use Rattle.railway.specs.declared.block.Block.{Block}
-use Rattle.railway.specs.declared.fault.PlaceFault.{PlaceFault}
 use Rattle.railway.specs.Blocks.{are_distinct, default_block}
-use Rattle.railway.specs.Course.{Happening, after, after_all, reports_of, reports_of_all, unless_refused}
-use Rattle.railway.specs.Course.Happening.{Elapses, Places}
+use Rattle.railway.specs.Course.{Happening, after, after_all, reports_of, reports_of_all}
 use Rattle.railway.specs.Network.{is_sound}
-use Rattle.railway.specs.Railway.{RailwayState, is_railway, is_train, place_fault, placed_in}
+use Rattle.railway.specs.Railway.{RailwayState, is_railway, is_train}
 use Rattle.railway.specs.Reports.{is_occupied, level_after}
 use Rattle.railway.proofs.Leading.{sound}
 use Rattle.railway.proofs.Observing.{knows_changes, knows_full, level_after-append}
+use Rattle.railway.proofs.Placing.{same-blocks}
 use Rattle.railway.proofs.laws.observers_know.Goals as goal
 
 distinct : (railway : RailwayState) → is_railway railway ≡ true → are_distinct railway.network.blocks ≡ true
 distinct railway h = (sound railway.network (and_parts (is_sound railway.network) (list_all (is_train railway.network) railway.trains) h).0).sensors
-
--- the blocks stay
-same_blocks : (railway : RailwayState) (happening : Happening) → (after railway happening).network.blocks ≡ railway.network.blocks
-same_blocks railway (Elapses micros nodes) = refl
-same_blocks railway (Places train position) = either (place_fault railway train position) where
-  either : (fault : Option PlaceFault) → (unless_refused fault (placed_in railway train position) railway).network.blocks ≡ railway.network.blocks
-  either None = refl
-  either (Some fault) = refl
 
 -- what is known of a sensor of these blocks
 abbrev IsKnown : (blocks : List Block) (railway : RailwayState) (happenings : List Happening) → Type 0
@@ -34,7 +25,7 @@ knows : (railway : RailwayState) (happenings : List Happening) → IsKnown railw
 knows railway [] block sensor apart h there = refl
 knows railway (happening ∷ happenings) block sensor apart h there =
     let then = after railway happening in
-    let rest : IsKnown railway.network.blocks then happenings = subst (λ (blocks : List Block). IsKnown blocks then happenings) (same_blocks railway happening) (knows then happenings) in
+    let rest : IsKnown railway.network.blocks then happenings = subst (λ (blocks : List Block). IsKnown blocks then happenings) (same-blocks railway happening) (knows then happenings) in
     level_after-append (reports_of railway happening) (reports_of_all then happenings) sensor (is_occupied railway.trains block)
     ∙ ap (λ (level : _). level_after (reports_of_all then happenings) sensor level) (knows_changes railway.network.blocks railway.trains then.trains block sensor apart h there)
     ∙ rest block sensor apart h there
