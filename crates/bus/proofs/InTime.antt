@@ -4,7 +4,7 @@ use Rattle.std.specs.List.{list_all}
 use Rattle.std.proofs.lemmas.Bool.{and_parts, and_from}
 use Rattle.std.proofs.lemmas.List.Elements.{All-append, All-cons, All-nil}
 use Rattle.loconet_tcp.specs.declared.request.Request.{Request}
-use Rattle.loconet_tcp.specs.declared.request.Request.TheVariants.{Send, Invalid, Turns, Nodes}
+use Rattle.loconet_tcp.specs.declared.request.Request.TheVariants.{Send, Invalid, Turns, Nodes, Place}
 use Rattle.slot_table.specs.Entry.{Entry}
 use Rattle.station_core.specs.ThrottleView.{ThrottleView, known_after_all}
 use Rattle.station_core.specs.Moments.{slots_refreshed, turns_in}
@@ -45,6 +45,7 @@ asked_quiet i client (Some (Invalid reason)) = tt
 asked_quiet i client (Some (Send message)) = bytes_quiet i client message
 asked_quiet i client (Some (Turns count)) = tt
 asked_quiet i client (Some Nodes) = tt
+asked_quiet i client (Some (Place placement)) = tt
 
 passing_quiet : (i missed : ℕ) (ends : Bool) → NoNoise i (if ends then turn_of missed else [])
 passing_quiet i missed true = tt
@@ -81,6 +82,7 @@ asked_turns bus client (Some (Invalid reason)) = refl
 asked_turns bus client (Some (Send message)) = bytes_turns client message
 asked_turns bus client (Some (Turns count)) = refl
 asked_turns bus client (Some Nodes) = refl
+asked_turns bus client (Some (Place placement)) = refl
 
 passing_turns : (missed : ℕ) (packet : Option (List ℕ)) (ends : Bool) → turns_in (calls_in (if ends then turn_of missed else [])) ≡ length (durations_in (if ends then TurnBegan packet else Nothing))
 passing_turns missed packet true = refl
@@ -117,6 +119,7 @@ asked_short bus client (Some (Invalid reason)) = All-nil IsShort
 asked_short bus client (Some (Send message)) = All-nil IsShort
 asked_short bus client (Some (Turns count)) = All-nil IsShort
 asked_short bus client (Some Nodes) = All-nil IsShort
+asked_short bus client (Some (Place placement)) = All-nil IsShort
 
 turn_short : TurnsAreBounded → (bus : BusState) → All IsShort (durations_in (TurnBegan (packet_of_turn bus.station)))
 turn_short laws bus = All-cons IsShort (duration (packet_of_turn bus.station)) [] (laws.longest bus.station) (All-nil IsShort)

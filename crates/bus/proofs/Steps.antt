@@ -1,15 +1,18 @@
 -- What each event preserves of a bus, and its effect on the layout.
 use Rattle.std.proofs.Common.{◌≡◌, ℕ, ◌+◌, ◌-◌, ◌<◌, ◌≤◌, Bool, true, false, List, [], length, Option, Some, None, refl, ap, sym, subst, ◌∙◌, arith, inl, inr, if◌then◌else◌, nat_lt, replicate}
-use Rattle.std.specs.Prelude.{slice_set}
+use Rattle.std.specs.Prelude.{Err, Result, slice_set}
 use Rattle.std.specs.List.{after_first}
 use Rattle.std.proofs.lemmas.Bool.{cases_lt, ltb-true, leb-true, le-leb, lt-leb}
 use Rattle.std.proofs.lemmas.List.{length-set}
 use Rattle.ln_frame.specs.Message.{IsWhole, has_form, is_whole}
 use Rattle.loconet_tcp.specs.declared.request.Request.{Request}
-use Rattle.loconet_tcp.specs.declared.request.Request.TheVariants.{Send, Invalid, Turns, Nodes}
+use Rattle.loconet_tcp.specs.declared.request.PlaceError.{PlaceError}
+use Rattle.loconet_tcp.specs.declared.request.PlaceError.TheVariants as place_error
+use Rattle.loconet_tcp.specs.declared.request.Placement.{Placement}
+use Rattle.loconet_tcp.specs.declared.request.Request.TheVariants.{Send, Invalid, Turns, Nodes, Place}
 use Rattle.loconet_tcp.specs.declared.request.Reason.TheVariants.{TooLong, NoMessage, WrongCheck}
 use Rattle.ascii_words.specs.Words.{is_blank, words_of}
-use Rattle.loconet_tcp.specs.Requests.{parse_send, request_of, bytes_of, is_nodes, is_send, is_turns, turns_of}
+use Rattle.loconet_tcp.specs.Requests.{parse_place, parse_send, request_of, bytes_of, is_nodes, is_place, is_send, is_turns, turns_of}
 use Rattle.loconet_tcp.specs.Text.{is_end}
 use Rattle.station_core.specs.Seen.{Seen}
 use Rattle.layout_core.specs.declared.event.Event.{Event as LayoutEvent}
@@ -30,6 +33,7 @@ IsWholeAsk (Some (Invalid reason)) = Unit {0}
 IsWholeAsk (Some (Send message)) = IsWhole message
 IsWholeAsk (Some (Turns count)) = Unit {0}
 IsWholeAsk (Some Nodes) = Unit {0}
+IsWholeAsk (Some (Place placement)) = Unit {0}
 
 whole_by : (whole form : Bool) (bytes : List ℕ) → is_whole bytes ≡ whole → IsWholeAsk (Some (if whole then Send bytes else if form then Invalid WrongCheck else Invalid NoMessage))
 whole_by true form bytes e = e
@@ -40,13 +44,25 @@ whole_sends : (said : Option (List ℕ)) → IsWholeAsk (Some (parse_send said))
 whole_sends None = tt
 whole_sends (Some bytes) = whole_by (is_whole bytes) (has_form bytes) bytes refl
 
-whole_when : (sends turns nodes long : Bool) (said : Option (List ℕ)) (count : Option ℕ)
-    → IsWholeAsk (if sends then Some (if long then Invalid TooLong else parse_send said) else if turns then Some (Turns count) else if nodes then Some Nodes else None)
-whole_when false true nodes long said count = tt
-whole_when false false true long said count = tt
-whole_when false false false long said count = tt
-whole_when true turns nodes true said count = tt
-whole_when true turns nodes false said count = whole_sends said
+whole_other : (turns place nodes : Bool) (count : Option ℕ) (placement : Result Placement PlaceError)
+    → IsWholeAsk (if turns then Some (Turns count) else if place then Some (Place placement) else if nodes then Some Nodes else None)
+whole_other true place nodes count placement = tt
+whole_other false true nodes count placement = tt
+whole_other false false true count placement = tt
+whole_other false false false count placement = tt
+
+whole_when : (sends long : Bool) (said : Option (List ℕ)) (other : Option Request) → IsWholeAsk other → IsWholeAsk (if sends then Some (if long then Invalid TooLong else parse_send said) else other)
+whole_when false long said other whole = whole
+whole_when true true said other whole = tt
+whole_when true false said other whole = whole_sends said
+
+-- what is requested by a line that is no `SEND` line
+abbrev placed_at : (line : List ℕ) → Result Placement PlaceError
+placed_at line = if nat_lt 400 (length line) then Err place_error.TooLong else parse_place (words_of (after_first is_blank line))
+
+abbrev other_request : (line : List ℕ) → Option Request
+other_request line =
+    if is_turns line then Some (Turns (turns_of (after_first is_blank line))) else if is_place line then Some (Place (placed_at line)) else if is_nodes line then Some Nodes else None
 
 whole_at_end : (ends : Bool) (request : Option Request) → IsWholeAsk request → IsWholeAsk (if ends then request else None)
 whole_at_end true request whole = whole
@@ -54,7 +70,8 @@ whole_at_end false request whole = tt
 
 pub whole_ask : (kept : Option (List ℕ)) (byte : ℕ) → IsWholeAsk (request_at kept byte)
 whole_ask None byte = tt
-whole_ask (Some kept) byte = whole_at_end (is_end byte) (request_of kept) (whole_when (is_send kept) (is_turns kept) (is_nodes kept) (nat_lt 400 (length kept)) (bytes_of (words_of (after_first is_blank kept))) (turns_of (after_first is_blank kept)))
+whole_ask (Some kept) byte = whole_at_end (is_end byte) (request_of kept) (whole_when (is_send kept) (nat_lt 400 (length kept)) (bytes_of (words_of (after_first is_blank kept))) (other_request kept)
+    (whole_other (is_turns kept) (is_place kept) (is_nodes kept) (turns_of (after_first is_blank kept)) (placed_at kept)))
 
 -- A time in which the current turn ends, and one in which it does not.
 
@@ -87,6 +104,7 @@ asked_lines station (Some (Invalid reason)) = refl
 asked_lines station (Some (Send message)) = refl
 asked_lines station (Some (Turns count)) = refl
 asked_lines station (Some Nodes) = refl
+asked_lines station (Some (Place placement)) = refl
 
 kept_turned : TurnsAreBounded → (bus : BusState) (micros : ℕ) → IsInvariant bus → bus.remaining ≤ micros → micros ≤ bus.remaining + 5795 → IsInvariant (after_turn_boundary bus micros)
 kept_turned laws bus micros h ends soon = record {
@@ -121,6 +139,7 @@ asked_station laws station client (Some (Invalid reason)) idle below whole = ref
 asked_station laws station client (Some (Send message)) idle below whole = whole_after laws station client message idle below whole
 asked_station laws station client (Some (Turns count)) idle below whole = refl
 asked_station laws station client (Some Nodes) idle below whole = refl
+asked_station laws station client (Some (Place placement)) idle below whole = refl
 
 pub plays : StationMoves → (bus : BusState) (event : Event) → IsInvariant bus → is_event event ≡ true → played bus.station (layout_event bus event) ≡ (after_event bus event).station
 plays laws bus (Connects client) h legal = refl

@@ -7,10 +7,11 @@ use Rattle.std.proofs.lemmas.Bool.{and_parts}
 use Rattle.std.proofs.lemmas.Grind.{flat_map-append}
 use Rattle.std.proofs.lemmas.List.Folds.{list_all-append}
 use Rattle.loconet_tcp.specs.declared.request.Reason.{Reason}
+use Rattle.loconet_tcp.specs.declared.request.PlaceError.{PlaceError}
 use Rattle.loconet_tcp.specs.declared.request.TurnsError.{TurnsError}
-use Rattle.loconet_tcp.specs.ClientLines.{receive_text, sent_error_text, sent_ok_text, turns_text, version_text}
+use Rattle.loconet_tcp.specs.ClientLines.{receive_text, sent_error_text, sent_ok_text, place_text, turns_text, version_text}
 use Rattle.loconet_tcp.specs.declared.outcome.Outcome.{Outcome}
-use Rattle.loconet_tcp.specs.declared.outcome.Outcome.TheVariants.{Nothing, Connected, Disconnected, Rejected, Reported, Sent, TurnBegan, TurnsRequested, NodesRequested}
+use Rattle.loconet_tcp.specs.declared.outcome.Outcome.TheVariants.{Nothing, Connected, Disconnected, Rejected, Reported, Sent, TurnBegan, TurnsRequested, NodesRequested, PlaceRequested, Placed}
 use Rattle.loconet_tcp.specs.Texts.{messages_in, reply_text, text_for}
 use Rattle.bus.specs.Since.{makes_request, text_since, is_connecting, is_disconnecting, requests_nothing, is_nonempty, has_connected, changes_connection, since_connected, stays_connected, traffic}
 
@@ -133,6 +134,10 @@ no_answer : (own : Bool) (turns : Result ℕ TurnsError) → not own ≡ true �
 no_answer true turns q = cc
 no_answer false turns q = refl
 
+no_place : {Done : Type 0} → (own : Bool) (answer : Result Done PlaceError) → not own ≡ true → (if own then place_text answer else []) ≡ []
+no_place true answer q = cc
+no_place false answer q = refl
+
 no_ok : (own : Bool) (message : List ℕ) (reply : Option (List ℕ)) → not own ≡ true
     → (receive_text message ++ (if own then sent_ok_text else []) ++ reply_text reply) ≡ flat_map receive_text (message ∷ option_to_list reply)
 no_ok true message reply q = cc
@@ -148,6 +153,8 @@ listens i (Reported message) m q = sym (append-nil (receive_text message))
 listens i (TurnBegan packet) m q = refl
 listens i (TurnsRequested client turns) m q = no_answer (client == i) turns q
 listens i (NodesRequested client) m q = refl
+listens i (PlaceRequested client placement) m q = refl
+listens i (Placed client answer) m q = no_place (client == i) answer q
 
 pub bystander : (i : ℕ) (outcomes : List Outcome) → stays_connected i outcomes ≡ true → requests_nothing i outcomes ≡ true → flat_map (text_for i) outcomes ≡ flat_map receive_text (traffic outcomes)
 bystander i [] stay quiet = refl

@@ -6,7 +6,7 @@ use Rattle.half_bits.specs.Halves.{duration_of}
 use Rattle.ln_ops.specs.Reply.{reply_bytes}
 use Rattle.ln_ops.specs.Sensor.{is_sensor, report_bytes}
 use Rattle.loconet_tcp.specs.declared.request.Request.{Request}
-use Rattle.loconet_tcp.specs.declared.request.Request.TheVariants.{Send, Invalid, Turns, Nodes}
+use Rattle.loconet_tcp.specs.declared.request.Request.TheVariants.{Send, Invalid, Turns, Nodes, Place}
 use Rattle.loconet_tcp.specs.declared.request.TurnsError.{TurnsError}
 use Rattle.loconet_tcp.specs.declared.request.TurnsError.TheVariants.{NoNumber, RealTime}
 use Rattle.loconet_tcp.specs.Reading.{request_of_byte, kept_after}
@@ -17,7 +17,7 @@ use Rattle.station_core.specs.Seen.{Seen, first_seen}
 use Rattle.bus.specs.declared.event.Event.{Event}
 use Rattle.bus.specs.declared.event.Event.TheVariants.{Connects, Receives, Disconnects, Reports, Elapses, Turn}
 use Rattle.loconet_tcp.specs.declared.outcome.Outcome.{Outcome}
-use Rattle.loconet_tcp.specs.declared.outcome.Outcome.TheVariants.{Nothing, Connected, Disconnected, Rejected, Reported, Sent, TurnBegan, TurnsRequested, NodesRequested}
+use Rattle.loconet_tcp.specs.declared.outcome.Outcome.TheVariants.{Nothing, Connected, Disconnected, Rejected, Reported, Sent, TurnBegan, TurnsRequested, NodesRequested, PlaceRequested}
 
 -- the part of a bus that clients and time change: the station, the bytes kept of each client's
 -- text, or None for no client, and the microseconds left of the current turn; and whether clients
@@ -74,6 +74,7 @@ station_after station (Some (Invalid reason)) = station
 station_after station (Some (Send message)) = after_message station (Some message)
 station_after station (Some (Turns count)) = station
 station_after station (Some Nodes) = station
+station_after station (Some (Place placement)) = station
 
 -- the message of the station's reply
 abbrev pub message_in : Step → Option (List ℕ)
@@ -96,6 +97,7 @@ outcome_of_request bus client (Some (Invalid reason)) = Rejected client reason
 outcome_of_request bus client (Some (Send message)) = Sent client message (reply_to bus.station message)
 outcome_of_request bus client (Some (Turns count)) = TurnsRequested client (granted bus.stepped count)
 outcome_of_request bus client (Some Nodes) = NodesRequested client
+outcome_of_request bus client (Some (Place placement)) = PlaceRequested client placement
 
 -- the duration of a turn: that of its packet, and without power that of an idle packet
 abbrev pub duration : Option (List ℕ) → ℕ

@@ -1,7 +1,7 @@
 -- The layout's events for the events of a bus.
 use Rattle.std.specs.Prelude.{ℕ, nat_le, if◌then◌else◌, List, [], ◌∷◌, ◌++◌, map, Option, Some, None}
 use Rattle.loconet_tcp.specs.declared.request.Request.{Request}
-use Rattle.loconet_tcp.specs.declared.request.Request.TheVariants.{Send, Invalid, Turns, Nodes}
+use Rattle.loconet_tcp.specs.declared.request.Request.TheVariants.{Send, Invalid, Turns, Nodes, Place}
 use Rattle.layout_core.specs.declared.event.Event.{Event as LayoutEvent}
 use Rattle.layout_core.specs.declared.event.Event.TheVariants as layout
 use Rattle.bus.specs.declared.event.Event.{Event}
@@ -23,6 +23,7 @@ request_events client (Some (Invalid reason)) = []
 request_events client (Some (Send message)) = bytes_on client message
 request_events client (Some (Turns count)) = []
 request_events client (Some Nodes) = []
+request_events client (Some (Place placement)) = []
 
 -- the layout's events for an event of its bus
 abbrev pub layout_event : BusState → Event → List LayoutEvent

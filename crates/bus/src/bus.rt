@@ -153,6 +153,7 @@ impl Bus {
                 turns: granted(self.is_stepped, count),
             },
             Some(Request::Nodes) => Outcome::NodesRequested { client },
+            Some(Request::Place(placement)) => Outcome::PlaceRequested { client, placement },
         }
     }
 
