@@ -5,10 +5,9 @@ use Rattle.std.specs.List.{slice_index_or}
 use Rattle.std.proofs.lemmas.Bool.{cases_eq}
 use Rattle.std.proofs.lemmas.List.{get_or-set_other}
 use Rattle.bus.specs.declared.event.Event.{Event}
-use Rattle.bus.specs.Bus.{outcome_of}
 use Rattle.bus_server.specs.Observations.{Observation}
 use Rattle.loconet_tcp.specs.declared.outcome.Outcome.{Outcome}
-use Rattle.loconet_tcp.specs.declared.outcome.Outcome.TheVariants.{Nothing, Connected, Disconnected, Rejected, Reported, Sent, TurnBegan, TurnsRequested, NodesRequested}
+use Rattle.loconet_tcp.specs.declared.outcome.Outcome.TheVariants.{Nothing, Connected, Disconnected, Rejected, Reported, Sent, TurnBegan, TurnsRequested, NodesRequested, PlaceRequested, Placed}
 use Rattle.loconet_tcp.specs.Texts.{text_for}
 use Rattle.bus_server.specs.Queues.{enqueued}
 use Rattle.bus_server.specs.TransportEvents.{Polled, ServerClosed, Accepted, WriteBlocked, PeerClosed, NonePending, TransportEvent, Written, ReadBlocked, Received, Refused}
@@ -17,7 +16,7 @@ use Rattle.bus_server.specs.ClientQueues.{SendQueues, enqueued_all, queues_after
 use Rattle.bus_server.specs.declared.pace.Pace.{Pace}
 use Rattle.bus_server.specs.declared.pace.Pace.TheVariants.{AfterMessages, RealTime}
 use Rattle.bus_server.specs.Runs.{RunsByClock, RunsRounds, Round}
-use Rattle.bus_server.specs.Applied.{Handled, Applies, LoggedEvent, RunsEvent, RunsEvents, AppliesAll, ServerState, answer_to, round_start, with_backlog}
+use Rattle.bus_server.specs.Applied.{Handled, Applies, LoggedEvent, RunsEvent, RunsEvents, AppliesAll, ServerState, answer_to, outcome_in, round_start, with_backlog}
 use Rattle.bus_server.proofs.Keeping.{enqueued_there, none_set, set_at, told_there}
 use Rattle.bus_server.proofs.Rounding.{round_serves}
 
@@ -70,6 +69,8 @@ front_told i account (Sent client message reply) queues fits q h = all_told i ac
 front_told i account (Reported message) queues fits q h = all_told i account (Reported message) queues fits q h
 front_told i account (TurnsRequested client turns) queues fits q h = all_told i account (TurnsRequested client turns) queues fits q h
 front_told i account (NodesRequested client) queues fits q h = fits q h ∙ sym (append-nil account.text)
+front_told i account (PlaceRequested client placement) queues fits q h = fits q h ∙ sym (append-nil account.text)
+front_told i account (Placed client answer) queues fits q h = all_told i account (Placed client answer) queues fits q h
 front_told i account (Disconnected client) queues fits q h = elim (cases_eq i client) [
   | inl same ↦ no_some q (sym (subst (λ (n : ℕ). slice_index_or (slice_set queues client None) n None ≡ None) (sym same) (none_set queues client)) ∙ h)
   | inr differs ↦ fits q (sym (get_or-set_other queues client i None None differs) ∙ h) ∙ sym (append-nil account.text)
@@ -90,7 +91,7 @@ front_told i account (Connected client) queues fits q h =
 front_happens : (i : ℕ) (account : Account) (event : Event) (observed : Observation) (old new : ServerState) → RunsEvent event observed old new → IsFront i account old → IsFront i (account_observed i account observed) new
 front_happens i account event observed old new h fits =
     subst (λ (s : Observation). IsFront i (account_observed i account s) new) (sym h.saw)
-    (λ q at. front_told i account (outcome_of old.bus event) old.queues fits q (ap (λ (queues : SendQueues). slice_index_or queues i None) (sym h.queues) ∙ at))
+    (λ q at. front_told i account (outcome_in old event) old.queues fits q (ap (λ (queues : SendQueues). slice_index_or queues i None) (sym h.queues) ∙ at))
 
 front_happened : (i : ℕ) (account : Account) (happened : List LoggedEvent) (old new : ServerState) → RunsEvents happened old new → IsFront i account old → IsFront i (account_applied i account happened) new
 front_happened i account [] old new same fits = subst (λ (s : ServerState). IsFront i account s) (sym same) fits

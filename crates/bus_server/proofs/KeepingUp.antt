@@ -11,33 +11,37 @@ use Rattle.std.proofs.lemmas.Slice.Eq.{bytes_eq-Decides}
 use Rattle.ascii_words.specs.Words.{is_blank, words_of}
 use Rattle.ln_frame.specs.Message.{IsWhole, are_data, has_form, is_len, is_whole, message_len}
 use Rattle.ln_ops.specs.Reply.{reply_bytes}
+use Rattle.ln_ops.specs.Sensor.{is_interrogation}
 use Rattle.ln_ops.specs.declared.reply.Reply.{Reply}
 use Rattle.ln_ops.specs.declared.reply.Reply.TheVariants.{LongAck, SlotData}
 use Rattle.layout_core.specs.declared.node.Node.{Node}
 use Rattle.layout_core.specs.DecoderStates.{decoder_line, decoder_state_of}
 use Rattle.layout_core.specs.Nodes.{spec_of}
 use Rattle.railway.specs.Railway.{RailwayState}
-use Rattle.loconet_tcp.specs.ClientLines.{hex_words, line_end, node_text, nodes_ok_text, receive_text, sent_error_text, sent_ok_text, turns_text, version_text}
-use Rattle.loconet_tcp.specs.Requests.{bytes_of, is_nodes, is_send, is_turns, parse_send, request_of, turns_of}
+use Rattle.loconet_tcp.specs.ClientLines.{hex_words, line_end, node_text, nodes_ok_text, place_text, receive_text, sent_error_text, sent_ok_text, turns_text, version_text}
+use Rattle.loconet_tcp.specs.Requests.{bytes_of, is_nodes, is_place, is_send, is_turns, parse_place, parse_send, request_of, turns_of}
 use Rattle.loconet_tcp.specs.Text.{is_end}
 use Rattle.loconet_tcp.specs.Texts.{reply_text, text_for}
 use Rattle.loconet_tcp.specs.declared.outcome.Outcome.{Outcome}
-use Rattle.loconet_tcp.specs.declared.outcome.Outcome.TheVariants.{Connected, Nothing, Rejected, Sent, TurnBegan, TurnsRequested}
+use Rattle.loconet_tcp.specs.declared.outcome.Outcome.TheVariants.{Connected, Nothing, Placed, Rejected, Sent, TurnBegan, TurnsRequested}
 use Rattle.loconet_tcp.specs.declared.request.Reason.{Reason}
 use Rattle.loconet_tcp.specs.declared.request.Reason.TheVariants.{NoMessage, NotHex, TooLong, WrongCheck}
+use Rattle.loconet_tcp.specs.declared.request.PlaceError.{PlaceError}
+use Rattle.loconet_tcp.specs.declared.request.PlaceError.TheVariants as place_error
+use Rattle.loconet_tcp.specs.declared.request.Placement.{Placement}
 use Rattle.loconet_tcp.specs.declared.request.TurnsError.{TurnsError}
 use Rattle.loconet_tcp.specs.declared.request.TurnsError.TheVariants.{NoNumber, RealTime}
 use Rattle.std.specs.Str.{bytes_eq}
 use Rattle.loconet_tcp.specs.declared.request.Request.{Request}
-use Rattle.loconet_tcp.specs.declared.request.Request.TheVariants.{Invalid, Nodes, Send, Turns}
+use Rattle.loconet_tcp.specs.declared.request.Request.TheVariants.{Invalid, Nodes, Place, Send, Turns}
 use Rattle.std.specs.List.{after_first}
-use Rattle.bus.specs.Bus.{BusState, after_event, client_of, granted, outcome_of, outcome_of_request, pending_text_at, reply_to, request_at}
+use Rattle.bus.specs.Bus.{BusState, after_event, client_of, granted, outcome_of_request, pending_text_at, reply_to, request_at}
 use Rattle.bus.specs.Course.{is_time}
 use Rattle.bus_server.specs.Observations.{Observation}
 use Rattle.bus.specs.declared.event.Event.{Event}
 use Rattle.bus.specs.declared.event.Event.TheVariants.{Connects, Disconnects, Elapses, Receives, Reports, Turn}
 use Rattle.bus_server.specs.Answers.{next_line, node_lines}
-use Rattle.bus_server.specs.Applied.{answer_to, Applies, AppliesAll, AreTurns, Handled, LoggedEvent, RunsEvent, RunsEventWithTurns, RunsEvents, ServerState, events_of, has_overflowed, is_connected, transport_events, with_backlog, round_start}
+use Rattle.bus_server.specs.Applied.{answer_to, Applies, AppliesAll, AreTurns, Handled, LoggedEvent, RunsEvent, RunsEventWithTurns, RunsEvents, ServerState, events_of, has_overflowed, is_connected, outcome_in, transport_events, with_backlog, round_start}
 use Rattle.bus_server.specs.ClientQueues.{SendQueues, enqueued_all, enqueued_from, queues_after}
 use Rattle.bus_server.specs.KeepUp.{IsUpToDate, IsWithoutRailway, KeepsUp, is_blocked, is_closed}
 use Rattle.bus_server.specs.Queues.{enqueued, queued}
@@ -45,7 +49,8 @@ use Rattle.bus_server.specs.Rounds.{IsRound, IsUnread, ServesClient, ServesClien
 use Rattle.bus_server.specs.declared.pace.Pace.{Pace}
 use Rattle.bus_server.specs.declared.pace.Pace.TheVariants.{AfterMessages, RealTime}
 use Rattle.bus_server.specs.Runs.{Round, RunsByClock, RunsRounds, transport_log}
-use Rattle.bus_server.specs.Sensors.{asks_sensors, full_report, is_report, railway_after, reports_after}
+use Rattle.bus_server.specs.Placements.{answered, place_answer}
+use Rattle.bus_server.specs.Sensors.{full_report, is_report, railway_after, railway_placed, reports_after, reports_due}
 use Rattle.bus_server.specs.TransportEvents.{Accepted, NonePending, PeerClosed, Polled, ReadBlocked, Received, Refused, ServerClosed, TransportEvent, WriteBlocked, Written}
 use Rattle.bus_server.proofs.Going.{log-append}
 use Rattle.bus_server.proofs.Keeping.{enqueued_there, joined_one, none_of_both, none_set, only_joins, only_leaves, left_is_not_late, put_keeps, row_before, row_behind, set_at}
@@ -67,13 +72,14 @@ most_whole (op ∷ s ∷ m) w =
     let form = and_parts (has_form (op ∷ s ∷ m)) _ w in
     most_bytes op s (length (op ∷ s ∷ m)) (and_parts (is_len (message_len op s) (length (op ∷ s ∷ m))) (are_data (s ∷ m)) form.0).0
 
--- the line of a request begins with SEND or TURNS or is NODES, and what is sent is a whole message
+-- the line of a request begins with SEND, TURNS or PLACE or is NODES, and what is sent is a whole message
 abbrev IsFromLine : List ℕ → Option Request → Type 0
 IsFromLine kept None = Unit {0}
 IsFromLine kept (Some (Invalid reason)) = 4 ≤ length kept
 IsFromLine kept (Some (Send message)) = (4 ≤ length kept) × IsWhole message
 IsFromLine kept (Some (Turns count)) = 4 ≤ length kept
 IsFromLine kept (Some Nodes) = 4 ≤ length kept
+IsFromLine kept (Some (Place placement)) = 4 ≤ length kept
 
 first_bytes : (line word : List ℕ) → bytes_eq (before_first is_blank line) word ≡ true → length word ≤ length line
 first_bytes line word h =
@@ -86,6 +92,9 @@ four_bytes line h = first_bytes line (codes "SEND") h
 
 five_bytes : (line : List ℕ) → is_turns line ≡ true → 4 ≤ length line
 five_bytes line h = omega (arith, first_bytes line (codes "TURNS") h)
+
+place_bytes : (line : List ℕ) → is_place line ≡ true → 4 ≤ length line
+place_bytes line h = omega (arith, first_bytes line (codes "PLACE") h)
 
 nodes_bytes : (line : List ℕ) → is_nodes line ≡ true → 4 ≤ length line
 nodes_bytes line h =
@@ -103,17 +112,27 @@ whole_sends : (line : List ℕ) (bytes : Option (List ℕ)) → 4 ≤ length lin
 whole_sends line None four = four
 whole_sends line (Some bytes) four = whole_by line (is_whole bytes) (has_form bytes) bytes four refl
 
-from_line : (line : List ℕ) (sends turns nodes long : Bool) (bytes : Option (List ℕ)) (count : Option ℕ) → is_send line ≡ sends → is_turns line ≡ turns → is_nodes line ≡ nodes
-    → IsFromLine line (if sends then Some (if long then Invalid TooLong else parse_send bytes) else if turns then Some (Turns count) else if nodes then Some Nodes else None)
-from_line line false true nodes long bytes count e f g = five_bytes line f
-from_line line false false true long bytes count e f g = nodes_bytes line g
-from_line line false false false long bytes count e f g = tt
-from_line line true turns nodes true bytes count e f g = four_bytes line e
-from_line line true turns nodes false bytes count e f g = whole_sends line bytes (four_bytes line e)
+from_other_line : (line : List ℕ) (turns place nodes : Bool) (count : Option ℕ) (placement : Result Placement PlaceError) → is_turns line ≡ turns → is_place line ≡ place → is_nodes line ≡ nodes
+    → IsFromLine line (if turns then Some (Turns count) else if place then Some (Place placement) else if nodes then Some Nodes else None)
+from_other_line line true place nodes count placement e f g = five_bytes line e
+from_other_line line false true nodes count placement e f g = place_bytes line f
+from_other_line line false false true count placement e f g = nodes_bytes line g
+from_other_line line false false false count placement e f g = tt
+
+from_line : (line : List ℕ) (sends long : Bool) (bytes : Option (List ℕ)) (other : Option Request) → is_send line ≡ sends → IsFromLine line other
+    → IsFromLine line (if sends then Some (if long then Invalid TooLong else parse_send bytes) else other)
+from_line line false long bytes other e h = h
+from_line line true true bytes other e h = four_bytes line e
+from_line line true false bytes other e h = whole_sends line bytes (four_bytes line e)
 
 at_end : (kept : List ℕ) (ends : Bool) → IsFromLine kept (if ends then request_of kept else None)
 at_end kept false = tt
-at_end kept true = from_line kept (is_send kept) (is_turns kept) (is_nodes kept) (nat_lt 400 (length kept)) (bytes_of (words_of (after_first is_blank kept))) (turns_of (after_first is_blank kept)) refl refl refl
+at_end kept true =
+    let rest : List ℕ = after_first is_blank kept in
+    let placement : Result Placement PlaceError = if nat_lt 400 (length kept) then Err place_error.TooLong else parse_place (words_of rest) in
+    from_line kept (is_send kept) (nat_lt 400 (length kept)) (bytes_of (words_of rest))
+    (if is_turns kept then Some (Turns (turns_of rest)) else if is_place kept then Some (Place placement) else if is_nodes kept then Some Nodes else None) refl
+    (from_other_line kept (is_turns kept) (is_place kept) (is_nodes kept) (turns_of rest) placement refl refl refl)
 
 request_line : (kept : Option (List ℕ)) (byte : ℕ) → IsFromLine (queued kept) (request_at kept byte)
 request_line None byte = tt
@@ -150,38 +169,72 @@ turns_most true (Ok count) = omega arith
 turns_most true (Err RealTime) = omega arith
 turns_most true (Err NoNumber) = omega arith
 
+place_most : (asker : Bool) (answer : Result (Unit {0}) PlaceError) → length (if asker then place_text answer else []) ≤ 789
+place_most false answer = omega arith
+place_most true (Ok done) = omega arith
+place_most true (Err place_error.NoPlan) = omega arith
+place_most true (Err place_error.TooLong) = omega arith
+place_most true (Err place_error.NoNumber) = omega arith
+place_most true (Err place_error.NoEnd) = omega arith
+place_most true (Err place_error.UnknownTrain) = omega arith
+place_most true (Err place_error.UnknownBlock) = omega arith
+place_most true (Err place_error.OffTrack) = omega arith
+
 three_most : (a b c : List ℕ) → length a ≤ 390 → length b ≤ 9 → length c ≤ 390 → length (a ++ b ++ c) ≤ 789
 three_most a b c h k l = omega (arith, h, k, l, length-append (a ++ b) c, length-append a b)
 
-request_most : (bus : BusState) (client i : ℕ) (kept : List ℕ) (request : Option Request) → IsFromLine kept request → length (text_for i (outcome_of_request bus client request)) ≤ 789
-request_most bus client i kept None h = omega arith
-request_most bus client i kept (Some (Invalid reason)) h = error_most (client == i) reason
-request_most bus client i kept (Some (Turns count)) h = turns_most (client == i) (granted bus.stepped count)
-request_most bus client i kept (Some Nodes) h = omega arith
-request_most bus client i kept (Some (Send message)) h =
-    three_most (receive_text message) (if client == i then sent_ok_text else []) (reply_text (reply_to bus.station message)) (receive_most message h.1) (ok_most (client == i)) (reply_most _)
+-- the outcome of a request, with the answer where it puts a train on the track
+abbrev answered_request : ServerState → (client : ℕ) → Option Request → Outcome
+answered_request state client request = answered state.names state.railway (outcome_of_request state.bus client request)
+
+request_most : (state : ServerState) (client i : ℕ) (kept : List ℕ) (request : Option Request) → IsFromLine kept request → length (text_for i (answered_request state client request)) ≤ 789
+request_most state client i kept None h = omega arith
+request_most state client i kept (Some (Invalid reason)) h = error_most (client == i) reason
+request_most state client i kept (Some (Turns count)) h = turns_most (client == i) (granted state.bus.stepped count)
+request_most state client i kept (Some Nodes) h = omega arith
+request_most state client i kept (Some (Place placement)) h = place_most (client == i) (place_answer state.names state.railway placement)
+request_most state client i kept (Some (Send message)) h =
+    three_most (receive_text message) (if client == i then sent_ok_text else []) (reply_text (reply_to state.bus.station message)) (receive_most message h.1) (ok_most (client == i)) (reply_most _)
 
 -- Without a railway no sensor reports.
 
-no_railway : (bus : BusState) (nodes : List Node) (event : Event) → railway_after bus nodes event None ≡ None
-no_railway bus nodes (Connects client) = refl
-no_railway bus nodes (Receives client byte) = refl
-no_railway bus nodes (Disconnects client) = refl
-no_railway bus nodes (Reports sensor occupied) = refl
-no_railway bus nodes (Elapses micros missed) = refl
-no_railway bus nodes (Turn missed) = refl
+none_placed : (names : List (List ℕ)) (bus : BusState) (client : ℕ) (request : Option Request) → railway_placed names (outcome_of_request bus client request) None ≡ None
+none_placed names bus client None = refl
+none_placed names bus client (Some (Invalid reason)) = refl
+none_placed names bus client (Some (Send message)) = refl
+none_placed names bus client (Some (Turns count)) = refl
+none_placed names bus client (Some Nodes) = refl
+none_placed names bus client (Some (Place (Ok placement))) = refl
+none_placed names bus client (Some (Place (Err error))) = refl
+
+no_railway : (names : List (List ℕ)) (bus : BusState) (nodes : List Node) (event : Event) → railway_after names bus nodes event None ≡ None
+no_railway names bus nodes (Connects client) = refl
+no_railway names bus nodes (Receives client byte) = none_placed names bus client (request_at (client_of bus client) byte)
+no_railway names bus nodes (Disconnects client) = refl
+no_railway names bus nodes (Reports sensor occupied) = refl
+no_railway names bus nodes (Elapses micros missed) = refl
+no_railway names bus nodes (Turn missed) = refl
 
 none_asked : (asks : Bool) → (if asks then full_report None else []) ≡ []
 none_asked true = refl
 none_asked false = refl
 
-no_reports : (bus : BusState) (nodes : List Node) (event : Event) → reports_after bus nodes event None ≡ []
-no_reports bus nodes (Connects client) = refl
-no_reports bus nodes (Receives client byte) = none_asked (asks_sensors (outcome_of bus (Receives client byte)))
-no_reports bus nodes (Disconnects client) = refl
-no_reports bus nodes (Reports sensor occupied) = refl
-no_reports bus nodes (Elapses micros missed) = refl
-no_reports bus nodes (Turn missed) = refl
+none_reported : (names : List (List ℕ)) (bus : BusState) (client : ℕ) (request : Option Request) → reports_due names (outcome_of_request bus client request) None [] ≡ []
+none_reported names bus client None = refl
+none_reported names bus client (Some (Invalid reason)) = refl
+none_reported names bus client (Some (Send message)) = none_asked (is_interrogation message)
+none_reported names bus client (Some (Turns count)) = refl
+none_reported names bus client (Some Nodes) = refl
+none_reported names bus client (Some (Place (Ok placement))) = refl
+none_reported names bus client (Some (Place (Err error))) = refl
+
+no_reports : (names : List (List ℕ)) (bus : BusState) (nodes : List Node) (event : Event) → reports_after names bus nodes event None ≡ []
+no_reports names bus nodes (Connects client) = refl
+no_reports names bus nodes (Receives client byte) = none_reported names bus client (request_at (client_of bus client) byte)
+no_reports names bus nodes (Disconnects client) = refl
+no_reports names bus nodes (Reports sensor occupied) = refl
+no_reports names bus nodes (Elapses micros missed) = refl
+no_reports names bus nodes (Turn missed) = refl
 
 no_cons : {A B : Type 0} (x : A) (xs : List A) → [] ≡ x ∷ xs → B
 no_cons x xs h = cc
@@ -194,7 +247,7 @@ none_due (Disconnects client) observed old new runs none = refl
 none_due (Elapses micros missed) observed old new runs none = refl
 none_due (Turn missed) observed old new runs none = refl
 
-made_due : (event : Event) (observed : Observation) (old new : ServerState) → RunsEvent event observed old new → old.unreported ≡ [] → new.unreported ≡ reports_after old.bus old.nodes event old.railway
+made_due : (event : Event) (observed : Observation) (old new : ServerState) → RunsEvent event observed old new → old.unreported ≡ [] → new.unreported ≡ reports_after old.names old.bus old.nodes event old.railway
 made_due (Reports sensor occupied) observed old new runs none = no_cons (record { sensor = sensor; occupied = occupied }) new.unreported (sym none ∙ runs.unreported)
 made_due (Connects client) observed old new runs none = runs.unreported.1
 made_due (Receives client byte) observed old new runs none = runs.unreported.1
@@ -204,8 +257,8 @@ made_due (Turn missed) observed old new runs none = runs.unreported.1
 
 still_without : (event : Event) (observed : Observation) (old new : ServerState) → RunsEvent event observed old new → IsWithoutRailway old → IsWithoutRailway new
 still_without event observed old new runs h = (
-  runs.railway ∙ ap (λ (r : Option RailwayState). railway_after old.bus old.nodes event r) h.0 ∙ no_railway old.bus old.nodes event,
-  made_due event observed old new runs h.1 ∙ ap (λ (r : Option RailwayState). reports_after old.bus old.nodes event r) h.0 ∙ no_reports old.bus old.nodes event,
+  runs.railway ∙ ap (λ (r : Option RailwayState). railway_after old.names old.bus old.nodes event r) h.0 ∙ no_railway old.names old.bus old.nodes event,
+  made_due event observed old new runs h.1 ∙ ap (λ (r : Option RailwayState). reports_after old.names old.bus old.nodes event r) h.0 ∙ no_reports old.names old.bus old.nodes event,
 )
 
 -- A client has at most this much text in its queue, which has not overflowed, and there is no railway.
@@ -277,31 +330,34 @@ connected_still clients reader client byte = elim (cases_eq client reader) [
   | inr differs ↦ ap is_some (get_or-set_other clients reader client (pending_text_at (slice_index_or clients reader None) byte) None differs)
 ]
 
-request_within : (client reader n m : ℕ) (bus : BusState) (request : Option Request) (old new : ServerState) → new.queues ≡ queues_after (outcome_of_request bus reader request) old.queues
-    → is_connected new client ≡ is_connected old client → IsWithoutRailway new → n + length (text_for client (outcome_of_request bus reader request)) ≤ m → m ≤ 65536 → Within client n old → Within client m new
-request_within client reader n m bus None old new queues connected without most room h =
+request_within : (client reader n m : ℕ) (request : Option Request) (old new : ServerState) → new.queues ≡ queues_after (answered_request old reader request) old.queues
+    → is_connected new client ≡ is_connected old client → IsWithoutRailway new → n + length (text_for client (answered_request old reader request)) ≤ m → m ≤ 65536 → Within client n old → Within client m new
+request_within client reader n m None old new queues connected without most room h =
     within_more client n m new (omega (arith, most)) (same_within client n old new queues connected without h)
-request_within client reader n m bus (Some (Invalid reason)) old new queues connected without most room h =
+request_within client reader n m (Some (Invalid reason)) old new queues connected without most room h =
     enqueues_within client n m (Rejected reader reason) old new queues connected without most room h
-request_within client reader n m bus (Some (Send message)) old new queues connected without most room h =
-    enqueues_within client n m (Sent reader message (reply_to bus.station message)) old new queues connected without most room h
-request_within client reader n m bus (Some (Turns count)) old new queues connected without most room h =
-    enqueues_within client n m (TurnsRequested reader (granted bus.stepped count)) old new queues connected without most room h
-request_within client reader n m bus (Some Nodes) old new queues connected without most room h =
+request_within client reader n m (Some (Send message)) old new queues connected without most room h =
+    enqueues_within client n m (Sent reader message (reply_to old.bus.station message)) old new queues connected without most room h
+request_within client reader n m (Some (Turns count)) old new queues connected without most room h =
+    enqueues_within client n m (TurnsRequested reader (granted old.bus.stepped count)) old new queues connected without most room h
+request_within client reader n m (Some (Place placement)) old new queues connected without most room h =
+    enqueues_within client n m (Placed reader (place_answer old.names old.railway placement)) old new queues connected without most room h
+request_within client reader n m (Some Nodes) old new queues connected without most room h =
     within_more client n m new (omega (arith, most)) (same_within client n old new queues connected without h)
 
 receives_within : (client reader byte n m : ℕ) (observed : Observation) (old new : ServerState) → RunsEvent (Receives reader byte) observed old new
-    → n + length (text_for client (outcome_of old.bus (Receives reader byte))) ≤ m → m ≤ 65536 → Within client n old → Within client m new
+    → n + length (text_for client (outcome_in old (Receives reader byte))) ≤ m → m ≤ 65536 → Within client n old → Within client m new
 receives_within client reader byte n m observed old new runs most room h =
-    request_within client reader n m old.bus (request_at (client_of old.bus reader) byte) old new runs.queues
+    request_within client reader n m (request_at (client_of old.bus reader) byte) old new runs.queues
     (ap (λ (bus : BusState). is_some (slice_index_or bus.clients client None)) runs.bus ∙ connected_still old.bus.clients reader client byte)
     (still_without (Receives reader byte) observed old new runs h.3) most room h
 
 -- Time elapses.
 
-turn_queues : (ends : Bool) (packet : Option (List ℕ)) (queues : SendQueues) → queues_after (if ends then TurnBegan packet else Nothing) queues ≡ queues
-turn_queues true packet queues = refl
-turn_queues false packet queues = refl
+turn_queues : (names : List (List ℕ)) (railway : Option RailwayState) (ends : Bool) (packet : Option (List ℕ)) (queues : SendQueues)
+    → queues_after (answered names railway (if ends then TurnBegan packet else Nothing)) queues ≡ queues
+turn_queues names railway true packet queues = refl
+turn_queues names railway false packet queues = refl
 
 turn_clients : (ends : Bool) (a b : BusState) → a.clients ≡ b.clients → (if ends then a else b).clients ≡ b.clients
 turn_clients true a b same = same
@@ -315,13 +371,13 @@ clients_in_time (Reports sensor occupied) bus h = refl
 clients_in_time (Turn missed) bus h = refl
 clients_in_time (Elapses micros missed) bus h = turn_clients (nat_le bus.remaining micros) _ _ refl
 
-queues_in_time : (event : Event) (bus : BusState) (queues : SendQueues) → is_time event ≡ true → is_report event ≡ false → queues_after (outcome_of bus event) queues ≡ queues
-queues_in_time (Connects client) bus queues h none = cc
-queues_in_time (Receives client byte) bus queues h none = cc
-queues_in_time (Disconnects client) bus queues h none = cc
-queues_in_time (Reports sensor occupied) bus queues h none = cc
-queues_in_time (Turn missed) bus queues h none = refl
-queues_in_time (Elapses micros missed) bus queues h none = turn_queues (nat_le bus.remaining micros) _ queues
+queues_in_time : (event : Event) (old : ServerState) → is_time event ≡ true → is_report event ≡ false → queues_after (outcome_in old event) old.queues ≡ old.queues
+queues_in_time (Connects client) old h none = cc
+queues_in_time (Receives client byte) old h none = cc
+queues_in_time (Disconnects client) old h none = cc
+queues_in_time (Reports sensor occupied) old h none = cc
+queues_in_time (Turn missed) old h none = refl
+queues_in_time (Elapses micros missed) old h none = turn_queues old.names old.railway (nat_le old.bus.remaining micros) _ old.queues
 
 -- what is so of a client in time: its queue, and what is kept of each client's text
 abbrev InTime : (client n : ℕ) → (old new : ServerState) → Type 0
@@ -330,7 +386,7 @@ InTime client n old new = Within client n new × (new.bus.clients ≡ old.bus.cl
 time_within : (client n : ℕ) (event : Event) (observed : Observation) (old new : ServerState) → is_time event ≡ true → RunsEvent event observed old new → Within client n old → InTime client n old new
 time_within client n event observed old new time runs h =
     let clients : new.bus.clients ≡ old.bus.clients = ap (λ (bus : BusState). bus.clients) runs.bus ∙ clients_in_time event old.bus time in (
-      same_within client n old new (runs.queues ∙ queues_in_time event old.bus old.queues time (none_due event observed old new runs h.3.1))
+      same_within client n old new (runs.queues ∙ queues_in_time event old time (none_due event observed old new runs h.3.1))
           (ap (λ (all : List (Option (List ℕ))). is_some (slice_index_or all client None)) clients) (still_without event observed old new runs h.3) h,
       clients,
     )
@@ -391,6 +447,7 @@ is_four kept (Invalid reason) h = h
 is_four kept (Send message) h = h.0
 is_four kept (Turns count) h = h
 is_four kept Nodes h = h
+is_four kept (Place placement) h = h
 
 -- A client connects or disconnects.
 
@@ -482,7 +539,7 @@ paced_by : (client reader byte n p bytes : ℕ) (request : Option Request) (obse
     → RunsEvent (Receives reader byte) observed old mid → RunsEvents turns mid new → list_all is_time (events_of turns) ≡ true
     → request_at (client_of old.bus reader) byte ≡ request → bytes < 400 → 5 * n + 789 * p ≤ 10336 + 789 * bytes → Paced client reader n p old → HasRoom client reader (bytes + 1) new
 paced_by client reader byte n p bytes None observed turns old mid new runs after time asks within_bytes spent h =
-    let text : length (text_for client (outcome_of old.bus (Receives reader byte))) ≡ 0 = ap (λ (r : Option Request). length (text_for client (outcome_of_request old.bus reader r))) asks in
+    let text : length (text_for client (outcome_in old (Receives reader byte))) ≡ 0 = ap (λ (r : Option Request). length (text_for client (answered_request old reader r))) asks in
     let one = receives_within client reader byte n n observed old mid runs (omega (arith, text)) (omega (arith, spent, within_bytes)) h.0 in
     let all = times_within client n turns mid new time after one in
     let kept = kept_then reader byte observed old mid new runs all.1 in
@@ -501,7 +558,7 @@ paced_by client reader byte n p bytes None observed turns old mid new runs after
     )
 paced_by client reader byte n p bytes (Some asked) observed turns old mid new runs after time asks within_bytes spent h =
     let line = request_line (client_of old.bus reader) byte in
-    let text : length (text_for client (outcome_of old.bus (Receives reader byte))) ≤ 789 = request_most old.bus reader client (queued (client_of old.bus reader)) (request_at (client_of old.bus reader) byte) line in
+    let text : length (text_for client (outcome_in old (Receives reader byte))) ≤ 789 = request_most old reader client (queued (client_of old.bus reader)) (request_at (client_of old.bus reader) byte) line in
     let four : 4 ≤ length (queued (client_of old.bus reader)) = is_four (queued (client_of old.bus reader)) asked (subst (IsFromLine (queued (client_of old.bus reader))) asks line) in
     let paid : 4 ≤ p = elim h.1 [
       | inl few ↦ omega (arith, few, four)

@@ -1,31 +1,38 @@
 -- What a client knows of a sensor by the reports on the bus.
-use Rattle.std.proofs.Common.{◌≡◌, ℕ, ◌<◌, Bool, true, false, if◌then◌else◌, List, [], ◌∷◌, ◌++◌, length, Option, Some, refl, ap, sym, subst, ◌∙◌, append-nil}
-use Rattle.std.specs.Prelude.{IsTrue}
+use Rattle.std.proofs.Common.{◌≡◌, ℕ, ◌<◌, Bool, true, false, if◌then◌else◌, List, [], ◌∷◌, ◌++◌, length, Option, None, Some, refl, ap, sym, subst, ◌∙◌, append-nil}
+use Rattle.std.specs.Prelude.{Err, IsTrue, Ok}
 use Rattle.std.specs.List.{flat_map, slice_index_or}
 use Rattle.std.proofs.lemmas.List.{map-append}
 use Rattle.layout_core.specs.declared.node.Node.{Node}
 use Rattle.ln_ops.specs.declared.sensor.SensorReport.{SensorReport}
+use Rattle.ln_ops.specs.Sensor.{is_interrogation}
+use Rattle.loconet_tcp.specs.declared.outcome.Outcome.{Outcome}
+use Rattle.loconet_tcp.specs.declared.request.Request.{Request}
+use Rattle.loconet_tcp.specs.declared.request.Request.TheVariants.{Invalid, Nodes, Place, Send, Turns}
+use Rattle.railway.specs.declared.block.Block.{Block}
 use Rattle.railway.specs.Blocks.{default_block}
-use Rattle.railway.specs.Course.{Happening, after_all, reports_of_all}
+use Rattle.railway.specs.Course.{Happening, after, after_all, reports_of, reports_of_all}
 use Rattle.railway.specs.Course.Happening.{Elapses as TimeElapses}
-use Rattle.railway.specs.Railway.{RailwayState, elapsed, is_railway, reports_in}
+use Rattle.railway.specs.Railway.{RailwayState, is_railway}
 use Rattle.railway.specs.Reports.{full, is_occupied, level_after}
 use Rattle.bus.specs.declared.event.Event.{Event}
 use Rattle.bus.specs.declared.event.Event.TheVariants.{Connects, Receives, Disconnects, Reports, Elapses, Turn}
-use Rattle.bus.specs.Bus.{outcome_of}
+use Rattle.bus.specs.Bus.{BusState, client_of, outcome_of, outcome_of_request, request_at}
 use Rattle.bus_server.specs.Observations.{Observation}
 use Rattle.bus_server.specs.Applied.{Applies, AppliesAll, Handled, LoggedEvent, RunsEvent, RunsEvents, ServerState, events_of, with_backlog, round_start}
 use Rattle.bus_server.specs.Known.{IsKnown, IsSensorOf, reports_among}
 use Rattle.bus_server.specs.declared.pace.Pace.{Pace}
 use Rattle.bus_server.specs.declared.pace.Pace.TheVariants.{AfterMessages, RealTime}
 use Rattle.bus_server.specs.Runs.{Round, RunsByClock, RunsRounds, logged_in}
-use Rattle.bus_server.specs.Sensors.{asks_sensors, full_report, railway_elapsed, reports_elapsed}
+use Rattle.bus_server.specs.Placements.{places}
+use Rattle.bus_server.specs.Sensors.{asks_sensors, full_report, railway_elapsed, railway_placed, reports_due, reports_elapsed}
 use Rattle.bus_server.specs.TransportEvents.{Accepted, NonePending, PeerClosed, Polled, ReadBlocked, Received, Refused, ServerClosed, TransportEvent, WriteBlocked, Written}
 use Rattle.bus_server.proofs.Rounding.{round_serves}
 
 -- what a railway promises of the reports of its sensors
 pub record SensorLaws : Type 0 where
-  pub whole : (railway : RailwayState) (nodes : List Node) (micros : ℕ) → IsTrue (is_railway railway) → IsTrue (is_railway (elapsed railway micros nodes))
+  pub whole : (railway : RailwayState) (happening : Happening) → IsTrue (is_railway railway) → IsTrue (is_railway (after railway happening))
+  pub blocks : (railway : RailwayState) (happening : Happening) → (after railway happening).network.blocks ≡ railway.network.blocks
   pub full : (railway : RailwayState) (block sensor : ℕ) (before : Bool) → IsTrue (is_railway railway) → block < length railway.network.blocks
       → (slice_index_or railway.network.blocks block default_block).sensor ≡ Some sensor
       → level_after (full railway.network.blocks railway.trains) sensor before ≡ is_occupied railway.trains block
@@ -66,42 +73,74 @@ known-append sensor first second level =
 same_known : (block sensor : ℕ) (level : Bool) (old new : ServerState) → new.railway ≡ old.railway → new.unreported ≡ old.unreported → IsKnown block sensor level old → IsKnown block sensor level new
 same_known block sensor level old new railway unreported h = (h.0, railway ∙ h.1, h.2, h.3, ap (λ (d : List SensorReport). level_after d sensor level) unreported ∙ h.4)
 
+-- what a client knows after the reports of a happening
+happens_known : SensorLaws → (block sensor : ℕ) (level : Bool) (happening : Happening) (railway : RailwayState) (new : ServerState) → new.railway ≡ Some (after railway happening)
+    → new.unreported ≡ reports_of railway happening → IsTrue (is_railway railway) → IsSensorOf block sensor railway → level ≡ is_occupied railway.trains block → IsKnown block sensor level new
+happens_known laws block sensor level happening railway new beside unreported whole is known = (
+  after railway happening,
+  beside,
+  laws.whole railway happening whole,
+  subst (λ (blocks : List Block). (block < length blocks) × ((slice_index_or blocks block default_block).sensor ≡ Some sensor)) (sym (laws.blocks railway happening)) is,
+  ap (λ (d : List SensorReport). level_after d sensor level) unreported
+      ∙ ap (λ (l : Bool). level_after (reports_of railway happening) sensor l) known
+      ∙ ap (λ (all : List SensorReport). level_after all sensor (is_occupied railway.trains block)) (sym (append-nil (reports_of railway happening)))
+      ∙ laws.after railway (happening ∷ []) block sensor whole is.0 is.1,
+)
+
 elapsed_known : SensorLaws → (block sensor micros : ℕ) (level : Bool) (nodes : List Node) (old new : ServerState) → old.unreported ≡ [] → new.railway ≡ railway_elapsed old.railway micros nodes
     → new.unreported ≡ reports_elapsed old.railway micros nodes → IsKnown block sensor level old → IsKnown block sensor level new
 elapsed_known laws block sensor micros level nodes old new none trains unreported h =
-    let railway : RailwayState = h.0 in
-    let reports : List SensorReport = reports_in railway micros nodes in
-    let known : level ≡ is_occupied railway.trains block = sym (ap (λ (d : List SensorReport). level_after d sensor level) none) ∙ h.4 in (
-      elapsed railway micros nodes,
-      trains ∙ ap (λ (r : Option RailwayState). railway_elapsed r micros nodes) h.1,
-      laws.whole railway nodes micros h.2,
-      h.3,
-      ap (λ (d : List SensorReport). level_after d sensor level) (unreported ∙ ap (λ (r : Option RailwayState). reports_elapsed r micros nodes) h.1)
-          ∙ ap (λ (l : Bool). level_after reports sensor l) known
-          ∙ ap (λ (all : List SensorReport). level_after all sensor (is_occupied railway.trains block)) (sym (append-nil reports))
-          ∙ laws.after railway (TimeElapses micros nodes ∷ []) block sensor h.2 h.3.0 h.3.1,
-    )
+    happens_known laws block sensor level (TimeElapses micros nodes) h.0 new
+    (trains ∙ ap (λ (r : Option RailwayState). railway_elapsed r micros nodes) h.1)
+    (unreported ∙ ap (λ (r : Option RailwayState). reports_elapsed r micros nodes) h.1)
+    h.2 h.3 (sym (ap (λ (d : List SensorReport). level_after d sensor level) none) ∙ h.4)
 
 asked_level : SensorLaws → (asks level : Bool) (block sensor : ℕ) (railway : RailwayState) → IsTrue (is_railway railway) → IsSensorOf block sensor railway → level ≡ is_occupied railway.trains block
     → level_after (if asks then full_report (Some railway) else []) sensor level ≡ is_occupied railway.trains block
 asked_level laws true level block sensor railway whole is known = laws.full railway block sensor level whole is.0 is.1
 asked_level laws false level block sensor railway whole is known = known
 
+-- after a request of a client
+request_known : SensorLaws → (names : List (List ℕ)) (block sensor : ℕ) (level : Bool) (bus : BusState) (client : ℕ) (request : Option Request) (railway : RailwayState) (new : ServerState)
+    → new.railway ≡ railway_placed names (outcome_of_request bus client request) (Some railway) → new.unreported ≡ reports_due names (outcome_of_request bus client request) (Some railway) []
+    → IsTrue (is_railway railway) → IsSensorOf block sensor railway → level ≡ is_occupied railway.trains block → IsKnown block sensor level new
+request_known laws names block sensor level bus client None railway new beside made whole is known = (railway, beside, whole, is, ap (λ (d : List SensorReport). level_after d sensor level) made ∙ known)
+request_known laws names block sensor level bus client (Some (Invalid reason)) railway new beside made whole is known = (railway, beside, whole, is, ap (λ (d : List SensorReport). level_after d sensor level) made ∙ known)
+request_known laws names block sensor level bus client (Some (Turns count)) railway new beside made whole is known = (railway, beside, whole, is, ap (λ (d : List SensorReport). level_after d sensor level) made ∙ known)
+request_known laws names block sensor level bus client (Some Nodes) railway new beside made whole is known = (railway, beside, whole, is, ap (λ (d : List SensorReport). level_after d sensor level) made ∙ known)
+request_known laws names block sensor level bus client (Some (Place (Err error))) railway new beside made whole is known = (railway, beside, whole, is, ap (λ (d : List SensorReport). level_after d sensor level) made ∙ known)
+request_known laws names block sensor level bus client (Some (Send message)) railway new beside made whole is known =
+    (railway, beside, whole, is, ap (λ (d : List SensorReport). level_after d sensor level) made ∙ asked_level laws (is_interrogation message) level block sensor railway whole is known)
+request_known laws names block sensor level bus client (Some (Place (Ok placement))) railway new beside made whole is known =
+    happens_known laws block sensor level (places names railway placement) railway new beside made whole is known
+
+-- after one that asks all sensors to report, whatever the client knew
+asked_known : SensorLaws → (names : List (List ℕ)) (block sensor : ℕ) (level : Bool) (bus : BusState) (client : ℕ) (request : Option Request) (railway : RailwayState) (new : ServerState)
+    → new.railway ≡ railway_placed names (outcome_of_request bus client request) (Some railway) → new.unreported ≡ reports_due names (outcome_of_request bus client request) (Some railway) []
+    → IsTrue (is_railway railway) → IsSensorOf block sensor railway → asks_sensors (outcome_of_request bus client request) ≡ true → IsKnown block sensor level new
+asked_known laws names block sensor level bus client None railway new beside made whole is asks = cc
+asked_known laws names block sensor level bus client (Some (Invalid reason)) railway new beside made whole is asks = cc
+asked_known laws names block sensor level bus client (Some (Turns count)) railway new beside made whole is asks = cc
+asked_known laws names block sensor level bus client (Some Nodes) railway new beside made whole is asks = cc
+asked_known laws names block sensor level bus client (Some (Place placement)) railway new beside made whole is asks = cc
+asked_known laws names block sensor level bus client (Some (Send message)) railway new beside made whole is asks = (
+  railway,
+  beside,
+  whole,
+  is,
+  ap (λ (d : List SensorReport). level_after d sensor level) (made ∙ ap (λ (a : Bool). if a then full_report (Some railway) else []) asks) ∙ laws.full railway block sensor level whole is.0 is.1,
+)
+
 event_known : SensorLaws → (block sensor : ℕ) (level : Bool) (event : Event) (observed : Observation) (old new : ServerState) → RunsEvent event observed old new → IsKnown block sensor level old
     → IsKnown block sensor (level_after (reports_among (event ∷ [])) sensor level) new
 event_known laws block sensor level (Connects client) observed old new runs h = same_known block sensor level old new runs.railway (runs.unreported.1 ∙ sym runs.unreported.0) h
 event_known laws block sensor level (Disconnects client) observed old new runs h = same_known block sensor level old new runs.railway (runs.unreported.1 ∙ sym runs.unreported.0) h
 event_known laws block sensor level (Receives client byte) observed old new runs h =
-    let railway : RailwayState = h.0 in
-    let asks : Bool = asks_sensors (outcome_of old.bus (Receives client byte)) in
-    let known : level ≡ is_occupied railway.trains block = sym (ap (λ (d : List SensorReport). level_after d sensor level) runs.unreported.0) ∙ h.4 in (
-      railway,
-      runs.railway ∙ h.1,
-      h.2,
-      h.3,
-      ap (λ (d : List SensorReport). level_after d sensor level) (runs.unreported.1 ∙ ap (λ (r : Option RailwayState). if asks then full_report r else []) h.1)
-          ∙ asked_level laws asks level block sensor railway h.2 h.3 known,
-    )
+    let outcome : Outcome = outcome_of old.bus (Receives client byte) in
+    request_known laws old.names block sensor level old.bus client (request_at (client_of old.bus client) byte) h.0 new
+    (runs.railway ∙ ap (λ (r : Option RailwayState). railway_placed old.names outcome r) h.1)
+    (runs.unreported.1 ∙ ap (λ (r : Option RailwayState). reports_due old.names outcome r []) h.1)
+    h.2 h.3 (sym (ap (λ (d : List SensorReport). level_after d sensor level) runs.unreported.0) ∙ h.4)
 event_known laws block sensor level (Reports reporting occupied) observed old new runs h =
     (h.0, runs.railway ∙ h.1, h.2, h.3, sym (ap (λ (d : List SensorReport). level_after d sensor level) runs.unreported) ∙ h.4)
 event_known laws block sensor level (Elapses micros missed) observed old new runs h = elapsed_known laws block sensor micros level old.nodes old new runs.unreported.0 runs.railway runs.unreported.1 h
@@ -110,15 +149,12 @@ event_known laws block sensor level (Turn missed) observed old new runs h = elap
 pub becomes_known : SensorLaws → (block sensor client byte : ℕ) (level : Bool) (railway : RailwayState) (observed : Observation) (old new : ServerState) → old.railway ≡ Some railway
     → IsTrue (is_railway railway) → IsSensorOf block sensor railway → asks_sensors (outcome_of old.bus (Receives client byte)) ≡ true → RunsEvent (Receives client byte) observed old new
     → IsKnown block sensor level new
-becomes_known laws block sensor client byte level railway observed old new beside whole is asks runs = (
-  railway,
-  runs.railway ∙ beside,
-  whole,
-  is,
-  ap (λ (d : List SensorReport). level_after d sensor level)
-      (runs.unreported.1 ∙ ap (λ (a : Bool). if a then full_report old.railway else []) asks ∙ ap full_report beside)
-      ∙ laws.full railway block sensor level whole is.0 is.1,
-)
+becomes_known laws block sensor client byte level railway observed old new beside whole is asks runs =
+    let outcome : Outcome = outcome_of old.bus (Receives client byte) in
+    asked_known laws old.names block sensor level old.bus client (request_at (client_of old.bus client) byte) railway new
+    (runs.railway ∙ ap (λ (r : Option RailwayState). railway_placed old.names outcome r) beside)
+    (runs.unreported.1 ∙ ap (λ (r : Option RailwayState). reports_due old.names outcome r []) beside)
+    whole is asks
 
 -- A run.
 

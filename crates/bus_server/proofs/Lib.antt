@@ -7,6 +7,7 @@ pub mod KeepingUp
 pub mod Knowing
 pub mod Missed
 pub mod Missing
+pub mod Naming
 pub mod Placing
 pub mod Rounding
 pub mod Stepping

@@ -6,7 +6,7 @@ use Rattle.std.proofs.lemmas.Bool.{and_from}
 use Rattle.std.proofs.lemmas.List.Folds.{list_all-append}
 use Rattle.layout_core.specs.declared.event.Event.{Event as LayoutEvent}
 use Rattle.loconet_tcp.specs.declared.request.Request.{Request}
-use Rattle.loconet_tcp.specs.declared.request.Request.TheVariants.{Send, Invalid, Turns, Nodes}
+use Rattle.loconet_tcp.specs.declared.request.Request.TheVariants.{Send, Invalid, Turns, Nodes, Place}
 use Rattle.bus.specs.declared.event.Event.{Event}
 use Rattle.bus.specs.declared.event.Event.TheVariants.{Connects, Receives, Disconnects, Reports, Elapses, Turn}
 use Rattle.bus.specs.Bus.{BusState, after_event, client_of, request_at}
@@ -26,6 +26,7 @@ request_heard client (Some (Invalid reason)) = refl
 request_heard client (Some (Send message)) = bytes_heard client message
 request_heard client (Some (Turns count)) = refl
 request_heard client (Some Nodes) = refl
+request_heard client (Some (Place placement)) = refl
 
 -- a turn that is heard by all, and the share stays
 record Heard (events : List LayoutEvent) (new : Losses) : Type 0 where

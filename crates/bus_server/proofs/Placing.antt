@@ -6,14 +6,19 @@ use Rattle.std.proofs.lemmas.Bool.{and_from}
 use Rattle.std.proofs.lemmas.Bool.Decides.{nat_tests}
 use Rattle.std.proofs.lemmas.List.{length-append, length-drop, length-set}
 use Rattle.loconet_tcp.specs.declared.request.Request.{Request}
-use Rattle.loconet_tcp.specs.declared.request.Request.TheVariants.{Send, Invalid, Turns, Nodes}
+use Rattle.loconet_tcp.specs.declared.request.Request.TheVariants.{Send, Invalid, Turns, Nodes, Place}
 use Rattle.station_core.specs.Moved.{packet_of_turn}
 use Rattle.bus.specs.declared.event.Event.{Event}
 use Rattle.bus.specs.declared.event.Event.TheVariants.{Connects, Receives, Disconnects, Reports, Elapses, Turn}
 use Rattle.loconet_tcp.specs.declared.outcome.Outcome.{Outcome}
-use Rattle.loconet_tcp.specs.declared.outcome.Outcome.TheVariants.{Nothing, Connected, Disconnected, Rejected, Reported, Sent, TurnBegan, TurnsRequested, NodesRequested}
+use Rattle.loconet_tcp.specs.declared.outcome.Outcome.TheVariants.{Nothing, Connected, Disconnected, Rejected, Reported, Sent, TurnBegan, TurnsRequested, NodesRequested, PlaceRequested, Placed}
 use Rattle.bus.specs.Bus.{BusState, request_at, client_of, is_event, outcome_of_request, outcome_of}
 use Rattle.loconet_tcp.specs.Texts.{text_for}
+use Rattle.railway.specs.Railway.{RailwayState}
+use Rattle.bus_server.specs.declared.pace.Pace.{Pace}
+use Rattle.bus_server.specs.declared.pace.Pace.TheVariants.{AfterMessages, RealTime}
+use Rattle.bus_server.specs.Applied.{turns_after}
+use Rattle.bus_server.specs.Placements.{answered}
 use Rattle.bus_server.specs.Queues.{is_within_capacity, enqueued, queued}
 use Rattle.bus_server.specs.ClientQueues.{SendQueues, names_client, enqueued_all, enqueued_from, queues_after}
 use Rattle.bus_server.proofs.Keeping.{room_set}
@@ -24,6 +29,7 @@ asked_placed bus client (Some (Invalid reason)) below = below
 asked_placed bus client (Some (Send message)) below = below
 asked_placed bus client (Some (Turns count)) below = below
 asked_placed bus client (Some Nodes) below = below
+asked_placed bus client (Some (Place placement)) below = below
 
 passing_placed : (packet : Option (List ℕ)) (ends : Bool) → names_client (if ends then TurnBegan packet else Nothing) ≡ true
 passing_placed packet true = refl
@@ -36,6 +42,35 @@ placed_by bus (Receives client byte) legal = asked_placed bus client (request_at
 placed_by bus (Elapses micros missed) legal = passing_placed (packet_of_turn bus.station) (nat_le bus.remaining micros)
 placed_by bus (Reports sensor occupied) legal = refl
 placed_by bus (Turn missed) legal = refl
+
+-- the answer names the same client, and as many turns follow
+
+pub names-answered : (names : List (List ℕ)) (railway : Option RailwayState) (outcome : Outcome) → names_client (answered names railway outcome) ≡ names_client outcome
+names-answered names railway Nothing = refl
+names-answered names railway (TurnBegan packet) = refl
+names-answered names railway (Disconnected client) = refl
+names-answered names railway (Connected client) = refl
+names-answered names railway (Rejected client reason) = refl
+names-answered names railway (Sent client message reply) = refl
+names-answered names railway (Reported message) = refl
+names-answered names railway (TurnsRequested client turns) = refl
+names-answered names railway (NodesRequested client) = refl
+names-answered names railway (PlaceRequested client placement) = refl
+names-answered names railway (Placed client answer) = refl
+
+pub turns-answered : (names : List (List ℕ)) (railway : Option RailwayState) (pace : Pace) (outcome : Outcome) → turns_after pace (answered names railway outcome) ≡ turns_after pace outcome
+turns-answered names railway pace Nothing = refl
+turns-answered names railway pace (TurnBegan packet) = refl
+turns-answered names railway pace (Disconnected client) = refl
+turns-answered names railway pace (Connected client) = refl
+turns-answered names railway pace (Rejected client reason) = refl
+turns-answered names railway pace (Sent client message reply) = refl
+turns-answered names railway pace (Reported message) = refl
+turns-answered names railway pace (TurnsRequested client turns) = refl
+turns-answered names railway pace (NodesRequested client) = refl
+turns-answered names railway (AfterMessages turns) (PlaceRequested client placement) = refl
+turns-answered names railway (RealTime rate) (PlaceRequested client placement) = refl
+turns-answered names railway pace (Placed client answer) = refl
 
 pub length-enqueued : (place : ℕ) (text : ℕ → List ℕ) (queues : SendQueues) → length (enqueued_from place text queues) ≡ length queues
 length-enqueued place text [] = refl
@@ -54,6 +89,8 @@ length-after (Sent client message reply) queues = length-outcome (Sent client me
 length-after (Reported message) queues = length-outcome (Reported message) queues
 length-after (TurnsRequested client turns) queues = length-outcome (TurnsRequested client turns) queues
 length-after (NodesRequested client) queues = refl
+length-after (PlaceRequested client placement) queues = refl
+length-after (Placed client answer) queues = length-outcome (Placed client answer) queues
 
 -- What waits has room.
 
@@ -83,6 +120,8 @@ within_capacity-after (Sent client message reply) queues within_capacity = withi
 within_capacity-after (Reported message) queues within_capacity = within_capacity-outcome (Reported message) queues
 within_capacity-after (TurnsRequested client turns) queues within_capacity = within_capacity-outcome (TurnsRequested client turns) queues
 within_capacity-after (NodesRequested client) queues within_capacity = within_capacity
+within_capacity-after (PlaceRequested client placement) queues within_capacity = within_capacity
+within_capacity-after (Placed client answer) queues within_capacity = within_capacity-outcome (Placed client answer) queues
 
 pub within_capacity-dropped : (count : ℕ) (send_queue : Option (List ℕ)) → is_within_capacity send_queue ≡ true → is_within_capacity (Some (drop count (queued send_queue))) ≡ true
 within_capacity-dropped count send_queue within_capacity = let less : length (drop count (queued send_queue)) ≡ length (queued send_queue) - count = length-drop count (queued send_queue) in grind (arith, nat_tests, less, within_capacity)

@@ -4,60 +4,76 @@ use Rattle.std.specs.Prelude.{slice_get, unwrap_or}
 use Rattle.station_core.specs.Moved.{packet_of_turn}
 use Rattle.ln_ops.specs.declared.sensor.SensorReport.{SensorReport}
 use Rattle.railway.specs.Railway.{RailwayState}
+use Rattle.loconet_tcp.specs.declared.outcome.Outcome.{Outcome}
 use Rattle.loconet_tcp.specs.declared.outcome.Outcome.TheVariants.{Nothing, TurnBegan}
 use Rattle.bus.specs.declared.event.Event.{Event}
 use Rattle.bus.specs.declared.event.Event.TheVariants.{Connects, Receives, Disconnects, Reports, Elapses, Turn}
 use Rattle.bus.specs.Bus.{outcome_of}
 use Rattle.bus.specs.Course.{is_time}
-use Rattle.bus_server.specs.Observations.{Observation}
+use Rattle.bus_server.specs.Observations.{Observation, Observed}
 use Rattle.bus_server.specs.declared.losses.Losses.{Losses}
-use Rattle.bus_server.specs.Applied.{IsDrawn, RunsEvent, ServerState}
-use Rattle.bus_server.specs.Sensors.{IsDue, IsWithinTurn, asks_sensors, full_report, railway_after, railway_elapsed, reports_after, reports_elapsed}
+use Rattle.bus_server.specs.Applied.{IsDrawn, RunsEvent, ServerState, outcome_in}
+use Rattle.bus_server.specs.ClientQueues.{queues_after}
+use Rattle.bus_server.specs.Placements.{answered}
+use Rattle.bus_server.specs.Sensors.{IsDue, IsWithinTurn, railway_after, railway_elapsed, railway_placed, reports_after, reports_due, reports_elapsed}
 use Rattle.bus_server.specs.Steps.{RunsOnBus, with_trains_run}
 
 -- the bus runs an event once what decoders miss is drawn and trains have run
 runs : (event : Event) (observed : Observation) (losses : Losses) (railway : Option RailwayState) (unreported : List SensorReport) (old new : ServerState)
     → RunsOnBus event observed (record old { losses = losses; railway = railway; unreported = unreported }) new
     → IsWithinTurn event old.bus → IsDrawn event old.bus (length old.nodes) old.losses losses
-    → railway ≡ railway_after old.bus old.nodes event old.railway
-    → IsDue event (reports_after old.bus old.nodes event old.railway) old.unreported new.unreported
+    → answered old.names railway (outcome_of old.bus event) ≡ outcome_in old event
+    → railway_placed old.names (outcome_of old.bus event) railway ≡ railway_after old.names old.bus old.nodes event old.railway
+    → IsDue event (reports_after old.names old.bus old.nodes event old.railway) old.unreported new.unreported
     → RunsEvent event observed old new
-runs event observed losses railway unreported old new h piece drawn trains reports = record {
+runs event observed losses railway unreported old new h piece drawn told trains reports = record {
   legal = h.legal;
   bus = h.bus;
   nodes = h.nodes;
   piece = piece;
   railway = h.railway ∙ trains;
   unreported = reports;
-  queues = h.queues;
+  queues = h.queues ∙ ap (λ (outcome : Outcome). queues_after outcome old.queues) told;
   names = h.names;
   answers = h.answers;
   losses = subst (λ (l : Losses). IsDrawn event old.bus (length old.nodes) old.losses l) (sym h.losses) drawn;
   pace = h.pace;
   has_backlog = h.has_backlog;
   disconnected = h.disconnected;
-  saw = h.saw;
+  saw = h.saw ∙ ap (λ (outcome : Outcome). Observed outcome new.nodes new.railway) told;
 }
 
 -- an event of a client takes no time
 pub client_runs : (event : Event) (observed : Observation) (old new : ServerState) → is_time event ≡ false → old.unreported ≡ []
     → RunsOnBus event observed old new → RunsEvent event observed old new
-client_runs (Connects client) observed old new time none h = runs (Connects client) observed old.losses old.railway old.unreported old new h tt refl refl (none, h.unreported ∙ none)
-client_runs (Disconnects client) observed old new time none h = runs (Disconnects client) observed old.losses old.railway old.unreported old new h tt refl refl (none, h.unreported ∙ none)
+client_runs (Connects client) observed old new time none h = runs (Connects client) observed old.losses old.railway old.unreported old new h tt refl refl refl (none, h.unreported ∙ none)
+client_runs (Disconnects client) observed old new time none h = runs (Disconnects client) observed old.losses old.railway old.unreported old new h tt refl refl refl (none, h.unreported ∙ none)
 client_runs (Receives client byte) observed old new time none h =
-    runs (Receives client byte) observed old.losses old.railway old.unreported old new h tt refl refl (
+    runs (Receives client byte) observed old.losses old.railway old.unreported old new h tt refl refl refl (
       none,
-      h.unreported ∙ ap (λ (unreported : List SensorReport). if asks_sensors (outcome_of old.bus (Receives client byte)) then full_report old.railway else unreported) none,
+      h.unreported ∙ ap (λ (unreported : List SensorReport). reports_due old.names (outcome_of old.bus (Receives client byte)) old.railway unreported) none,
     )
 client_runs (Reports sensor occupied) observed old new time none h = cc
 client_runs (Elapses micros missed) observed old new time none h = cc
 client_runs (Turn missed) observed old new time none h = cc
 
--- time asks no sensor
-time_due : (ends : Bool) (packet : Option (List ℕ)) (all unreported : List SensorReport)
-    → (if asks_sensors (if ends then TurnBegan packet else Nothing) then all else unreported) ≡ unreported
-time_due true packet all unreported = refl
-time_due false packet all unreported = refl
+-- time asks nothing of the railway
+
+abbrev time_outcome : (ends : Bool) (packet : Option (List ℕ)) → Outcome
+time_outcome ends packet = if ends then TurnBegan packet else Nothing
+
+time_due : (names : List (List ℕ)) (ends : Bool) (packet : Option (List ℕ)) (railway : Option RailwayState) (unreported : List SensorReport)
+    → reports_due names (time_outcome ends packet) railway unreported ≡ unreported
+time_due names true packet railway unreported = refl
+time_due names false packet railway unreported = refl
+
+time_placed : (names : List (List ℕ)) (ends : Bool) (packet : Option (List ℕ)) (railway : Option RailwayState) → railway_placed names (time_outcome ends packet) railway ≡ railway
+time_placed names true packet railway = refl
+time_placed names false packet railway = refl
+
+time_told : (names : List (List ℕ)) (ends : Bool) (packet : Option (List ℕ)) (old new : Option RailwayState) → answered names new (time_outcome ends packet) ≡ answered names old (time_outcome ends packet)
+time_told names true packet old new = refl
+time_told names false packet old new = refl
 
 pub elapse_runs : (micros missed : ℕ) (observed : Observation) (losses : Losses) (old drawn ready new : ServerState)
     → micros ≤ old.bus.remaining → old.unreported ≡ [] → IsDrawn (Elapses micros missed) old.bus (length old.nodes) old.losses losses
@@ -68,8 +84,10 @@ elapse_runs micros missed observed losses old drawn ready new piece none draws i
     let reports : List SensorReport = reports_elapsed old.railway micros old.nodes in
     let on_bus : RunsOnBus (Elapses micros missed) observed (record old { losses = losses; railway = trains; unreported = reports }) new =
     subst (λ (s : ServerState). RunsOnBus (Elapses micros missed) observed s new) (is_run ∙ ap (with_trains_run micros) is_drawn) h in
-    runs (Elapses micros missed) observed losses trains reports old new on_bus piece draws refl
-    (none, on_bus.unreported ∙ time_due (nat_le old.bus.remaining micros) (packet_of_turn old.bus.station) (full_report trains) reports)
+    let ends : Bool = nat_le old.bus.remaining micros in
+    let packet : Option (List ℕ) = packet_of_turn old.bus.station in
+    runs (Elapses micros missed) observed losses trains reports old new on_bus piece draws (time_told old.names ends packet old.railway trains) (time_placed old.names ends packet trains)
+    (none, on_bus.unreported ∙ time_due old.names ends packet trains reports)
 
 pub turn_runs : (micros missed : ℕ) (observed : Observation) (losses : Losses) (old drawn ready new : ServerState)
     → micros ≡ old.bus.remaining → old.unreported ≡ [] → IsDrawn (Turn missed) old.bus (length old.nodes) old.losses losses
@@ -81,7 +99,7 @@ turn_runs micros missed observed losses old drawn ready new lasts none draws is_
     let on_bus : RunsOnBus (Turn missed) observed (record old { losses = losses; railway = trains; unreported = reports }) new =
     subst (λ (s : ServerState). RunsOnBus (Turn missed) observed s new)
     (is_run ∙ ap (with_trains_run micros) is_drawn ∙ ap (λ (n : ℕ). with_trains_run n (record old { losses = losses })) lasts) h in
-    runs (Turn missed) observed losses trains reports old new on_bus tt draws refl (none, on_bus.unreported)
+    runs (Turn missed) observed losses trains reports old new on_bus tt draws refl refl (none, on_bus.unreported)
 
 pub report_runs : (report : SensorReport) (rest : List SensorReport) (observed : Observation) (old ready new : ServerState)
     → old.unreported ≡ report ∷ rest → ready ≡ record old { unreported = rest }
@@ -89,7 +107,7 @@ pub report_runs : (report : SensorReport) (rest : List SensorReport) (observed :
 report_runs report rest observed old ready new is is_run h =
     let event : Event = Reports report.sensor report.occupied in
     let on_bus : RunsOnBus event observed (record old { unreported = rest }) new = subst (λ (s : ServerState). RunsOnBus event observed s new) is_run h in
-    runs event observed old.losses old.railway rest old new on_bus tt refl refl (is ∙ ap (λ (unreported : List SensorReport). report ∷ unreported) (sym on_bus.unreported))
+    runs event observed old.losses old.railway rest old new on_bus tt refl refl refl (is ∙ ap (λ (unreported : List SensorReport). report ∷ unreported) (sym on_bus.unreported))
 
 -- the report that is due next
 

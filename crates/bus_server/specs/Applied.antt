@@ -22,6 +22,7 @@ use Rattle.bus.specs.Layout.{layout_event}
 use Rattle.bus_server.specs.Observations.{Observed, Observation, Overflowed}
 use Rattle.bus_server.specs.Answers.{Answers, after_line, answers_after, next_line, node_lines}
 use Rattle.bus_server.specs.Counts.{disconnected_after}
+use Rattle.bus_server.specs.Placements.{answered}
 use Rattle.bus_server.specs.Sensors.{IsDue, IsWithinTurn, railway_after, reports_after}
 use Rattle.bus_server.specs.ClientQueues.{SendQueues, enqueued_from, queues_after}
 use Rattle.bus_server.specs.TransportEvents.{Polled, ServerClosed, Accepted, PeerClosed, TransportEvent, Written, Received, Refused}
@@ -65,23 +66,27 @@ IsDrawn (Elapses micros missed) bus nodes old new = MatchBool (nat_le bus.remain
 IsDrawn (Turn missed) bus nodes old new = IsDraw nodes missed old new
 IsDrawn other bus nodes old new = new ≡ old
 
--- One event of the bus: the decoders heard what it is to the layout, trains ran in its time, the
--- text of its outcome was enqueued, and the outcome was observed with the decoders and the railway as they are then.
+-- the outcome of an event, with the answer where a client puts a train on the track
+abbrev pub outcome_in : ServerState → Event → Outcome
+outcome_in state event = answered state.names state.railway (outcome_of state.bus event)
+
+-- One event of the bus: the decoders heard what it is to the layout, trains ran in its time or were
+-- placed, the text of its outcome was enqueued, and the outcome was observed with the decoders and the railway as they are then.
 pub record RunsEvent (event : Event) (observed : Observation) (old new : ServerState) : Type 0 where
   pub legal : is_event event ≡ true
   pub bus : new.bus ≡ after_event old.bus event
   pub nodes : HaveHeard old.bus.station (layout_event old.bus event) old.nodes new.nodes
   pub piece : IsWithinTurn event old.bus
-  pub railway : new.railway ≡ railway_after old.bus old.nodes event old.railway
-  pub unreported : IsDue event (reports_after old.bus old.nodes event old.railway) old.unreported new.unreported
-  pub queues : new.queues ≡ queues_after (outcome_of old.bus event) old.queues
+  pub railway : new.railway ≡ railway_after old.names old.bus old.nodes event old.railway
+  pub unreported : IsDue event (reports_after old.names old.bus old.nodes event old.railway) old.unreported new.unreported
+  pub queues : new.queues ≡ queues_after (outcome_in old event) old.queues
   pub names : new.names ≡ old.names
   pub answers : new.answers ≡ answers_after (outcome_of old.bus event) old.answers
   pub losses : IsDrawn event old.bus (length old.nodes) old.losses new.losses
   pub pace : new.pace ≡ old.pace
   pub has_backlog : new.has_backlog ≡ old.has_backlog
   pub disconnected : new.disconnected ≡ disconnected_after (outcome_of old.bus event) old.disconnected
-  pub saw : observed ≡ Observed (outcome_of old.bus event) new.nodes new.railway
+  pub saw : observed ≡ Observed (outcome_in old event) new.nodes new.railway
 
 -- an event of the bus, and its observation
 pub record LoggedEvent : Type 0 where

@@ -11,6 +11,7 @@ pub mod Names
 pub mod Observations
 pub mod PageEvents
 pub mod Paces
+pub mod Placements
 pub mod Progress
 pub mod Queues
 pub mod Rounds

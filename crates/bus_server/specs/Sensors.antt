@@ -1,15 +1,17 @@
 -- The railway beside a bus, and what its sensors report.
-use Rattle.std.specs.Prelude.{ℕ, ◌≡◌, ◌≤◌, Bool, true, false, if◌then◌else◌, List, [], ◌∷◌, Option, Some, None}
+use Rattle.std.specs.Prelude.{ℕ, ◌≡◌, ◌≤◌, Bool, true, false, if◌then◌else◌, List, [], ◌∷◌, Option, Some, None, Ok}
 use Rattle.layout_core.specs.declared.node.Node.{Node}
 use Rattle.ln_ops.specs.Sensor.{is_interrogation}
 use Rattle.ln_ops.specs.declared.sensor.SensorReport.{SensorReport}
 use Rattle.loconet_tcp.specs.declared.outcome.Outcome.{Outcome}
-use Rattle.loconet_tcp.specs.declared.outcome.Outcome.TheVariants.{Sent}
+use Rattle.loconet_tcp.specs.declared.outcome.Outcome.TheVariants.{PlaceRequested, Sent}
+use Rattle.railway.specs.Course.{after, reports_of}
 use Rattle.railway.specs.Railway.{RailwayState, elapsed, reports_in}
 use Rattle.railway.specs.Reports.{full}
 use Rattle.bus.specs.declared.event.Event.{Event}
 use Rattle.bus.specs.declared.event.Event.TheVariants.{Connects, Receives, Disconnects, Reports, Elapses, Turn}
 use Rattle.bus.specs.Bus.{BusState, outcome_of}
+use Rattle.bus_server.specs.Placements.{places}
 
 -- the railway, if there is one, after so many microseconds in which the decoders do this
 abbrev pub railway_elapsed : Option RailwayState → (micros : ℕ) → List Node → Option RailwayState
@@ -31,21 +33,42 @@ abbrev pub asks_sensors : Outcome → Bool
 asks_sensors (Sent client message reply) = is_interrogation message
 asks_sensors other = false
 
--- The railway after an event: in the time of the event trains run as the decoders do before it.
-abbrev pub railway_after : BusState → List Node → Event → Option RailwayState → Option RailwayState
-railway_after bus nodes (Elapses micros missed) railway = railway_elapsed railway micros nodes
-railway_after bus nodes (Turn missed) railway = railway_elapsed railway bus.remaining nodes
-railway_after bus nodes other railway = railway
+-- the railway after an outcome: a client may put a train on the track
+abbrev pub railway_placed : (names : List (List ℕ)) → Outcome → Option RailwayState
+    → Option RailwayState
+railway_placed names (PlaceRequested client (Ok placement)) (Some railway) =
+    Some (after railway (places names railway placement))
+railway_placed names other railway = railway
 
--- What an event makes sensors report: each change in its time; all, if its message asks for that.
-abbrev pub reports_after : BusState → List Node → Event → Option RailwayState → List SensorReport
-reports_after bus nodes (Connects client) railway = []
-reports_after bus nodes (Disconnects client) railway = []
-reports_after bus nodes (Reports sensor occupied) railway = []
-reports_after bus nodes (Receives client byte) railway =
-    if asks_sensors (outcome_of bus (Receives client byte)) then full_report railway else []
-reports_after bus nodes (Elapses micros missed) railway = reports_elapsed railway micros nodes
-reports_after bus nodes (Turn missed) railway = reports_elapsed railway bus.remaining nodes
+-- What is due then: all, if a message asks for that; each change, if a train was put there; else
+-- what was due before.
+abbrev pub reports_due : (names : List (List ℕ)) → Outcome → Option RailwayState
+    → List SensorReport → List SensorReport
+reports_due names (Sent client message reply) railway unreported =
+    if is_interrogation message then full_report railway else unreported
+reports_due names (PlaceRequested client (Ok placement)) (Some railway) unreported =
+    reports_of railway (places names railway placement)
+reports_due names other railway unreported = unreported
+
+-- The railway after an event: in the time of the event trains run as the decoders do before it.
+abbrev pub railway_after : (names : List (List ℕ)) → BusState → List Node → Event
+    → Option RailwayState → Option RailwayState
+railway_after names bus nodes (Elapses micros missed) railway = railway_elapsed railway micros nodes
+railway_after names bus nodes (Turn missed) railway = railway_elapsed railway bus.remaining nodes
+railway_after names bus nodes (Receives client byte) railway =
+    railway_placed names (outcome_of bus (Receives client byte)) railway
+railway_after names bus nodes other railway = railway
+
+-- What an event makes sensors report: each change in its time, and what its outcome makes due.
+abbrev pub reports_after : (names : List (List ℕ)) → BusState → List Node → Event
+    → Option RailwayState → List SensorReport
+reports_after names bus nodes (Connects client) railway = []
+reports_after names bus nodes (Disconnects client) railway = []
+reports_after names bus nodes (Reports sensor occupied) railway = []
+reports_after names bus nodes (Receives client byte) railway =
+    reports_due names (outcome_of bus (Receives client byte)) railway []
+reports_after names bus nodes (Elapses micros missed) railway = reports_elapsed railway micros nodes
+reports_after names bus nodes (Turn missed) railway = reports_elapsed railway bus.remaining nodes
 
 -- The reports that are due before an event and after it: each is an event, in order, and no other
 -- event happens before. It makes others due.

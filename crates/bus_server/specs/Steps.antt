@@ -1,5 +1,5 @@
 -- An event of the bus in parts: trains run, the bus runs the event, and sensors report.
-use Rattle.std.specs.Prelude.{ℕ, ◌≡◌, true, if◌then◌else◌, List, ◌∷◌, Option}
+use Rattle.std.specs.Prelude.{ℕ, ◌≡◌, true, List, ◌∷◌, Option}
 use Rattle.std.specs.List.{list_all}
 use Rattle.layout_core.specs.World.{HaveHeard}
 use Rattle.bus.specs.declared.event.Event.{Event}
@@ -9,10 +9,10 @@ use Rattle.bus.specs.Layout.{layout_event}
 use Rattle.bus.specs.Log.{Extends}
 use Rattle.bus_server.specs.Observations.{Observation, Observed}
 use Rattle.bus_server.specs.Answers.{answers_after}
-use Rattle.bus_server.specs.Applied.{LoggedEvent, RunsEvents, ServerState, events_of, observations_of}
+use Rattle.bus_server.specs.Applied.{LoggedEvent, RunsEvents, ServerState, events_of, observations_of, outcome_in}
 use Rattle.bus_server.specs.ClientQueues.{queues_after}
 use Rattle.bus_server.specs.Counts.{disconnected_after}
-use Rattle.bus_server.specs.Sensors.{asks_sensors, full_report, is_report, railway_elapsed, reports_elapsed}
+use Rattle.bus_server.specs.Sensors.{is_report, railway_elapsed, railway_placed, reports_due, reports_elapsed}
 
 -- Trains have run for a time, as the decoders do, and what sensors report of it is due.
 abbrev pub with_trains_run : (micros : ℕ) → ServerState → ServerState
@@ -21,16 +21,16 @@ with_trains_run micros state = record state {
   unreported = reports_elapsed state.railway micros state.nodes;
 }
 
--- The bus runs an event, once trains have run in its time: nothing of the railway changes, but a
--- message may ask all sensors to report.
+-- The bus runs an event, once trains have run in its time: a client may put one on the track, or ask
+-- all sensors to report.
 pub record RunsOnBus (event : Event) (observed : Observation) (old new : ServerState) : Type 0 where
   pub legal : is_event event ≡ true
   pub bus : new.bus ≡ after_event old.bus event
   pub nodes : HaveHeard old.bus.station (layout_event old.bus event) old.nodes new.nodes
-  pub railway : new.railway ≡ old.railway
+  pub railway : new.railway ≡ railway_placed old.names (outcome_of old.bus event) old.railway
   pub unreported : new.unreported
-      ≡ (if asks_sensors (outcome_of old.bus event) then full_report old.railway else old.unreported)
-  pub queues : new.queues ≡ queues_after (outcome_of old.bus event) old.queues
+      ≡ reports_due old.names (outcome_of old.bus event) old.railway old.unreported
+  pub queues : new.queues ≡ queues_after (outcome_in old event) old.queues
   pub names : new.names ≡ old.names
   pub answers : new.answers ≡ answers_after (outcome_of old.bus event) old.answers
   pub losses : new.losses ≡ old.losses
@@ -38,7 +38,7 @@ pub record RunsOnBus (event : Event) (observed : Observation) (old new : ServerS
   pub has_backlog : new.has_backlog ≡ old.has_backlog
   pub disconnected : new.disconnected
       ≡ disconnected_after (outcome_of old.bus event) old.disconnected
-  pub saw : observed ≡ Observed (outcome_of old.bus event) new.nodes new.railway
+  pub saw : observed ≡ Observed (outcome_in old event) new.nodes new.railway
 
 -- An outcome was observed, and then what sensors report.
 abbrev pub ObservesReports : Outcome → (observed observed' : Option (List Observation))

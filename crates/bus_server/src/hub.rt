@@ -47,14 +47,14 @@ impl Hub {
     ghost use Rattle.std.specs.Prelude.{ℕ};
     ghost use Rattle.layout_core.specs.Nodes.{node_of};
     ghost use Rattle.bus_server.specs.Draws.{IsDraw};
-    ghost use Rattle.bus.specs.Bus.{client_of, is_event, outcome_of};
+    ghost use Rattle.bus.specs.Bus.{client_of, is_event};
     ghost use Rattle.bus.specs.State.{bus_state};
     ghost use Rattle.bus_server.specs.Observations.{Observed};
     ghost use Rattle.bus.specs.declared.event.Event.TheVariants.{Elapses, Reports, Turn};
     ghost use Rattle.bus_server.specs.Rounds.{backlog_after};
     ghost use Rattle.bus_server.specs.Progress.{HasReported, WritesFront, state_of};
     ghost use Rattle.bus_server.specs.Steps.{RunsOnBus, with_trains_run};
-    ghost use Rattle.bus_server.specs.Applied.{RunsEvent, IsDrawn, initial_state, has_overflowed, round_start};
+    ghost use Rattle.bus_server.specs.Applied.{RunsEvent, IsDrawn, initial_state, has_overflowed, outcome_in, round_start};
 
     /// A new layout with these decoders, a railway beside it or none, and no clients. It takes all
     /// its memory here.
@@ -98,7 +98,7 @@ impl Hub {
     /// already, and trains have run in its time.
     pub(crate) fn step(&mut self, event: Event) -> Outcome
         requires { IsTrue (is_event event) }
-        ensures outcome { result ≡ outcome_of (bus_state self.old.bus) event }
+        ensures outcome { result ≡ outcome_in (state_of self.old) event }
         ensures specs { map spec_of self.new.bus.world.nodes
             ≡ map spec_of self.old.bus.world.nodes }
         ensures runs { RunsOnBus event
@@ -106,10 +106,10 @@ impl Hub {
             (state_of self.old) (state_of self.new) }
     {
         let outcome = self.bus.step(event);
-        enqueue(&mut self.queues, &outcome);
         self.answers.update(&outcome);
         self.disconnected = disconnected_after(&outcome, self.disconnected);
-        self.sensors.answer(&outcome);
+        let outcome = self.sensors.answer(outcome, &self.answers.nodes);
+        enqueue(&mut self.queues, &outcome);
         outcome
     }
 
@@ -295,7 +295,10 @@ fn enqueue(queues: &mut SendQueues, outcome: &Outcome)
     ensures { queues.new ≡ queues_after outcome.now queues.old }
 {
     match outcome {
-        Outcome::Nothing | Outcome::TurnBegan { .. } | Outcome::NodesRequested { .. } => {}
+        Outcome::Nothing
+        | Outcome::TurnBegan { .. }
+        | Outcome::NodesRequested { .. }
+        | Outcome::PlaceRequested { .. } => {}
         Outcome::Disconnected { client } => queues[usize::from(*client)].close(),
         Outcome::Connected { client } => {
             queues[usize::from(*client)].open();
@@ -304,7 +307,8 @@ fn enqueue(queues: &mut SendQueues, outcome: &Outcome)
         Outcome::Rejected { .. }
         | Outcome::Sent { .. }
         | Outcome::Reported { .. }
-        | Outcome::TurnsRequested { .. } => enqueue_all(queues, outcome),
+        | Outcome::TurnsRequested { .. }
+        | Outcome::Placed { .. } => enqueue_all(queues, outcome),
     }
 }
 

@@ -26,7 +26,7 @@ pub fn clients_know()
     ensures stays { StaysKnown }
 {
     railway::laws::observers_know();
-    railway::laws::time_adds_up();
+    railway::laws::railways_are_kept();
 }
 
 /// If no share of the packets is to be lost, no decoder misses a turn.

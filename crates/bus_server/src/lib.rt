@@ -17,6 +17,7 @@ mod named_node;
 mod observer;
 mod pace;
 mod page_clients;
+mod placement;
 mod running;
 mod send_queue;
 mod send_queues;

@@ -1,12 +1,17 @@
 //! The railway beside a bus, and what its sensors are still to report.
-ghost use Rattle.std.specs.Prelude.{◌≡◌, [], IfSome, IsTrue, drop, if◌then◌else◌, slice_get, true};
+ghost use Rattle.std.specs.Prelude.{◌≡◌, ℕ, [], IfSome, IsTrue, drop, if◌then◌else◌, slice_get, true};
 ghost use Rattle.std.specs.List.{list_all};
 ghost use Rattle.railway.specs.Reports.{is_report};
-ghost use Rattle.bus_server.specs.Sensors.{asks_sensors, full_report, railway_elapsed, reports_elapsed};
+ghost use Rattle.loconet_tcp.specs.declared.outcome.Outcome.TheVariants.{PlaceRequested};
+ghost use Rattle.bus_server.specs.Names.{names_of};
+ghost use Rattle.bus_server.specs.Placements.{answered, place_answer};
+ghost use Rattle.bus_server.specs.Sensors.{asks_sensors, full_report, railway_elapsed, railway_placed, reports_due, reports_elapsed};
 
+use crate::named_node::NamedNodes;
+use crate::placement::place;
 use layout_core::World;
 use ln_ops::{SensorReport, is_interrogation};
-use loconet_tcp::Outcome;
+use loconet_tcp::{Outcome, PlaceError, Placement};
 use railway::{Railway, Reports};
 
 /// The trains that run beside a bus, if there are any, and what their sensors are still to report.
@@ -44,8 +49,32 @@ impl Sensors {
         }
     }
 
+    /// Does what an outcome of the bus asks of the railway: a report of each sensor, or to put a
+    /// train on the track. What sensors report of it is due. Returns the outcome, with the answer
+    /// where a client asks to put a train.
+    pub(crate) fn answer(&mut self, outcome: Outcome, nodes: &NamedNodes) -> Outcome
+        ensures railway { self.new.railway
+            ≡ railway_placed (names_of nodes.now.items) outcome self.old.railway }
+        ensures unreported { self.new.unreported.items
+            ≡ reports_due (names_of nodes.now.items) outcome self.old.railway
+            self.old.unreported.items }
+        ensures answered { result
+            ≡ answered (names_of nodes.now.items) self.old.railway outcome }
+    {
+        match outcome {
+            Outcome::PlaceRequested { client, placement } => Outcome::Placed {
+                client,
+                answer: self.place(&placement, nodes),
+            },
+            outcome => {
+                self.report_if_asked(&outcome);
+                outcome
+            }
+        }
+    }
+
     /// Makes a report of each sensor due, if an outcome is that of a message that asks for it.
-    pub(crate) fn answer(&mut self, outcome: &Outcome)
+    fn report_if_asked(&mut self, outcome: &Outcome)
         ensures railway { self.new.railway ≡ self.old.railway }
         ensures unreported { self.new.unreported.items
             ≡ (if asks_sensors outcome.now then full_report self.old.railway
@@ -53,6 +82,34 @@ impl Sensors {
     {
         if asks_sensors(outcome) {
             self.unreported = full_report(&self.railway);
+        }
+    }
+
+    /// Puts a train where a client asks for, if the line says where. Returns the answer.
+    fn place(
+        &mut self,
+        placement: &Result<Placement, PlaceError>,
+        nodes: &NamedNodes,
+    ) -> Result<(), PlaceError>
+        ensures railway { (client : ℕ) → self.new.railway
+            ≡ railway_placed (names_of nodes.now.items) (PlaceRequested client placement.now)
+            self.old.railway }
+        ensures unreported { (client : ℕ) → self.new.unreported.items
+            ≡ reports_due (names_of nodes.now.items) (PlaceRequested client placement.now)
+            self.old.railway self.old.unreported.items }
+        ensures answer { result
+            ≡ place_answer (names_of nodes.now.items) self.old.railway placement.now }
+    {
+        match &mut self.railway {
+            None => Err(PlaceError::NoPlan),
+            Some(railway) => match placement {
+                Err(error) => Err(*error),
+                Ok(placement) => {
+                    let (reports, answer) = place(railway, nodes, placement);
+                    self.unreported = reports;
+                    answer
+                }
+            },
         }
     }
 

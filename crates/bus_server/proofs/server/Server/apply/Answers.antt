@@ -5,6 +5,7 @@ use Rattle.bus_server.specs.Observations.{Observed, Observation}
 use Rattle.bus_server.specs.Progress.{state_of}
 use Rattle.bus_server.specs.Applied.{AreTurns, LoggedEvent, events_of, turns_after}
 use Rattle.bus_server.proofs.Going.{happened_more, reports_behind, same_pace, shown_more, turns_none}
+use Rattle.bus_server.proofs.Placing.{turns-answered}
 use Rattle.bus_server.proofs.Stepping.{client_runs}
 use Rattle.bus_server.proofs.Stopping.{whatever_fails}
 use Rattle.bus_server.proofs.server.Server.apply.Goals as goal
@@ -20,7 +21,8 @@ returns-clause-happened g c =
     let happens = client_runs event observed old mid c.requires.clients c.requires.reported c.step-outcome.ensures.runs in
     let reports = c.observe.ensures.log in
     let count : c.turns_after-turns.result ≡ turns_after old.pace (outcome_of old.bus event) =
-    c.turns_after-turns.ensures ∙ ap (λ pace. turns_after pace c.step-outcome.result) (same_pace reports.0 mid told reports.3 ∙ happens.pace) ∙ ap (turns_after old.pace) c.step-outcome.ensures.outcome in
+    c.turns_after-turns.ensures ∙ ap (λ pace. turns_after pace c.step-outcome.result) (same_pace reports.0 mid told reports.3 ∙ happens.pace) ∙ ap (turns_after old.pace) c.step-outcome.ensures.outcome
+    ∙ turns-answered old.names old.railway old.pace (outcome_of old.bus event) in
     on_ok_weaker c.run_turns.result
     (λ behind. (
       one ∷ (reports.0 ++ behind.0),
@@ -58,7 +60,8 @@ returns-clause-stops g c =
     let happens = client_runs event observed old mid c.requires.clients c.requires.reported c.step-outcome.ensures.runs in
     let reports = c.observe.ensures.log in
     let count : c.turns_after-turns.result ≡ turns_after old.pace (outcome_of old.bus event) =
-    c.turns_after-turns.ensures ∙ ap (λ pace. turns_after pace c.step-outcome.result) (same_pace reports.0 mid told reports.3 ∙ happens.pace) ∙ ap (turns_after old.pace) c.step-outcome.ensures.outcome in
+    c.turns_after-turns.ensures ∙ ap (λ pace. turns_after pace c.step-outcome.result) (same_pace reports.0 mid told reports.3 ∙ happens.pace) ∙ ap (turns_after old.pace) c.step-outcome.ensures.outcome
+    ∙ turns-answered old.names old.railway old.pace (outcome_of old.bus event) in
     on_err_weaker c.run_turns.result
     (λ behind. (
       one ∷ (reports.0 ++ behind.0),
