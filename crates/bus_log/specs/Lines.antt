@@ -14,7 +14,7 @@ use Rattle.roster.specs.Entry.{Entry}
 use Rattle.show_text.specs.Lines.{track_text}
 use Rattle.describe.specs.Messages.{message_words}
 use Rattle.loconet_tcp.specs.declared.outcome.Outcome.{Outcome}
-use Rattle.loconet_tcp.specs.declared.outcome.Outcome.TheVariants.{Nothing, Connected, Disconnected, Rejected, Reported, Sent, TurnBegan, TurnsRequested, NodesRequested}
+use Rattle.loconet_tcp.specs.declared.outcome.Outcome.TheVariants.{Nothing, Connected, Disconnected, Rejected, Reported, Sent, TurnBegan, TurnsRequested, NodesRequested, PlaceRequested, Placed}
 use Rattle.loconet_tcp.specs.ClientLines.{hex_words}
 use Rattle.loconet_tcp.specs.Texts.{messages_in}
 
@@ -93,6 +93,8 @@ lines_of track entries before (Disconnected client) decoder_states = client_line
 lines_of track entries before (Rejected client reason) decoder_states = []
 lines_of track entries before (TurnsRequested client turns) decoder_states = []
 lines_of track entries before (NodesRequested client) decoder_states = []
+lines_of track entries before (PlaceRequested client placement) decoder_states = []
+lines_of track entries before (Placed client answer) decoder_states = []
 lines_of track entries before (Sent client message reply) decoder_states =
     if is_slot_read message reply then []
     else map sent_line (messages_in (Sent client message reply))

@@ -147,7 +147,9 @@ impl<'a> Printer<'a> {
             Outcome::Nothing
             | Outcome::Rejected { .. }
             | Outcome::TurnsRequested { .. }
-            | Outcome::NodesRequested { .. } => {}
+            | Outcome::NodesRequested { .. }
+            | Outcome::PlaceRequested { .. }
+            | Outcome::Placed { .. } => {}
             Outcome::Connected { client } => print_client(&mut self.log, *client, " joins"),
             Outcome::Disconnected { client } => print_client(&mut self.log, *client, " leaves"),
             Outcome::Sent { message, reply, .. } => print_sent(&mut self.log, message, reply),
