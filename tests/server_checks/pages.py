@@ -320,9 +320,10 @@ def plans_on_pages():
     check_moves([], ON_MAIN + INTO_EAST + ON_EAST, ON_EAST)
     check_moves(send(POWER_ON, THROW_2), [*ON_MAIN, DERAILED], [DERAILED])
     with serve(*OVAL[:2], "--turns", "1", page=True) as server, Page(server) as page:
+        same("without a plan", [page.line() for _ in OVAL_PLAN[:4]], OVAL_PLAN[:4])
         page.write(send(POWER_ON))
-        wanted = [*OVAL_PLAN[:4], f"RECEIVE {POWER_ON}"]
-        same("without a plan", [page.line() for _ in wanted], wanted)
+        wanted = [*receive(POWER_ON), "SENT OK"]
+        same("and nothing behind it", [page.line() for _ in wanted], wanted)
 
 
 def check_moves(first, way, ends):
