@@ -108,6 +108,51 @@ def derailments():
             same("the log", moves(server), ["derailed shunter in main"])
 
 
+def placements():
+    """--plan: PLACE puts a derailed train back, which drives on; the asker alone receives the answer, all the reports"""
+    with serve(*OVAL, "--turns", "1", "--clients", "2") as server:
+        with Client(server) as watcher, Client(server) as driver:
+            driver.write(send(POWER_ON, THROW_2))
+            driver.lines_until("SENT OK")
+            drive(driver, 1300)
+            driver.lines_until("SENT OK")
+            # The shunter is 300 mm long and faces end b of main, which turnout 2 does not lead on from. Blocks main and
+            # siding are 1500 mm long, and have sensors 1 and 2.
+            for words, answer in (
+                ("local siding 1000", "ERROR no such train"),
+                ("shunter yard 1000", "ERROR no such block"),
+                ("shunter siding 299", "ERROR the train does not fit there"),
+                ("shunter siding 1501 b", "ERROR the train does not fit there"),
+                ("shunter siding 1201 a", "ERROR the train does not fit there"),
+                ("shunter siding far", "ERROR no number of millimetres"),
+                ("shunter siding 1000 c", "ERROR no end a or b"),
+                ("shunter siding 1000", "OK"),
+            ):
+                driver.write([f"PLACE {words}"])
+                same(words, driver.line(), f"PLACE {answer}")
+            same("reports", [driver.line(), driver.line()], [report(2, True), report(1, False)])
+            # Turnout 2 leads from siding to east, as from main in `sensors`.
+            lines = drive(driver, 1300)
+            same("reports then", reports_in(lines), [report(3, True), report(2, False)])
+            seen = watcher.lines_until(report(2, False))
+            same("another client", reports_in(seen), [report(2, True), report(1, False), report(3, True), report(2, False)])
+            same("its answers", [line for line in seen if line.startswith("PLACE")], [])
+        same("status", server.process.wait(20), 0)
+        # Blocks that change at once stand in the plan's order.
+        wanted = [
+            "derailed shunter in main",
+            "block main free",
+            "block siding occupied (shunter)",
+            "block east occupied (shunter)",
+            "block siding free",
+        ]
+        same("the log", moves(server), wanted)
+    with serve(*OVAL[:2], "--clients", "1") as server:
+        with Client(server) as client:
+            client.write(["PLACE shunter siding far"])
+            same("without a plan", client.line(), "PLACE ERROR no plan")
+
+
 def interrogations():
     """--plan: an interrogation is answered by each sensor once"""
     with serve(*OVAL, "--turns", "0", "--clients", "1") as server:
