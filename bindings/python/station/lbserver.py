@@ -163,6 +163,25 @@ class Client(Throttle):
                 nodes[found[0]] = found[1]
         return nodes
 
+    def place(self, train: str, block: str, front: int, facing: str | None = None) -> None:
+        """Puts a train on the track, derailed or not: its front in this block, so many millimetres from end a.
+
+        It faces end "a" or "b", without one that which it faces now. `lbserver` runs with `--plan`.
+        """
+        for name in (train, block):
+            if len(name.split()) != 1 or name != name.strip() or not name.isascii():
+                raise ValueError(f"{name!r} is no name")
+        if facing not in (None, "a", "b"):
+            raise ValueError(f"facing is {facing!r}, and not 'a' or 'b'")
+        words = ["PLACE", train, block, str(in_range(front, 0, 9_999_999, "front"))]
+        if self.lines.closed:
+            raise ClosedError("the client is closed")
+        self.stream.sendall(" ".join(words + ([facing] if facing else [])).encode("ascii") + b"\r\n")
+        while not (line := self.line()).startswith("PLACE "):
+            pass
+        if line != "PLACE OK":
+            raise StationError(line)
+
     def _refusal(self) -> Reply | None:
         """The reply to the message that was sent last, if the next line is one."""
         own = message_hex(0xBB, 1, 0)

@@ -204,6 +204,27 @@ class TestClient(unittest.TestCase):
                 client.nodes()
         self.assertEqual(received, ["NODES", "NODES", ""])
 
+    def test_place(self):
+        with scripted(
+            ["VERSION x"], ["PLACE OK"], ["RECEIVE B2 01 50 1C", "PLACE OK"], ["PLACE ERROR no such block"]
+        ) as (port, received):
+            with Client("127.0.0.1", port) as client:
+                client.place("express", "back", 1500)
+                client.place("express", "back", 0, facing="a")
+                with self.assertRaisesRegex(StationError, "no such block"):
+                    client.place("express", "front", 9_999_999, "b")
+                for words in (("a b", "back", 1), ("", "back", 1), ("x", "back\n", 1), ("x", "back", 1, "c")):
+                    with self.assertRaises(ValueError):
+                        client.place(*words)
+                for front in (-1, 10_000_000, 1.5):
+                    with self.assertRaisesRegex(ValueError, "front is"):
+                        client.place("express", "back", front)
+            with self.assertRaises(ClosedError):
+                client.place("express", "back", 1500)
+        self.assertEqual(
+            received, ["PLACE express back 1500", "PLACE express back 0 a", "PLACE express front 9999999 b", ""]
+        )
+
     def test_rejected_and_closed(self):
         with scripted(["ERROR no place"]) as (port, _):
             with self.assertRaisesRegex(ConnectionError, "rejected: ERROR no place"):
