@@ -30,6 +30,7 @@ observation_of (seen.Sent client message reply) = Observed (outcome.Sent client 
 observation_of (seen.Reported message) = Observed (outcome.Reported message.items) [] None
 observation_of (seen.TurnsRequested client turns) = Observed (outcome.TurnsRequested client turns) [] None
 observation_of (seen.NodesRequested client) = Observed (outcome.NodesRequested client) [] None
+observation_of (seen.Placed client answer) = Observed (outcome.Placed client answer) [] None
 observation_of (seen.TurnBegan packet) = Observed (outcome.TurnBegan (option_map (λ p. p.items) packet)) [] None
 observation_of (seen.Overflowed client) = Overflowed client
 observation_of (seen.Skipped micros) = Skipped micros

@@ -50,8 +50,57 @@ const TURNS: [(&[u8], Option<u16>); 12] = [
     (b"TURNS\n", None),
 ];
 
+// Lines that put a train, each with the names of train and block, the front and the end.
+const PLACES: [(&[u8], &[u8], &[u8], u32, Option<Facing>); 4] = [
+    (
+        b"PLACE express back 1500\r\n",
+        b"express",
+        b"back",
+        1500,
+        None,
+    ),
+    (
+        b"PLACE express back 1500 a\n",
+        b"express",
+        b"back",
+        1500,
+        Some(Facing::A),
+    ),
+    (
+        b"PLACE\te  b  0000000\tb \n",
+        b"e",
+        b"b",
+        0,
+        Some(Facing::B),
+    ),
+    // A block's name may have 32 bytes; 33 are kept of a longer word.
+    (
+        b"PLACE e 0123456789012345678901234567890123456789 9999999\n",
+        b"e",
+        b"012345678901234567890123456789012",
+        9_999_999,
+        None,
+    ),
+];
+
+// Lines that do not say where, each with the reason.
+const NO_PLACES: [(&[u8], PlaceError); 10] = [
+    (b"PLACE\n", PlaceError::NoNumber),
+    (b"PLACE express back\n", PlaceError::NoNumber),
+    (b"PLACE express 1500\n", PlaceError::NoNumber),
+    (b"PLACE express back far a\n", PlaceError::NoNumber),
+    (b"PLACE express back -1\n", PlaceError::NoNumber),
+    (b"PLACE express back 10000000\n", PlaceError::NoNumber),
+    (b"PLACE express back far c\n", PlaceError::NoNumber),
+    (b"PLACE express back 1500 c\n", PlaceError::NoEnd),
+    (b"PLACE express back 1500 A\n", PlaceError::NoEnd),
+    (b"PLACE express back 1500 a b\n", PlaceError::NoEnd),
+];
+
 // Texts without a request. The line of the last has not ended.
-const IDLE: [&[u8]; 15] = [
+const IDLE: [&[u8]; 17] = [
+    b"PLACEX express back 1500\n",
+    b"place express back 1500\n",
     b"NODES 1\n",
     b"NODES \n",
     b" NODES\n",
@@ -122,6 +171,28 @@ fn reads_lines(rt: HostRuntime) -> Result<(), Fail> {
     Ok(())
 }
 
+#[test]
+fn reads_places(rt: HostRuntime) -> Result<(), Fail> {
+    for (text, train, block, front, facing) in PLACES {
+        let Some(Request::Place(Ok(placement))) = request_in(&rt, &mut RequestReader::new(), text)
+        else {
+            panic!(rt; "{text:?}");
+        };
+        assert_eq!(rt; placement.train.as_slice(), train, "{text:?}");
+        assert_eq!(rt; placement.block.as_slice(), block, "{text:?}");
+        assert_eq!(rt; placement.front, front, "{text:?}");
+        assert_eq!(rt; placement.facing, facing, "{text:?}");
+    }
+    for (text, error) in NO_PLACES {
+        assert_eq!(rt;
+            request_in(&rt, &mut RequestReader::new(), text),
+            Some(Request::Place(Err(error))),
+            "{text:?}"
+        );
+    }
+    Ok(())
+}
+
 // The request of `SEND`, `blanks` blanks and `83 7C`, which are nine further characters.
 fn request_behind(rt: &impl Abort, reader: &mut RequestReader, blanks: u32) -> Option<Request> {
     assert_eq!(rt; request_in(rt, reader, b"SEND"), None);
@@ -153,7 +224,16 @@ fn refuses_long_lines(rt: HostRuntime) -> Result<(), Fail> {
         assert_eq!(rt; reader.push(b'1'), None);
     }
     assert_eq!(rt; reader.push(b'\n'), Some(Request::Turns(None)));
-    // A long line that begins with neither word.
+    // A long line that puts a train.
+    assert_eq!(rt; request_in(&rt, &mut reader, b"PLACE e b 1"), None);
+    for _ in 0..500 {
+        assert_eq!(rt; reader.push(b' '), None);
+    }
+    assert_eq!(rt;
+        reader.push(b'\n'),
+        Some(Request::Place(Err(PlaceError::TooLong)))
+    );
+    // A long line that begins with none of the words.
     for _ in 0..500 {
         assert_eq!(rt; reader.push(b'S'), None);
     }
@@ -180,8 +260,16 @@ fn writes_exact_lines(rt: HostRuntime) -> Result<(), Fail> {
     push_turns(&mut text, &Ok(1));
     push_turns(&mut text, &Err(TurnsError::RealTime));
     push_turns(&mut text, &Err(TurnsError::NoNumber));
+    push_place(&mut text, &Ok(()));
+    push_place(&mut text, &Err(PlaceError::NoPlan));
+    push_place(&mut text, &Err(PlaceError::TooLong));
+    push_place(&mut text, &Err(PlaceError::NoNumber));
+    push_place(&mut text, &Err(PlaceError::NoEnd));
+    push_place(&mut text, &Err(PlaceError::UnknownTrain));
+    push_place(&mut text, &Err(PlaceError::UnknownBlock));
+    push_place(&mut text, &Err(PlaceError::OffTrack));
     let wanted =
-        b"VERSION lbserver station\r\nERROR no place\r\nSENT OK\r\nSENT ERROR line too long\r\nSENT ERROR no pairs of hexadecimal digits\r\nSENT ERROR no whole message\r\nSENT ERROR wrong check byte\r\nTURNS OK\r\nTURNS ERROR real time\r\nTURNS ERROR no number from 1 to 10000\r\n";
+        b"VERSION lbserver station\r\nERROR no place\r\nSENT OK\r\nSENT ERROR line too long\r\nSENT ERROR no pairs of hexadecimal digits\r\nSENT ERROR no whole message\r\nSENT ERROR wrong check byte\r\nTURNS OK\r\nTURNS ERROR real time\r\nTURNS ERROR no number from 1 to 10000\r\nPLACE OK\r\nPLACE ERROR no plan\r\nPLACE ERROR line too long\r\nPLACE ERROR no number of millimetres\r\nPLACE ERROR no end a or b\r\nPLACE ERROR no such train\r\nPLACE ERROR no such block\r\nPLACE ERROR the train does not fit there\r\n";
     assert_eq!(rt; text.as_slice(), wanted.as_slice());
     Ok(())
 }

@@ -1,5 +1,5 @@
 //! What the logs of a run hold.
-use loconet_tcp::{Reason, TurnsError};
+use loconet_tcp::{PlaceError, Reason, TurnsError};
 
 /// One call of a transport, and what it returned: what `TransportEvent` is in contracts, but a read is one entry.
 #[derive(Debug, Drop, PartialEq, Eq)]
@@ -27,6 +27,7 @@ pub enum Seen {
     Reported(Vec<u8>),
     TurnsRequested(u8, Result<u16, TurnsError>),
     NodesRequested(u8),
+    Placed(u8, Result<(), PlaceError>),
     TurnBegan(Option<Vec<u8>>),
     Overflowed(u8),
     Skipped(u64),
