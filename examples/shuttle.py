@@ -1,18 +1,20 @@
 #!/usr/bin/env python3
 """Two trains on a single line with a passing siding, driven by sensors alone: an hour of track time in 36 seconds.
 
-At the top of the repository:  examples/shuttle.py [MINUTES]
+    examples/shuttle.py [MINUTES]
 
 The local passes the express by the track `up`. At the end it is sent to the track where the express stands. The status
 is 0 if the server tells of that conflict, and of no other.
 """
 import os
+import pathlib
 import socket
 import subprocess
 import sys
 import tempfile
 import time
 
+HERE = pathlib.Path(__file__).resolve().parent
 RATE = 100  # how many times as fast time passes
 ADDRESSES = (3, 5)  # of the local and the express
 WEST_LINE, EAST_LINE = 2, 5  # the sensors of the single line on both sides of the siding
@@ -107,9 +109,9 @@ def main(words):
     if len(words) > 1 or not all(word.isdecimal() for word in words):
         print("usage: examples/shuttle.py [MINUTES]", file=sys.stderr)
         return 2
-    options = ["--roster", "examples/shuttle-roster.toml", "--plan", "examples/shuttle.toml"]
+    options = ["--roster", HERE / "shuttle-roster.toml", "--plan", HERE / "shuttle.toml"]
     with tempfile.NamedTemporaryFile() as log:
-        program = os.environ.get("LBSERVER", "./lbserver")
+        program = os.environ.get("LBSERVER", HERE.parent / "lbserver")
         with subprocess.Popen([program, *options, "--rate", str(RATE), "--port", "0"], stdout=log) as server:
             try:
                 return shuttle(server, log, int(words[0]) if words else 60)
