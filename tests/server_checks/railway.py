@@ -62,6 +62,19 @@ def sensors():
         same("status", server.process.wait(20), 0)
 
 
+def without_power():
+    """--plan: without track power trains stand, and then they run on from there"""
+    with serve(*OVAL, "--turns", "1", "--clients", "1") as server:
+        with Client(server) as driver:
+            # 300 turns last 3.3 s at most, in which the front moves 403 mm of the 500 mm to the end of main.
+            same("reports", reports_in(drive(driver, 300)), [])
+            driver.write(["TURNS 2000", *send(POWER_ON), "TURNS 1000", *send(POWER_OFF)])
+            same("reports without power", reports_in(driver.lines_until(*receive(POWER_ON))), [])
+            lines = driver.lines_until(*receive(POWER_OFF))
+            same("reports then", reports_in(lines), [report(3, True), report(1, False)])
+        same("status", server.process.wait(20), 0)
+
+
 def fast_time():
     """--rate: at rate 100 a train goes round in a hundredth of the time"""
 

@@ -25,7 +25,7 @@ use Rattle.bus_server.specs.declared.pace.Pace.{Pace}
 use Rattle.bus_server.specs.declared.pace.Pace.TheVariants.{AfterMessages, RealTime}
 use Rattle.bus_server.specs.Runs.{Round, RunsByClock, RunsRounds, logged_in}
 use Rattle.bus_server.specs.Placements.{places}
-use Rattle.bus_server.specs.Sensors.{asks_sensors, full_report, railway_elapsed, railway_placed, reports_due, reports_elapsed}
+use Rattle.bus_server.specs.Sensors.{asks_sensors, full_report, railway_elapsed, railway_placed, reports_due, reports_elapsed, running_time}
 use Rattle.bus_server.specs.TransportEvents.{Accepted, NonePending, PeerClosed, Polled, ReadBlocked, Received, Refused, ServerClosed, TransportEvent, WriteBlocked, Written}
 use Rattle.bus_server.proofs.Rounding.{round_serves}
 
@@ -143,8 +143,8 @@ event_known laws block sensor level (Receives client byte) observed old new runs
     h.2 h.3 (sym (ap (λ (d : List SensorReport). level_after d sensor level) runs.unreported.0) ∙ h.4)
 event_known laws block sensor level (Reports reporting occupied) observed old new runs h =
     (h.0, runs.railway ∙ h.1, h.2, h.3, sym (ap (λ (d : List SensorReport). level_after d sensor level) runs.unreported) ∙ h.4)
-event_known laws block sensor level (Elapses micros missed) observed old new runs h = elapsed_known laws block sensor micros level old.nodes old new runs.unreported.0 runs.railway runs.unreported.1 h
-event_known laws block sensor level (Turn missed) observed old new runs h = elapsed_known laws block sensor old.bus.remaining level old.nodes old new runs.unreported.0 runs.railway runs.unreported.1 h
+event_known laws block sensor level (Elapses micros missed) observed old new runs h = elapsed_known laws block sensor (running_time old.bus micros) level old.nodes old new runs.unreported.0 runs.railway runs.unreported.1 h
+event_known laws block sensor level (Turn missed) observed old new runs h = elapsed_known laws block sensor (running_time old.bus old.bus.remaining) level old.nodes old new runs.unreported.0 runs.railway runs.unreported.1 h
 
 pub becomes_known : SensorLaws → (block sensor client byte : ℕ) (level : Bool) (railway : RailwayState) (observed : Observation) (old new : ServerState) → old.railway ≡ Some railway
     → IsTrue (is_railway railway) → IsSensorOf block sensor railway → asks_sensors (outcome_of old.bus (Receives client byte)) ≡ true → RunsEvent (Receives client byte) observed old new

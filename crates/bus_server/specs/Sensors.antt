@@ -1,5 +1,7 @@
 -- The railway beside a bus, and what its sensors report.
 use Rattle.std.specs.Prelude.{ℕ, ◌≡◌, ◌≤◌, Bool, true, false, if◌then◌else◌, List, [], ◌∷◌, Option, Some, None, Ok}
+use Rattle.refresh_ring.specs.declared.pick.Power.{Power}
+use Rattle.refresh_ring.specs.declared.pick.Power.TheVariants.{Off}
 use Rattle.layout_core.specs.declared.node.Node.{Node}
 use Rattle.ln_ops.specs.Sensor.{is_interrogation}
 use Rattle.ln_ops.specs.declared.sensor.SensorReport.{SensorReport}
@@ -12,6 +14,15 @@ use Rattle.bus.specs.declared.event.Event.{Event}
 use Rattle.bus.specs.declared.event.Event.TheVariants.{Connects, Receives, Disconnects, Reports, Elapses, Turn}
 use Rattle.bus.specs.Bus.{BusState, outcome_of}
 use Rattle.bus_server.specs.Placements.{places}
+
+-- how long trains run in a time: without power they stand
+abbrev pub powered_time : Power → (micros : ℕ) → ℕ
+powered_time Off micros = 0
+powered_time power micros = micros
+
+-- how long they run in a time of the bus
+abbrev pub running_time : BusState → (micros : ℕ) → ℕ
+running_time bus micros = powered_time bus.station.powered.power micros
 
 -- the railway, if there is one, after so many microseconds in which the decoders do this
 abbrev pub railway_elapsed : Option RailwayState → (micros : ℕ) → List Node → Option RailwayState
@@ -50,11 +61,14 @@ reports_due names (PlaceRequested client (Ok placement)) (Some railway) unreport
     reports_of railway (places names railway placement)
 reports_due names other railway unreported = unreported
 
--- The railway after an event: in the time of the event trains run as the decoders do before it.
+-- The railway after an event: in the time of the event trains run as the decoders do before it, if
+-- the track has power then.
 abbrev pub railway_after : (names : List (List ℕ)) → BusState → List Node → Event
     → Option RailwayState → Option RailwayState
-railway_after names bus nodes (Elapses micros missed) railway = railway_elapsed railway micros nodes
-railway_after names bus nodes (Turn missed) railway = railway_elapsed railway bus.remaining nodes
+railway_after names bus nodes (Elapses micros missed) railway =
+    railway_elapsed railway (running_time bus micros) nodes
+railway_after names bus nodes (Turn missed) railway =
+    railway_elapsed railway (running_time bus bus.remaining) nodes
 railway_after names bus nodes (Receives client byte) railway =
     railway_placed names (outcome_of bus (Receives client byte)) railway
 railway_after names bus nodes other railway = railway
@@ -67,8 +81,10 @@ reports_after names bus nodes (Disconnects client) railway = []
 reports_after names bus nodes (Reports sensor occupied) railway = []
 reports_after names bus nodes (Receives client byte) railway =
     reports_due names (outcome_of bus (Receives client byte)) railway []
-reports_after names bus nodes (Elapses micros missed) railway = reports_elapsed railway micros nodes
-reports_after names bus nodes (Turn missed) railway = reports_elapsed railway bus.remaining nodes
+reports_after names bus nodes (Elapses micros missed) railway =
+    reports_elapsed railway (running_time bus micros) nodes
+reports_after names bus nodes (Turn missed) railway =
+    reports_elapsed railway (running_time bus bus.remaining) nodes
 
 -- The reports that are due before an event and after it: each is an event, in order, and no other
 -- event happens before. It makes others due.

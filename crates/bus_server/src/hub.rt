@@ -14,7 +14,7 @@ use crate::losses::Losses;
 use crate::named_node::NamedNodes;
 use crate::pace::Pace;
 use crate::send_queues::{SendQueues, empty_queues};
-use crate::sensors::Sensors;
+use crate::sensors::{Sensors, powered_time};
 use crate::transport::{IoOutcome, Transport};
 use bus::{Bus, Event, Outcome};
 use layout_core::World;
@@ -173,12 +173,14 @@ impl Hub {
         self.sensors.railway.as_ref()
     }
 
-    /// Runs the trains for `micros` microseconds, as the decoders do now.
+    /// Runs the trains for `micros` microseconds, as the decoders do now. Without power they stand.
     fn run_trains(&mut self, micros: u32)
         requires reported { HasReported self.old }
         ensures { state_of self.new ≡ with_trains_run micros (state_of self.old) }
     {
-        self.sensors.elapse(micros, self.bus.world());
+        let world = self.bus.world();
+        let micros = powered_time(world.station().power(), micros);
+        self.sensors.elapse(micros, world);
     }
 
     /// Draws the decoders that miss the turn that begins within `micros` microseconds; draws nothing if none begins.

@@ -5,7 +5,7 @@ ghost use Rattle.railway.specs.Reports.{is_report};
 ghost use Rattle.loconet_tcp.specs.declared.outcome.Outcome.TheVariants.{PlaceRequested};
 ghost use Rattle.bus_server.specs.Names.{names_of};
 ghost use Rattle.bus_server.specs.Placements.{answered, place_answer};
-ghost use Rattle.bus_server.specs.Sensors.{asks_sensors, full_report, railway_elapsed, railway_placed, reports_due, reports_elapsed};
+ghost use Rattle.bus_server.specs.Sensors.{asks_sensors, full_report, powered_time, railway_elapsed, railway_placed, reports_due, reports_elapsed};
 
 use crate::named_node::NamedNodes;
 use crate::placement::place;
@@ -13,6 +13,7 @@ use layout_core::World;
 use ln_ops::{SensorReport, is_interrogation};
 use loconet_tcp::{Outcome, PlaceError, Placement};
 use railway::{Railway, Reports};
+use station_core::Power;
 
 /// The trains that run beside a bus, if there are any, and what their sensors are still to report.
 #[derive(Drop)]
@@ -121,6 +122,16 @@ impl Sensors {
         ensures sensor { IfSome result (λ report. IsTrue (is_report report)) }
     {
         self.unreported.pop_at(0)
+    }
+}
+
+/// How many of `micros` microseconds trains run: without power they stand.
+pub(crate) fn powered_time(power: Power, micros: u32) -> u32
+    ensures { result ≡ powered_time power micros }
+{
+    match power {
+        Power::Off => 0,
+        Power::Running | Power::Paused => micros,
     }
 }
 
