@@ -7,7 +7,7 @@ for a test, and has a client of it; it needs no library. docs/LIBRARY.md is the 
 from .decoders import AccessoryDecoder, Decoder, LocoDecoder, Motion, Outputs, Roster, roster_text
 from .errors import ClosedError, LibraryError, RefusedError, RosterError, StationError
 from .layout import Answer, Byte, Event, Noise, Station, Turn
-from .messages import Acknowledge, Reply, SlotData, message_bytes, message_hex
+from .messages import Acknowledge, Reply, SensorReport, SlotData, message_bytes, message_hex
 from .throttle import Loco, Throttle, Turnout
 
 __version__ = "1.0.0"
@@ -29,6 +29,7 @@ __all__ = [
     "Reply",
     "Roster",
     "RosterError",
+    "SensorReport",
     "SlotData",
     "Station",
     "StationError",

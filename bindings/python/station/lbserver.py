@@ -19,12 +19,13 @@ import socket
 import subprocess
 import tempfile
 import time
+from collections import deque
 from collections.abc import Callable
 from typing import Any, TypeVar, Union
 
 from .decoders import HasNodes, Roster, State, in_range, read_node_line, read_roster, roster_text
 from .errors import ClosedError, StationError
-from .messages import Reply, checked_message, has_reply, message_hex, reply_of
+from .messages import Reply, SensorReport, checked_message, has_reply, message_hex, reply_of, sensor_report_in
 from .throttle import Throttle
 
 # The repository, if the package is used from it.
@@ -82,6 +83,7 @@ class Client(Throttle):
     def __init__(self, host: str, port: int, seconds: float = 20, room: int | None = None) -> None:
         self.stream = connect(host, port, seconds, room)
         self.lines = self.stream.makefile("rb")
+        self._reports: deque[SensorReport] = deque()
         try:
             greeting = self.line()
             if not greeting.startswith("VERSION "):
@@ -110,13 +112,35 @@ class Client(Throttle):
             raise ConnectionError("the server closed the connection")
         return line.decode("ascii").rstrip("\r\n")
 
-    def transmit(self, *body: int) -> None:
-        """Sends a message, and waits until it is sent. Its reply, if there is one, is the next line."""
+    def _request(self, text: str) -> None:
         if self.lines.closed:
             raise ClosedError("the client is closed")
-        self.stream.sendall(f"SEND {message_hex(*body)}\r\n".encode("ascii"))
-        while not (line := self.line()).startswith("SENT "):
+        self.stream.sendall(text.encode("ascii") + b"\r\n")
+
+    def _next_line(self) -> str:
+        """The next line. The report of a sensor is kept for `sensor_report`."""
+        line = self.line()
+        report = sensor_report_in(line)
+        if report is not None:
+            self._reports.append(report)
+        return line
+
+    def _answer(self, word: str) -> str:
+        """The next line that begins with this word."""
+        while not (line := self._next_line()).startswith(word):
             pass
+        return line
+
+    def sensor_report(self) -> SensorReport:
+        """Waits for the next report of a sensor. Those that came before it, while other calls waited, are returned first."""
+        while not self._reports:
+            self._next_line()
+        return self._reports.popleft()
+
+    def transmit(self, *body: int) -> None:
+        """Sends a message, and waits until it is sent. Its reply, if there is one, is the next line."""
+        self._request(f"SEND {message_hex(*body)}")
+        line = self._answer("SENT ")
         if line != "SENT OK":
             raise ValueError(line)
 
@@ -143,21 +167,16 @@ class Client(Throttle):
             left -= some
 
     def _run_turns(self, count: int) -> None:
-        if self.lines.closed:
-            raise ClosedError("the client is closed")
-        self.stream.sendall(f"TURNS {count}\r\n".encode("ascii"))
-        while not (line := self.line()).startswith("TURNS "):
-            pass
+        self._request(f"TURNS {count}")
+        line = self._answer("TURNS ")
         if line != "TURNS OK":
             raise StationError(line)
 
     def nodes(self) -> dict[str, State]:
         """How the decoders of the roster stand now, by their names. Only `lbserver` answers this request."""
-        if self.lines.closed:
-            raise ClosedError("the client is closed")
-        self.stream.sendall(b"NODES\r\n")
+        self._request("NODES")
         nodes: dict[str, State] = {}
-        while (line := self.line()) != "NODES OK":
+        while (line := self._next_line()) != "NODES OK":
             found = read_node_line(line)
             if found is not None:
                 nodes[found[0]] = found[1]
@@ -174,22 +193,18 @@ class Client(Throttle):
         if facing not in (None, "a", "b"):
             raise ValueError(f"facing is {facing!r}, and not 'a' or 'b'")
         words = ["PLACE", train, block, str(in_range(front, 0, 9_999_999, "front"))]
-        if self.lines.closed:
-            raise ClosedError("the client is closed")
-        self.stream.sendall(" ".join(words + ([facing] if facing else [])).encode("ascii") + b"\r\n")
-        while not (line := self.line()).startswith("PLACE "):
-            pass
+        self._request(" ".join(words + ([facing] if facing else [])))
+        line = self._answer("PLACE ")
         if line != "PLACE OK":
             raise StationError(line)
 
     def _refusal(self) -> Reply | None:
         """The reply to the message that was sent last, if the next line is one."""
-        own = message_hex(0xBB, 1, 0)
-        self.stream.sendall(f"SEND {own}\r\n".encode("ascii"))
-        first = line = self.line()
+        self._request(f"SEND {message_hex(0xBB, 1, 0)}")
+        first = line = self._next_line()
         # The reply to the read comes right after its SENT OK.
         while line != "SENT OK":
-            line = self.line()
+            line = self._next_line()
         self.line()
         return _reply_in(first) if first.startswith("RECEIVE B4 ") else None
 

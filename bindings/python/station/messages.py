@@ -61,6 +61,14 @@ class Acknowledge:
 Reply = Union[SlotData, Acknowledge]
 
 
+@dataclass(frozen=True)
+class SensorReport:
+    """What a sensor reports (OPC_INPUT_REP)."""
+
+    sensor: int  # 1 to 4096
+    occupied: bool
+
+
 def is_body(body: bytes) -> bool:
     """Whether one more byte makes a whole message: an opcode, then bytes below 80, as many as the opcode says."""
     if not body or body[0] < 0x80 or any(byte >= 0x80 for byte in body[1:]):
@@ -119,3 +127,11 @@ def reply_of(message: bytes) -> Reply:
         functions=dirf >> 4 & 1 | (dirf & 15) << 1 | (snd & 15) << 5,
         power="off" if not trk & 1 else "on" if trk & 2 else "paused",
     )
+
+
+def sensor_report_in(line: str) -> SensorReport | None:
+    """The report of a sensor in a line of LocoNet over TCP, if that is what it tells."""
+    if not line.startswith("RECEIVE B2 "):
+        return None
+    _, low, high, _ = bytes.fromhex(line.removeprefix("RECEIVE "))
+    return SensorReport(1 + 2 * (low + (high & 0x0F) * 128) + (high >> 5 & 1), bool(high & 0x10))

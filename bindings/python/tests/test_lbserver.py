@@ -25,6 +25,7 @@ from station import (  # noqa: E402
     Outputs,
     RefusedError,
     RosterError,
+    SensorReport,
     SlotData,
     StationError,
     message_bytes,
@@ -224,6 +225,22 @@ class TestClient(unittest.TestCase):
         self.assertEqual(
             received, ["PLACE express back 1500", "PLACE express back 0 a", "PLACE express front 9999999 b", ""]
         )
+
+    def test_sensor_reports(self):
+        # OPC_INPUT_REP: the sensor of turnout address 0, then 1 with the auxiliary input, then the last sensor.
+        first, second, last = "RECEIVE B2 00 40 0D", "RECEIVE B2 00 70 3D", "RECEIVE B2 7F 7F 4D"
+        with scripted(
+            ["VERSION x", first], ["RECEIVE 83 7C", second, "SENT OK"], [last, "TURNS OK"], [first, "NODES OK"]
+        ) as (port, _):
+            with Client("127.0.0.1", port) as client:
+                self.assertEqual(client.sensor_report(), SensorReport(1, False))
+                client.power_on()
+                client.turns(1)
+                self.assertEqual(client.nodes(), {})
+                for wanted in (SensorReport(2, True), SensorReport(4096, True), SensorReport(1, False)):
+                    self.assertEqual(client.sensor_report(), wanted)
+            with self.assertRaises(ClosedError):
+                client.sensor_report()
 
     def test_rejected_and_closed(self):
         with scripted(["ERROR no place"]) as (port, _):
