@@ -6,17 +6,16 @@
 The local passes the express by the track `up`. At the end it is sent to the track where the express stands. The status
 is 0 if the server tells of that conflict, and of no other.
 """
-import os
+import argparse
 import pathlib
-import socket
-import subprocess
 import sys
-import tempfile
 import time
 
 HERE = pathlib.Path(__file__).resolve().parent
+sys.path.insert(0, str(HERE.parent / "bindings/python"))
+from station.lbserver import Server  # noqa: E402
+
 RATE = 100  # how many times as fast time passes
-ADDRESSES = (3, 5)  # of the local and the express
 WEST_LINE, EAST_LINE = 2, 5  # the sensors of the single line on both sides of the siding
 # A lap in four legs: whether turnouts 1 and 2 are thrown, whether trains run forward, and which line each train passes.
 LAP = (
@@ -27,100 +26,51 @@ LAP = (
 )
 
 
-class Trains:
-    """The two trains, driven by a client of `lbserver`."""
-
-    def __init__(self, port):
-        self.stream = socket.create_connection(("127.0.0.1", port), timeout=10)
-        self.stream.setsockopt(socket.IPPROTO_TCP, socket.TCP_NODELAY, 1)
-        self.lines = self.stream.makefile("r", encoding="ascii")
-        self.send(0x83)  # OPC_GPON: power on
-        self.slots = [self.slot_of(address) for address in ADDRESSES]
-
-    def send(self, *body):
-        """Sends a message with its check byte."""
-        check = 0xFF
-        for byte in body:
-            check ^= byte
-        self.stream.sendall(f"SEND {bytes([*body, check]).hex(' ')}\r\n".encode("ascii"))
-
-    def hear(self, opcode):
-        """The next message with this opcode."""
-        for line in self.lines:
-            message = bytes.fromhex(line[8:]) if line.startswith("RECEIVE ") else b"\0"
-            if message[0] == opcode:
-                return message
-        raise ConnectionError("the server has closed the connection")
-
-    def slot_of(self, address):
-        """The slot of a locomotive, which is in use then."""
-        self.send(0xBF, 0, address)  # OPC_LOCO_ADR
-        slot = self.hear(0xE7)[2]
-        self.send(0xBA, slot, slot)  # OPC_MOVE_SLOTS, a null move
-        self.hear(0xE7)
-        return slot
-
-    def run(self, thrown, forward, passes):
-        """Lays the turnouts, and lets each train run until it has left its line. A train without one stands."""
-        for number, is_thrown in enumerate(thrown):
-            for output in (0x10, 0x00):  # its output on, and off again
-                self.send(0xB0, number, output | (0x00 if is_thrown else 0x20))  # OPC_SW_REQ
-        under_way = {line: slot for line, slot in zip(passes, self.slots) if line}
-        for slot in under_way.values():
-            self.send(0xA1, slot, 0x00 if forward else 0x20)  # OPC_LOCO_DIRF
-            self.send(0xA0, slot, 0x7F)  # OPC_LOCO_SPD: the last step
-        while under_way:
-            _, low, high, _ = self.hear(0xB2)  # OPC_INPUT_REP
-            sensor = 1 + 2 * (low + 128 * (high & 0x0F)) + (high >> 5 & 1)
-            if sensor in under_way and not high & 0x10:  # all of the train has left
-                self.send(0xA0, under_way.pop(sensor), 0)
+def run(client, locos, thrown, forward, lines):
+    """Lays the turnouts, and lets each train run until it has left its line. A train without one stands."""
+    for number, is_thrown in enumerate(thrown, 1):
+        turnout = client.turnout(number)
+        turnout.throw() if is_thrown else turnout.close()
+        turnout.off()
+    under_way = {line: loco for line, loco in zip(lines, locos) if line}
+    for loco in under_way.values():
+        loco.forward(forward)
+        loco.speed(126)
+    while under_way:
+        report = client.sensor_report()
+        if report.sensor in under_way and not report.occupied:  # all of the train has left
+            under_way.pop(report.sensor).speed(0)
 
 
-def lines_of(log, *words):
-    """The lines of the server's log that begin with one of these words."""
-    with open(log.name, encoding="utf-8") as lines:
-        return [line.strip() for line in lines if line.startswith(words)]
+def faults(server):
+    """The conflicts and derailments of the server's log."""
+    return [line for line in server.printed() if line.startswith(("conflict ", "derailed "))]
 
 
-def shuttle(server, log, minutes):
+def main(minutes):
     """Drives for some minutes of track time, and then into the express. Returns the status."""
-    while not lines_of(log, "listening "):
-        if server.poll() is not None:
-            raise ConnectionError("the server has not started")
-        time.sleep(0.01)
-    trains = Trains(int(lines_of(log, "listening ")[0].rpartition(":")[2]))
-    laps, end = 0, time.monotonic() + 60 * minutes / RATE
-    while time.monotonic() < end:
-        for leg in LAP:
-            trains.run(*leg)
-        laps += 1
-    faults = lines_of(log, "conflict ", "derailed ")
-    print(f"{laps} laps, {len(faults)} conflicts", *faults, sep="\n")
-    trains.run(*LAP[0])
-    trains.run((False, True), False, (WEST_LINE, None))
-    trains.run((True, True), True, (WEST_LINE, None))  # turnout 1 is wrong
-    found = lines_of(log, "conflict ", "derailed ")[len(faults):]
-    print("turnout 1 wrong:", *found)
-    return 0 if not faults and found == ["conflict down: local, express"] else 1
-
-
-def main(words):
-    """Runs the example on the words of the command line. Returns the status."""
-    if len(words) > 1 or not all(word.isdecimal() for word in words):
-        print("usage: examples/shuttle.py [MINUTES]", file=sys.stderr)
-        return 2
-    options = ["--roster", HERE / "shuttle-roster.toml", "--plan", HERE / "shuttle.toml"]
-    with tempfile.NamedTemporaryFile() as log:
-        program = os.environ.get("LBSERVER", HERE.parent / "lbserver")
-        with subprocess.Popen([program, *options, "--rate", str(RATE), "--port", "0"], stdout=log) as server:
-            try:
-                return shuttle(server, log, int(words[0]) if words else 60)
-            except OSError as error:
-                print(f"shuttle.py: {error}", file=sys.stderr)
-                return 1
-            finally:
-                server.terminate()
+    options = ["--plan", str(HERE / "shuttle.toml"), "--rate", str(RATE)]
+    with Server(*options, roster=str(HERE / "shuttle-roster.toml")) as server, server.client() as client:
+        locos = client.loco(3), client.loco(5)  # the local and the express
+        client.power_on()
+        for loco in locos:
+            loco.take()
+        laps, end = 0, time.monotonic() + 60 * minutes / RATE
+        while time.monotonic() < end:
+            for leg in LAP:
+                run(client, locos, *leg)
+            laps += 1
+        found = faults(server)
+        print(f"{laps} laps, {len(found)} conflicts", *found, sep="\n")
+        run(client, locos, *LAP[0])
+        run(client, locos, (False, True), False, (WEST_LINE, None))
+        run(client, locos, (True, True), True, (WEST_LINE, None))  # turnout 1 is wrong
+        wrong = server.wait_for(lambda: faults(server)[len(found) :])
+        print("turnout 1 wrong:", *wrong)
+        return 0 if not found and wrong == ["conflict down: local, express"] else 1
 
 
 if __name__ == "__main__":
-    sys.exit(main(sys.argv[1:]))
+    parser = argparse.ArgumentParser(description=__doc__.splitlines()[0])
+    parser.add_argument("minutes", type=int, nargs="?", default=60, help="minutes of track time")
+    sys.exit(main(parser.parse_args().minutes))
