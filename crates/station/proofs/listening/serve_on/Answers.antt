@@ -3,6 +3,7 @@ use Rattle.station.proofs.Connecting.{given_up, part_none, part_whole, passed_up
 use Rattle.station.proofs.Replaying.{done_none}
 use Rattle.console.specs.declared.fault.RunFault.{RunFault}
 use Rattle.console.specs.declared.fault.RunFault.TheVariants.{Network, Output}
+use Rattle.station.specs.Connections.{HasGivenUp}
 use Rattle.station.specs.Layout.{entries_in, roster_value}
 use Rattle.station_core.specs.Powered.{HasDesk}
 use Rattle.station_core.specs.Seen.{Seen}
@@ -27,7 +28,9 @@ returns-in_default-clause-given_up g c =
 pub returns-in_err-serve_connection-clause-given_up : goal.returns-in_err-serve_connection-clause-given_up
 returns-in_err-serve_connection-clause-given_up g c =
     let fault : RunFault = c.in_err-serve_connection.field-0.0 in
-    passed_up c.from_residual.result fault _ (search rules)
+    passed_up c.from_residual.result fault
+    (λ (e : RunFault). HasGivenUp e c.args.limits c.args.connections (entries_in (roster_value c.args.roster)) c.args.world.now c.serve_connection.new.world (g.O.Sink.held c.args.output.now) (g.O.Sink.held c.serve_connection.new.output))
+    (search rules)
     (given_up fault c.args.limits c.loop-served._served c.args.connections (entries_in (roster_value c.args.roster)) c.args.world.now c.loop-served.world c.serve_connection.new.world
     (g.O.Sink.held c.args.output.now) (g.O.Sink.held c.loop-served.output) (g.O.Sink.held c.serve_connection.new.output) c.loop-served.invariant.served c.loop-served-test.true
     c.in_err-serve_connection.ensures.part (inr (inl c.in_err-serve_connection.ensures.given_up)))
@@ -35,7 +38,9 @@ returns-in_err-serve_connection-clause-given_up g c =
 pub returns-in_err-print_nodes-clause-given_up : goal.returns-in_err-print_nodes-clause-given_up
 returns-in_err-print_nodes-clause-given_up g c =
     let served = c.in_ok-serve_connection.ensures.served in
-    passed_up c.from_residual-in_err-print_nodes.result Output _ (search rules)
+    passed_up c.from_residual-in_err-print_nodes.result Output
+    (λ (e : RunFault). HasGivenUp e c.args.limits c.args.connections (entries_in (roster_value c.args.roster)) c.args.world.now c.serve_connection.new.world (g.O.Sink.held c.args.output.now) (g.O.Sink.held c.print_nodes.new.output))
+    (search rules)
     (given_up Output c.args.limits c.loop-served._served c.args.connections (entries_in (roster_value c.args.roster)) c.args.world.now c.loop-served.world c.serve_connection.new.world
     (g.O.Sink.held c.args.output.now) (g.O.Sink.held c.loop-served.output) (g.O.Sink.held c.print_nodes.new.output) c.loop-served.invariant.served c.loop-served-test.true
     (part_whole c.args.limits c.loop-served.world c.serve_connection.new.world _ _ served) (inr (inr (refl, stops_showing c.args.limits (entries_in (roster_value c.args.roster)) c.loop-served.world c.serve_connection.new.world _ _ _ served c.in_err-print_nodes.ensures.front))))
