@@ -1,6 +1,6 @@
 //! The texts of a filter's command line, and the order that it gives.
 
-use crate::words::FileName;
+use input_text::FileName;
 
 /// A flag of a filter.
 #[derive(Clone, Copy)]

@@ -3,8 +3,7 @@ ghost use Rattle.std.specs.Prelude.{◌≡◌, false, IfOk};
 ghost use Rattle.command_line.specs.Opening.{open_error_words};
 ghost use Rattle.input_text.specs.TrackedReader.{read_failed};
 
-use crate::words::FileName;
-use input_text::TrackedReader;
+use input_text::{FileName, TrackedReader};
 use std::fs;
 use std::fs::OpenFile;
 use std::io::ErrorKind;

@@ -7,9 +7,10 @@ ghost use Rattle.command_line.specs.Fault.{IsOfClap, IsOfKind, IsOrderFault, IsU
 ghost use Rattle.command_line.specs.Order.{HasNone, IsMatched, IsNumber, IsOrder, IsOrderOf, Writes, WritesNone};
 
 use crate::command::{Draft, station_command};
-use crate::words::{FileName, Order};
+use crate::words::Order;
 use clap::error::ErrorKind;
 use clap::{ArgMatches, Error};
+use input_text::FileName;
 use std::alloc::{AllocError, Global};
 use thiserror::Error;
 

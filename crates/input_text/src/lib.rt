@@ -1,8 +1,8 @@
-//! Bounded reading and complete writing of bytes.
+//! Bounded reading and complete writing of bytes, and names of files.
 //!
 //! An [`Input`] is read to its end or to a limit by [`read_limited`]; [`TrackedReader`] makes one of any
 //! reader. An [`Output`] is written by [`put_all`] and flushed; [`TrackedWriter`] makes one of any
-//! writer. Both record whether a call of theirs failed.
+//! writer. Both record whether a call of theirs failed. A [`FileName`] is the name of a file.
 //!
 //! ```ignore
 //! let mut input = TrackedReader::new(reader);
@@ -13,6 +13,7 @@
 //! ```
 #![tactic(auto)]
 
+mod file_name;
 mod input;
 pub mod laws;
 mod output;
@@ -21,6 +22,7 @@ mod tracked_reader;
 mod tracked_writer;
 mod writing;
 
+pub use file_name::FileName;
 pub use input::{Input, ReadFault};
 pub use output::{Broken, Output, Sink};
 pub use reading::read_limited;
