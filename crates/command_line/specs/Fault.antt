@@ -1,5 +1,5 @@
--- Why arguments are not an order.
-use Rattle.std.specs.Prelude.{◌≡◌, ◌≢◌, ◌⊎◌, List, [], ◌∷◌}
+-- Why arguments are not an order, and the exit status of that.
+use Rattle.std.specs.Prelude.{ℕ, ◌≡◌, ◌≢◌, ◌⊎◌, List, [], ◌∷◌}
 use Rattle.clap.specs.Kinds.{Kinds, IsAmong}
 use Rattle.clap.specs.Values.{kind_of}
 use Rattle.clap.specs.Words.{Text, fault_of}
@@ -11,6 +11,11 @@ use Rattle.command_line.specs.declared.orders.OrderFault.TheVariants.{Usage, NoM
 use Rattle.command_line.specs.CommandLine.{station_app}
 use Rattle.command_line.specs.Order.{HasNone, IsOrderOf}
 use Rattle.command_line.specs.ServerLine.{IsServerOrderOf, server_app}
+
+-- usage, memory: as the statuses of other faults
+abbrev pub status_of : OrderFault → ℕ
+status_of (Usage error) = 1
+status_of NoMemory = 6
 
 -- the fault of an error of clap
 abbrev pub IsOfClap : Error → OrderFault → Type 0

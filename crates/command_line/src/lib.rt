@@ -3,13 +3,14 @@
 //! [`order`] parses the arguments of `station` into an [`Order`], [`server_order`] those of
 //! `lbserver` into a [`ServerOrder`], and [`filter_order`] those of a program that reads one file
 //! into a [`FilterOrder`]. The text of an [`OrderFault`] is shown to the user: on standard output
-//! if it is a requested text, otherwise on standard error. [`read_words`] returns the arguments.
+//! if it is a requested text, otherwise on standard error, by [`OrderFault::report`].
+//! [`read_words`] returns the arguments.
 //!
 //! ```ignore
 //! match order(alloc, &arguments) {
 //!     Ok(Order::Monitor { file }) => { /* run it */ }
-//!     Err(OrderFault::Usage(text)) => eprint!("{text}"),
-//!     _ => {}
+//!     Ok(_) => { /* an order that needs a layout */ }
+//!     Err(fault) => status = fault.report("station", &mut faults),
 //! }
 //! ```
 #![tactic(auto)]

@@ -3,7 +3,7 @@ ghost use Rattle.std.specs.Prelude.{◌≡◌, ℕ, [], true, Ok, None, IfErr, I
 ghost use Rattle.clap.specs.Words.{App, FailsBy, fault_of, first_of, found_of, is_simple_and_free, one_of, rows_of, subcommand_rows_of};
 ghost use Rattle.command_line.specs.CommandLine.{HasApp, HasRows};
 ghost use Rattle.command_line.specs.declared.orders.OrderFault.TheVariants.{NoMemory};
-ghost use Rattle.command_line.specs.Fault.{IsOfClap, IsOfKind, IsOrderFault, IsUnmatched, refusals};
+ghost use Rattle.command_line.specs.Fault.{IsOfClap, IsOfKind, IsOrderFault, IsUnmatched, refusals, status_of};
 ghost use Rattle.command_line.specs.Order.{HasNone, IsMatched, IsNumber, IsOrder, IsOrderOf, Writes, WritesNone};
 
 use crate::command::{Draft, station_command};
@@ -12,6 +12,7 @@ use clap::error::ErrorKind;
 use clap::{ArgMatches, Error};
 use input_text::FileName;
 use std::alloc::{AllocError, Global};
+use std::io::Write;
 use thiserror::Error;
 
 /// Why the arguments are not an order.
@@ -23,6 +24,25 @@ pub enum OrderFault {
     /// Out of memory.
     #[error("no memory")]
     NoMemory,
+}
+
+impl OrderFault {
+    /// Writes the text of `Usage` as it is, or the line `PROGRAM: no memory`, and returns the exit
+    /// status, 1 or 6. A failure of this report cannot be reported.
+    pub fn report<E: Write>(&self, program: &str, faults: &mut E) -> u8
+        ensures { result ≡ status_of self.now }
+    {
+        match self {
+            OrderFault::Usage(_) => {
+                let _ = write!(faults, "{self}");
+                1
+            }
+            OrderFault::NoMemory => {
+                let _ = writeln!(faults, "{program}: {self}");
+                6
+            }
+        }
+    }
 }
 
 impl From<AllocError> for OrderFault {
