@@ -1,17 +1,13 @@
 //! Why a filter does not run on its input, and the report of it.
 ghost use Rattle.std.specs.Prelude.{◌≡◌, ◌≢◌};
-ghost use Rattle.filter.specs.declared.report.StartFault.TheVariants.{NoMemory};
-ghost use Rattle.filter.specs.FilterFault.{of_order, status_of};
+ghost use Rattle.filter.specs.FilterFault.{status_of};
 
-use command_line::{FileName, OrderFault, open_error_words};
-use std::alloc::AllocError;
+use command_line::{FileName, open_error_words};
 use std::io::{ErrorKind, Write};
 
-/// Why a filter does not run on its input.
+/// Why a filter does not open its file, or does not write a requested text.
 #[derive(Debug, Drop)]
 pub(crate) enum StartFault {
-    /// Status 1: the arguments are unknown.
-    Usage(clap::Error),
     /// Status 2: the file cannot be opened.
     Unopened { file: FileName, why: ErrorKind },
     /// Status 4: standard output could not be written.
@@ -32,12 +28,11 @@ impl StartFault {
         }
     }
 
-    /// Returns the exit status, 1 to 6.
+    /// Returns the exit status, 2 to 6.
     fn status(&self) -> u8
         ensures { result ≡ status_of self.now }
     {
         match self {
-            StartFault::Usage(_) => 1,
             StartFault::Unopened { .. } => 2,
             StartFault::Output => 4,
             StartFault::NoMemory => 6,
@@ -50,7 +45,6 @@ impl StartFault {
         ensures { result ≡ status_of self.now }
     {
         let _ = match self {
-            StartFault::Usage(error) => write!(faults, "{error}"),
             StartFault::Unopened { file, why } => {
                 let reason = open_error_words(*why);
                 writeln!(faults, "{program}: cannot read {file}: {reason}")
@@ -59,24 +53,5 @@ impl StartFault {
             StartFault::NoMemory => writeln!(faults, "{program}: no memory"),
         };
         self.status()
-    }
-}
-
-impl From<OrderFault> for StartFault {
-    ghost from_gives = { λ order fault. fault ≡ of_order order };
-
-    fn from(fault: OrderFault) -> StartFault {
-        match fault {
-            OrderFault::Usage(error) => StartFault::Usage(error),
-            OrderFault::NoMemory => StartFault::NoMemory,
-        }
-    }
-}
-
-impl From<AllocError> for StartFault {
-    ghost from_gives = { λ _ fault. fault ≡ NoMemory };
-
-    fn from(_error: AllocError) -> StartFault {
-        StartFault::NoMemory
     }
 }

@@ -147,8 +147,8 @@ fn answer<O: Output, E: Write>(
             Ok(()) => 0,
             Err(Broken) => StartFault::Output.report(program, faults),
         },
-        Ok(None) => StartFault::from(fault).report(program, faults),
-        Err(error) => StartFault::from(error).report(program, faults),
+        Ok(None) => fault.report(program, faults),
+        Err(error) => OrderFault::from(error).report(program, faults),
     }
 }
 

@@ -2,7 +2,6 @@
 
 use crate::announced::Announced;
 use crate::filter::Filter;
-use crate::report::StartFault;
 use crate::running::execute_words;
 use crate::terminal::is_terminal;
 use command_line::{FilterText, OrderFault, not_utf8_filter_text, read_words, texts};
@@ -18,7 +17,7 @@ pub fn run_filter<F: Filter>(filter: &F, rt: &HostRuntime) -> ExitCode {
     let text = filter.text();
     ExitCode::from(match run_words(filter, text, rt) {
         Ok(status) => status,
-        Err(fault) => StartFault::from(fault).report(text.name, &mut rt.stderr()),
+        Err(fault) => fault.report(text.name, &mut rt.stderr()),
     })
 }
 
