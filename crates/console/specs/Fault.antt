@@ -1,6 +1,5 @@
 -- The exit status of a fault, and the numbers of faults.
-use Rattle.std.specs.Prelude.{ℕ, ◌==◌, Bool, true, false, Result, Ok, Err}
-use Rattle.clap.specs.Words.{Text}
+use Rattle.std.specs.Prelude.{ℕ, ◌==◌, Bool, true, false, List, Result, Ok, Err}
 use Rattle.show_text.specs.declared.command.Why.{Why as ScriptWhy}
 use Rattle.show_text.specs.declared.command.Why.TheVariants as script
 use Rattle.show_text.specs.declared.command.ScriptFault.{ScriptFault}
@@ -12,14 +11,11 @@ use Rattle.roster.specs.declared.fault.Why.TheVariants as roster
 use Rattle.roster.specs.declared.fault.RosterFault.{RosterFault}
 use Rattle.input_text.specs.declared.input.ReadFault.{ReadFault}
 use Rattle.input_text.specs.Fault.{either}
-use Rattle.command_line.specs.declared.orders.OrderFault.{OrderFault}
-use Rattle.command_line.specs.declared.orders.OrderFault.TheVariants as order
 use Rattle.console.specs.declared.fault.RunFault.{RunFault}
-use Rattle.console.specs.declared.fault.RunFault.TheVariants.{Usage, Lines, Unreadable, UnreadableInput, TooLong, Roster, Network, Output, Serve, Script, Hex, NoMemory}
+use Rattle.console.specs.declared.fault.RunFault.TheVariants.{Lines, Unreadable, UnreadableInput, TooLong, Roster, Network, Output, Serve, Script, Hex, NoMemory}
 
--- usage, files, roster, network and output, script and hex text, memory
+-- lines of a station, files, roster, network and output, script and hex text, memory
 abbrev pub status_of : RunFault → ℕ
-status_of (Usage error) = 1
 status_of Lines = 1
 status_of (Unreadable file) = 2
 status_of UnreadableInput = 2
@@ -37,7 +33,7 @@ abbrev pub of_read : ReadFault → RunFault
 of_read = either UnreadableInput NoMemory
 
 -- the fault of a failed read of a file
-abbrev pub of_file : Text → ReadFault → RunFault
+abbrev pub of_file : List ℕ → ReadFault → RunFault
 of_file file = either (Unreadable file) NoMemory
 
 -- a file could not be read
@@ -60,10 +56,6 @@ is_unwritten other = false
 abbrev pub ended_by : {A : Type 0} → (RunFault → Bool) → Result A RunFault → Bool
 ended_by is (Ok a) = false
 ended_by is (Err fault) = is fault
-
-abbrev pub of_order : OrderFault → RunFault
-of_order (order.Usage error) = Usage error
-of_order order.NoMemory = NoMemory
 
 abbrev pub roster_fault : RosterWhy → ℕ → RunFault
 roster_fault roster.NotToml node = Roster 1 node

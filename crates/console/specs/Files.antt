@@ -1,7 +1,6 @@
 -- The facts about bytes read from a file.
 use Rattle.std.specs.Prelude.{ℕ, ◌≡◌, ◌<◌, ◌≤◌, ◌⊎◌, List, Option, Some, None, Ok, Err, length}
 use Rattle.std.specs.Io.KnownBytes.{Consumes, IsAtEnd}
-use Rattle.clap.specs.Words.{Text}
 use Rattle.console.specs.declared.fault.RunFault.{RunFault}
 use Rattle.console.specs.declared.fault.RunFault.TheVariants.{Unreadable, TooLong, NoMemory}
 use Rattle.console.specs.Fault.{of_roster}
@@ -15,7 +14,7 @@ ReadsFile most old new text = Consumes old new text × IsAtEnd new × (length te
 
 -- Why the bytes of the input, a file of this name, are not returned: a read of it failed, memory
 -- ran out, or it is too long.
-abbrev pub FailsFile : (most : ℕ) → (file : Text) → (old new : Option (List ℕ)) → RunFault → Type 0
+abbrev pub FailsFile : (most : ℕ) → (file : List ℕ) → (old new : Option (List ℕ)) → RunFault → Type 0
 FailsFile most file old new fault =
     (fault ≡ Unreadable file) ⊎ (fault ≡ NoMemory) ⊎ ((fault ≡ TooLong file) × ((text : List ℕ) × Consumes old new text × (most < length text)))
 
@@ -29,19 +28,19 @@ ReadsRoster old new entries = (text : List ℕ) × ReadsFile longest_roster old 
 
 -- Why the input, a file of this name, is not a roster: it is not read whole, or its text has this
 -- fault, the first.
-abbrev pub FailsRoster : (file : Text) → (old new : Option (List ℕ)) → RunFault → Type 0
+abbrev pub FailsRoster : (file : List ℕ) → (old new : Option (List ℕ)) → RunFault → Type 0
 FailsRoster file old new fault =
     FailsFile longest_roster file old new fault
     ⊎ ((text : List ℕ) × (bad : RosterFault) × ReadsFile longest_roster old new text × (roster_in text ≡ Err bad) × (fault ≡ of_roster bad))
 
 -- None without a file. The contents of a file are not known, only that there is a text that is this
 -- roster.
-abbrev pub IsRosterOf : (file : Option Text) → Option (List Entry) → Type 0
+abbrev pub IsRosterOf : (file : Option (List ℕ)) → Option (List Entry) → Type 0
 IsRosterOf None roster = roster ≡ None
 IsRosterOf (Some file) None = ⊥
 IsRosterOf (Some file) (Some entries) = ReadsRoster None None entries
 
 -- Why there is no roster, though a file is named.
-abbrev pub HasNoRoster : (file : Option Text) → RunFault → Type 0
+abbrev pub HasNoRoster : (file : Option (List ℕ)) → RunFault → Type 0
 HasNoRoster None fault = ⊥
 HasNoRoster (Some file) fault = FailsRoster file None None fault

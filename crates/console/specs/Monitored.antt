@@ -1,7 +1,6 @@
 -- The result of monitoring an input.
 use Rattle.std.specs.Prelude.{ℕ, ◌≡◌, ◌⊎◌, List, Option, Ok, Err}
 use Rattle.std.specs.Io.KnownBytes.{Consumes, IsAtEnd}
-use Rattle.clap.specs.Words.{Text}
 use Rattle.input_text.specs.Read.{ReadsMost}
 use Rattle.show_text.specs.Hex.{hex_of}
 use Rattle.show_text.specs.declared.hex.HexFault.{HexFault}
@@ -25,6 +24,6 @@ FailsHex text fault =
 
 -- Why an input, a file of this name, was not monitored: a read of it failed, or the bytes read have
 -- a fault.
-abbrev pub FailsMonitor : (file : Text) → (old_input new_input : Option (List ℕ)) → RunFault → Type 0
+abbrev pub FailsMonitor : (file : List ℕ) → (old_input new_input : Option (List ℕ)) → RunFault → Type 0
 FailsMonitor file old_input new_input fault =
     (fault ≡ Unreadable file) ⊎ (fault ≡ NoMemory) ⊎ ((text : List ℕ) × ReadsMost old_input new_input 1048577 text × FailsHex text fault)

@@ -1,23 +1,19 @@
 //! The faults of a run that ends with a status other than 0.
 ghost use Rattle.std.specs.Prelude.{◌≡◌};
 ghost use Rattle.console.specs.declared.fault.RunFault.TheVariants.{NoMemory, Output};
-ghost use Rattle.console.specs.Fault.{of_hex, of_order, of_read, of_roster, of_script, status_of};
+ghost use Rattle.console.specs.Fault.{of_hex, of_read, of_roster, of_script, status_of};
 
 use crate::output::WriteError;
-use command_line::{FileName, OrderFault};
-use input_text::ReadFault;
+use input_text::{FileName, ReadFault};
 use roster::RosterFault;
 use show_text::{HexFault, HexWhy, ScriptFault};
 use std::alloc::AllocError;
 use thiserror::Error;
 
 /// Why a run ends with a status other than 0. Its text follows the program's name and a colon on
-/// standard error, except the text of `Usage`, which is printed alone.
+/// standard error.
 #[derive(Debug, Drop, Error)]
 pub enum RunFault {
-    /// Status 1: the arguments are unknown, or ask for help.
-    #[error("{0}")]
-    Usage(clap::Error),
     /// Status 1: a station has 1 to 8 lines.
     #[error("a station has 1 to 8 lines")]
     Lines,
@@ -59,23 +55,12 @@ impl RunFault {
         ensures { result ≡ status_of self.now }
     {
         match self {
-            RunFault::Usage(_) | RunFault::Lines => 1,
+            RunFault::Lines => 1,
             RunFault::Unreadable(_) | RunFault::UnreadableInput | RunFault::TooLong(_) => 2,
             RunFault::Roster { .. } => 3,
             RunFault::Network | RunFault::Output | RunFault::Serve(_) => 4,
             RunFault::Script { .. } | RunFault::Hex { .. } => 5,
             RunFault::NoMemory => 6,
-        }
-    }
-}
-
-impl From<OrderFault> for RunFault {
-    ghost from_gives = { λ order run. run ≡ of_order order };
-
-    fn from(fault: OrderFault) -> RunFault {
-        match fault {
-            OrderFault::Usage(error) => RunFault::Usage(error),
-            OrderFault::NoMemory => RunFault::NoMemory,
         }
     }
 }

@@ -5,8 +5,7 @@ ghost use Rattle.console.specs.Files.{FailsFile, ReadsFile};
 ghost use Rattle.input_text.specs.TrackedReader.{read_failed};
 
 use crate::fault::RunFault;
-use command_line::FileName;
-use input_text::{Input, ReadFault, TrackedReader, read_limited};
+use input_text::{FileName, Input, ReadFault, TrackedReader, read_limited};
 use std::alloc::Global;
 use std::fs;
 use std::io::ErrorKind;

@@ -28,5 +28,5 @@ pub use flushing::flush_after;
 pub use input::{read_whole, whole_from};
 pub use monitoring::{monitor, monitor_from};
 pub use output::{WriteError, print, print_ended, print_to};
-pub use reporting::{report, report_as};
+pub use reporting::{STATION, report, report_as};
 pub use roster_file::{LONGEST_ROSTER, read_roster, roster_from};

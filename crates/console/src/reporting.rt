@@ -5,23 +5,21 @@ ghost use Rattle.console.specs.Fault.{status_of};
 use crate::fault::RunFault;
 use std::io::Write;
 
-/// Reports a fault of `station` and returns its status, 1 to 6.
-///
-/// It writes one line `station: ..`, or the text of `clap` for the command line. A failure of this
-/// report cannot be reported.
+/// The name of `station`, with which its fault lines begin.
+pub const STATION: &'static str = "station";
+
+/// Reports a fault of `station` as one line `station: ..`, and returns its status, 1 to 6. A failure
+/// of this report cannot be reported.
 pub fn report<E: Write>(fault: &RunFault, faults: &mut E) -> u8
     ensures { result ≡ status_of fault.now }
 {
-    report_as("station", fault, faults)
+    report_as(STATION, fault, faults)
 }
 
 /// Reports a fault of the program with this name, with which the line begins.
 pub fn report_as<E: Write>(program: &str, fault: &RunFault, faults: &mut E) -> u8
     ensures { result ≡ status_of fault.now }
 {
-    let _ = match fault {
-        RunFault::Usage(error) => write!(faults, "{error}"),
-        _ => writeln!(faults, "{program}: {fault}"),
-    };
+    let _ = writeln!(faults, "{program}: {fault}");
     fault.status()
 }

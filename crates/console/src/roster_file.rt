@@ -5,8 +5,7 @@ ghost use Rattle.console.specs.Files.{FailsRoster, HasNoRoster, IsRosterOf, Read
 
 use crate::fault::RunFault;
 use crate::input::{not_read, open, whole_from};
-use command_line::FileName;
-use input_text::Input;
+use input_text::{FileName, Input};
 use roster::Roster;
 use std::alloc::Global;
 use std::rt::Files;

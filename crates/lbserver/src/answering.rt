@@ -2,9 +2,8 @@
 ghost use Rattle.std.specs.Prelude.{◌≡◌, ◌⊎◌, ℕ, List, Err, IfErr, OnOk, true, false};
 ghost use Rattle.std.specs.Io.KnownBytes.{Appends};
 ghost use Rattle.command_line.specs.Requests.{is_request};
-ghost use Rattle.console.specs.Fault.{of_order};
 ghost use Rattle.console.specs.declared.fault.RunFault.TheVariants.{NoMemory};
-ghost use Rattle.lbserver.specs.declared.fault.ServerFault.TheVariants.{Output, Run};
+ghost use Rattle.lbserver.specs.declared.fault.ServerFault.TheVariants.{Order, Output, Run};
 ghost use Rattle.lbserver.specs.Execution.{ended_by_output};
 
 use crate::fault::ServerFault;
@@ -31,7 +30,7 @@ pub(crate) fn answer<O: Write>(
     ensures failed { is_request fault ≡ true
         → IfErr result (λ e. (e ≡ Output) ⊎ (e ≡ Run NoMemory)) }
     ensures kept { is_request fault ≡ false
-        → (result ≡ Err (Run (of_order fault))) × (output.new ≡ output.old) }
+        → (result ≡ Err (Order fault)) × (output.new ≡ output.old) }
 {
     match fault.requested_text(alloc) {
         Ok(Some(text)) => match output.write_text(text.as_str()) {

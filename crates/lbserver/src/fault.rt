@@ -1,8 +1,7 @@
 //! The faults of a run that ends with a status other than 0, and their text.
 ghost use Rattle.std.specs.Prelude.{◌≡◌, ◌<◌, ◌≤◌, false, true};
 ghost use Rattle.console.specs.declared.fault.RunFault.TheVariants.{NoMemory};
-ghost use Rattle.console.specs.Fault.{of_order};
-ghost use Rattle.lbserver.specs.declared.fault.ServerFault.TheVariants.{Output, Run};
+ghost use Rattle.lbserver.specs.declared.fault.ServerFault.TheVariants.{Order, Output, Run};
 ghost use Rattle.lbserver.specs.Execution.{is_output};
 
 use crate::roster_line::{NAME, write_roster_fault};
@@ -18,6 +17,8 @@ use std::net::SocketAddr;
 /// Why a run ends with a status other than 0.
 #[derive(Debug, Drop)]
 pub(crate) enum ServerFault {
+    /// Status 1 or 6: the arguments are not an order.
+    Order(OrderFault),
     /// Status 4: nothing can listen on this address and port.
     Listen {
         address: SocketAddr,
@@ -74,6 +75,7 @@ impl ServerFault {
         ensures output { is_output self.now ≡ true → result ≡ 4 }
     {
         match self {
+            ServerFault::Order(fault) => fault.report(NAME, faults),
             ServerFault::Output => report_as(NAME, &RunFault::Output, faults),
             ServerFault::Run(fault) => report_as(NAME, fault, faults),
             ServerFault::Listen { address, why } => {
@@ -121,10 +123,10 @@ impl From<RunFault> for ServerFault {
 }
 
 impl From<OrderFault> for ServerFault {
-    ghost from_gives = { λ order fault. fault ≡ Run (of_order order) };
+    ghost from_gives = { λ order fault. fault ≡ Order order };
 
     fn from(fault: OrderFault) -> ServerFault {
-        ServerFault::Run(RunFault::from(fault))
+        ServerFault::Order(fault)
     }
 }
 

@@ -13,9 +13,8 @@ mod roster_line;
 mod standard_output;
 
 use command_line::{not_utf8_server_text, read_words, texts};
-use console::{RunFault, report_as};
 use executing::execute;
-use roster_line::NAME;
+use fault::ServerFault;
 use standard_output::StandardOutput;
 use std::io;
 use std::process::ExitCode;
@@ -26,13 +25,13 @@ mod tests;
 fn main(rt: HostRuntime) -> ExitCode {
     ExitCode::from(match run_words(&rt) {
         Ok(status) => status,
-        Err(fault) => report_as(NAME, &fault, &mut rt.stderr()),
+        Err(fault) => fault.report(&mut rt.stderr()),
     })
 }
 
 /// Runs the program on its arguments, and returns its exit status. Fails if the arguments cannot be
 /// read.
-fn run_words(rt: &HostRuntime) -> Result<u8, RunFault> {
+fn run_words(rt: &HostRuntime) -> Result<u8, ServerFault> {
     let words = read_words(rt.alloc(), rt, |alloc| not_utf8_server_text(alloc))?;
     let texts = texts(rt.alloc(), words.as_slice())?;
     let mut output = StandardOutput::new(rt, io::writer(rt))?;

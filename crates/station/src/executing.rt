@@ -8,7 +8,7 @@ use crate::layout::new_world;
 use crate::listening::{listen, serve_on};
 use crate::replay::replay;
 use command_line::{FileName, Order, order};
-use console::{RunFault, monitor, read_roster, report};
+use console::{RunFault, STATION, monitor, read_roster, report};
 use input_text::{Input, Output};
 use layout_core::Limits;
 use std::io::Write;
@@ -49,33 +49,13 @@ where
     // A fault of the arguments, of reading, of a roster, a script or a hex text prints nothing.
     ensures untouched { result ≢ 0 → result ≢ 4 → result ≢ 6 → output.new ≡ output.old }
 {
-    match run(rt, words, input, output) {
-        Ok(()) => 0,
-        Err(fault) => report(&fault, faults),
+    match order(rt.alloc(), words) {
+        Ok(order) => match carry_out(rt, order, input, output) {
+            Ok(()) => 0,
+            Err(fault) => report(&fault, faults),
+        },
+        Err(fault) => fault.report(STATION, faults),
     }
-}
-
-/// Carries out the order of the arguments.
-fn run<R, I, O>(rt: &R, words: &[&str], input: &mut I, output: &mut O) -> Result<(), RunFault>
-where
-    R: Files + AllocGlobal + Net<Listener = TcpListener, Stream = TcpStream>,
-    I: Input,
-    O: Output,
-    requires reads { I.failed input.old ≡ false }
-    requires writes { O.failed output.old ≡ false }
-    ensures done { OnOk result
-        (Runs (map (λ word. word.now) words.entry.now) (I.left input.old) (I.left input.new)
-        (O.held output.old) (O.held output.new)) }
-    ensures ends { IfErr result
-        (λ e. EndsAs (map (λ word. word.now) words.entry.now) (I.left input.old) (I.left input.new)
-        (I.failed input.new) (O.failed output.new) (status_of e)) }
-    ensures unread { I.failed input.new ≡ ended_by is_unread_input result }
-    ensures unwritten { O.failed output.new ≡ ended_by is_unwritten result }
-    ensures untouched { IfErr result
-        (λ e. status_of e ≢ 4 → status_of e ≢ 6 → output.new ≡ output.old) }
-{
-    let order = order(rt.alloc(), words)?;
-    carry_out(rt, order, input, output)
 }
 
 /// Carries out an order.

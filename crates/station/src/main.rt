@@ -9,6 +9,7 @@ mod replay;
 
 pub use command_line::{FileName, Order, OrderFault, order};
 use command_line::{no_text, read_words, texts};
+use console::STATION;
 pub use console::{RunFault, report};
 pub use executing::execute;
 use input_text::{TrackedReader, TrackedWriter};
@@ -23,13 +24,13 @@ mod tests;
 fn main(rt: HostRuntime) -> ExitCode {
     ExitCode::from(match run_words(&rt) {
         Ok(status) => status,
-        Err(fault) => report(&fault, &mut rt.stderr()),
+        Err(fault) => fault.report(STATION, &mut rt.stderr()),
     })
 }
 
 /// Runs the program on its arguments and the standard streams, and returns its exit status. Fails
 /// if the arguments cannot be read.
-fn run_words(rt: &HostRuntime) -> Result<u8, RunFault> {
+fn run_words(rt: &HostRuntime) -> Result<u8, OrderFault> {
     let words = read_words(rt.alloc(), rt, |alloc| no_text(alloc))?;
     let texts = texts(rt.alloc(), words.as_slice())?;
     Ok(execute(

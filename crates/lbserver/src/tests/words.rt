@@ -3,7 +3,6 @@
 use crate::executing::execute;
 use crate::standard_output::StandardOutput;
 use command_line::{OrderFault, ServerOrder, not_utf8_server_text, read_words, server_order};
-use console::{RunFault, report_as};
 use std::net::Ipv4Addr;
 use std::test::Fail;
 use test_support::{Broken, Given, has_all};
@@ -275,9 +274,8 @@ fn a_word_that_is_not_utf_8(rt: HostRuntime) -> Result<(), Fail> {
     let fault = read_words(rt.alloc(), &given, |alloc| not_utf8_server_text(alloc))
         .err()
         .ok_or("a fault")?;
-    let fault = RunFault::from(fault);
     let mut faults = Vec::new(rt.alloc());
-    assert_eq!(rt; report_as("lbserver", &fault, &mut faults), 1);
+    assert_eq!(rt; fault.report("lbserver", &mut faults), 1);
     assert!(rt;
         has_all(
             faults.as_slice(),

@@ -1,8 +1,9 @@
 //! The arguments of the command line.
 
 use super::run;
-use crate::{Order, OrderFault, RunFault, order, report};
+use crate::{Order, OrderFault, order};
 use command_line::{no_text, read_words, texts};
+use console::STATION;
 use std::alloc::Global;
 use std::test::Fail;
 use test_support::{Given, has_all};
@@ -25,7 +26,7 @@ fn fault_of(rt: &HostRuntime, words: &[&[u8]]) -> Result<(u8, Vec<u8>), Fail> {
         .err()
         .ok_or("a fault")?;
     let mut faults = Vec::new(rt.alloc());
-    Ok((report(&RunFault::from(fault), &mut faults), faults))
+    Ok((fault.report(STATION, &mut faults), faults))
 }
 
 #[test]
