@@ -118,7 +118,7 @@ def derailments():
             driver.write(send(POWER_ON, THROW_2))
             driver.lines_until("SENT OK")
             drive(driver, 1300)
-            same("the log", moves(server), ["derailed shunter in main"])
+            same("the log", moves(server), ["derailed shunter at turnout 2"])
 
 
 def placements():
@@ -153,7 +153,7 @@ def placements():
         same("status", server.process.wait(20), 0)
         # Blocks that change at once stand in the plan's order.
         wanted = [
-            "derailed shunter in main",
+            "derailed shunter at turnout 2",
             "block main free",
             "block siding occupied (shunter)",
             "block east occupied (shunter)",

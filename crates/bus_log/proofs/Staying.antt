@@ -1,14 +1,15 @@
 -- Nothing is printed of trains that stay where they are.
 use Rattle.std.proofs.Common.{◌≡◌, ◌<◌, ◌≤◌, ◌+◌, ◌-◌, ◌∙◌, ℕ, zero, suc, Bool, true, false, if◌then◌else◌, inl, inr, List, [], ◌∷◌, ◌++◌, length, Option, Some, None, refl, ap, ap₂, subst, arith, eqb-true}
-use Rattle.std.specs.Prelude.{◌==◌, ◌&&◌, ◌||◌, not, slice_get}
+use Rattle.std.specs.Prelude.{◌==◌, ◌&&◌, ◌||◌, is_some, not, slice_get}
 use Rattle.std.proofs.lemmas.Bool.{and_parts, cases_lt}
 use Rattle.railway.specs.declared.block.Block.{Block}
 use Rattle.railway.specs.declared.conflict.Conflict.{Conflict}
 use Rattle.railway.specs.declared.train.TrainState.{TrainState}
 use Rattle.railway.specs.Conflicts.{first_in}
+use Rattle.railway.specs.Places.{is_derailed}
 use Rattle.railway.specs.Turnouts.{same_bool}
 use Rattle.roster.specs.Entry.{Entry}
-use Rattle.bus_log.specs.RailwayLines.{AllStay, are_in, block_lines, block_name, change_lines, conflict_line, conflict_lines, derailed_line, derailed_lines, front_of, is_derailed, is_in, meeting_lines, moved_lines, pair_lines, stays, train_name}
+use Rattle.bus_log.specs.RailwayLines.{AllStay, are_in, block_lines, block_name, change_lines, conflict_line, conflict_lines, derailed_at, derailed_lines, derailing_lines, is_in, meeting_lines, moved_lines, pair_lines, stays, train_name}
 use Rattle.bus_log.proofs.EachLine.{each_empty}
 
 same : (a b : Bool) → same_bool a b ≡ true → a ≡ b
@@ -28,16 +29,16 @@ stays_in block None None h = refl
 stays_in block None (Some now) h = cc
 stays_in block (Some before) None h = cc
 stays_in block (Some before) (Some now) h =
-    let ends = (and_parts (before.front.block == now.front.block && before.rear.block == now.rear.block) (same_bool before.derailed now.derailed) h).0 in
+    let ends = (and_parts (before.front.block == now.front.block && before.rear.block == now.rear.block) (same_bool (is_derailed before) (is_derailed now)) h).0 in
     let both = and_parts (before.front.block == now.front.block) (before.rear.block == now.rear.block) ends in
     ap₂ (λ (front rear : ℕ). front == block || rear == block) (eqb-true before.front.block now.front.block both.0) (eqb-true before.rear.block now.rear.block both.1)
 
-stays_derailed : (before now : Option TrainState) → stays before now ≡ true → is_derailed before ≡ is_derailed now
+stays_derailed : (before now : Option TrainState) → stays before now ≡ true → is_some (derailed_at before) ≡ is_some (derailed_at now)
 stays_derailed None None h = refl
 stays_derailed None (Some now) h = cc
 stays_derailed (Some before) None h = cc
 stays_derailed (Some before) (Some now) h =
-    same before.derailed now.derailed (and_parts (before.front.block == now.front.block && before.rear.block == now.rear.block) (same_bool before.derailed now.derailed) h).1
+    same (is_derailed before) (is_derailed now) (and_parts (before.front.block == now.front.block && before.rear.block == now.rear.block) (same_bool (is_derailed before) (is_derailed now)) h).1
 
 stays_first : (block i : ℕ) (before now : List TrainState) → AllStay before now → first_in block i before ≡ first_in block i now
 stays_first block i [] [] all = refl
@@ -57,12 +58,17 @@ no_change entries blocks before now all block =
     ap (λ (first : Option ℕ). change_lines entries now (block_name (slice_get blocks block)) first (first_in block 0 now)) (stays_first block 0 before now all)
     ∙ same_change entries now (block_name (slice_get blocks block)) (first_in block 0 now)
 
-no_derailing : (entries : List Entry) (blocks : List Block) (before now : List TrainState) → AllStay before now → (train : ℕ) → derailed_lines entries blocks before now train ≡ []
-no_derailing entries blocks before now all train =
+same_derailing : (train : List ℕ) (before now : Option ℕ) → is_some before ≡ is_some now → derailing_lines train before now ≡ []
+same_derailing train None None h = refl
+same_derailing train (Some before) None h = refl
+same_derailing train None (Some now) h = cc
+same_derailing train (Some before) (Some now) h = refl
+
+no_derailing : (entries : List Entry) (before now : List TrainState) → AllStay before now → (train : ℕ) → derailed_lines entries before now train ≡ []
+no_derailing entries before now all train =
     let was : Option TrainState = slice_get before train in
     let is : Option TrainState = slice_get now train in
-    ap (λ (derails : Bool). if derails then derailed_line (train_name entries is) (front_of blocks is) ∷ [] else [])
-    (ap (λ (derailed : Bool). is_derailed is && not derailed) (stays_derailed was is (all train)) ∙ and_not (is_derailed is))
+    same_derailing (train_name entries is) (derailed_at was) (derailed_at is) (stays_derailed was is (all train))
 
 no_pair : (entries : List Entry) (blocks : List Block) (before now : List TrainState) → AllStay before now → (conflict : Conflict) → pair_lines entries blocks before now conflict ≡ []
 no_pair entries blocks before now all conflict =
@@ -96,7 +102,7 @@ no_lines entries blocks before now all =
     ap₂ (λ (a b : List (List ℕ)). a ++ b)
     (ap₂ (λ (a b : List (List ℕ)). a ++ b)
     (each_empty (block_lines entries blocks before now) (no_change entries blocks before now all) 0 (length blocks))
-    (each_empty (derailed_lines entries blocks before now) (no_derailing entries blocks before now all) 0 (length now)))
+    (each_empty (derailed_lines entries before now) (no_derailing entries before now all) 0 (length now)))
     (each_empty (conflict_lines entries blocks before now) (no_conflict entries blocks before now all) 0 (length blocks))
 
 -- the test of each train

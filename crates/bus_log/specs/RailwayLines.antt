@@ -1,10 +1,12 @@
 -- The lines of the blocks and the trains of a railway, in the words of docs/CLIENTS.md, *What is
 -- printed*. Blocks and trains are named by their index in the plan, from 0.
 use Rattle.std.specs.Prelude.{ℕ, zero, suc, ◌≡◌, ◌+◌, ◌-◌, ◌==◌, ◌&&◌, Bool, true, false, not, if◌then◌else◌, List, [], ◌∷◌, ◌++◌, length, Option, Some, None, codes, slice_get}
+use Rattle.std.specs.Fmt.{decimal}
 use Rattle.railway.specs.declared.block.Block.{Block}
 use Rattle.railway.specs.declared.conflict.Conflict.{Conflict}
 use Rattle.railway.specs.declared.train.TrainState.{TrainState}
 use Rattle.railway.specs.Conflicts.{first_in}
+use Rattle.railway.specs.Places.{is_derailed}
 use Rattle.railway.specs.Railway.{RailwayState}
 use Rattle.railway.specs.Reports.{occupies}
 use Rattle.railway.specs.Turnouts.{same_bool}
@@ -33,9 +35,10 @@ abbrev pub is_in : (block : ℕ) → Option TrainState → Bool
 is_in block None = false
 is_in block (Some train) = occupies block train
 
-abbrev pub is_derailed : Option TrainState → Bool
-is_derailed None = false
-is_derailed (Some train) = train.derailed
+-- the turnout that derailed the train, if it is off the rails
+abbrev pub derailed_at : Option TrainState → Option ℕ
+derailed_at None = None
+derailed_at (Some train) = train.derailed_at
 
 -- the lines of `count` indices, from `first` on
 abbrev pub lines_of_each : (first count : ℕ) → (ℕ → List (List ℕ)) → List (List ℕ)
@@ -62,24 +65,20 @@ block_lines entries blocks before now block =
     change_lines entries now (block_name (slice_get blocks block)) (first_in block 0 before)
     (first_in block 0 now)
 
--- a train is derailed now, and was not before; named with the block of its front
-abbrev pub derailed_line : (train block : List ℕ) → List ℕ
-derailed_line train block = codes "derailed " ++ train ++ codes " in " ++ block
+-- a turnout derailed a train that was on the rails before
+abbrev pub derailed_line : (train : List ℕ) → (turnout : ℕ) → List ℕ
+derailed_line train turnout = codes "derailed " ++ train ++ codes " at turnout " ++ decimal turnout
 
-abbrev pub front_of : List Block → Option TrainState → List ℕ
-front_of blocks None = []
-front_of blocks (Some train) = block_name (slice_get blocks train.front.block)
+abbrev pub derailing_lines : (train : List ℕ) → (before now : Option ℕ) → List (List ℕ)
+derailing_lines train None (Some turnout) = derailed_line train turnout ∷ []
+derailing_lines train (Some before) (Some now) = []
+derailing_lines train before None = []
 
-abbrev pub train_lines : List Entry → List Block → (before now : Option TrainState)
+abbrev pub derailed_lines : List Entry → (before now : List TrainState) → (train : ℕ)
     → List (List ℕ)
-train_lines entries blocks before now =
-    if is_derailed now && not (is_derailed before) then
-    derailed_line (train_name entries now) (front_of blocks now) ∷ [] else []
-
-abbrev pub derailed_lines : List Entry → List Block → (before now : List TrainState)
-    → (train : ℕ) → List (List ℕ)
-derailed_lines entries blocks before now train =
-    train_lines entries blocks (slice_get before train) (slice_get now train)
+derailed_lines entries before now train =
+    derailing_lines (train_name entries (slice_get now train))
+    (derailed_at (slice_get before train)) (derailed_at (slice_get now train))
 
 -- both trains of a conflict are in its block
 abbrev pub are_in : List TrainState → Conflict → Bool
@@ -121,7 +120,7 @@ abbrev pub moved_lines : List Entry → List Block → (before now : List TrainS
     → List (List ℕ)
 moved_lines entries blocks before now =
     lines_of_each 0 (length blocks) (block_lines entries blocks before now)
-    ++ lines_of_each 0 (length now) (derailed_lines entries blocks before now)
+    ++ lines_of_each 0 (length now) (derailed_lines entries before now)
     ++ lines_of_each 0 (length blocks) (conflict_lines entries blocks before now)
 
 -- the lines of a railway whose trains were like this when it was last observed
@@ -136,7 +135,7 @@ abbrev pub stays : (before now : Option TrainState) → Bool
 stays None None = true
 stays (Some before) (Some now) =
     (before.front.block == now.front.block && before.rear.block == now.rear.block)
-    && same_bool before.derailed now.derailed
+    && same_bool (is_derailed before) (is_derailed now)
 stays before now = false
 
 -- each train does, so that no line is printed

@@ -6,6 +6,7 @@ use Rattle.railway.specs.declared.block.End.TheVariants.{A, B}
 use Rattle.railway.specs.declared.train.Place.{Place}
 use Rattle.railway.specs.declared.train.TrainState.{TrainState}
 use Rattle.railway.specs.Blocks.{same_end}
+use Rattle.railway.specs.Places.{is_derailed}
 use Rattle.railway.specs.Turnouts.{same_bool}
 use Rattle.bus_log.specs.declared.train_place.TrainPlace.{TrainPlace}
 use Rattle.bus_log.specs.Lines.{saturating_successor}
@@ -30,7 +31,7 @@ place_of blocks train = record {
   tenths = tenths_of blocks train.front;
   facing = train.front.toward;
   rear = train.rear.block;
-  derailed = train.derailed;
+  derailed = is_derailed train;
 }
 
 abbrev pub same_train_place : TrainPlace → TrainPlace → Bool

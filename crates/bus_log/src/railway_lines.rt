@@ -1,9 +1,9 @@
 //! The lines of the blocks and the trains of a railway.
-ghost use Rattle.std.specs.Prelude.{◌≡◌, ◌≤◌, ◌<◌, ◌+◌, ◌-◌, length, option_copied, slice_get, true};
+ghost use Rattle.std.specs.Prelude.{◌≡◌, ◌≤◌, ◌<◌, ◌+◌, ◌-◌, ◌∷◌, [], length, option_copied, slice_get, true};
 ghost use Rattle.railway.specs.Conflicts.{first_in};
 ghost use Rattle.bus_log.specs.Decoders.{entries_of};
 ghost use Rattle.bus_log.specs.LogQueues.{after_lines};
-ghost use Rattle.bus_log.specs.RailwayLines.{AllStay, are_in, block_lines, block_name, change_lines, conflict_line, conflict_lines, decoder_name, derailed_line, derailed_lines, free_line, front_of, is_derailed, is_in, is_new, lines_of_each, meeting_lines, moved_lines, occupied_line, pair_lines, railway_lines, stays, train_lines, train_name, trains_of};
+ghost use Rattle.bus_log.specs.RailwayLines.{AllStay, are_in, block_lines, block_name, change_lines, conflict_line, conflict_lines, decoder_name, derailed_at, derailed_line, derailed_lines, free_line, is_in, is_new, lines_of_each, meeting_lines, moved_lines, occupied_line, pair_lines, railway_lines, stays, train_name, trains_of};
 
 use crate::log_queue::LogQueue;
 use arrayvec::ArrayVec;
@@ -66,7 +66,7 @@ fn print_moved(
         return;
     }
     print_blocks(log, roster, blocks, before, after);
-    print_derailed(log, roster, blocks, before, after);
+    print_derailed(log, roster, before, after);
     print_conflicts(log, roster, blocks, before, after);
 }
 
@@ -93,7 +93,7 @@ fn stays(before: &[TrainState], after: &[TrainState], i: usize) -> bool
         (Some(before), Some(after)) => {
             before.front.block == after.front.block
                 && before.rear.block == after.rear.block
-                && before.derailed == after.derailed
+                && before.is_derailed() == after.is_derailed()
         }
         _ => false,
     }
@@ -155,16 +155,15 @@ fn first_in(block: usize, trains: &[TrainState]) -> Option<usize>
 fn print_derailed(
     log: &mut LogQueue,
     roster: Option<&Roster>,
-    blocks: &[Block],
     before: &[TrainState],
     after: &[TrainState],
 )
     ensures { log.new
         ≡ after_lines log.old (lines_of_each 0 (length after.now)
-        (derailed_lines (entries_of roster.entry) blocks.now before.now after.now)) }
+        (derailed_lines (entries_of roster.entry) before.now after.now)) }
 {
     for i in 0..after.len() {
-        print_train(log, roster, blocks, i, before, after);
+        print_train(log, roster, i, before, after);
     }
 }
 
@@ -172,19 +171,30 @@ fn print_derailed(
 fn print_train(
     log: &mut LogQueue,
     roster: Option<&Roster>,
-    blocks: &[Block],
     i: usize,
     before: &[TrainState],
     after: &[TrainState],
 )
     ensures { log.new
         ≡ after_lines log.old
-        (derailed_lines (entries_of roster.entry) blocks.now before.now after.now i) }
+        (derailed_lines (entries_of roster.entry) before.now after.now i) }
 {
-    if is_derailed(after, i) && !is_derailed(before, i) {
-        let train = train_name(roster, after, i);
-        log.print_line(&derailed_line(train, front_of(blocks, after, i)));
+    match (derailed_at(before, i), derailed_at(after, i)) {
+        (None, Some(turnout)) => print_derailment(log, train_name(roster, after, i), turnout),
+        _ => {}
     }
+}
+
+/// Prints `derailed`, a train, and the turnout that derailed it.
+fn print_derailment(log: &mut LogQueue, train: &str, turnout: u16)
+    requires { length train.now ≤ 16 }
+    ensures { log.new ≡ after_lines log.old (derailed_line train.now turnout ∷ []) }
+{
+    let mut line = Line::new();
+    line.push_str("derailed ");
+    line.push_str(train);
+    line.push_str(" at turnout ");
+    log.print_count(line.as_str(), u64::from(turnout), "");
 }
 
 /// Prints the conflicts of each block: each two trains that are in it and were not both before.
@@ -290,23 +300,13 @@ fn is_in(trains: &[TrainState], i: usize, block: usize) -> bool
     }
 }
 
-fn is_derailed(trains: &[TrainState], i: usize) -> bool
-    ensures { result ≡ is_derailed (slice_get trains.now i) }
+/// Returns the turnout that derailed a train, if it is off the rails.
+fn derailed_at(trains: &[TrainState], i: usize) -> Option<u16>
+    ensures { result ≡ derailed_at (slice_get trains.now i) }
 {
     match trains.get(i) {
-        Some(train) => train.derailed,
-        None => false,
-    }
-}
-
-/// Returns the name of the block in which the front of a train is.
-fn front_of<'a>(blocks: &'a [Block], trains: &[TrainState], i: usize) -> &'a str
-    ensures name { result.now ≡ front_of blocks.now (slice_get trains.now i) }
-    ensures most { length result.now ≤ 32 }
-{
-    match trains.get(i) {
-        Some(train) => block_name(blocks, usize::from(train.front.block)),
-        None => "",
+        Some(train) => train.derailed_at,
+        None => None,
     }
 }
 
@@ -374,19 +374,6 @@ fn free_line(block: &str) -> Line
     line.push_str("block ");
     line.push_str(block);
     line.push_str(" free");
-    line
-}
-
-fn derailed_line(train: &str, block: &str) -> Line
-    requires train { length train.now ≤ 16 }
-    requires block { length block.now ≤ 32 }
-    ensures { result.bytes ≡ derailed_line train.now block.now }
-{
-    let mut line = Line::new();
-    line.push_str("derailed ");
-    line.push_str(train);
-    line.push_str(" in ");
-    line.push_str(block);
     line
 }
 

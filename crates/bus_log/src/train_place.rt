@@ -32,7 +32,7 @@ impl TrainPlace {
             tenths: tenths_of(blocks, train.front),
             facing: train.front.toward,
             rear: train.rear.block,
-            derailed: train.derailed,
+            derailed: train.is_derailed(),
         }
     }
 

@@ -130,15 +130,15 @@ fn a_turnout_thrown_under_a_train_derails_it(rt: HostRuntime) -> Result<(), Fail
     assert!(rt; railway.exit(end_b(1)) == Exit::Leads(end_a(3)));
     say(&mut world, &[0xB0, 0x01, 0x10]);
     assert!(rt; railway.elapse(60_000_000, &world).is_empty());
-    assert!(rt; train(&railway, 0)?.derailed);
+    assert!(rt; train(&railway, 0)?.derailed_at == Some(2));
     assert!(rt; railway.is_occupied(1) && railway.is_occupied(3));
     assert!(rt; railway.exit(end_b(1)) == Exit::Against);
     // It is put back, and the turnout lies against it.
     let placed = railway.place(0, MAIN).map_err(|_| "place")?;
     assert!(rt; are(&placed, &[(4, false)]));
-    assert!(rt; !train(&railway, 0)?.derailed);
+    assert!(rt; !train(&railway, 0)?.is_derailed());
     assert!(rt; railway.elapse(60_000_000, &world).is_empty());
-    assert!(rt; train(&railway, 0)?.derailed);
+    assert!(rt; train(&railway, 0)?.derailed_at == Some(2));
     assert_eq!(rt; train(&railway, 0)?.front.at, 999_999_999_999);
     Ok(())
 }
@@ -196,7 +196,7 @@ fn a_train_stops_at_a_buffer_stop(rt: HostRuntime) -> Result<(), Fail> {
     );
     assert_eq!(rt; train(&railway, 0)?.rear.at, 0);
     assert_eq!(rt; train(&railway, 0)?.front.at, 199_999_999_999);
-    assert!(rt; !train(&railway, 0)?.derailed);
+    assert!(rt; !train(&railway, 0)?.is_derailed());
     Ok(())
 }
 

@@ -50,7 +50,7 @@ across-two joint end h g =
     ap (λ (b : Bool). if b then Some joint.two else (if same_block_end joint.two end then Some joint.one else None)) h
     ∙ ap (λ (b : Bool). if b then Some joint.one else None) g
 
-across-none : (joint : Joint) (end : BlockEnd) → same_block_end joint.one end ≡ false → same_block_end joint.two end ≡ false → across joint end ≡ None
+pub across-none : (joint : Joint) (end : BlockEnd) → same_block_end joint.one end ≡ false → same_block_end joint.two end ≡ false → across joint end ≡ None
 across-none joint end h g =
     ap (λ (b : Bool). if b then Some joint.two else (if same_block_end joint.two end then Some joint.one else None)) h
     ∙ ap (λ (b : Bool). if b then Some joint.one else None) g
@@ -61,7 +61,7 @@ some-same one two h = cc
 first-found : (leads rest : Option BlockEnd) (next : BlockEnd) → leads ≡ Some next → option_or leads rest ≡ Some next
 first-found leads rest next h = ap (λ (o : Option BlockEnd). option_or o rest) h
 
-rest-found : (leads rest : Option BlockEnd) → leads ≡ None → option_or leads rest ≡ rest
+pub rest-found : (leads rest : Option BlockEnd) → leads ≡ None → option_or leads rest ≡ rest
 rest-found leads rest h = ap (λ (o : Option BlockEnd). option_or o rest) h
 
 -- an end to which joints lead is one of theirs

@@ -12,8 +12,8 @@ use Rattle.railway.specs.declared.train.Place.{Place}
 use Rattle.railway.specs.declared.train.TrainState.{TrainState}
 use Rattle.railway.specs.Blocks.{same_end}
 use Rattle.railway.specs.Faults.{is_train_length}
-use Rattle.railway.specs.Network.{Network, checked, is_sound, is_whole, onward, run_on, spans, step, stepped, way_on}
-use Rattle.railway.specs.Places.{is_on_track, same_place, span, turned}
+use Rattle.railway.specs.Network.{Network, checked, is_sound, is_whole, off_rails, onward, run_on, spans, step, stepped, way_on}
+use Rattle.railway.specs.Places.{is_derailed, is_on_track, same_place, span, turned}
 use Rattle.railway.specs.Railway.{is_train, run_in}
 use Rattle.railway.specs.Running.{is_within, run_by}
 use Rattle.railway.specs.Trains.{is_forward, running_in, speed_of}
@@ -47,11 +47,11 @@ spans-way n t h = reaches (way_on n t.rear (span t)) t.front h
 pub way-spans : (n : Network) (t : TrainState) → way_on n t.rear (span t) ≡ Some t.front → spans n t ≡ true
 way-spans n t h = ap (λ (o : Option Place). option_eq same_place o (Some t.front)) h ∙ same_place-self t.front
 
-pub whole-spans : (n : Network) (t : TrainState) → is_whole n t ≡ true → t.derailed ≡ false → spans n t ≡ true
+pub whole-spans : (n : Network) (t : TrainState) → is_whole n t ≡ true → is_derailed t ≡ false → spans n t ≡ true
 whole-spans n t h g = sym (ap (λ (b : Bool). b || spans n t) g) ∙ h
 
 pub spans-whole : (n : Network) (t : TrainState) → spans n t ≡ true → is_whole n t ≡ true
-spans-whole n t h = or-right-true t.derailed (spans n t) h
+spans-whole n t h = or-right-true (is_derailed t) (spans n t) h
 
 -- One picometre.
 
@@ -61,22 +61,22 @@ pub step-spans : (n : Network) (t : TrainState) (front rear : Place) → spans n
 step-spans n t front rear h f r = sym (way_on-suc n t.rear rear (span t) r) ∙ way_on-snoc n t.rear t.front front (span t) (spans-way n t h) f
 
 -- what holds of a train that stands holds after a step, and what holds of one that goes on or derails
-pub by-step : (P : TrainState → Type 0) (n : Network) (t : TrainState) → P t → P (record t { derailed = true })
-    → ((front rear : Place) → t.derailed ≡ false → onward n t.front ≡ To front → onward n t.rear ≡ To rear → P (record t { front = front; rear = rear })) → P (step n t)
-by-step P n t stands derails goes = elim (cases_Bool t.derailed) [
+pub by-step : (P : TrainState → Type 0) (n : Network) (t : TrainState) → P t → (onward n t.front ≡ Against → P (off_rails n t.front t))
+    → ((front rear : Place) → is_derailed t ≡ false → onward n t.front ≡ To front → onward n t.rear ≡ To rear → P (record t { front = front; rear = rear })) → P (step n t)
+by-step P n t stands derails goes = elim (cases_Bool (is_derailed t)) [
   | inl derailed ↦ subst P (sym (step-derailed n t derailed)) stands
   | inr rails ↦ subst P (sym (step-onward n t (onward n t.front) (onward n t.rear) rails refl refl)) (ends (onward n t.front) (onward n t.rear) refl refl rails)
 ] where
-  ends : (front rear : Onward) → onward n t.front ≡ front → onward n t.rear ≡ rear → t.derailed ≡ false → P (stepped t front rear)
+  ends : (front rear : Onward) → onward n t.front ≡ front → onward n t.rear ≡ rear → is_derailed t ≡ false → P (stepped n t front rear)
   ends (To front) (To rear) f r rails = goes front rear rails f r
   ends (To front) BufferStop f r rails = stands
   ends (To front) Against f r rails = stands
   ends BufferStop rear f r rails = stands
-  ends Against rear f r rails = derails
+  ends Against rear f r rails = derails f
 
 step-whole : (n : Network) (t : TrainState) → is_whole n t ≡ true → is_whole n (step n t) ≡ true
 step-whole n t h =
-    by-step (λ (u : TrainState). is_whole n u ≡ true) n t h refl
+    by-step (λ (u : TrainState). is_whole n u ≡ true) n t h (λ _. refl)
     (λ front rear rails f r. spans-whole n (record t { front = front; rear = rear }) (way-spans n (record t { front = front; rear = rear }) (step-spans n t front rear (whole-spans n t h rails) f r)))
 
 run-whole : (n : Network) (t : TrainState) (way : ℕ) → is_whole n t ≡ true → is_whole n (run_on n t way) ≡ true
@@ -87,7 +87,7 @@ run-whole n t (suc way) h = run-whole n (step n t) way (step-whole n t h)
 step-within : (n : Network) (t : TrainState) → IsTrue (is_sound n) → is_within n.blocks t ≡ true → is_within n.blocks (step n t) ≡ true
 step-within n t is h =
     let parts = and_parts (is_on_track n.blocks t.front) (is_on_track n.blocks t.rear) h in
-    by-step (λ (u : TrainState). is_within n.blocks u ≡ true) n t h h
+    by-step (λ (u : TrainState). is_within n.blocks u ≡ true) n t h (λ _. h)
     (λ front rear rails f r. and_from (is_on_track n.blocks front) (is_on_track n.blocks rear) (onward-on_track n t.front front is parts.0 f) (onward-on_track n t.rear rear is parts.1 r))
 
 pub run-within : (n : Network) (t : TrainState) (way : ℕ) → IsTrue (is_sound n) → is_within n.blocks t ≡ true → is_within n.blocks (run_on n t way) ≡ true
@@ -96,7 +96,7 @@ run-within n t zero is h = h
 run-within n t (suc way) is h = run-within n (step n t) way is (step-within n t is h)
 
 step-length : (n : Network) (t : TrainState) → (step n t).length ≡ t.length
-step-length n t = by-step (λ (u : TrainState). u.length ≡ t.length) n t refl refl (λ front rear rails f r. refl)
+step-length n t = by-step (λ (u : TrainState). u.length ≡ t.length) n t refl (λ _. refl) (λ front rear rails f r. refl)
 
 pub run-length : (n : Network) (t : TrainState) (way : ℕ) → (run_on n t way).length ≡ t.length
 unfolding run_on
@@ -116,8 +116,8 @@ turned-spans n t is h g =
     way-spans n (turned t) (way-back n t.rear t.front (span t) is parts.1 (spans-way n t g))
 
 turned-whole : (n : Network) (t : TrainState) → IsTrue (is_sound n) → is_within n.blocks t ≡ true → is_whole n t ≡ true → is_whole n (turned t) ≡ true
-turned-whole n t is h g = elim (cases_Bool t.derailed) [
-  | inl derailed ↦ or-left-true t.derailed (spans n (turned t)) derailed
+turned-whole n t is h g = elim (cases_Bool (is_derailed t)) [
+  | inl derailed ↦ or-left-true (is_derailed t) (spans n (turned t)) derailed
   | inr rails ↦ spans-whole n (turned t) (turned-spans n t is h (whole-spans n t g rails))
 ]
 
@@ -140,19 +140,25 @@ pub run_by-length : (n : Network) (forward : Bool) (way : ℕ) (t : TrainState) 
 run_by-length n true way t = run-length n t way
 run_by-length n false way t = run-length n (turned t) way
 
--- a train is checked by whether it spans its length
-pub checked-by : (P : TrainState → Type 0) (n : Network) (t : TrainState) → (spans n t ≡ true → P t) → (spans n t ≡ false → P (record t { derailed = true })) → P (checked n t)
-checked-by P n t spanned not_spanned = elim (cases_Bool (spans n t)) [
-  | inl h ↦ subst P (sym (ap (λ (b : Bool). if b then t else record t { derailed = true }) h)) (spanned h)
-  | inr h ↦ subst P (sym (ap (λ (b : Bool). if b then t else record t { derailed = true }) h)) (not_spanned h)
+pub checked-whole : (n : Network) (t : TrainState) → is_whole n t ≡ true → checked n t ≡ t
+checked-whole n t h = ap (λ (b : Bool). if b then t else off_rails n t.rear t) h
+
+pub checked-off : (n : Network) (t : TrainState) → is_whole n t ≡ false → checked n t ≡ off_rails n t.rear t
+checked-off n t h = ap (λ (b : Bool). if b then t else off_rails n t.rear t) h
+
+-- a train is checked by whether it is whole
+pub checked-by : (P : TrainState → Type 0) (n : Network) (t : TrainState) → (is_whole n t ≡ true → P t) → P (off_rails n t.rear t) → P (checked n t)
+checked-by P n t whole broken = elim (cases_Bool (is_whole n t)) [
+  | inl h ↦ subst P (sym (checked-whole n t h)) (whole h)
+  | inr h ↦ subst P (sym (checked-off n t h)) broken
 ]
 
 pub checked-kept : (n : Network) (t : TrainState) → is_within n.blocks t ≡ true → Kept n (checked n t)
 checked-kept n t h =
-    checked-by (Kept n) n t (λ spanned. record { within = h; whole = spans-whole n t spanned }) (λ not_spanned. record { within = h; whole = refl })
+    checked-by (Kept n) n t (λ whole. record { within = h; whole = whole }) (record { within = h; whole = refl })
 
 checked-length : (n : Network) (t : TrainState) → (checked n t).length ≡ t.length
-checked-length n t = checked-by (λ (u : TrainState). u.length ≡ t.length) n t (λ _. refl) (λ _. refl)
+checked-length n t = checked-by (λ (u : TrainState). u.length ≡ t.length) n t (λ _. refl) refl
 
 pub train-from : (n : Network) (t : TrainState) → is_train_length n.blocks t.length ≡ true → Kept n t → is_train n t ≡ true
 train-from n t length kept =

@@ -8,6 +8,7 @@ pub mod Planning
 pub mod Placing
 pub mod Runs
 pub mod Occupying
+pub mod Derailing
 pub mod Changing
 pub mod Meeting
 pub mod Staying

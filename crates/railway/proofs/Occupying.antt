@@ -11,7 +11,7 @@ use Rattle.railway.specs.declared.train.Place.{Place}
 use Rattle.railway.specs.declared.train.TrainState.{TrainState}
 use Rattle.railway.specs.Blocks.{default_block, length_of, other}
 use Rattle.railway.specs.Network.{Network, exit_of, is_sound, onward, way_on}
-use Rattle.railway.specs.Places.{end_ahead, end_at, further, is_on_track, left_to, moved_to, span, to_end}
+use Rattle.railway.specs.Places.{end_ahead, end_at, further, is_derailed, is_on_track, left_to, moved_to, span, to_end}
 use Rattle.railway.specs.Railway.{is_train}
 use Rattle.railway.specs.Reports.{occupies}
 use Rattle.railway.proofs.Keeping.{spans-way, whole-spans}
@@ -22,7 +22,7 @@ use Rattle.railway.proofs.Ways.{way_on-ends, way_on-part, way_on-suc, way_on-wit
 
 -- The end of a block, and the start of the next.
 
-left_to-all : (end : End) (length at : ℕ) → left_to end length (moved_to end at (left_to end length at)) ≡ 0
+pub left_to-all : (end : End) (length at : ℕ) → left_to end length (moved_to end at (left_to end length at)) ≡ 0
 left_to-all A length at = omega arith
 left_to-all B length at = omega arith
 
@@ -35,7 +35,7 @@ all-ahead A length = omega arith
 all-ahead B length = refl
 
 -- a train is no longer than a block
-no-longer : (blocks : List Block) (size i : ℕ) → list_all (λ block. nat_le size block.length) blocks ≡ true → i < length blocks → size ≤ (slice_index_or blocks i default_block).length
+pub no-longer : (blocks : List Block) (size i : ℕ) → list_all (λ block. nat_le size block.length) blocks ≡ true → i < length blocks → size ≤ (slice_index_or blocks i default_block).length
 no-longer [] size i h g = absurd (omega (arith, g))
 no-longer (block ∷ blocks) size zero h g = leb-true size block.length (and_parts (nat_le size block.length) (list_all (λ block. nat_le size block.length) blocks) h).0
 no-longer (block ∷ blocks) size (suc i) h g =
@@ -47,14 +47,14 @@ stays-in : (n : Network) (p q : Place) (way : ℕ) → way ≤ to_end (length_of
 stays-in n p q way h g = ap (λ (r : Place). r.block) (some-same (further p way) q (sym (way_on-within n p way h) ∙ g))
 
 -- a way out of a block into the next, and the rest of it there
-record Entered (n : Network) (p q : Place) : Type 0 where
-  next : Place
-  on : onward n (further p (to_end (length_of n.blocks p.block) p)) ≡ To next
-  on_track : is_on_track n.blocks next ≡ true
-  ahead : to_end (length_of n.blocks next.block) next ≡ length_of n.blocks next.block - 1
+pub record Entered (n : Network) (p q : Place) : Type 0 where
+  pub next : Place
+  pub on : onward n (further p (to_end (length_of n.blocks p.block) p)) ≡ To next
+  pub on_track : is_on_track n.blocks next ≡ true
+  pub ahead : to_end (length_of n.blocks next.block) next ≡ length_of n.blocks next.block - 1
 
 -- the rest of a way that leaves a block
-rest-of : (n : Network) (p next q : Place) (way : ℕ) → to_end (length_of n.blocks p.block) p < way → onward n (further p (to_end (length_of n.blocks p.block) p)) ≡ To next → way_on n p way ≡ Some q
+pub rest-of : (n : Network) (p next q : Place) (way : ℕ) → to_end (length_of n.blocks p.block) p < way → onward n (further p (to_end (length_of n.blocks p.block) p)) ≡ To next → way_on n p way ≡ Some q
     → way_on n next (way - to_end (length_of n.blocks p.block) p - 1) ≡ Some q
 rest-of n p next q way h on g =
     let a : ℕ = to_end (length_of n.blocks p.block) p in
@@ -63,7 +63,7 @@ rest-of n p next q way h on g =
     let one : way - a ≡ suc (way - a - 1) = omega (arith, h) in
     sym (way_on-part n p a way less same ∙ ap (λ (w : ℕ). way_on n (further p a) w) one ∙ way_on-suc n (further p a) next (way - a - 1) on) ∙ g
 
-entered : (n : Network) (p q : Place) (way : ℕ) → IsTrue (is_sound n) → is_on_track n.blocks p ≡ true → to_end (length_of n.blocks p.block) p < way → way_on n p way ≡ Some q → Entered n p q
+pub entered : (n : Network) (p q : Place) (way : ℕ) → IsTrue (is_sound n) → is_on_track n.blocks p ≡ true → to_end (length_of n.blocks p.block) p < way → way_on n p way ≡ Some q → Entered n p q
 entered n p q way is h more g =
     let a : ℕ = to_end (length_of n.blocks p.block) p in
     let arrived : Place = further p a in
@@ -85,7 +85,7 @@ entered n p q way is h more g =
       | inr ends ↦ absurd (none-some q (sym (way_on-part n p a way less same ∙ way_on-ends n arrived (way - a) goes ends) ∙ g))
     ]
 
-pub two-blocks : (n : Network) (t : TrainState) (part : ℕ) (p : Place) → IsTrue (is_sound n) → is_train n t ≡ true → t.derailed ≡ false → part ≤ span t → way_on n t.rear part ≡ Some p → occupies p.block t ≡ true
+pub two-blocks : (n : Network) (t : TrainState) (part : ℕ) (p : Place) → IsTrue (is_sound n) → is_train n t ≡ true → is_derailed t ≡ false → part ≤ span t → way_on n t.rear part ≡ Some p → occupies p.block t ≡ true
 two-blocks n t part p is h rails less g =
     let parts = parts-of n t h in
     let a : ℕ = to_end (length_of n.blocks t.rear.block) t.rear in

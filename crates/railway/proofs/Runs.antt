@@ -1,7 +1,7 @@
 -- Where trains get to, and what they occupy.
 use Rattle.std.proofs.Common.{◌≡◌, ℕ, zero, suc, ◌+◌, ◌-◌, ◌*◌, ◌<◌, ◌≤◌, ◌&&◌, Bool, true, false, inl, inr, List, Some, length, refl, ap, sym, subst, ◌∙◌, arith}
 use Rattle.std.proofs.lemmas.Bool.{and_from, and_parts, ltb-true}
-use Rattle.std.specs.Prelude.{if◌then◌else◌, IsTrue, nat_lt}
+use Rattle.std.specs.Prelude.{IsTrue, nat_lt}
 use Rattle.layout_core.specs.declared.node.Node.{Node}
 use Rattle.railway.specs.declared.block.Block.{Block}
 use Rattle.railway.specs.declared.block.End.{End}
@@ -11,15 +11,15 @@ use Rattle.railway.specs.declared.train.TrainState.{TrainState}
 use Rattle.railway.specs.Blocks.{length_of, other}
 use Rattle.railway.specs.Faults.{is_train_length}
 use Rattle.railway.specs.Laws.{IsOnRails, IsOnTrack, leading, leading_end, way_of}
-use Rattle.railway.specs.Network.{Network, checked, is_sound, is_whole, onward, run_on, spans, step, way_on}
-use Rattle.railway.specs.Places.{is_on_track, span, turned, turned_place}
+use Rattle.railway.specs.Network.{Network, checked, is_sound, is_whole, off_rails, onward, run_on, spans, step, switch_at, way_on}
+use Rattle.railway.specs.Places.{end_ahead, is_derailed, is_on_track, span, turned, turned_place}
 use Rattle.railway.specs.Railway.{is_train, run_in}
 use Rattle.railway.specs.Running.{is_within, run_by}
 use Rattle.railway.specs.Trains.{is_forward, running_in, speed_of}
-use Rattle.railway.proofs.Keeping.{by-step, checked-by, spans-way, step-spans, turned-spans, way-spans, whole-spans}
+use Rattle.railway.proofs.Keeping.{by-step, checked-by, checked-off, checked-whole, spans-way, step-spans, turned-spans, way-spans, whole-spans}
 use Rattle.railway.proofs.Turning.{onward-cases, way-back, way_on-snoc}
 use Rattle.railway.proofs.Ways.{run_on-add, run_on-derailed, run_on-stands, run_on-step, step-onward, way_on-ends, way_on-suc}
-use Rattle.railway.proofs.Facts.{some-same, none-some, other-other}
+use Rattle.railway.proofs.Facts.{none-some, or-left-true, or-none, other-other, some-same}
 
 -- What a train of a railway is.
 
@@ -65,10 +65,10 @@ rear-goes n t front h f = elim (onward-cases (onward n t.rear)) [
 
 pub record Reaches (n : Network) (t : TrainState) (p : Place) : Type 0 where
   pub front : t.front ≡ p
-  pub rails : t.derailed ≡ false
+  pub rails : is_derailed t ≡ false
   pub spanned : spans n t ≡ true
 
-pub run-reaches : (n : Network) (t : TrainState) (p : Place) (way : ℕ) → spans n t ≡ true → t.derailed ≡ false → way_on n t.front way ≡ Some p → Reaches n (run_on n t way) p
+pub run-reaches : (n : Network) (t : TrainState) (p : Place) (way : ℕ) → spans n t ≡ true → is_derailed t ≡ false → way_on n t.front way ≡ Some p → Reaches n (run_on n t way) p
 unfolding run_on way_on
 run-reaches n t p zero h rails g = record { front = some-same t.front p g; rails = rails; spanned = h }
 run-reaches n t p (suc way) h rails g = elim (onward-cases (onward n t.front)) [
@@ -84,7 +84,7 @@ run-reaches n t p (suc way) h rails g = elim (onward-cases (onward n t.front)) [
 
 -- Where the track ends.
 
-pub run-stops : (n : Network) (t : TrainState) (p : Place) (ahead way : ℕ) → spans n t ≡ true → t.derailed ≡ false → way_on n t.front ahead ≡ Some p → onward n p ≡ BufferStop → ahead ≤ way
+pub run-stops : (n : Network) (t : TrainState) (p : Place) (ahead way : ℕ) → spans n t ≡ true → is_derailed t ≡ false → way_on n t.front ahead ≡ Some p → onward n p ≡ BufferStop → ahead ≤ way
     → (run_on n t way).front ≡ p
 run-stops n t p ahead way h rails g stop less =
     let there = run-reaches n t p ahead h rails g in
@@ -95,17 +95,18 @@ run-stops n t p ahead way h rails g stop less =
     ∙ ap (λ (u : TrainState). u.front) (run_on-add n t ahead (way - ahead) ∙ run_on-stands n end (way - ahead) stands)
     ∙ there.front
 
-pub run-derails : (n : Network) (t : TrainState) (p : Place) (ahead way : ℕ) → spans n t ≡ true → t.derailed ≡ false → way_on n t.front ahead ≡ Some p → onward n p ≡ Against → ahead < way
-    → (run_on n t way).derailed ≡ true
+pub run-derails : (n : Network) (t : TrainState) (p : Place) (ahead way : ℕ) → spans n t ≡ true → is_derailed t ≡ false → way_on n t.front ahead ≡ Some p → onward n p ≡ Against → ahead < way
+    → (run_on n t way).derailed_at ≡ Some (switch_at n.turnouts (end_ahead p))
 run-derails n t p ahead way h rails g against less =
     let there = run-reaches n t p ahead h rails g in
     let end : TrainState = run_on n t ahead in
-    let off : TrainState = record end { derailed = true } in
+    let off : TrainState = off_rails n end.front end in
     let whole : way ≡ ahead + (way - ahead) = omega (arith, less) in
     let more : 0 < way - ahead = omega (arith, less) in
     let derails : step n end ≡ off = step-onward n end Against (onward n end.rear) there.rails (ap (λ (q : Place). onward n q) there.front ∙ against) refl in
-    ap (λ (w : ℕ). (run_on n t w).derailed) whole
-    ∙ ap (λ (u : TrainState). u.derailed) (run_on-add n t ahead (way - ahead) ∙ run_on-step n end off (way - ahead) more derails ∙ run_on-derailed n off (way - ahead - 1) refl)
+    ap (λ (w : ℕ). (run_on n t w).derailed_at) whole
+    ∙ ap (λ (u : TrainState). u.derailed_at) (run_on-add n t ahead (way - ahead) ∙ run_on-step n end off (way - ahead) more derails ∙ run_on-derailed n off (way - ahead - 1) refl)
+    ∙ ap (λ (q : Place). Some (switch_at n.turnouts (end_ahead q))) there.front
 
 -- With either end ahead.
 
@@ -117,8 +118,8 @@ turned-back t =
 turned-rear : (t : TrainState) → turned_place (turned t).rear ≡ t.front
 turned-rear t = ap (λ (e : End). record t.front { toward = e }) (other-other t.front.toward)
 
-pub by-reaches : (n : Network) (forward : Bool) (t : TrainState) (p : Place) (way : ℕ) → IsTrue (is_sound n) → is_train n t ≡ true → t.derailed ≡ false → way_on n (leading_end forward t) way ≡ Some p
-    → (leading_end forward (run_by n forward way t) ≡ p) × ((run_by n forward way t).derailed ≡ false)
+pub by-reaches : (n : Network) (forward : Bool) (t : TrainState) (p : Place) (way : ℕ) → IsTrue (is_sound n) → is_train n t ≡ true → is_derailed t ≡ false → way_on n (leading_end forward t) way ≡ Some p
+    → (leading_end forward (run_by n forward way t) ≡ p) × (is_derailed (run_by n forward way t) ≡ false)
 by-reaches n true t p way is h rails g =
     let there = run-reaches n t p way (whole-spans n t (parts-of n t h).whole rails) rails g in
     (there.front, there.rails)
@@ -128,7 +129,7 @@ by-reaches n false t p way is h rails g =
     let there = run-reaches n (turned t) p way spanned rails g in
     (turned-rear (run_on n (turned t) way) ∙ there.front, there.rails)
 
-pub by-stops : (n : Network) (forward : Bool) (t : TrainState) (p : Place) (ahead way : ℕ) → IsTrue (is_sound n) → is_train n t ≡ true → t.derailed ≡ false → way_on n (leading_end forward t) ahead ≡ Some p
+pub by-stops : (n : Network) (forward : Bool) (t : TrainState) (p : Place) (ahead way : ℕ) → IsTrue (is_sound n) → is_train n t ≡ true → is_derailed t ≡ false → way_on n (leading_end forward t) ahead ≡ Some p
     → onward n p ≡ BufferStop → ahead ≤ way → leading_end forward (run_by n forward way t) ≡ p
 by-stops n true t p ahead way is h rails g stop less = run-stops n t p ahead way (whole-spans n t (parts-of n t h).whole rails) rails g stop less
 by-stops n false t p ahead way is h rails g stop less =
@@ -136,8 +137,8 @@ by-stops n false t p ahead way is h rails g stop less =
     let spanned = turned-spans n t is (and_from (is_on_track n.blocks t.front) (is_on_track n.blocks t.rear) parts.front parts.rear) (whole-spans n t parts.whole rails) in
     turned-rear (run_on n (turned t) way) ∙ run-stops n (turned t) p ahead way spanned rails g stop less
 
-pub by-derails : (n : Network) (forward : Bool) (t : TrainState) (p : Place) (ahead way : ℕ) → IsTrue (is_sound n) → is_train n t ≡ true → t.derailed ≡ false → way_on n (leading_end forward t) ahead ≡ Some p
-    → onward n p ≡ Against → ahead < way → (run_by n forward way t).derailed ≡ true
+pub by-derails : (n : Network) (forward : Bool) (t : TrainState) (p : Place) (ahead way : ℕ) → IsTrue (is_sound n) → is_train n t ≡ true → is_derailed t ≡ false → way_on n (leading_end forward t) ahead ≡ Some p
+    → onward n p ≡ Against → ahead < way → (run_by n forward way t).derailed_at ≡ Some (switch_at n.turnouts (end_ahead p))
 by-derails n true t p ahead way is h rails g against less = run-derails n t p ahead way (whole-spans n t (parts-of n t h).whole rails) rails g against less
 by-derails n false t p ahead way is h rails g against less =
     let parts = parts-of n t h in
@@ -146,35 +147,26 @@ by-derails n false t p ahead way is h rails g against less =
 
 -- A derailed train stands.
 
-derailed-itself : (t : TrainState) → t.derailed ≡ true → record t { derailed = true } ≡ t
-derailed-itself t h = ap (λ (b : Bool). record t { derailed = b }) (sym h)
-
-pub checked-derailed : (n : Network) (t : TrainState) → t.derailed ≡ true → checked n t ≡ t
-checked-derailed n t h = checked-by (λ (u : TrainState). u ≡ t) n t (λ _. refl) (λ _. derailed-itself t h)
-
-pub by-derailed : (n : Network) (forward : Bool) (way : ℕ) (t : TrainState) → t.derailed ≡ true → run_by n forward way t ≡ t
+pub by-derailed : (n : Network) (forward : Bool) (way : ℕ) (t : TrainState) → is_derailed t ≡ true → run_by n forward way t ≡ t
 by-derailed n true way t h = run_on-derailed n t way h
 by-derailed n false way t h = ap (λ (u : TrainState). turned u) (run_on-derailed n (turned t) way h) ∙ turned-back t
 
-pub in-derailed : (n : Network) (micros : ℕ) (nodes : List Node) (t : TrainState) → t.derailed ≡ true → run_in n micros nodes t ≡ t
+pub in-derailed : (n : Network) (micros : ℕ) (nodes : List Node) (t : TrainState) → is_derailed t ≡ true → run_in n micros nodes t ≡ t
 in-derailed n micros nodes t h =
     let running = running_in nodes t.decoder in
-    ap (λ (u : TrainState). run_by n (is_forward running) (speed_of u.top running * micros) u) (checked-derailed n t h)
+    ap (λ (u : TrainState). run_by n (is_forward running) (speed_of u.top running * micros) u) (checked-whole n t (or-left-true (is_derailed t) (spans n t) h))
     ∙ by-derailed n (is_forward running) (speed_of t.top running * micros) t h
 
 -- A train of a railway, as its decoder runs.
 
-pub checked-itself : (n : Network) (t : TrainState) → spans n t ≡ true → checked n t ≡ t
-checked-itself n t h = ap (λ (b : Bool). if b then t else record t { derailed = true }) h
-
-pub in-itself : (n : Network) (micros : ℕ) (nodes : List Node) (t : TrainState) → is_train n t ≡ true → t.derailed ≡ false
+pub in-itself : (n : Network) (micros : ℕ) (nodes : List Node) (t : TrainState) → is_train n t ≡ true → is_derailed t ≡ false
     → run_in n micros nodes t ≡ run_by n (is_forward (running_in nodes t.decoder)) (way_of nodes micros t) t
 in-itself n micros nodes t h rails =
     let running = running_in nodes t.decoder in
-    ap (λ (u : TrainState). run_by n (is_forward running) (speed_of u.top running * micros) u) (checked-itself n t (whole-spans n t (parts-of n t h).whole rails))
+    ap (λ (u : TrainState). run_by n (is_forward running) (speed_of u.top running * micros) u) (checked-whole n t (parts-of n t h).whole)
 
 step-decoder : (n : Network) (t : TrainState) → (step n t).decoder ≡ t.decoder
-step-decoder n t = by-step (λ (u : TrainState). u.decoder ≡ t.decoder) n t refl refl (λ front rear rails f r. refl)
+step-decoder n t = by-step (λ (u : TrainState). u.decoder ≡ t.decoder) n t refl (λ _. refl) (λ front rear rails f r. refl)
 
 run-decoder : (n : Network) (t : TrainState) (way : ℕ) → (run_on n t way).decoder ≡ t.decoder
 unfolding run_on
@@ -186,7 +178,7 @@ by-decoder n true way t = run-decoder n t way
 by-decoder n false way t = run-decoder n (turned t) way
 
 step-top : (n : Network) (t : TrainState) → (step n t).top ≡ t.top
-step-top n t = by-step (λ (u : TrainState). u.top ≡ t.top) n t refl refl (λ front rear rails f r. refl)
+step-top n t = by-step (λ (u : TrainState). u.top ≡ t.top) n t refl (λ _. refl) (λ front rear rails f r. refl)
 
 run-top : (n : Network) (t : TrainState) (way : ℕ) → (run_on n t way).top ≡ t.top
 unfolding run_on
@@ -198,10 +190,10 @@ by-top n true way t = run-top n t way
 by-top n false way t = run-top n (turned t) way
 
 checked-decoder : (n : Network) (t : TrainState) → (checked n t).decoder ≡ t.decoder
-checked-decoder n t = checked-by (λ (u : TrainState). u.decoder ≡ t.decoder) n t (λ _. refl) (λ _. refl)
+checked-decoder n t = checked-by (λ (u : TrainState). u.decoder ≡ t.decoder) n t (λ _. refl) refl
 
 pub checked-top : (n : Network) (t : TrainState) → (checked n t).top ≡ t.top
-checked-top n t = checked-by (λ (u : TrainState). u.top ≡ t.top) n t (λ _. refl) (λ _. refl)
+checked-top n t = checked-by (λ (u : TrainState). u.top ≡ t.top) n t (λ _. refl) refl
 
 pub in-decoder : (n : Network) (micros : ℕ) (nodes : List Node) (t : TrainState) → (run_in n micros nodes t).decoder ≡ t.decoder
 in-decoder n micros nodes t =
@@ -213,16 +205,16 @@ in-top n micros nodes t =
     let running = running_in nodes t.decoder in
     by-top n (is_forward running) (speed_of (checked n t).top running * micros) (checked n t) ∙ checked-top n t
 
-pub in-leading : (n : Network) (micros : ℕ) (nodes : List Node) (t : TrainState) → is_train n t ≡ true → t.derailed ≡ false
+pub in-leading : (n : Network) (micros : ℕ) (nodes : List Node) (t : TrainState) → is_train n t ≡ true → is_derailed t ≡ false
     → leading nodes (run_in n micros nodes t) ≡ leading_end (is_forward (running_in nodes t.decoder)) (run_by n (is_forward (running_in nodes t.decoder)) (way_of nodes micros t) t)
 in-leading n micros nodes t h rails =
     ap (λ (d : ℕ). leading_end (is_forward (running_in nodes d)) (run_in n micros nodes t)) (in-decoder n micros nodes t)
     ∙ ap (λ (u : TrainState). leading_end (is_forward (running_in nodes t.decoder)) u) (in-itself n micros nodes t h rails)
 
 -- a train with a turnout thrown under it
-pub in-thrown : (n : Network) (micros : ℕ) (nodes : List Node) (t : TrainState) → spans n t ≡ false → run_in n micros nodes t ≡ record t { derailed = true }
-in-thrown n micros nodes t h =
+pub in-thrown : (n : Network) (micros : ℕ) (nodes : List Node) (t : TrainState) → is_derailed t ≡ false → spans n t ≡ false → run_in n micros nodes t ≡ off_rails n t.rear t
+in-thrown n micros nodes t rails h =
     let running = running_in nodes t.decoder in
-    let off : TrainState = record t { derailed = true } in
-    ap (λ (u : TrainState). run_by n (is_forward running) (speed_of u.top running * micros) u) (ap (λ (b : Bool). if b then t else off) h)
+    let off : TrainState = off_rails n t.rear t in
+    ap (λ (u : TrainState). run_by n (is_forward running) (speed_of u.top running * micros) u) (checked-off n t (or-none (is_derailed t) (spans n t) rails h))
     ∙ by-derailed n (is_forward running) (speed_of t.top running * micros) off refl

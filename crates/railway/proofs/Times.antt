@@ -1,6 +1,6 @@
 -- Times add up.
-use Rattle.std.proofs.Common.{◌≡◌, ℕ, ◌+◌, ◌*◌, ◌%◌, Bool, true, false, inl, inr, List, [], ◌∷◌, Option, Some, None, map, refl, ap, sym, ◌∙◌, arith}
-use Rattle.std.proofs.lemmas.Bool.{and_parts, cases_Bool}
+use Rattle.std.proofs.Common.{◌≡◌, ℕ, ◌+◌, ◌*◌, ◌%◌, Bool, true, false, List, [], ◌∷◌, Option, Some, None, map, refl, ap, sym, ◌∙◌, arith}
+use Rattle.std.proofs.lemmas.Bool.{and_parts}
 use Rattle.std.specs.List.{list_all}
 use Rattle.std.specs.Prelude.{if◌then◌else◌, IsTrue}
 use Rattle.layout_core.specs.declared.node.Node.{Node}
@@ -12,9 +12,9 @@ use Rattle.railway.specs.Railway.{RailwayState, elapsed, is_railway, is_train, r
 use Rattle.railway.specs.Running.{run_by}
 use Rattle.railway.specs.Trains.{is_forward, running_in, speed_of}
 use Rattle.railway.specs.Turnouts.{is_on, laid, lies_thrown, observed, outputs_in, pair_of, same_bool}
-use Rattle.railway.proofs.Keeping.{run_in-train, whole-spans}
+use Rattle.railway.proofs.Keeping.{checked-whole, run_in-train}
 use Rattle.railway.proofs.Leading.{laid-sound}
-use Rattle.railway.proofs.Runs.{checked-derailed, checked-itself, checked-top, in-decoder, in-top, parts-of, turned-back}
+use Rattle.railway.proofs.Runs.{checked-top, in-decoder, in-top, parts-of, turned-back}
 use Rattle.railway.proofs.Ways.{run_on-add}
 
 -- A turnout that is laid lies so already.
@@ -44,10 +44,7 @@ by-by n false these those t =
 
 -- a train of the railway needs no check
 checked-train : (n : Network) (t : TrainState) → is_train n t ≡ true → checked n t ≡ t
-checked-train n t h = elim (cases_Bool t.derailed) [
-  | inl derailed ↦ checked-derailed n t derailed
-  | inr rails ↦ checked-itself n t (whole-spans n t (parts-of n t h).whole rails)
-]
+checked-train n t h = checked-whole n t (parts-of n t h).whole
 
 in-in : (n m : Network) (nodes : List Node) (these those : ℕ) (t : TrainState) → IsTrue (is_sound m) → n.blocks ≡ m.blocks → is_train n t ≡ true → run_in m those nodes (run_in m these nodes t) ≡ run_in m (these + those) nodes t
 in-in n m nodes these those t is same h =

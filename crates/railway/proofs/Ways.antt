@@ -11,7 +11,7 @@ use Rattle.railway.specs.declared.train.Place.{Place}
 use Rattle.railway.specs.declared.train.TrainState.{TrainState}
 use Rattle.railway.specs.Blocks.{length_of}
 use Rattle.railway.specs.Network.{Network, onward, place_of, run_on, step, stepped, way_on}
-use Rattle.railway.specs.Places.{further, left_to, moved, moved_to, to_end}
+use Rattle.railway.specs.Places.{further, is_derailed, left_to, moved, moved_to, to_end}
 
 -- In a block.
 
@@ -100,16 +100,16 @@ unfolding run_on
 run_on-stands n t zero h = refl
 run_on-stands n t (suc way) h = ap (λ (u : TrainState). run_on n u way) h ∙ run_on-stands n t way h
 
-pub step-derailed : (n : Network) (t : TrainState) → t.derailed ≡ true → step n t ≡ t
-step-derailed n t h = ap (λ (d : Bool). if d then t else stepped t (onward n t.front) (onward n t.rear)) h
+pub step-derailed : (n : Network) (t : TrainState) → is_derailed t ≡ true → step n t ≡ t
+step-derailed n t h = ap (λ (d : Bool). if d then t else stepped n t (onward n t.front) (onward n t.rear)) h
 
-pub run_on-derailed : (n : Network) (t : TrainState) (way : ℕ) → t.derailed ≡ true → run_on n t way ≡ t
+pub run_on-derailed : (n : Network) (t : TrainState) (way : ℕ) → is_derailed t ≡ true → run_on n t way ≡ t
 run_on-derailed n t way h = run_on-stands n t way (step-derailed n t h)
 
-pub step-onward : (n : Network) (t : TrainState) (front rear : Onward) → t.derailed ≡ false → onward n t.front ≡ front → onward n t.rear ≡ rear → step n t ≡ stepped t front rear
+pub step-onward : (n : Network) (t : TrainState) (front rear : Onward) → is_derailed t ≡ false → onward n t.front ≡ front → onward n t.rear ≡ rear → step n t ≡ stepped n t front rear
 step-onward n t front rear h f r =
-    ap (λ (d : Bool). if d then t else stepped t (onward n t.front) (onward n t.rear)) h
-    ∙ ap (λ (o : Onward). stepped t o (onward n t.rear)) f ∙ ap (λ (o : Onward). stepped t front o) r
+    ap (λ (d : Bool). if d then t else stepped n t (onward n t.front) (onward n t.rear)) h
+    ∙ ap (λ (o : Onward). stepped n t o (onward n t.rear)) f ∙ ap (λ (o : Onward). stepped n t front o) r
 
 pub run_on-step : (n : Network) (t next : TrainState) (way : ℕ) → 0 < way → step n t ≡ next → run_on n t way ≡ run_on n next (way - 1)
 unfolding run_on
@@ -127,7 +127,7 @@ moved-suc t way =
     ap (λ (p : Place). record t { front = p; rear = further (further t.rear 1) way }) (further-suc t.front way)
     ∙ ap (λ (p : Place). record t { front = further t.front (suc way); rear = p }) (further-suc t.rear way)
 
-pub run_on-moved : (n : Network) (t : TrainState) (way : ℕ) → t.derailed ≡ false → way ≤ to_end (length_of n.blocks t.front.block) t.front → way ≤ to_end (length_of n.blocks t.rear.block) t.rear
+pub run_on-moved : (n : Network) (t : TrainState) (way : ℕ) → is_derailed t ≡ false → way ≤ to_end (length_of n.blocks t.front.block) t.front → way ≤ to_end (length_of n.blocks t.rear.block) t.rear
     → run_on n t way ≡ moved t way
 unfolding run_on
 run_on-moved n t zero h f r = moved-zero t
@@ -137,14 +137,14 @@ run_on-moved n t (suc way) h f r =
     ∙ moved-suc t way
 
 -- part of a way in the same blocks, and the rest
-pub run_on-part : (n : Network) (t : TrainState) (part way : ℕ) → t.derailed ≡ false → part ≤ way → part ≤ to_end (length_of n.blocks t.front.block) t.front → part ≤ to_end (length_of n.blocks t.rear.block) t.rear
+pub run_on-part : (n : Network) (t : TrainState) (part way : ℕ) → is_derailed t ≡ false → part ≤ way → part ≤ to_end (length_of n.blocks t.front.block) t.front → part ≤ to_end (length_of n.blocks t.rear.block) t.rear
     → run_on n t way ≡ run_on n (moved t part) (way - part)
 run_on-part n t part way h less f r =
     let whole : way ≡ part + (way - part) = omega arith in
     ap (λ (w : ℕ). run_on n t w) whole ∙ run_on-add n t part (way - part) ∙ ap (λ (u : TrainState). run_on n u (way - part)) (run_on-moved n t part h f r)
 
 -- a train whose rear does not go on stands
-pub rear-stands : (t : TrainState) (front : Place) (rear : Onward) → ((q : Place) → rear ≡ To q → ⊥) → stepped t (To front) rear ≡ t
-rear-stands t front (To q) h = absurd (h q refl)
-rear-stands t front BufferStop h = refl
-rear-stands t front Against h = refl
+pub rear-stands : (n : Network) (t : TrainState) (front : Place) (rear : Onward) → ((q : Place) → rear ≡ To q → ⊥) → stepped n t (To front) rear ≡ t
+rear-stands n t front (To q) h = absurd (h q refl)
+rear-stands n t front BufferStop h = refl
+rear-stands n t front Against h = refl

@@ -1,14 +1,15 @@
 -- What the laws of a railway speak of.
-use Rattle.std.specs.Prelude.{ℕ, ◌≡◌, ◌*◌, ◌<◌, Bool, false, not, if◌then◌else◌, List, [], ◌∷◌, length, Some, IsTrue}
-use Rattle.std.specs.List.{slice_index_or}
+use Rattle.std.specs.Prelude.{ℕ, ◌≡◌, ◌*◌, ◌<◌, ◌==◌, Bool, false, not, if◌then◌else◌, List, [], ◌∷◌, length, Some, IsTrue}
+use Rattle.std.specs.List.{list_any, slice_index_or}
 use Rattle.layout_core.specs.declared.node.Node.{Node}
 use Rattle.ln_ops.specs.declared.sensor.SensorReport.{SensorReport}
 use Rattle.railway.specs.declared.block.Block.{Block}
+use Rattle.railway.specs.declared.joint.TurnoutState.{TurnoutState}
 use Rattle.railway.specs.declared.train.Place.{Place}
 use Rattle.railway.specs.declared.train.TrainState.{TrainState}
 use Rattle.railway.specs.Blocks.{default_block, length_of}
 use Rattle.railway.specs.Network.{Network, way_on}
-use Rattle.railway.specs.Places.{span, turned_place}
+use Rattle.railway.specs.Places.{is_derailed, span, turned_place}
 use Rattle.railway.specs.Reports.{is_occupied, occupies}
 use Rattle.railway.specs.Trains.{is_forward, running_in, speed_of}
 
@@ -22,8 +23,8 @@ pub record IsOnTrack (blocks : List Block) (place : Place) : Type 0 where
 pub record IsOnRails (network : Network) (train : TrainState) : Type 0 where
   pub front : IsOnTrack network.blocks train.front
   pub rear : IsOnTrack network.blocks train.rear
-  pub apart : train.derailed ≡ false → way_on network train.rear (span train) ≡ Some train.front
-  pub back : train.derailed ≡ false
+  pub apart : is_derailed train ≡ false → way_on network train.rear (span train) ≡ Some train.front
+  pub back : is_derailed train ≡ false
       → way_on network (turned_place train.front) (span train) ≡ Some (turned_place train.rear)
 
 -- the end of a train that leads, its front or its rear, with what lies ahead of it
@@ -37,6 +38,10 @@ leading nodes train = leading_end (is_forward (running_in nodes train.decoder)) 
 -- its speed times the time
 abbrev pub way_of : List Node → (micros : ℕ) → TrainState → ℕ
 way_of nodes micros train = speed_of train.top (running_in nodes train.decoder) * micros
+
+-- one of the turnouts has this switch
+abbrev pub has_switch : List TurnoutState → (switch : ℕ) → Bool
+has_switch states switch = list_any (λ state. state.turnout.switch == switch) states
 
 -- a report is one of a change: of a sensor whose block was not as it says, and now is
 pub record IsChange (blocks : List Block) (was is : List TrainState)

@@ -1,5 +1,5 @@
 -- The track: where it leads, and how a train runs on it.
-use Rattle.std.specs.Prelude.{ℕ, zero, suc, ◌==◌, ◌<◌, ◌&&◌, ◌||◌, ◌++◌, Bool, true, if◌then◌else◌, List, [], ◌∷◌, length, map, Option, Some, None}
+use Rattle.std.specs.Prelude.{ℕ, zero, suc, ◌==◌, ◌<◌, ◌&&◌, ◌||◌, ◌++◌, Bool, if◌then◌else◌, List, [], ◌∷◌, length, map, Option, Some, None}
 use Rattle.std.specs.List.{list_all, list_any}
 use Rattle.std.specs.Option.{option_and_then, option_eq, option_or}
 use Rattle.railway.specs.declared.block.Block.{Block}
@@ -15,7 +15,7 @@ use Rattle.railway.specs.declared.train.Place.{Place}
 use Rattle.railway.specs.declared.train.TrainState.{TrainState}
 use Rattle.railway.specs.Blocks.{are_distinct, is_block, length_of, same_block_end}
 use Rattle.railway.specs.Ends.{are_apart, ends_of, is_joint, is_turnout}
-use Rattle.railway.specs.Places.{end_ahead, further, same_place, span, start_at, to_end}
+use Rattle.railway.specs.Places.{end_ahead, further, is_derailed, same_place, span, start_at, to_end}
 
 -- the blocks of a plan, and what joins their ends
 pub record Network : Type 0 where
@@ -49,6 +49,16 @@ joined network = network.joints ++ map as_joint network.turnouts
 abbrev pub is_branch : BlockEnd → TurnoutState → Bool
 is_branch end state =
     same_block_end state.turnout.closed end || same_block_end state.turnout.thrown end
+
+-- the end is one of a turnout's three
+abbrev pub is_end_of : BlockEnd → TurnoutState → Bool
+is_end_of end state = same_block_end state.turnout.common end || is_branch end state
+
+-- The switch of the turnout that an end belongs to; 0 if it belongs to none. No end belongs to two.
+abbrev pub switch_at : List TurnoutState → BlockEnd → ℕ
+switch_at [] end = 0
+switch_at (state ∷ states) end =
+    if is_end_of end state then state.turnout.switch else switch_at states end
 
 abbrev pub exit_to : Option BlockEnd → (branch : Bool) → Exit
 exit_to (Some end) branch = Leads end
@@ -87,20 +97,25 @@ way_on network place zero = Some place
 way_on network place (suc way) =
     option_and_then (λ next. way_on network next way) (place_of (onward network place))
 
+-- the train off the rails, where it is, at the turnout ahead of a place
+abbrev pub off_rails : Network → Place → TrainState → TrainState
+off_rails network place train =
+    record train { derailed_at = Some (switch_at network.turnouts (end_ahead place)) }
+
 -- Both ends of a train go where the track leads. Its front stops at a buffer stop, and leaves the
 -- rails at a turnout that lies against it.
-abbrev pub stepped : TrainState → (front rear : Onward) → TrainState
-stepped train (To front) (To rear) = record train { front = front; rear = rear }
-stepped train (To front) Stopped = train
-stepped train (To front) Derails = train
-stepped train Stopped rear = train
-stepped train Derails rear = record train { derailed = true }
+abbrev pub stepped : Network → TrainState → (front rear : Onward) → TrainState
+stepped network train (To front) (To rear) = record train { front = front; rear = rear }
+stepped network train (To front) Stopped = train
+stepped network train (To front) Derails = train
+stepped network train Stopped rear = train
+stepped network train Derails rear = off_rails network train.front train
 
 -- a train runs forward by one picometre
 abbrev pub step : Network → TrainState → TrainState
 step network train =
-    if train.derailed then train else
-    stepped train (onward network train.front) (onward network train.rear)
+    if is_derailed train then train else
+    stepped network train (onward network train.front) (onward network train.rear)
 
 -- and by so many, one after another
 unfoldable pub run_on : Network → TrainState → (way : ℕ) → TrainState
@@ -114,11 +129,12 @@ spans network train =
 
 -- a train is on the rails from its rear to its front, or is derailed
 abbrev pub is_whole : Network → TrainState → Bool
-is_whole network train = train.derailed || spans network train
+is_whole network train = is_derailed train || spans network train
 
--- a train with a turnout thrown under it is derailed
+-- a train with a turnout thrown under it is derailed by it: the one ahead of its rear
 abbrev pub checked : Network → TrainState → TrainState
-checked network train = if spans network train then train else record train { derailed = true }
+checked network train =
+    if is_whole network train then train else off_rails network train.rear train
 
 abbrev pub turnouts_of : List TurnoutState → List Turnout
 turnouts_of states = map (λ state. state.turnout) states

@@ -1,5 +1,5 @@
 -- Places on the track. A block of n picometres has the picometres 0 to n - 1, from end A on.
-use Rattle.std.specs.Prelude.{ℕ, ◌+◌, ◌-◌, ◌*◌, ◌==◌, ◌&&◌, Bool, nat_lt, List, length}
+use Rattle.std.specs.Prelude.{ℕ, ◌+◌, ◌-◌, ◌*◌, ◌==◌, ◌&&◌, Bool, nat_lt, List, length, is_some}
 use Rattle.railway.specs.declared.block.Block.{Block}
 use Rattle.railway.specs.declared.block.BlockEnd.{BlockEnd}
 use Rattle.railway.specs.declared.block.End.{End}
@@ -52,6 +52,10 @@ same_place one two = one.block == two.block && one.at == two.at && same_end one.
 abbrev pub is_on_track : List Block → Place → Bool
 is_on_track blocks place =
     nat_lt place.block (length blocks) && nat_lt place.at (length_of blocks place.block)
+
+-- the train left the rails at a turnout
+abbrev pub is_derailed : TrainState → Bool
+is_derailed train = is_some train.derailed_at
 
 -- a train seen from behind: its rear leads
 abbrev pub turned : TrainState → TrainState

@@ -1,5 +1,5 @@
 -- Trains: how they are put on the track, and how fast their decoders run them.
-use Rattle.std.specs.Prelude.{ℕ, ◌+◌, ◌-◌, ◌*◌, ◌/◌, ◌&&◌, Bool, true, false, nat_le, List, length, Option, Some, None, slice_get}
+use Rattle.std.specs.Prelude.{ℕ, ◌+◌, ◌-◌, ◌*◌, ◌/◌, ◌&&◌, Bool, true, nat_le, List, length, Option, Some, None, slice_get}
 use Rattle.std.specs.Option.{option_and_then}
 use Rattle.dcc_packet.specs.declared.steps.Motion.{Motion}
 use Rattle.dcc_packet.specs.declared.steps.Motion.TheVariants.{Stop, Emergency, Step}
@@ -31,7 +31,7 @@ default_state = record {
   length = 1;
   front = default_place;
   rear = default_place;
-  derailed = false;
+  derailed_at = None;
 }
 
 -- A train of this length whose front is so far from end A fits into a block, all in millimetres.
@@ -65,7 +65,7 @@ placed decoder top length position = record {
     at = rear_at position.facing position.at length;
     toward = position.facing;
   };
-  derailed = false;
+  derailed_at = None;
 }
 
 abbrev pub state_of_train : Train → TrainState

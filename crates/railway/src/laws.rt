@@ -1,6 +1,6 @@
 //! The laws of a railway, each as a function that does nothing and ensures it: a call hands the
 //! law to a proof.
-ghost use Rattle.std.specs.Prelude.{◌≡◌, ◌≢◌, ℕ, ◌+◌, ◌<◌, ◌≤◌, Bool, List, length, true, false, IsTrue, Some, None};
+ghost use Rattle.std.specs.Prelude.{◌≡◌, ◌≢◌, ℕ, ◌+◌, ◌<◌, ◌≤◌, Bool, List, length, true, false, IfSome, IsTrue, Some, None};
 ghost use Rattle.std.specs.List.{slice_index_or};
 ghost use Rattle.layout_core.specs.declared.node.Node.{Node};
 ghost use Rattle.railway.specs.declared.block.BlockEnd.{BlockEnd};
@@ -12,10 +12,11 @@ ghost use Rattle.railway.specs.declared.train.TrainState.{TrainState};
 ghost use Rattle.railway.specs.Blocks.{default_block};
 ghost use Rattle.railway.specs.Conflicts.{conflict_in};
 ghost use Rattle.railway.specs.Course.{Happening, after, after_all, reports_of_all};
-ghost use Rattle.railway.specs.Laws.{AreChanges, IsConflict, IsOnRails, leading, way_of};
-ghost use Rattle.railway.specs.Network.{Network, exit_of, is_sound, onward, way_on};
-ghost use Rattle.railway.specs.Places.{span};
+ghost use Rattle.railway.specs.Laws.{AreChanges, IsConflict, IsOnRails, has_switch, leading, way_of};
+ghost use Rattle.railway.specs.Network.{Network, exit_of, is_sound, off_rails, onward, switch_at, way_on};
+ghost use Rattle.railway.specs.Places.{end_ahead, is_derailed, span};
 ghost use Rattle.railway.specs.Railway.{RailwayState, elapsed, is_railway, is_train, reports_in, run_in};
+ghost use Rattle.railway.specs.Turnouts.{laid};
 ghost use Rattle.railway.specs.Reports.{full, is_occupied, level_after, occupies};
 
 /// Each train is in blocks of the plan, within their lengths. Its ends are as far apart as its
@@ -29,7 +30,7 @@ pub fn trains_are_on_rails()
 /// A train that is not derailed is nowhere but in the blocks of its two ends.
 pub fn trains_are_in_two_blocks()
     ensures parts { (network : Network) (train : TrainState) (part : ℕ) (place : Place)
-        → IsTrue (is_sound network) → IsTrue (is_train network train) → train.derailed ≡ false
+        → IsTrue (is_sound network) → IsTrue (is_train network train) → is_derailed train ≡ false
         → part ≤ span train → way_on network train.rear part ≡ Some place
         → IsTrue (occupies place.block train) }
 {}
@@ -59,36 +60,42 @@ pub fn railways_are_kept()
 pub fn ways_are_speed_times_time()
     ensures goes { (network : Network) (train : TrainState) (micros : ℕ) (nodes : List Node)
         (place : Place) → IsTrue (is_sound network) → IsTrue (is_train network train)
-        → train.derailed ≡ false
+        → is_derailed train ≡ false
         → way_on network (leading nodes train) (way_of nodes micros train) ≡ Some place
         → leading nodes (run_in network micros nodes train) ≡ place }
     ensures rails { (network : Network) (train : TrainState) (micros : ℕ) (nodes : List Node)
         (place : Place) → IsTrue (is_sound network) → IsTrue (is_train network train)
-        → train.derailed ≡ false
+        → is_derailed train ≡ false
         → way_on network (leading nodes train) (way_of nodes micros train) ≡ Some place
-        → (run_in network micros nodes train).derailed ≡ false }
+        → is_derailed (run_in network micros nodes train) ≡ false }
 {}
 
 /// A train stops where the track ends. It is derailed by a turnout that lies against it, or that
-/// is thrown under it; a derailed train stands.
+/// is thrown under it, and has its switch: that of a turnout of the plan. A derailed train stands.
 pub fn trains_stop()
     ensures buffer_stop { (network : Network) (train : TrainState) (micros : ℕ)
         (nodes : List Node) (ahead : ℕ) (place : Place)
-        → IsTrue (is_sound network) → IsTrue (is_train network train) → train.derailed ≡ false
+        → IsTrue (is_sound network) → IsTrue (is_train network train) → is_derailed train ≡ false
         → way_on network (leading nodes train) ahead ≡ Some place
         → onward network place ≡ BufferStop → ahead ≤ way_of nodes micros train
         → leading nodes (run_in network micros nodes train) ≡ place }
     ensures against { (network : Network) (train : TrainState) (micros : ℕ)
         (nodes : List Node) (ahead : ℕ) (place : Place)
-        → IsTrue (is_sound network) → IsTrue (is_train network train) → train.derailed ≡ false
+        → IsTrue (is_sound network) → IsTrue (is_train network train) → is_derailed train ≡ false
         → way_on network (leading nodes train) ahead ≡ Some place
         → onward network place ≡ Against → ahead < way_of nodes micros train
-        → (run_in network micros nodes train).derailed ≡ true }
+        → (run_in network micros nodes train).derailed_at
+        ≡ Some (switch_at network.turnouts (end_ahead place)) }
     ensures thrown_under { (network : Network) (train : TrainState) (micros : ℕ)
-        (nodes : List Node) → way_on network train.rear (span train) ≢ Some train.front
-        → run_in network micros nodes train ≡ record train { derailed = true } }
+        (nodes : List Node) → is_derailed train ≡ false
+        → way_on network train.rear (span train) ≢ Some train.front
+        → run_in network micros nodes train ≡ off_rails network train.rear train }
+    ensures turnout { (network : Network) (train : TrainState) (micros : ℕ) (nodes : List Node)
+        → IsTrue (is_sound network) → IsTrue (is_train network train) → is_derailed train ≡ false
+        → IfSome (run_in (laid nodes network) micros nodes train).derailed_at
+        (λ switch. IsTrue (has_switch network.turnouts switch)) }
     ensures derailed { (network : Network) (train : TrainState) (micros : ℕ) (nodes : List Node)
-        → train.derailed ≡ true → run_in network micros nodes train ≡ train }
+        → is_derailed train ≡ true → run_in network micros nodes train ≡ train }
 {}
 
 /// The track that leads from an end to another leads back.

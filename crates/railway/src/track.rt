@@ -2,7 +2,7 @@
 ghost use Rattle.std.specs.Prelude.{◌≡◌, ◌+◌, ◌<◌, ◌≤◌, IsTrue, length, IfSome, map, None, Some};
 ghost use Rattle.std.specs.List.{list_all, list_any};
 ghost use Rattle.railway.specs.Blocks.{length_of};
-ghost use Rattle.railway.specs.Network.{LeadsToPlan, across, as_joint, exit_of, is_branch, joined, onward, partner, place_of, run_on, way_on};
+ghost use Rattle.railway.specs.Network.{LeadsToPlan, across, as_joint, exit_of, is_branch, is_end_of, joined, off_rails, onward, partner, place_of, run_on, switch_at, way_on};
 ghost use Rattle.railway.specs.Places.{is_on_track, start_at, to_end};
 ghost use Rattle.railway.specs.Running.{is_within};
 
@@ -76,6 +76,13 @@ impl TurnoutState {
         }
     }
 
+    /// Whether the end belongs to it.
+    fn has_end(&self, end: BlockEnd) -> bool
+        ensures { result ≡ is_end_of end self.now }
+    {
+        self.turnout.common.is(end) || self.is_branch(end)
+    }
+
     /// Whether it chooses from this end and another.
     fn is_branch(&self, end: BlockEnd) -> bool
         ensures { result ≡ is_branch end self.now }
@@ -106,6 +113,18 @@ fn over_turnouts(turnouts: &[TurnoutState], end: BlockEnd) -> Option<BlockEnd>
         }
     }
     None
+}
+
+/// Returns the switch of the turnout that an end belongs to; 0 if it belongs to none.
+fn switch_at(turnouts: &[TurnoutState], end: BlockEnd) -> u16
+    ensures { result ≡ switch_at turnouts.now end }
+{
+    for turnout in turnouts {
+        if turnout.has_end(end) {
+            return turnout.turnout.switch;
+        }
+    }
+    0
 }
 
 fn is_branch(turnouts: &[TurnoutState], end: BlockEnd) -> bool
@@ -192,11 +211,7 @@ impl Track {
         if self.to_end(place) > 0 {
             return Onward::To(place.further(1));
         }
-        let end = BlockEnd {
-            block: place.block,
-            end: place.toward,
-        };
-        match self.exit(end) {
+        match self.exit(place.end_ahead()) {
             Exit::Leads(next) => Onward::To(self.start_at(next)),
             Exit::BufferStop => Onward::BufferStop,
             Exit::Against => Onward::Against,
@@ -238,6 +253,16 @@ impl Track {
         Some(place)
     }
 
+    /// Returns the train where it is, derailed by the turnout ahead of a place.
+    fn off_rails(&self, train: &TrainState, place: Place) -> TrainState
+        ensures { result ≡ off_rails self.now place train.now }
+    {
+        TrainState {
+            derailed_at: Some(switch_at(self.turnouts.as_slice(), place.end_ahead())),
+            ..*train
+        }
+    }
+
     /// Runs a train forward for some of the way, at most into the next blocks. Returns the train
     /// and the way that is left.
     fn run_some(&self, train: &TrainState, way: u64) -> (TrainState, u64)
@@ -247,7 +272,7 @@ impl Track {
         ensures within { IsTrue (is_within self.now.blocks result.0) }
         ensures less { result.1 < way }
     {
-        if train.derailed {
+        if train.is_derailed() {
             return (*train, 0);
         }
         let ahead = self.to_end(train.front).min(self.to_end(train.rear));
@@ -257,7 +282,7 @@ impl Track {
         }
         match self.onward(train.front) {
             Onward::BufferStop => (*train, 0),
-            Onward::Against => (train.off_the_rails(), 0),
+            Onward::Against => (self.off_rails(train, train.front), 0),
             Onward::To(front) => match self.onward(train.rear) {
                 Onward::To(rear) => {
                     let next = TrainState {
@@ -304,17 +329,17 @@ impl Track {
         }
     }
 
-    /// Returns the train, derailed if a turnout was thrown under it.
+    /// Returns the train, derailed by the turnout that was thrown under it, if one was.
     fn checked(&self, train: &TrainState) -> TrainState
         requires { IsTrue (is_within self.now.blocks train.now) }
         ensures checked { result ≡ checked self.now train.now }
         ensures within { IsTrue (is_within self.now.blocks result) }
         ensures decoder { result.decoder ≡ train.now.decoder }
     {
-        if self.spans(train) {
+        if train.is_derailed() || self.spans(train) {
             *train
         } else {
-            train.off_the_rails()
+            self.off_rails(train, train.rear)
         }
     }
 

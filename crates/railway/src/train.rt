@@ -1,9 +1,9 @@
 //! Trains.
 ghost use Rattle.std.specs.Prelude.{◌≡◌, ◌≤◌, ◌<◌, ◌+◌, ◌^◌, true};
-ghost use Rattle.railway.specs.Places.{further, moved, same_place, span, to_end, turned, turned_place};
+ghost use Rattle.railway.specs.Places.{end_ahead, further, is_derailed, moved, same_place, span, to_end, turned, turned_place};
 ghost use Rattle.railway.specs.Trains.{default_state, default_train, fits, is_forward, placed, speed_at, speed_of};
 
-use crate::block::{End, MILLIMETRE};
+use crate::block::{BlockEnd, End, MILLIMETRE};
 use crate::plan::MAX_TRAINS;
 use arrayvec::ArrayVec;
 use layout_core::{Motion, Running, Steps};
@@ -58,8 +58,8 @@ pub struct TrainState {
     pub front: Place,
     /// The rearmost one. The end ahead is the one on the way to the front.
     pub rear: Place,
-    /// Whether it stands off the rails, until it is placed again.
-    pub derailed: bool,
+    /// The switch of the turnout that derailed it, until it is placed again; `None` on the rails.
+    pub derailed_at: Option<u16>,
 }
 
 impl Place {
@@ -85,6 +85,16 @@ impl Place {
         Place { at, ..self }
     }
 
+    /// Returns the end ahead.
+    pub(crate) fn end_ahead(self) -> BlockEnd
+        ensures { result ≡ end_ahead self }
+    {
+        BlockEnd {
+            block: self.block,
+            end: self.toward,
+        }
+    }
+
     /// Whether it is this place, with the same end ahead.
     pub(crate) fn is(self, place: Place) -> bool
         ensures { result ≡ same_place self place }
@@ -104,6 +114,13 @@ impl Place {
 }
 
 impl TrainState {
+    /// Whether it stands off the rails.
+    pub fn is_derailed(&self) -> bool
+        ensures derailed { result ≡ is_derailed self.now }
+    {
+        self.derailed_at.is_some()
+    }
+
     /// Returns the train seen from behind: its rear leads.
     pub(crate) fn turned(&self) -> TrainState
         ensures { result ≡ turned self.now }
@@ -133,16 +150,6 @@ impl TrainState {
         ensures { result ≡ span self.now }
     {
         (u64::from(self.length) * MILLIMETRE).saturating_sub(1)
-    }
-
-    /// Returns the train where it is, derailed.
-    pub(crate) fn off_the_rails(&self) -> TrainState
-        ensures { result ≡ record self.now { derailed = true } }
-    {
-        TrainState {
-            derailed: true,
-            ..*self
-        }
     }
 }
 
@@ -180,7 +187,7 @@ impl Default for TrainState {
             length: 1,
             front: place,
             rear: place,
-            derailed: false,
+            derailed_at: None,
         }
     }
 }
@@ -222,7 +229,7 @@ pub(crate) fn placed(decoder: u8, top: u16, length: u32, position: Position) -> 
         length,
         front: place(front),
         rear: place(rear),
-        derailed: false,
+        derailed_at: None,
     }
 }
 

@@ -62,7 +62,7 @@ block mid occupied (shunter)
 block near free
 conflict far: shunter, express
 block mid free
-derailed shunter in far
+derailed shunter at turnout 1
 ",
     ),
 ];

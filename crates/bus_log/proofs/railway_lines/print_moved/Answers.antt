@@ -18,5 +18,5 @@ returns c =
     let before = c.args.before.now in
     let after = c.args.after.now in
     lines_in_order c.args.log.now c.print_blocks.new.log c.print_derailed.new.log c.print_conflicts.new.log
-    (lines_of_each 0 (length blocks) (block_lines entries blocks before after)) (lines_of_each 0 (length after) (derailed_lines entries blocks before after)) (lines_of_each 0 (length blocks) (conflict_lines entries blocks before after))
+    (lines_of_each 0 (length blocks) (block_lines entries blocks before after)) (lines_of_each 0 (length after) (derailed_lines entries before after)) (lines_of_each 0 (length blocks) (conflict_lines entries blocks before after))
     c.print_blocks.ensures c.print_derailed.ensures c.print_conflicts.ensures
