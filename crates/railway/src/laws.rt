@@ -16,8 +16,8 @@ ghost use Rattle.railway.specs.Laws.{AreChanges, IsConflict, IsOnRails, has_swit
 ghost use Rattle.railway.specs.Network.{Network, exit_of, is_sound, off_rails, onward, switch_at, way_on};
 ghost use Rattle.railway.specs.Places.{end_ahead, is_derailed, span};
 ghost use Rattle.railway.specs.Railway.{RailwayState, elapsed, is_railway, is_train, reports_in, run_in};
-ghost use Rattle.railway.specs.Turnouts.{laid};
 ghost use Rattle.railway.specs.Reports.{full, is_occupied, level_after, occupies};
+ghost use Rattle.railway.specs.Turnouts.{laid};
 
 /// Each train is in blocks of the plan, within their lengths. Its ends are as far apart as its
 /// length along the track, in both directions, or it is derailed.
