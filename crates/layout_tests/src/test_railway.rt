@@ -2,7 +2,6 @@
 
 mod example;
 pub(crate) mod layout;
-mod plan;
 mod text;
 
 use decoder_cv::CvSet;
@@ -10,8 +9,7 @@ use decoder_node::NodeSpec;
 use layout::{EXPRESS, block, decoders, end_a, end_b, layout, oval, say, say_missed};
 use layout_core::World;
 use railway::{
-    Conflict, End, Exit, Joint, PlaceFault, Plan, Position, Railway, Reports, SensorReport, Train,
-    TrainState,
+    Conflict, End, Exit, Joint, Plan, Position, Railway, Reports, SensorReport, Train, TrainState,
 };
 use std::test::Fail;
 
@@ -61,10 +59,14 @@ const ROUND: Story = &[
     (8_000_000, &[(2, true), (1, false)]),
 ];
 
+/// A full report at the start: the train is in main.
+const FULL: Rows = &[(1, false), (2, true), (3, false), (4, false), (5, false)];
+
 #[test]
 fn round_the_oval(rt: HostRuntime) -> Result<(), Fail> {
     let mut world = layout(&rt)?;
-    let mut railway = Railway::new(oval()?, &decoders()?).map_err(|_| "plan")?;
+    let mut railway = oval_railway()?;
+    assert!(rt; are(&railway.report_all(), FULL));
     assert!(rt;
         railway.elapse(1_000_000, &world).is_empty(),
         "a train that nobody drives"
@@ -81,23 +83,6 @@ fn oval_railway() -> Result<Railway, Fail> {
 /// Returns a train as it is.
 fn train(railway: &Railway, i: usize) -> Result<TrainState, Fail> {
     Ok(*railway.trains().get(i).ok_or("train")?)
-}
-
-#[test]
-fn a_full_report_has_each_sensor(rt: HostRuntime) -> Result<(), Fail> {
-    let railway = oval_railway()?;
-    let all = railway.report_all();
-    assert!(rt;
-        are(
-            &all,
-            &[(1, false), (2, true), (3, false), (4, false), (5, false)]
-        )
-    );
-    assert!(rt; railway.is_occupied(1) && !railway.is_occupied(0));
-    assert_eq!(rt; railway.blocks().len(), 5);
-    assert_eq!(rt; railway.joints().len(), 2);
-    assert_eq!(rt; railway.turnouts().len(), 2);
-    Ok(())
 }
 
 #[test]
@@ -140,27 +125,6 @@ fn a_turnout_thrown_under_a_train_derails_it(rt: HostRuntime) -> Result<(), Fail
     assert!(rt; railway.elapse(60_000_000, &world).is_empty());
     assert!(rt; train(&railway, 0)?.derailed_at == Some(2));
     assert_eq!(rt; train(&railway, 0)?.front.at, 999_999_999_999);
-    Ok(())
-}
-
-#[test]
-fn a_train_is_placed_where_it_fits(rt: HostRuntime) -> Result<(), Fail> {
-    let mut railway = oval_railway()?;
-    let unknown = railway.place(1, MAIN);
-    assert!(rt; unknown.err() == Some(PlaceFault::UnknownTrain));
-    let nowhere = railway.place(0, Position { block: 5, ..MAIN });
-    assert!(rt; nowhere.err() == Some(PlaceFault::UnknownBlock));
-    let off_track = railway.place(0, Position { at: 199, ..MAIN });
-    assert!(rt; off_track.err() == Some(PlaceFault::OffTrack));
-    let turned = Position {
-        block: 2,
-        at: 800,
-        facing: End::A,
-    };
-    let placed = railway.place(0, turned).map_err(|_| "place")?;
-    assert!(rt; are(&placed, &[(3, true), (2, false)]));
-    assert_eq!(rt; train(&railway, 0)?.front.at, 800_000_000_000);
-    assert_eq!(rt; train(&railway, 0)?.rear.at, 999_999_999_999);
     Ok(())
 }
 

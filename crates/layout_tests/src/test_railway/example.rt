@@ -211,28 +211,27 @@ fn railway_of(rt: &HostRuntime, roster: &[u8], plan: &[u8]) -> Result<Railway, F
     Ok(railway)
 }
 
-#[test]
-fn the_oval_is_a_railway(rt: HostRuntime) -> Result<(), Fail> {
-    let railway = railway_of(&rt, OVAL_ROSTER, OVAL)?;
-    assert_eq!(rt; railway.turnouts().len(), 2);
-    // The shunter in main, the express in back.
-    let occupied = [true, false, false, true, false];
-    assert_eq!(rt; railway.blocks().len(), occupied.len());
-    for (block, is_occupied) in occupied.iter().enumerate() {
-        assert_eq!(rt; railway.is_occupied(block), *is_occupied);
-    }
-    Ok(())
-}
+/// The examples: decoders, plan, and whether each block is occupied at the start.
+const EXAMPLES: [(&[u8], &[u8], &[bool]); 2] = [
+    // The shunter is in main, the express in back.
+    (OVAL_ROSTER, OVAL, &[true, false, false, true, false]),
+    // The local is in west, the express in east.
+    (
+        SHUTTLE_ROSTER,
+        SHUTTLE,
+        &[true, false, false, false, false, true],
+    ),
+];
 
 #[test]
-fn the_shuttle_is_a_railway(rt: HostRuntime) -> Result<(), Fail> {
-    let railway = railway_of(&rt, SHUTTLE_ROSTER, SHUTTLE)?;
-    assert_eq!(rt; railway.turnouts().len(), 2);
-    // The local in west, the express in east.
-    let occupied = [true, false, false, false, false, true];
-    assert_eq!(rt; railway.blocks().len(), occupied.len());
-    for (block, is_occupied) in occupied.iter().enumerate() {
-        assert_eq!(rt; railway.is_occupied(block), *is_occupied);
+fn examples_are_railways(rt: HostRuntime) -> Result<(), Fail> {
+    for (roster, plan, occupied) in EXAMPLES {
+        let railway = railway_of(&rt, roster, plan)?;
+        assert_eq!(rt; railway.turnouts().len(), 2);
+        assert_eq!(rt; railway.blocks().len(), occupied.len());
+        for (block, is_occupied) in occupied.iter().enumerate() {
+            assert_eq!(rt; railway.is_occupied(block), *is_occupied);
+        }
     }
     Ok(())
 }
