@@ -6,6 +6,7 @@
 The local passes the express by the track `up`. At the end it is sent to the track where the express stands, and the
 server tells of the conflict. The status is 0 if it told of none before.
 """
+import argparse
 import sys
 import time
 from pathlib import Path
@@ -41,7 +42,7 @@ def run(client, locos, thrown, forward, lines):
             under_way.pop(report.sensor).speed(0)
 
 
-def main(minutes=60):
+def main(minutes):
     """Drives for some minutes of track time, and then into the express. Returns whether there was another fault."""
     options = "--plan", str(HERE / "shuttle.toml"), "--rate", str(RATE)
     with Server(*options, roster=str(HERE / "shuttle-roster.toml")) as server, server.client() as client:
@@ -64,4 +65,6 @@ def main(minutes=60):
 
 
 if __name__ == "__main__":
-    sys.exit(main(*map(int, sys.argv[1:])))
+    parser = argparse.ArgumentParser(description=__doc__.splitlines()[0])
+    parser.add_argument("minutes", type=int, nargs="?", default=60, help="minutes of track time")
+    sys.exit(main(parser.parse_args().minutes))
