@@ -1,8 +1,8 @@
 //! A server and its rounds.
-ghost use Rattle.std.specs.Prelude.{◌≡◌, ◌<◌, ◌≤◌, IfOk, IsTrue, List, OnErr, OnOk, ◌++◌, false, is_some, map, option_copied, true};
+ghost use Rattle.std.specs.Prelude.{◌≡◌, ◌<◌, ◌≤◌, IfOk, IsTrue, List, OnErr, OnOk, ◌++◌, false, map, option_copied, true};
 ghost use Rattle.layout_core.specs.Nodes.{spec_of};
 ghost use Rattle.bus.specs.Log.{Extends};
-ghost use Rattle.bus.specs.Bus.{client_of, is_event};
+ghost use Rattle.bus.specs.Bus.{is_event};
 ghost use Rattle.bus.specs.Course.{is_time};
 ghost use Rattle.bus.specs.State.{bus_state};
 ghost use Rattle.bus_server.specs.TransportEvents.{TransportEvent, Received};
@@ -78,14 +78,6 @@ impl Server {
         ensures { option_copied result ≡ (state_of self.now.hub).railway }
     {
         self.hub.railway()
-    }
-
-    /// Whether a client, 0 to 7, is connected.
-    pub fn is_connected(&self, client: u8) -> bool
-        requires { client < 8 }
-        ensures { result ≡ is_some (client_of (bus_state self.now.hub.bus) client) }
-    {
-        self.hub.bus.is_connected(client)
     }
 
     /// What turns follow.

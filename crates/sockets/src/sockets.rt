@@ -152,7 +152,7 @@ impl Sockets {
     }
 
     /// Checks that each page is still there. `now` is in microseconds since the start.
-    pub fn check_pages(&mut self, now: u64) {
+    fn check_pages(&mut self, now: u64) {
         self.now = now;
         for place in 0..MAX_CLIENTS {
             if let Some(page_client) = self.page_client(place) {
@@ -162,7 +162,7 @@ impl Sockets {
     }
 
     /// Serves the HTTP connections. `now` is in microseconds since the start.
-    pub fn serve_http(&mut self, now: u64) {
+    fn serve_http(&mut self, now: u64) {
         self.has_backlog = false;
         if let Some(http) = &mut self.http {
             http.round(self.poll.registry(), Token(MAX_CLIENTS + 2), now);
