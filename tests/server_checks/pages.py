@@ -364,3 +364,92 @@ def trains_on_pages():
 
     # A tenth of main takes 60 milliseconds.
     is_tried_again(pass_blocks)
+
+
+# Three blocks of a metre in a row, without sensors. The last one ends at the thrown side of a turnout that lies closed. Few
+# ends have a place. The shunter is in the first block, the express in the last.
+ROW_ROSTER = """version = 2
+[[node]]
+name = "shunter"
+kind = "loco"
+cvs = [[1, 3], [29, 2]]
+[[node]]
+name = "express"
+kind = "loco"
+cvs = [[1, 5], [29, 2]]
+[[node]]
+name = "yard"
+kind = "accessory"
+module = 1
+"""
+ROW = """version = 1
+block = [
+    { name = "near", length = 1000 },
+    { name = "mid", length = 1000 },
+    { name = "far", length = 1000 },
+    { name = "side", length = 1000, a = [-20, 5], b = [300, -10000] },
+    { name = "tail", length = 1000, b = [7, 0] },
+]
+joint = [{ ends = ["near.b", "mid.a"] }, { ends = ["mid.b", "far.a"] }]
+turnout = [{ switch = 1, common = "tail.a", closed = "side.b", thrown = "far.b" }]
+[[train]]
+decoder = "shunter"
+block = "near"
+front = 900
+facing = "b"
+length = 100
+speed = 1000
+[[train]]
+decoder = "express"
+block = "far"
+front = 500
+facing = "b"
+length = 200
+speed = 1000
+"""
+
+
+def row_for_page(state, train):
+    """What a page receives of it when it connects, with the shunter's state and train."""
+    return [
+        "VERSION lbserver station",
+        f"NODE {SHUNTER.format(state)}",
+        "NODE node express short 5 stop forward F 0000000000000",
+        "NODE node yard module 1 outputs 00000000",
+        "BLOCK near 1000",
+        "BLOCK mid 1000",
+        "BLOCK far 1000",
+        "BLOCK side 1000 a -20 5 b 300 -10000",
+        "BLOCK tail 1000 b 7 0",
+        "JOINT near.b mid.a",
+        "JOINT mid.b far.a",
+        "TURNOUT 1 tail.a side.b far.b",
+        f"TRAIN shunter {train}",
+        "TRAIN express far 5 b far",
+    ]
+
+
+def trains_in_a_row():
+    """--plan: a train drives into a block with another, and on to a turnout that lies against it: the log, and pages"""
+    with contextlib.ExitStack() as stack:
+        folder = pathlib.Path(stack.enter_context(tempfile.TemporaryDirectory()))
+        (folder / "roster.toml").write_text(ROW_ROSTER)
+        (folder / "plan.toml").write_text(ROW)
+        words = ("--roster", f"{folder}/roster.toml", "--plan", f"{folder}/plan.toml", "--turns", "0")
+        server = stack.enter_context(serve(*words, page=True))
+        client = stack.enter_context(Client(server))
+
+        def open_page(wanted):
+            with Page(server) as page:
+                same("a page", [page.line() for _ in wanted], wanted)
+
+        open_page(row_for_page("stop", "near 9 b near"))
+        # At a metre a second its front is in mid after 0.1 seconds, in far after 1.1, and at the turnout after 2.1. Its rear
+        # leaves each block 0.1 seconds later. 600 turns last 3.4 seconds or more.
+        client.write([*send(TAKE_3, USE_1, POWER_ON, "A0 01 7F 21"), "TURNS 600"])
+        client.lines_until("TURNS OK")
+        printed = printed_after(server, "derailed shunter at turnout 1")
+        wanted = [SHUNTER.format("step 126 of 128"), "block mid occupied (shunter)", "block near free"]
+        wanted += ["conflict far: shunter, express", "block mid free", "derailed shunter at turnout 1"]
+        same("printed", [line for line in printed if not line.startswith(("client ", "message ", "page "))], wanted)
+        open_page(row_for_page("step 126 of 128", "far 10 b far derailed"))

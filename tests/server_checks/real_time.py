@@ -184,6 +184,25 @@ def slow_requests():
     is_tried_again(ask_slowly)
 
 
+def silent_browsers():
+    """sixteen browsers that send nothing hold up a seventeenth until the five seconds of one of them are over"""
+
+    def wait_for_place():
+        with serve("--turns", "1", page=True) as server, contextlib.ExitStack() as stack:
+            start = time.monotonic()
+            for _ in range(16):
+                stack.enter_context(server.connect(port=server.page_port))
+            browser = stack.enter_context(server.connect(port=server.page_port))
+            browser.sendall(b"GET / HTTP/1.1\r\nHost: localhost\r\n\r\n")
+            found = browser.recv(4096)
+            took = time.monotonic() - start
+            same("the response", found.split(b"\r\n")[0], b"HTTP/1.1 200 OK")
+            # They may have a second more, to read why they are refused.
+            within("seconds", 4.99, took, 7)
+
+    is_tried_again(wait_for_place)
+
+
 def idle():
     """it waits and does not spin: nothing wakes it with --turns, and in real time it wakes about once a turn"""
 

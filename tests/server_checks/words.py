@@ -90,6 +90,8 @@ def bad_words():
 
 def statuses():
     """files, ports and addresses that are not to be had have their statuses"""
+    with open("/dev/full", "wb") as full:
+        same("--help that cannot be written", run("--help", stdout=full), (4, "", "lbserver: output\n"))
     port = str(free_port())
     with tempfile.NamedTemporaryFile() as long, serve("--turns", "1") as server:
         long.write(b"x" * 1_048_577)
