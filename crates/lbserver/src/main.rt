@@ -19,9 +19,6 @@ use standard_output::StandardOutput;
 use std::io;
 use std::process::ExitCode;
 
-#[cfg(test)]
-mod tests;
-
 fn main(rt: HostRuntime) -> ExitCode {
     ExitCode::from(match run_words(&rt) {
         Ok(status) => status,
