@@ -27,8 +27,8 @@
 /* The version of this header. A program made for one with the same major number and the same or a smaller minor
  * number may be compiled with it. */
 #define STATION_VERSION_MAJOR 1
-#define STATION_VERSION_MINOR 0
-#define STATION_VERSION "1.0.0"
+#define STATION_VERSION_MINOR 1
+#define STATION_VERSION "1.1.0"
 
 #ifdef __cplusplus
 extern "C" {

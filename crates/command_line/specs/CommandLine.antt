@@ -81,7 +81,7 @@ named_app name = record (new_app name) { top = record (new_app name).top { no_bi
 
 -- the program's arguments do not include its name, and a command is required
 unfoldable pub bare_app : App
-bare_app = record (new_app (codes "station")) { top = record (new_app (codes "station")).top { no_binary_name = true; subcommand_required = true } }
+bare_app = record (new_app (codes "station")) { top = record (new_app (codes "station")).top { no_binary_name = true; has_version = true; subcommand_required = true } }
 
 unfoldable pub station_app : App
 station_app = with_subcommand (with_subcommand (with_subcommand bare_app replay_app.top) monitor_app.top) serve_app.top

@@ -196,6 +196,7 @@ fn program<'a>(alloc: Global) -> Draft<'a>
         .after_help(
             "With no words it replays a script from standard input: station < session.script",
         )
+        .version(VERSION)
         .no_binary_name(true)
         .subcommand_required(true)
         .bin_name("station")
