@@ -234,17 +234,22 @@ fn matched(alloc: Global, found: &ArgMatches<'_>) -> Result<ServerOrder, OrderFa
         return Err(out_of_range(alloc));
     };
     check_compatible(alloc, found)?;
+    let turns = number_if_given(alloc, found, "turns", 0, 255)?;
+    let rate = number_if_given(alloc, found, "rate", 1, 100)?;
+    let clients = number_if_given(alloc, found, "clients", 0, u32::MAX)?;
+    let page = number_if_given(alloc, found, "page", 0, 65_535)?;
+    // What owns memory is made last: each early return after it frees it.
     Ok(ServerOrder {
         address,
         port: port as u16,
         roster: file_name(alloc, found, "roster")?,
         plan: file_name(alloc, found, "plan")?,
-        turns: number_if_given(alloc, found, "turns", 0, 255)?.map(|turns| turns as u8),
-        rate: number_if_given(alloc, found, "rate", 1, 100)?.map(|rate| rate as u8),
-        clients: number_if_given(alloc, found, "clients", 0, u32::MAX)?,
+        turns: turns.map(|turns| turns as u8),
+        rate: rate.map(|rate| rate as u8),
+        clients,
         track,
         quiet,
-        page: number_if_given(alloc, found, "page", 0, 65_535)?.map(|port| port as u16),
+        page: page.map(|port| port as u16),
         page_file: file_name(alloc, found, "page-file")?,
         hosts: hosts(alloc, found)?,
         lose: lose as u8,

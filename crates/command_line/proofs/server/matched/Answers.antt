@@ -4,29 +4,29 @@ use Rattle.command_line.specs.ServerLine.{AreCompatibleFor, AreHosts, IsNumberIf
 use Rattle.command_line.proofs.Faults.{none_of_part}
 use Rattle.command_line.proofs.server.matched.Goals as goal
 
-pub returns-in_err-number_if_given-clause-fault : goal.returns-in_err-number_if_given-clause-fault
-returns-in_err-number_if_given-clause-fault c =
+pub returns-in_err-turns-clause-fault : goal.returns-in_err-turns-clause-fault
+returns-in_err-turns-clause-fault c =
     let rows = rows_of (found_of c.args.found.now) in
-    none_of_part (IsNumberIfGiven (one_of (codes "turns") rows) 0 255) (IsServerOrder rows) c.from_residual-in_err-number_if_given.result c.in_err-number_if_given.field-0.0
-    c.from_residual-in_err-number_if_given.ensures.1 (λ order is. (order.turns, is.each_turns)) c.in_err-number_if_given.ensures.fault
+    none_of_part (IsNumberIfGiven (one_of (codes "turns") rows) 0 255) (IsServerOrder rows) c.from_residual-in_err-turns.result c.in_err-turns.field-0.0
+    c.from_residual-in_err-turns.ensures.1 (λ order is. (order.turns, is.each_turns)) c.in_err-turns.ensures.fault
 
-pub returns-in_err-number_if_given-2-clause-fault : goal.returns-in_err-number_if_given-2-clause-fault
-returns-in_err-number_if_given-2-clause-fault c =
+pub returns-in_err-rate-clause-fault : goal.returns-in_err-rate-clause-fault
+returns-in_err-rate-clause-fault c =
     let rows = rows_of (found_of c.args.found.now) in
-    none_of_part (IsNumberIfGiven (one_of (codes "rate") rows) 1 100) (IsServerOrder rows) c.from_residual-in_err-number_if_given-2.result c.in_err-number_if_given-2.field-0.0
-    c.from_residual-in_err-number_if_given-2.ensures.1 (λ order is. (order.rate, is.at_rate)) c.in_err-number_if_given-2.ensures.fault
+    none_of_part (IsNumberIfGiven (one_of (codes "rate") rows) 1 100) (IsServerOrder rows) c.from_residual-in_err-rate.result c.in_err-rate.field-0.0
+    c.from_residual-in_err-rate.ensures.1 (λ order is. (order.rate, is.at_rate)) c.in_err-rate.ensures.fault
 
-pub returns-in_err-number_if_given-3-clause-fault : goal.returns-in_err-number_if_given-3-clause-fault
-returns-in_err-number_if_given-3-clause-fault c =
+pub returns-in_err-clients-clause-fault : goal.returns-in_err-clients-clause-fault
+returns-in_err-clients-clause-fault c =
     let rows = rows_of (found_of c.args.found.now) in
-    none_of_part (IsNumberIfGiven (one_of (codes "clients") rows) 0 4294967295) (IsServerOrder rows) c.from_residual-in_err-number_if_given-3.result c.in_err-number_if_given-3.field-0.0
-    c.from_residual-in_err-number_if_given-3.ensures.1 (λ order is. (order.clients, is.most_clients)) c.in_err-number_if_given-3.ensures.fault
+    none_of_part (IsNumberIfGiven (one_of (codes "clients") rows) 0 4294967295) (IsServerOrder rows) c.from_residual-in_err-clients.result c.in_err-clients.field-0.0
+    c.from_residual-in_err-clients.ensures.1 (λ order is. (order.clients, is.most_clients)) c.in_err-clients.ensures.fault
 
-pub returns-in_err-number_if_given-4-clause-fault : goal.returns-in_err-number_if_given-4-clause-fault
-returns-in_err-number_if_given-4-clause-fault c =
+pub returns-in_err-page-clause-fault : goal.returns-in_err-page-clause-fault
+returns-in_err-page-clause-fault c =
     let rows = rows_of (found_of c.args.found.now) in
-    none_of_part (IsNumberIfGiven (one_of (codes "page") rows) 0 65535) (IsServerOrder rows) c.from_residual-in_err-number_if_given-4.result c.in_err-number_if_given-4.field-0.0
-    c.from_residual-in_err-number_if_given-4.ensures.1 (λ order is. (order.page, is.at_page)) c.in_err-number_if_given-4.ensures.fault
+    none_of_part (IsNumberIfGiven (one_of (codes "page") rows) 0 65535) (IsServerOrder rows) c.from_residual-in_err-page.result c.in_err-page.field-0.0
+    c.from_residual-in_err-page.ensures.1 (λ order is. (order.page, is.at_page)) c.in_err-page.ensures.fault
 
 pub returns-in_err-hosts-clause-fault : goal.returns-in_err-hosts-clause-fault
 returns-in_err-hosts-clause-fault c =
