@@ -1,27 +1,35 @@
 """Builds the wheel of the package for pip, without setuptools, so without a network (PEP 517, PEP 660).
 
-The wheel contains the shared object if `make -C bindings` has made it; then it is for x86-64 Linux alone. There is no
-source distribution, since the shared object is made elsewhere in the repository.
+The wheel contains the programs of a folder that STATION_PROGRAMS names (`lbserver`, the page, the shared object); without it
+the shared object if `make -C bindings` has made it. Then it is for x86-64 Linux alone. There is no source distribution, since
+programs are made elsewhere in the repository. The same files make the same bytes, at the time SOURCE_DATE_EPOCH.
 """
 
 import base64
 import hashlib
+import os
 import pathlib
+import time
 import tomllib
 import zipfile
 
 HERE = pathlib.Path(__file__).resolve().parent
 PACKAGE = "station"
 LIBRARY = HERE.parent / "out/libstation.so"
+# The programs need glibc 2.34 and nothing else.
+PLATFORM = "manylinux_2_34_x86_64"
+# The earliest time that a zip archive can hold.
+FIRST_TIME = 315_532_800
 
 
 def build_wheel(wheel_directory, config_settings=None, metadata_directory=None):
     """Writes the wheel into the folder. Returns its name."""
     files = {f"{PACKAGE}/{path.name}": path.read_bytes() for path in sorted((HERE / PACKAGE).glob("*.py"))}
     files[f"{PACKAGE}/py.typed"] = b""
-    if LIBRARY.is_file():
-        files[f"{PACKAGE}/{LIBRARY.name}"] = LIBRARY.read_bytes()
-    return _write(wheel_directory, files, "linux_x86_64" if LIBRARY.is_file() else "any")
+    folder = os.environ.get("STATION_PROGRAMS")
+    programs = sorted(pathlib.Path(folder).iterdir()) if folder else [LIBRARY] if LIBRARY.is_file() else []
+    files |= {f"{PACKAGE}/programs/{path.name}": path.read_bytes() for path in programs}
+    return _write(wheel_directory, files, (PLATFORM if folder else "linux_x86_64") if programs else "any")
 
 
 def build_editable(wheel_directory, config_settings=None, metadata_directory=None):
@@ -40,9 +48,13 @@ def _write(folder, files, platform):
     record = [f"{name},sha256={_digest(data)},{len(data)}" for name, data in files.items()]
     files[f"{info}/RECORD"] = "\n".join([*record, f"{info}/RECORD,,", ""]).encode()
     name = f"{project['name']}-{project['version']}-py3-none-{platform}.whl"
+    when = time.gmtime(max(int(os.environ.get("SOURCE_DATE_EPOCH", FIRST_TIME)), FIRST_TIME))[:6]
     with zipfile.ZipFile(pathlib.Path(folder, name), "w", zipfile.ZIP_DEFLATED) as wheel:
         for path, data in files.items():
-            wheel.writestr(path, data)
+            entry = zipfile.ZipInfo(path, when)
+            # A program is executable, everything else is not.
+            entry.external_attr = (0o100755 if data.startswith(b"\x7fELF") else 0o100644) << 16
+            wheel.writestr(entry, data, zipfile.ZIP_DEFLATED)
     return name
 
 

@@ -5,6 +5,7 @@ from __future__ import annotations
 import ctypes
 import os
 import pathlib
+import subprocess
 from collections.abc import Iterator
 from ctypes import POINTER, Structure, c_bool, c_size_t, c_uint8, c_uint16, c_uint64, c_void_p
 from typing import Any
@@ -68,13 +69,21 @@ class Motion(Structure):
     ]
 
 
-def load(path: str | os.PathLike[str] | None = None) -> Any:
-    """Loads the library: from `path`, or STATION_LIBRARY, or the folder of this package, or `bindings/out`."""
+def _find() -> pathlib.Path:
+    """The library of this package, or `bindings/out`, or that of the repository: the released one, or built if it has to be."""
     here = pathlib.Path(__file__).resolve()
-    beside, made = here.with_name(NAME), here.parents[2] / "out" / NAME
-    file = os.fspath(
-        path or os.environ.get("STATION_LIBRARY") or (beside if beside.is_file() or not made.is_file() else made)
-    )
+    beside, made, run = here.with_name("programs") / NAME, here.parents[2] / "out" / NAME, here.parents[3] / "run"
+    if beside.is_file() or not made.is_file() and not run.is_file():
+        return beside
+    if made.is_file():
+        return made
+    found = subprocess.run([run, "--path", NAME], stdin=subprocess.DEVNULL, stdout=subprocess.PIPE, text=True)
+    return pathlib.Path(found.stdout.rstrip("\n")) if found.returncode == 0 else made
+
+
+def load(path: str | os.PathLike[str] | None = None) -> Any:
+    """Loads the library: from `path`, or STATION_LIBRARY, or the folder of this package, or the repository."""
+    file = os.fspath(path or os.environ.get("STATION_LIBRARY") or _find())
     try:
         # A name without a slash would be searched on the path of the system's libraries.
         library = ctypes.CDLL(os.path.abspath(file))

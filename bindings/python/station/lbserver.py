@@ -29,6 +29,7 @@ from .messages import Reply, SensorReport, checked_message, has_reply, message_h
 from .throttle import Throttle
 
 # The repository, if the package is used from it.
+PROGRAMS = pathlib.Path(__file__).resolve().with_name("programs")
 TOP = pathlib.Path(__file__).resolve().parents[3]
 
 # A port that another program took meanwhile ends the server with this status; then another port is tried.
@@ -52,14 +53,25 @@ def free_port() -> int:
 
 
 def find_program(path: str | os.PathLike[str] | None = None) -> str:
-    """The program to start: `path`, or LBSERVER, or that of the repository, which is built first if it has to be."""
+    """The program to start: `path`, or LBSERVER, or that of the package, or that of the repository.
+
+    In the repository it is the released program, or is built first if the sources have changed since.
+    """
     found = path or os.environ.get("LBSERVER")
     if found:
         return str(pathlib.Path(found).resolve())
-    if not (TOP / "build").is_file() or not (TOP / "crates.txt").is_file():
+    if (PROGRAMS / "lbserver").is_file():
+        return str(PROGRAMS / "lbserver")
+    if not (TOP / "run").is_file() or not (TOP / "crates.txt").is_file():
         raise StationError("no program: name it, or set LBSERVER to its path")
-    words = [str(TOP / "build"), "--path", "lbserver"]
+    words = [str(TOP / "run"), "--path", "lbserver"]
     return subprocess.check_output(words, stdin=subprocess.DEVNULL, text=True).rstrip("\n")
+
+
+def find_page() -> pathlib.Path | None:
+    """The page that the program serves: that of the package, or that of the repository, if there is one."""
+    pages = PROGRAMS / "throttle.html", TOP / "pages/throttle.html"
+    return next((page for page in pages if page.is_file()), None)
 
 
 def connect(host: str, port: int, seconds: float = 20, room: int | None = None) -> socket.socket:
@@ -391,9 +403,9 @@ class Server(Throttle, HasNodes):
     def _page_words(self) -> list[str]:
         if self.page_port is None:
             return []
-        words, file = ["--page", str(self.page_port)], TOP / "pages/throttle.html"
+        words, file = ["--page", str(self.page_port)], find_page()
         # The program looks for the page below the folder that it runs in.
-        if file.is_file() and not any(option.startswith("--page-file") for option in self.options):
+        if file and not any(option.startswith("--page-file") for option in self.options):
             words += ["--page-file", str(file)]
         return words
 
