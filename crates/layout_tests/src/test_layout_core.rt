@@ -514,7 +514,7 @@ fn is_quiet(world: &mut World, node: u8, noise: &[u16]) -> bool {
     for half in noise {
         if usize::from(node) < world.nodes() {
             let step = world.step(Event::Noise { node, half: *half });
-            quiet = quiet && step == Step::Quiet;
+            quiet = quiet && matches!(step, Step::Quiet);
         } else {
             quiet = false;
         }
@@ -679,7 +679,7 @@ const NOISE_AND_A_TURN: &[Event] = &[
 fn is_answer(step: &Step, is_turn: bool) -> bool {
     match step {
         Step::Packet(packet) => is_turn && packet.bytes() == DRIVEN_BYTES,
-        step => !is_turn && *step == Step::Quiet,
+        step => !is_turn && matches!(step, Step::Quiet),
     }
 }
 

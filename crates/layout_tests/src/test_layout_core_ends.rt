@@ -1,6 +1,7 @@
 //! The conversation of 1,904 turns ends after any byte, and then the power comes on.
 
 use super::test_layout_core::{DRIVE_119, traffic};
+use ln_ops::{Row, State};
 use station_core::{Power, Station};
 use std::alloc::Global;
 use std::process::Abort;
@@ -108,13 +109,21 @@ fn after_rounds(rt: &impl Abort, alloc: Global, is_cut: bool) -> Result<Station,
     Ok(station)
 }
 
+/// All that a row holds: two rows are the same if this is.
+pub fn fields(row: Row) -> (State, u16, [u8; 8]) {
+    let bytes = [
+        row.kind, row.spd, row.dirf, row.snd, row.more, row.ss2, row.id1, row.id2,
+    ];
+    (row.state, row.address, bytes)
+}
+
 /// Power is on from the first turn on, so messages that end early leave no trace.
 #[test]
 fn every_message_of_the_rounds_ends_anywhere(rt: HostRuntime) -> Result<(), Fail> {
     let whole = after_rounds(&rt, rt.alloc(), false)?;
     let cut = after_rounds(&rt, rt.alloc(), true)?;
     for slot in 1..=119 {
-        assert!(rt; whole.row(slot) == cut.row(slot), "{slot}");
+        assert!(rt; fields(whole.row(slot)) == fields(cut.row(slot)), "{slot}");
     }
     Ok(())
 }

@@ -2,6 +2,7 @@
 
 ghost use Rattle.std.specs.Prelude.{◌≡◌, ◌≤◌, IfOk, length};
 
+use super::test_layout_core_ends::fields;
 use decoder_node::NodeList;
 use layout_core::{Broken, Limits, Port, ServeFault, Sink, Source, Summary, World, serve};
 use ln_ops::State;
@@ -397,7 +398,7 @@ fn reads_as_new(alloc: Global, world: &World) -> Result<bool, Fail> {
     let new = World::new(alloc, 1, NodeList::new())?;
     let mut same = true;
     for slot in 1..=119 {
-        same = same && world.station().row(slot) == new.station().row(slot);
+        same = same && fields(world.station().row(slot)) == fields(new.station().row(slot));
     }
     Ok(same)
 }

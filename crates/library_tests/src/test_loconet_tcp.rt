@@ -130,45 +130,43 @@ fn request_in(rt: &impl Abort, reader: &mut RequestReader, text: &[u8]) -> Optio
     found
 }
 
+// The request in a text of at most one, by a new reader.
+fn request_of(rt: &impl Abort, text: &[u8]) -> Option<Request> {
+    request_in(rt, &mut RequestReader::default(), text)
+}
+
 #[test]
-fn reads_lines(rt: HostRuntime) -> Result<(), Fail> {
+fn reads_lines(rt: HostRuntime) {
     for (text, bytes) in SENT {
-        let message = Msg::whole(bytes).ok_or("a message")?;
-        assert_eq!(rt;
-            request_in(&rt, &mut RequestReader::default(), text),
-            Some(Request::Send(message)),
-            "{text:?}"
-        );
+        let sends = match request_of(&rt, text) {
+            Some(Request::Send(message)) => message.bytes() == bytes,
+            _ => false,
+        };
+        assert!(rt; sends, "{text:?}");
     }
     for (text, reason) in INVALID {
-        assert_eq!(rt;
-            request_in(&rt, &mut RequestReader::default(), text),
-            Some(Request::Invalid(reason)),
-            "{text:?}"
-        );
+        let is_invalid = match request_of(&rt, text) {
+            Some(Request::Invalid(found)) => found == reason,
+            _ => false,
+        };
+        assert!(rt; is_invalid, "{text:?}");
     }
     for (text, count) in TURNS {
-        assert_eq!(rt;
-            request_in(&rt, &mut RequestReader::default(), text),
-            Some(Request::Turns(count)),
-            "{text:?}"
-        );
+        let turns = match request_of(&rt, text) {
+            Some(Request::Turns(found)) => found == count,
+            _ => false,
+        };
+        assert!(rt; turns, "{text:?}");
     }
     for text in [b"NODES\r\n".as_slice(), b"\nNODES\n".as_slice()] {
-        assert_eq!(rt;
-            request_in(&rt, &mut RequestReader::default(), text),
-            Some(Request::Nodes),
+        assert!(rt;
+            matches!(&request_of(&rt, text), Some(Request::Nodes)),
             "{text:?}"
         );
     }
     for text in IDLE {
-        assert_eq!(rt;
-            request_in(&rt, &mut RequestReader::default(), text),
-            None,
-            "{text:?}"
-        );
+        assert!(rt; request_of(&rt, text).is_none(), "{text:?}");
     }
-    Ok(())
 }
 
 #[test]
@@ -184,61 +182,58 @@ fn reads_places(rt: HostRuntime) -> Result<(), Fail> {
         assert_eq!(rt; placement.facing, facing, "{text:?}");
     }
     for (text, error) in NO_PLACES {
-        assert_eq!(rt;
-            request_in(&rt, &mut RequestReader::new(), text),
-            Some(Request::Place(Err(error))),
-            "{text:?}"
-        );
+        let is_refused = match request_of(&rt, text) {
+            Some(Request::Place(Err(found))) => found == error,
+            _ => false,
+        };
+        assert!(rt; is_refused, "{text:?}");
     }
     Ok(())
 }
 
 // The request of `SEND`, `blanks` blanks and `83 7C`, which are nine further characters.
 fn request_behind(rt: &impl Abort, reader: &mut RequestReader, blanks: u32) -> Option<Request> {
-    assert_eq!(rt; request_in(rt, reader, b"SEND"), None);
+    assert!(rt; request_in(rt, reader, b"SEND").is_none());
     for _ in 0..blanks {
-        assert_eq!(rt; reader.push(b' '), None);
+        assert!(rt; reader.push(b' ').is_none());
     }
     request_in(rt, reader, b"83 7C\n")
 }
 
+// The request of a line of this start and 500 further characters.
+fn request_of_long(
+    rt: &impl Abort,
+    reader: &mut RequestReader,
+    start: &[u8],
+    further: u8,
+) -> Option<Request> {
+    assert!(rt; request_in(rt, reader, start).is_none());
+    for _ in 0..500 {
+        assert!(rt; reader.push(further).is_none());
+    }
+    reader.push(b'\n')
+}
+
 #[test]
-fn refuses_long_lines(rt: HostRuntime) -> Result<(), Fail> {
+fn refuses_long_lines(rt: HostRuntime) {
     let mut reader = RequestReader::new();
     let rows = [(391, true), (392, false), (99_991, false), (1, true)];
     for (blanks, sends) in rows {
-        let wanted = if sends {
-            Request::Send(Msg::whole(&POWER_ON).ok_or("a message")?)
-        } else {
-            Request::Invalid(Reason::TooLong)
+        let is_sent = match request_behind(&rt, &mut reader, blanks) {
+            Some(Request::Send(message)) => Some(message.bytes() == POWER_ON.as_slice()),
+            Some(Request::Invalid(Reason::TooLong)) => Some(false),
+            _ => None,
         };
-        assert_eq!(rt;
-            request_behind(&rt, &mut reader, blanks),
-            Some(wanted),
-            "{blanks}"
-        );
+        assert!(rt; is_sent == Some(sends), "{blanks}");
     }
     // A long line that requests turns.
-    assert_eq!(rt; request_in(&rt, &mut reader, b"TURNS "), None);
-    for _ in 0..500 {
-        assert_eq!(rt; reader.push(b'1'), None);
-    }
-    assert_eq!(rt; reader.push(b'\n'), Some(Request::Turns(None)));
+    let request = request_of_long(&rt, &mut reader, b"TURNS ", b'1');
+    assert!(rt; matches!(&request, Some(Request::Turns(None))));
     // A long line that puts a train.
-    assert_eq!(rt; request_in(&rt, &mut reader, b"PLACE e b 1"), None);
-    for _ in 0..500 {
-        assert_eq!(rt; reader.push(b' '), None);
-    }
-    assert_eq!(rt;
-        reader.push(b'\n'),
-        Some(Request::Place(Err(PlaceError::TooLong)))
-    );
+    let request = request_of_long(&rt, &mut reader, b"PLACE e b 1", b' ');
+    assert!(rt; matches!(&request, Some(Request::Place(Err(PlaceError::TooLong)))));
     // A long line that begins with none of the words.
-    for _ in 0..500 {
-        assert_eq!(rt; reader.push(b'S'), None);
-    }
-    assert_eq!(rt; reader.push(b'\n'), None);
-    Ok(())
+    assert!(rt; request_of_long(&rt, &mut reader, b"", b'S').is_none());
 }
 
 #[test]

@@ -286,13 +286,15 @@ fn prints_accessory_decoders(rt: HostRuntime) -> Result<(), Fail> {
     Ok(())
 }
 
-const MESSAGES: [(&'static [u8], &'static str); 18] = [
+// The bytes of messages without their check, and their lines, which say all that `ln_ops` reads.
+const MESSAGES: [(&'static [u8], &'static str); 25] = [
     (&[0x82], "msg 82 7D power off"),
     (&[0x83], "msg 83 7C power on"),
     (&[0x85], "msg 85 7A force idle"),
     (&[0xA0, 0x01, 0x40], "msg A0 01 40 1E speed slot 1 spd 64"),
     (&[0xA1, 0x01, 0x20], "msg A1 01 20 7F dirf slot 1 dirf 32"),
     (&[0xA2, 0x01, 0x05], "msg A2 01 05 59 snd slot 1 snd 5"),
+    (&[0xB0, 0x00, 0x30], "msg B0 00 30 7F switch 0 closed on"),
     (&[0xB0, 0x77, 0x1F], "msg B0 77 1F 27 switch 2039 thrown on"),
     (
         &[0xBD, 0x78, 0x6F],
@@ -319,8 +321,29 @@ const MESSAGES: [(&'static [u8], &'static str); 18] = [
         &[0xED, 0x0B, 0x7F, 0x23, 0x22, 0x03, 0x21, 0x00, 0x00, 0x00],
         "msg ED 0B 7F 23 22 03 21 00 00 00 45 imm 2 03 A1 00 00 00",
     ),
+    (
+        &[0xED, 0x0B, 0x7F, 0x33, 0x27, 0x44, 0x52, 0x21, 0x00, 0x00],
+        "msg ED 0B 7F 33 27 44 52 21 00 00 45 imm 3 C4 D2 A1 00 00",
+    ),
+    // No packet: a short message, a longer one, and one with another byte after its count.
+    (&[0xED, 0x03], "msg ED 03 11 other"),
+    (
+        &[
+            0xED, 0x0C, 0x7F, 0x23, 0x22, 0x03, 0x21, 0x00, 0x00, 0x00, 0x00,
+        ],
+        "msg ED 0C 7F 23 22 03 21 00 00 00 00 42 other",
+    ),
+    (
+        &[0xED, 0x0B, 0x7E, 0x23, 0x22, 0x03, 0x21, 0x00, 0x00, 0x00],
+        "msg ED 0B 7E 23 22 03 21 00 00 00 44 other",
+    ),
     (&[0xE7, 0x04, 0x00], "msg E7 04 00 1C other"),
     (&[0x81], "msg 81 7E other"),
+    (&[0xB1, 0x00, 0x00], "msg B1 00 00 4E other"),
+    (
+        &[0xD0, 0x00, 0x00, 0x00, 0x00],
+        "msg D0 00 00 00 00 2F other",
+    ),
 ];
 
 fn check_message(rt: &impl Abort, body: &[u8], text: &str) {

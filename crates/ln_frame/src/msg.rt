@@ -16,7 +16,7 @@ pub(crate) const OPCODE: u8 = 0x80;
 const CHECKED: u8 = 0xFF;
 
 /// A whole message of 2 to 127 bytes.
-#[derive(Debug, Drop, PartialEq, Eq)]
+#[derive(Drop)]
 pub struct Msg {
     bytes: ArrayVec<u8, MAX_LEN>,
 }

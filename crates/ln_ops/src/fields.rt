@@ -3,7 +3,7 @@
 use std::marker::Model;
 
 /// The bytes that OPC_SL_RD_DATA and OPC_WR_SL_DATA carry between count and check, each below 128.
-#[derive(Clone, Copy, Debug, PartialEq, Eq)]
+#[derive(Clone, Copy)]
 pub struct SlotFields {
     /// SLOT: the slot's number.
     pub slot: u8,

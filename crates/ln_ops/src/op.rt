@@ -64,7 +64,7 @@ const IMM_MARK: u8 = 0x7F;
 
 /// What a message asks or tells, by its opcode. Every byte but an opcode and the IM bytes of a
 /// packet is below 128.
-#[derive(Clone, Copy, Debug, PartialEq, Eq)]
+#[derive(Clone, Copy)]
 pub enum Op {
     /// OPC_GPOFF, 82.
     PowerOff,

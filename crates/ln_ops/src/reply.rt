@@ -8,7 +8,7 @@ use crate::op::{OPC_LONG_ACK, OPC_SL_RD_DATA, SLOT_DATA_COUNT, read_fields};
 use ln_frame::Msg;
 
 /// What the station answers to a message.
-#[derive(Clone, Copy, Debug, PartialEq, Eq)]
+#[derive(Clone, Copy)]
 pub enum Reply {
     /// OPC_SL_RD_DATA, E7: what a slot holds.
     SlotData(SlotFields),

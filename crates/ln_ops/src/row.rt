@@ -14,7 +14,7 @@ pub enum State {
 }
 
 /// What a slot reads as: zeros with the state free where no locomotive is in it.
-#[derive(Clone, Copy, Debug, PartialEq, Eq)]
+#[derive(Clone, Copy)]
 pub struct Row {
     pub state: State,
     /// The decoder type, bits 2 to 0 of STAT1: 0 and 4 are 28 steps, 2 is 14 steps, 3 and 7 are 128

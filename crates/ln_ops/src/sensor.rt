@@ -14,7 +14,7 @@ const OPC_INPUT_REP: u8 = 0xB2;
 pub const LAST_SENSOR: u16 = 4096;
 
 /// The report of a sensor: its block is occupied, or is free.
-#[derive(Clone, Copy, Debug, Default, PartialEq, Eq)]
+#[derive(Clone, Copy, Default, PartialEq, Eq)]
 pub struct SensorReport {
     /// The sensor, 1 to 4096.
     pub sensor: u16,

@@ -11,7 +11,7 @@ use dcc_packet::Packet;
 use ln_frame::Msg;
 
 /// The outcome of an event on a bus. Clients are numbered from 0 to 7.
-#[derive(Debug, Drop, PartialEq, Eq)]
+#[derive(Drop)]
 pub enum Outcome {
     /// Nothing is sent to any client.
     Nothing,

@@ -5,7 +5,7 @@ use ln_frame::Msg;
 
 /// The request of a line that begins with the word `SEND`, `TURNS` or `PLACE`, or of the line
 /// `NODES`.
-#[derive(Debug, Drop, PartialEq, Eq)]
+#[derive(Drop)]
 pub enum Request {
     /// Send this message.
     Send(Msg),
@@ -27,7 +27,7 @@ pub const LONGEST_WORD: usize = 33;
 pub type Word = ArrayVec<u8, LONGEST_WORD>;
 
 /// Where a train is to be put, by the words of a line.
-#[derive(Debug, Drop, PartialEq, Eq)]
+#[derive(Drop)]
 pub struct Placement {
     /// The name of the train's decoder.
     pub train: Word,

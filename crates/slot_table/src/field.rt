@@ -1,7 +1,7 @@
 //! The fields of a slot that are written one at a time.
 
 /// One field of a slot, and what is written to it.
-#[derive(Clone, Copy, Debug, PartialEq, Eq)]
+#[derive(Clone, Copy)]
 pub enum Field {
     /// SPD, below 128.
     Speed(u8),

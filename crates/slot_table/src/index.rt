@@ -13,7 +13,7 @@ use std::marker::Model;
 const ALL_FREE: u128 = (1 << 120) - 2;
 
 /// The address in each slot that is not free.
-#[derive(Debug, Drop)]
+#[derive(Drop)]
 pub(crate) struct Index {
     // A pair for each slot that is not free, by address.
     pairs: ArrayVec<Pair, 119>,

@@ -3,7 +3,7 @@ ghost use Rattle.std.specs.Prelude.{◌≡◌, ◌<◌, ◌≤◌, ℕ, length, 
 ghost use Rattle.slot_table.specs.Index.{IsRising, pair_at};
 
 /// An address and the slot that holds it.
-#[derive(Clone, Copy, Debug, Default)]
+#[derive(Clone, Copy, Default)]
 pub(crate) struct Pair {
     pub(crate) address: u16,
     pub(crate) slot: u8,

@@ -18,7 +18,7 @@ use std::marker::Model;
 /// Slots 1 to 119, each free or with a locomotive in it, and the slot that waits to be dispatched.
 ///
 /// No address is in two slots, and the slot that waits is not free.
-#[derive(Debug, Drop)]
+#[derive(Drop)]
 pub struct SlotTable {
     rows: Rows,
     mark: Option<u8>,

@@ -3,7 +3,7 @@ use dcc_packet::Packet;
 use ln_ops::Reply;
 
 /// One event of a station.
-#[derive(Clone, Copy, Debug, PartialEq, Eq)]
+#[derive(Clone, Copy)]
 pub enum Call {
     /// A byte is received on a line.
     Byte { line: u8, byte: u8 },
@@ -12,7 +12,7 @@ pub enum Call {
 }
 
 /// The result of one event.
-#[derive(Debug, Drop, PartialEq, Eq)]
+#[derive(Drop)]
 pub enum Step {
     /// A byte without a reply.
     Quiet,

@@ -64,7 +64,7 @@ fn the_longest_message(rt: HostRuntime) -> Result<(), Fail> {
     let bytes = all.get(..127).ok_or("127 bytes")?;
     let message = message_at_end(bytes).ok_or("a message")?;
     assert!(rt; message.bytes() == bytes);
-    assert!(rt; read(&message) == Op::Other);
+    assert!(rt; matches!(read(&message), Op::Other));
     assert!(rt; leaves_power(&rt, rt.alloc(), bytes, Power::Off)?);
     Ok(())
 }
