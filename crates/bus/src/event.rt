@@ -1,7 +1,7 @@
 //! The events of a bus.
 
 /// An event of a bus. Clients are numbered from 0 to 7, as the lines of the station.
-#[derive(Clone, Copy, Debug, PartialEq, Eq)]
+#[derive(Clone, Copy)]
 pub enum Event {
     /// A client connects.
     Connects { client: u8 },

@@ -9,7 +9,7 @@ use decoder_node::{MAX_NODES, NodeSpec};
 pub type Name = ArrayString<16>;
 
 /// A decoder of a layout under its name.
-#[derive(Debug, Default, Drop)]
+#[derive(Default, Drop)]
 pub struct NamedNode {
     pub name: Name,
     pub spec: NodeSpec,

@@ -3,7 +3,7 @@ ghost use Rattle.std.specs.Prelude.{◌≡◌};
 ghost use Rattle.dcc_packet.specs.Address.{is_legal};
 
 /// The address of a locomotive decoder (S-9.2.1, address partitions).
-#[derive(Clone, Copy, Debug, PartialEq, Eq)]
+#[derive(Clone, Copy, PartialEq, Eq)]
 pub enum Address {
     /// One byte on the track: 1 to 127.
     Short(u8),

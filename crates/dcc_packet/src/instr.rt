@@ -3,7 +3,7 @@ use crate::address::Address;
 use crate::module::Module;
 
 /// An instruction of the track (S-9.2 and S-9.2.1), its fields as they are in the packet.
-#[derive(Clone, Copy, Debug, PartialEq, Eq)]
+#[derive(Clone, Copy)]
 pub enum Instr {
     /// Nothing, for every decoder.
     Idle,

@@ -5,7 +5,7 @@ ghost use Rattle.dcc_packet.specs.Module.{is_module};
 use std::marker::Model;
 
 /// The number of an accessory decoder, 1 to 510 (S-9.2.1, basic accessory decoders; 511 is their broadcast).
-#[derive(Clone, Copy, Debug, PartialEq, Eq)]
+#[derive(Clone, Copy, PartialEq, Eq)]
 pub struct Module {
     number: u16,
 }

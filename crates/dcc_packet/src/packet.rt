@@ -11,7 +11,7 @@ pub(crate) const MAX_LEN: usize = 6;
 
 /// The bytes of a packet of the track, 3 to 6, the last of them the error detection byte (S-9.2,
 /// general packet format), whether that is right or wrong.
-#[derive(Clone, Debug, Drop, PartialEq, Eq)]
+#[derive(Drop)]
 pub struct Packet {
     bytes: ArrayVec<u8, MAX_LEN>,
 }

@@ -15,7 +15,7 @@ pub enum Steps {
 }
 
 /// What a locomotive is asked to do.
-#[derive(Clone, Copy, Debug, PartialEq, Eq)]
+#[derive(Clone, Copy, PartialEq, Eq)]
 pub enum Motion {
     /// Brake and stand.
     Stop,

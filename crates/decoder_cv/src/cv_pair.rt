@@ -3,7 +3,7 @@
 /// A configuration variable with its value, as decoder files list them (S-9.2.2).
 ///
 /// The default, number 0, is no variable: it is there for vectors of a fixed capacity, which ask for one.
-#[derive(Clone, Copy, Debug, Default, PartialEq, Eq)]
+#[derive(Clone, Copy, Default)]
 pub struct CvPair {
     /// Its number. Variables are numbered 1 to 1024; a list with another number is refused.
     pub number: u16,

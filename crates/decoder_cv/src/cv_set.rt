@@ -24,7 +24,7 @@ const ACCESSORY: u8 = 7;
 /// What the configuration variables make of a locomotive decoder: always of a legal one.
 ///
 /// Contracts see it as its `Settings`.
-#[derive(Clone, Copy, Debug, PartialEq, Eq)]
+#[derive(Clone, Copy, PartialEq, Eq)]
 pub struct CvSet {
     address: Address,
     reversed: bool,

@@ -27,7 +27,7 @@ pub trait Obeys<State> {
 
 /// A decoder on the track: its settings, the state that obeys by them, and its receiver. It hears
 /// the track half by half.
-#[derive(Debug, Drop)]
+#[derive(Drop)]
 pub struct Decoder<Settings: Obeys<State>, State> {
     pub(crate) settings: Settings,
     pub(crate) state: State,

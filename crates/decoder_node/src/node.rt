@@ -4,7 +4,7 @@ use dcc_packet::Module;
 use decoder_cv::CvSet;
 
 /// The description of one decoder of a layout.
-#[derive(Clone, Copy, Debug, PartialEq, Eq)]
+#[derive(Clone, Copy, PartialEq, Eq)]
 pub enum NodeSpec {
     /// A locomotive decoder with these settings.
     Loco(CvSet),

@@ -2,7 +2,7 @@
 use dcc_packet::Motion;
 
 /// How a locomotive runs.
-#[derive(Clone, Copy, Debug, PartialEq, Eq)]
+#[derive(Clone, Copy, PartialEq, Eq)]
 pub struct Running {
     /// Whether it is stopped, or its speed step.
     pub motion: Motion,

@@ -30,7 +30,7 @@ const BYTE_BITS: u32 = 9;
 ///
 /// It holds the bits of the packet as one number, so that a step is a shift and no byte is looked up. A set bit stands
 /// for a zero: then 64 bits are enough, since the ones of the preamble are above the highest of them.
-#[derive(Debug, Drop)]
+#[derive(Drop)]
 pub struct Halves {
     zeros: u64,
     /// The bits of which no half was given.

@@ -6,7 +6,7 @@ use decoder_node::{NodeSpec, Running};
 use show_text::{Line, node_line};
 
 /// The state of a decoder, as its line shows it.
-#[derive(Clone, Copy, Debug, Default, PartialEq, Eq)]
+#[derive(Clone, Copy, Default, PartialEq, Eq)]
 pub struct DecoderState {
     /// How it runs, if it is a locomotive decoder.
     pub running: Option<Running>,

@@ -18,7 +18,7 @@ use show_text::{off_line, reply_line, track_line};
 use station_core::Step;
 
 /// The limits of a served connection.
-#[derive(Clone, Copy, Debug, PartialEq, Eq)]
+#[derive(Clone, Copy)]
 pub struct Limits {
     /// The most reads.
     pub reads: u32,
@@ -27,7 +27,7 @@ pub struct Limits {
 }
 
 /// What was done on a connection that was served to its end.
-#[derive(Clone, Copy, Debug, PartialEq, Eq)]
+#[derive(Clone, Copy, PartialEq, Eq)]
 pub struct Summary {
     /// The number of reads, including the last one, which found the end.
     pub reads: u32,

@@ -1,7 +1,7 @@
 //! One event of a layout.
 
 /// One event of a layout.
-#[derive(Clone, Copy, Debug, PartialEq, Eq)]
+#[derive(Clone, Copy)]
 pub enum Event {
     /// A byte is received on a line of the station.
     Byte { line: u8, byte: u8 },

@@ -6,7 +6,7 @@ use decoder_cv::CvSet;
 use decoder_node::{Accessory, Loco, NodeSpec, Running};
 
 /// A decoder on the track, which hears packets.
-#[derive(Debug, Drop)]
+#[derive(Drop)]
 pub(crate) enum Node {
     /// A locomotive decoder.
     Loco(Loco),

@@ -16,7 +16,7 @@ use std::marker::Model;
 /// The decoders of a layout, at most 64.
 ///
 /// Contracts see them as the list of its nodes.
-#[derive(Debug, Drop)]
+#[derive(Drop)]
 pub struct Nodes {
     nodes: ArrayVec<Node, MAX_NODES>,
 }

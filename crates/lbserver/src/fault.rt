@@ -15,7 +15,7 @@ use std::io::{ErrorKind, Write};
 use std::net::SocketAddr;
 
 /// Why a run ends with a status other than 0.
-#[derive(Debug, Drop)]
+#[derive(Drop)]
 pub(crate) enum ServerFault {
     /// Status 1 or 6: the arguments are not an order.
     Order(OrderFault),

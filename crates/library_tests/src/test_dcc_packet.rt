@@ -169,10 +169,57 @@ const READ_ROWS: [(&'static [u8], Option<Instr>); 14] = [
     (&[0xFE, 0x00, 0xFE], None),
 ];
 
+/// The name of an instruction, its address and its other fields: two are the same if these are.
+type Parts = (&'static str, Option<Address>, [u16; 4]);
+
+fn parts(instruction: Option<Instr>) -> Parts {
+    match instruction {
+        None => ("none", None, [0; 4]),
+        Some(Instr::Idle) => ("idle", None, [0; 4]),
+        Some(Instr::Reset) => ("reset", None, [0; 4]),
+        Some(Instr::StopAll { emergency }) => ("stop all", None, [u16::from(emergency), 0, 0, 0]),
+        Some(Instr::Speed { address, d, low }) => {
+            ("speed", Some(address), [u16::from(d), u16::from(low), 0, 0])
+        }
+        Some(Instr::Speed128 { address, d, s }) => {
+            (
+                "speed 128",
+                Some(address),
+                [u16::from(d), u16::from(s), 0, 0],
+            )
+        }
+        Some(Instr::GroupOne { address, bits }) => {
+            ("group one", Some(address), [u16::from(bits), 0, 0, 0])
+        }
+        Some(Instr::GroupTwo { address, bits }) => {
+            ("group two", Some(address), [u16::from(bits), 0, 0, 0])
+        }
+        Some(Instr::GroupThree { address, bits }) => {
+            ("group three", Some(address), [u16::from(bits), 0, 0, 0])
+        }
+        Some(
+            Instr::Accessory {
+                module,
+                pair,
+                closed,
+                on,
+            },
+        ) => {
+            let fields = [
+                module.number(),
+                u16::from(pair),
+                u16::from(closed),
+                u16::from(on),
+            ];
+            ("accessory", None, fields)
+        }
+    }
+}
+
 /// Asserts that these bytes spell this instruction.
 fn check_reading(rt: &impl Abort, bytes: &[u8], instruction: Option<Instr>) -> Result<(), Fail> {
     let packet = Packet::of(bytes).ok_or("no packet")?;
-    assert_eq!(rt; read(&packet), instruction, "{bytes:?}");
+    assert!(rt; parts(read(&packet)) == parts(instruction), "{bytes:?}");
     Ok(())
 }
 
@@ -306,8 +353,8 @@ const ADDRESS_ROWS: [(Address, bool); 7] = [
 
 #[test]
 fn addresses_have_their_bounds(rt: HostRuntime) {
-    for &(address, legal) in &ADDRESS_ROWS {
-        assert!(rt; address.is_legal() == legal, "{address:?}");
+    for (at, &(address, legal)) in ADDRESS_ROWS.iter().enumerate() {
+        assert!(rt; address.is_legal() == legal, "row {at}");
     }
 }
 

@@ -82,7 +82,7 @@ fn a_new_schedule_has_nothing_waiting(rt: HostRuntime) -> Result<(), NoMemory> {
 fn check_turns<R: Ring>(rt: &impl Abort, schedule: &mut Schedule<R>, turns: &[(Pick, u8)]) {
     let view = two_addresses();
     for &(pick, waiting) in turns {
-        assert_eq!(rt; schedule.pick(&view, Power::Running), pick);
+        assert!(rt; schedule.pick(&view, Power::Running) == pick);
         assert_eq!(rt; schedule.switches_waiting(), waiting);
     }
 }

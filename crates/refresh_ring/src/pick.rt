@@ -12,7 +12,7 @@ pub enum Power {
 }
 
 /// What a turn sends.
-#[derive(Clone, Copy, Debug, PartialEq, Eq)]
+#[derive(Clone, Copy, PartialEq, Eq)]
 pub enum Pick {
     /// Nothing, as the track has no power.
     Off,

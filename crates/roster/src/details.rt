@@ -10,7 +10,7 @@ use std::marker::Model;
 /// More about the first fault of a text than its kind and its node.
 ///
 /// Contracts see it as these three.
-#[derive(Debug, Drop)]
+#[derive(Drop)]
 pub struct FaultDetails {
     pub(crate) line: Option<usize>,
     pub(crate) name: Option<Name>,

@@ -23,7 +23,7 @@ pub(crate) type Name = ArrayString<LONGEST_NAME>;
 /// The name of a decoder, and what it is.
 ///
 /// Contracts see it as these two.
-#[derive(Debug, Default, Drop)]
+#[derive(Default, Drop)]
 pub(crate) struct Entry {
     name: Name,
     spec: NodeSpec,

@@ -14,7 +14,7 @@ pub(crate) type Entries = ArrayVec<Entry, MAX_NODES>;
 /// The decoders of a layout, 1 to 64 in order, each with a different name.
 ///
 /// Contracts see it as the list of its entries.
-#[derive(Debug, Drop)]
+#[derive(Drop)]
 pub struct Roster {
     entries: Entries,
 }

@@ -3,7 +3,7 @@ use dcc_packet::Packet;
 use trace::Seen;
 
 /// The event of a line of `station`.
-#[derive(Clone, Debug, Drop, PartialEq, Eq)]
+#[derive(Drop)]
 pub enum Event {
     /// A turn sent this packet.
     Sent(Packet),

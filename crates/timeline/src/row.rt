@@ -17,7 +17,7 @@ pub enum Part {
 }
 
 /// What a row in the lane of a decoder shows.
-#[derive(Clone, Copy, Debug, PartialEq, Eq)]
+#[derive(Clone, Copy)]
 pub enum Kind {
     /// The packets to its address or module.
     Packets,
@@ -36,7 +36,7 @@ pub enum Kind {
 }
 
 /// A row of a picture.
-#[derive(Clone, Debug, Drop, PartialEq, Eq)]
+#[derive(Drop)]
 pub enum Row {
     /// A part of the strip of packets.
     Strip(Part),

@@ -4,7 +4,7 @@ use dcc_packet::{Address, Module, Motion};
 use std::marker::Model;
 
 /// The name of a decoder: 1 to 16 ASCII letters, digits, `-` and `_`.
-#[derive(Clone, Debug, Drop, PartialEq, Eq)]
+#[derive(Clone, Drop)]
 pub struct Name {
     pub(crate) bytes: ArrayVec<u8, 16>,
 }
@@ -20,7 +20,7 @@ impl Model for Name {
 }
 
 /// Functions or outputs as digits, from number 0 on: 1 for one that is on, otherwise 0.
-#[derive(Clone, Debug, Drop, PartialEq, Eq)]
+#[derive(Clone, Drop)]
 pub struct Switches {
     pub(crate) digits: ArrayVec<u8, 13>,
 }
@@ -36,7 +36,7 @@ impl Model for Switches {
 }
 
 /// The state of a decoder.
-#[derive(Clone, Debug, Drop, PartialEq, Eq)]
+#[derive(Clone, Drop)]
 pub enum ReportedState {
     /// A locomotive decoder: its address, how it runs, and its functions F0 to F12.
     Loco {
@@ -53,7 +53,7 @@ pub enum ReportedState {
 }
 
 /// The state of the decoder of this name.
-#[derive(Clone, Debug, Drop, PartialEq, Eq)]
+#[derive(Clone, Drop)]
 pub struct Seen {
     pub name: Name,
     pub reported_state: ReportedState,
