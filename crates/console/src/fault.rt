@@ -8,44 +8,33 @@ use input_text::{FileName, ReadFault};
 use roster::RosterFault;
 use show_text::{HexFault, HexWhy, ScriptFault};
 use std::alloc::AllocError;
-use thiserror::Error;
+use std::fmt;
 
 /// Why a run ends with a status other than 0. Its text follows the program's name and a colon on
 /// standard error.
-#[derive(Debug, Drop, Error)]
+#[derive(Drop)]
 pub enum RunFault {
     /// Status 1: a station has 1 to 8 lines.
-    #[error("a station has 1 to 8 lines")]
     Lines,
     /// Status 2: a file could not be opened or read.
-    #[error("cannot read {0}")]
     Unreadable(FileName),
     /// Status 2: standard input could not be read.
-    #[error("cannot read -")]
     UnreadableInput,
     /// Status 2: a roster has more than 65,536 bytes.
-    #[error("{0} is too long")]
     TooLong(FileName),
     /// Status 3: the roster has the fault of this number, at this node, counted from 1, or at 0.
-    #[error("roster fault {number} at node {node}")]
     Roster { number: u8, node: u8 },
     /// Status 4: the port could not be bound, or a connection could not be accepted.
-    #[error("network")]
     Network,
     /// Status 4: standard output could not be written.
-    #[error("output")]
     Output,
     /// Status 4: serving a connection stopped for the reason of this number.
-    #[error("serve fault {0}")]
     Serve(u8),
     /// Status 5: the script has the fault of this number, at this line, counted from 1, or at 0.
-    #[error("script fault {number} at line {line}")]
     Script { number: u8, line: u64 },
     /// Status 5: the hex text has the fault of this number, at this byte, counted from 0.
-    #[error("hex fault {number} at byte {at}")]
     Hex { number: u8, at: u64 },
     /// Status 6: out of memory.
-    #[error("no memory")]
     NoMemory,
 }
 
@@ -61,6 +50,37 @@ impl RunFault {
             RunFault::Network | RunFault::Output | RunFault::Serve(_) => 4,
             RunFault::Script { .. } | RunFault::Hex { .. } => 5,
             RunFault::NoMemory => 6,
+        }
+    }
+}
+
+/// Writes the number of a fault of a text, and where it is.
+fn write_place<W: fmt::Write>(
+    f: &mut fmt::Formatter<W>,
+    text: &str,
+    number: u8,
+    part: &str,
+    at: u64,
+) -> fmt::Result {
+    write!(f, "{text} fault {number} at {part} {at}")
+}
+
+impl fmt::Display for RunFault {
+    fn fmt<W: fmt::Write>(&self, f: &mut fmt::Formatter<W>) -> fmt::Result {
+        match self {
+            RunFault::Lines => f.write_str("a station has 1 to 8 lines"),
+            RunFault::Unreadable(file) => write!(f, "cannot read {file}"),
+            RunFault::UnreadableInput => f.write_str("cannot read -"),
+            RunFault::TooLong(file) => write!(f, "{file} is too long"),
+            RunFault::Roster { number, node } => {
+                write_place(f, "roster", *number, "node", u64::from(*node))
+            }
+            RunFault::Network => f.write_str("network"),
+            RunFault::Output => f.write_str("output"),
+            RunFault::Serve(number) => write!(f, "serve fault {number}"),
+            RunFault::Script { number, line } => write_place(f, "script", *number, "line", *line),
+            RunFault::Hex { number, at } => write_place(f, "hex", *number, "byte", *at),
+            RunFault::NoMemory => f.write_str("no memory"),
         }
     }
 }
