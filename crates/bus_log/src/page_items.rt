@@ -22,7 +22,7 @@ use roster::Roster;
 pub(crate) const MAX_ITEMS: usize = MAX_NODES + MAX_BLOCKS + MAX_JOINTS + MAX_TURNOUTS + MAX_TRAINS;
 
 /// The state of an item.
-#[derive(Clone, Copy, Debug, PartialEq, Eq)]
+#[derive(Clone, Copy)]
 pub enum ItemState {
     Decoder(DecoderState),
     /// A block, a joint or a turnout of the plan, which do not change.

@@ -8,7 +8,7 @@ use railway::{Block, End, Place, TrainState};
 const TENTH: u64 = 100_000_000;
 
 /// The words of a train's message behind its name.
-#[derive(Clone, Copy, Debug, PartialEq, Eq)]
+#[derive(Clone, Copy)]
 pub struct TrainPlace {
     /// The index in the plan of the block of its front, from 0.
     pub front: u8,

@@ -17,14 +17,14 @@ pub const LONGEST_BLOCK: u32 = 100_000;
 pub(crate) const MILLIMETRE: u64 = 1_000_000_000;
 
 /// A point of a drawing of the plan.
-#[derive(Clone, Copy, Debug, PartialEq, Eq)]
+#[derive(Clone, Copy, PartialEq, Eq)]
 pub struct Point {
     pub x: i32,
     pub y: i32,
 }
 
 /// A block: a piece of track with two ends, which is occupied as one.
-#[derive(Clone, Copy, Debug)]
+#[derive(Clone, Copy)]
 pub struct Block {
     /// Its name, which no other block of the plan has.
     pub name: Name,
@@ -46,7 +46,7 @@ pub enum End {
 }
 
 /// An end of a block of the plan.
-#[derive(Clone, Copy, Debug, PartialEq, Eq)]
+#[derive(Clone, Copy, PartialEq, Eq)]
 pub struct BlockEnd {
     /// The index of the block in the plan, from 0.
     pub block: u8,

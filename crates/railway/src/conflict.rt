@@ -8,7 +8,7 @@ use crate::train::TrainState;
 use arrayvec::ArrayVec;
 
 /// Two trains in one block.
-#[derive(Clone, Copy, Debug, Default, PartialEq, Eq)]
+#[derive(Clone, Copy, Default, PartialEq, Eq)]
 pub struct Conflict {
     /// The index of the block.
     pub block: usize,

@@ -3,7 +3,7 @@ use crate::block::BlockEnd;
 use crate::train::Place;
 
 /// What lies beyond an end of a block.
-#[derive(Clone, Copy, Debug, PartialEq, Eq)]
+#[derive(Clone, Copy, PartialEq, Eq)]
 pub enum Exit {
     /// The end that it is joined with, as the turnouts lie.
     Leads(BlockEnd),
@@ -14,7 +14,7 @@ pub enum Exit {
 }
 
 /// Where the next picometre ahead of a place is.
-#[derive(Clone, Copy, Debug, PartialEq, Eq)]
+#[derive(Clone, Copy)]
 pub(crate) enum Onward {
     To(Place),
     BufferStop,

@@ -2,7 +2,7 @@
 use crate::block::BlockEnd;
 
 /// A part of a plan, by its index from 0.
-#[derive(Clone, Copy, Debug, PartialEq, Eq)]
+#[derive(Clone, Copy)]
 pub enum Part {
     Joint(usize),
     Turnout(usize),
@@ -10,7 +10,7 @@ pub enum Part {
 }
 
 /// Why a plan is refused. Blocks and trains are named by their index from 0.
-#[derive(Clone, Copy, Debug, PartialEq, Eq)]
+#[derive(Clone, Copy)]
 pub enum PlanFault {
     /// The block is not 1 to 100,000 millimetres long.
     BlockLength(usize),

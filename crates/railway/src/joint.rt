@@ -5,14 +5,14 @@ ghost use Rattle.railway.specs.Ends.{default_joint, default_turnout};
 use crate::block::BlockEnd;
 
 /// A joint of two ends of blocks.
-#[derive(Clone, Copy, Debug, PartialEq, Eq)]
+#[derive(Clone, Copy)]
 pub struct Joint {
     pub one: BlockEnd,
     pub two: BlockEnd,
 }
 
 /// A turnout, which joins its common end with one of two others.
-#[derive(Clone, Copy, Debug, PartialEq, Eq)]
+#[derive(Clone, Copy)]
 pub struct Turnout {
     /// The number of its switch, from 1, as throttles show it.
     pub switch: u16,
@@ -24,7 +24,7 @@ pub struct Turnout {
 }
 
 /// A turnout as it lies.
-#[derive(Clone, Copy, Debug, PartialEq, Eq)]
+#[derive(Clone, Copy)]
 pub struct TurnoutState {
     pub turnout: Turnout,
     /// The index of the accessory decoder that moves it.

@@ -9,7 +9,7 @@ use arrayvec::ArrayVec;
 use layout_core::{Motion, Running, Steps};
 
 /// Where a train is put: within one block.
-#[derive(Clone, Copy, Debug, PartialEq, Eq)]
+#[derive(Clone, Copy)]
 pub struct Position {
     /// The index of the block in the plan, from 0.
     pub block: u8,
@@ -20,7 +20,7 @@ pub struct Position {
 }
 
 /// A train of a plan.
-#[derive(Clone, Copy, Debug, PartialEq, Eq)]
+#[derive(Clone, Copy)]
 pub struct Train {
     /// The index of its decoder, from 0.
     pub decoder: u8,
@@ -35,7 +35,7 @@ pub struct Train {
 pub(crate) type Trains = ArrayVec<TrainState, MAX_TRAINS>;
 
 /// A picometre of the track, and the end of the block that is ahead there.
-#[derive(Clone, Copy, Debug, PartialEq, Eq)]
+#[derive(Clone, Copy)]
 pub struct Place {
     /// The index of the block in the plan, from 0.
     pub block: u8,
@@ -46,7 +46,7 @@ pub struct Place {
 }
 
 /// A train as it is on the track.
-#[derive(Clone, Copy, Debug, PartialEq, Eq)]
+#[derive(Clone, Copy)]
 pub struct TrainState {
     /// The index of its decoder, from 0.
     pub decoder: u8,

@@ -8,7 +8,7 @@ use railway::{End, Part, PlanFault};
 use std::fmt;
 
 /// Why the text of a plan is refused.
-#[derive(Clone, Copy, Debug, PartialEq, Eq)]
+#[derive(Clone, Copy)]
 pub enum Why {
     /// The text is not TOML, or not UTF-8.
     NotToml,
@@ -43,7 +43,7 @@ pub enum Why {
 }
 
 /// A part of a plan's text, by its number from 1.
-#[derive(Clone, Copy, Debug, PartialEq, Eq)]
+#[derive(Clone, Copy)]
 pub enum Section {
     Whole,
     Block(usize),
@@ -53,7 +53,7 @@ pub enum Section {
 }
 
 /// The first fault of a plan's text, and the part that has it.
-#[derive(Clone, Copy, Debug, PartialEq, Eq)]
+#[derive(Clone, Copy)]
 pub struct PlanTextFault {
     pub section: Section,
     pub why: Why,
@@ -136,25 +136,33 @@ fn write_demand<W: fmt::Write>(key: Key, f: &mut fmt::Formatter<W>) -> fmt::Resu
     }
 }
 
+/// Returns the words of a reason that names no key.
+fn words_of(why: Why) -> &'static str {
+    match why {
+        Why::NotToml => "it is not TOML",
+        Why::UnknownKey => "a key is unknown",
+        Why::NotTable => "it is not a table",
+        Why::UnknownBlock => "no block has this name",
+        Why::UnknownDecoder => "the roster has no decoder of this name",
+        Why::RepeatedName => "another block has this name",
+        Why::RepeatedSensor => "another block has this sensor",
+        Why::RepeatedEnd(End::A) => "end a is named twice",
+        Why::RepeatedEnd(End::B) => "end b is named twice",
+        Why::NoDecoder => "the roster has no decoder for it",
+        Why::LongTrain => "the train is longer than a block",
+        Why::OffTrack => "the train does not fit into its block there",
+        Why::NoMemory => "no memory",
+        Why::BadKey(_) | Why::TooMany(_) | Why::UnknownEnd(_) => "",
+    }
+}
+
 impl fmt::Display for Why {
     fn fmt<W: fmt::Write>(&self, f: &mut fmt::Formatter<W>) -> fmt::Result {
-        match self {
-            Why::NotToml => f.write_str("it is not TOML"),
-            Why::UnknownKey => f.write_str("a key is unknown"),
-            Why::BadKey(key) => write_demand(*key, f),
+        match *self {
+            Why::BadKey(key) => write_demand(key, f),
             Why::TooMany(key) => write!(f, "there are too many {key}s"),
-            Why::NotTable => f.write_str("it is not a table"),
             Why::UnknownEnd(key) => write!(f, "{key}: no block has this end"),
-            Why::UnknownBlock => f.write_str("no block has this name"),
-            Why::UnknownDecoder => f.write_str("the roster has no decoder of this name"),
-            Why::RepeatedName => f.write_str("another block has this name"),
-            Why::RepeatedSensor => f.write_str("another block has this sensor"),
-            Why::RepeatedEnd(End::A) => f.write_str("end a is named twice"),
-            Why::RepeatedEnd(End::B) => f.write_str("end b is named twice"),
-            Why::NoDecoder => f.write_str("the roster has no decoder for it"),
-            Why::LongTrain => f.write_str("the train is longer than a block"),
-            Why::OffTrack => f.write_str("the train does not fit into its block there"),
-            Why::NoMemory => f.write_str("no memory"),
+            why => f.write_str(words_of(why)),
         }
     }
 }

@@ -5,7 +5,7 @@ ghost use Rattle.railway_plan.specs.Format.{spelled};
 use std::fmt;
 
 /// A key of a plan's text.
-#[derive(Clone, Copy, Debug, PartialEq, Eq)]
+#[derive(Clone, Copy)]
 pub enum Key {
     Version,
     Block,

@@ -1,7 +1,7 @@
 //! The text of a plan: the oval as users write it, and the first fault of a text with one more part.
 
 use super::layout::oval;
-use railway::{Block, Plan, Point};
+use railway::{Block, Joint, Plan, Point, Train, Turnout};
 use railway_plan::{read, read_railway};
 use roster::Roster;
 use std::alloc::{AllocError, Global};
@@ -49,13 +49,39 @@ fn is_block(block: &Block, other: &Block) -> bool {
     block.name == other.name && block.length == other.length && block.sensor == other.sensor
 }
 
+fn is_joint(joint: &Joint, other: &Joint) -> bool {
+    joint.one == other.one && joint.two == other.two
+}
+
+fn is_turnout(turnout: &Turnout, other: &Turnout) -> bool {
+    turnout.switch == other.switch
+        && turnout.common == other.common
+        && turnout.closed == other.closed
+        && turnout.thrown == other.thrown
+}
+
+fn is_train(train: &Train, other: &Train) -> bool {
+    train.decoder == other.decoder
+        && train.top == other.top
+        && train.length == other.length
+        && train.position.block == other.position.block
+        && train.position.at == other.position.at
+        && train.position.facing == other.position.facing
+}
+
 fn is_plan(plan: &Plan, other: &Plan) -> bool {
     let mut blocks = plan.blocks.iter().zip(other.blocks.iter());
+    let mut joints = plan.joints.iter().zip(other.joints.iter());
+    let mut turnouts = plan.turnouts.iter().zip(other.turnouts.iter());
+    let mut trains = plan.trains.iter().zip(other.trains.iter());
     plan.blocks.len() == other.blocks.len()
         && blocks.all(|(block, other)| is_block(block, other))
-        && plan.joints.as_slice() == other.joints.as_slice()
-        && plan.turnouts.as_slice() == other.turnouts.as_slice()
-        && plan.trains.as_slice() == other.trains.as_slice()
+        && plan.joints.len() == other.joints.len()
+        && joints.all(|(joint, other)| is_joint(joint, other))
+        && plan.turnouts.len() == other.turnouts.len()
+        && turnouts.all(|(turnout, other)| is_turnout(turnout, other))
+        && plan.trains.len() == other.trains.len()
+        && trains.all(|(train, other)| is_train(train, other))
 }
 
 #[test]
