@@ -25,7 +25,7 @@ pub struct FilterText<'a> {
 }
 
 /// An order to a filter.
-#[derive(Debug, Drop)]
+#[derive(Drop)]
 pub struct FilterOrder {
     /// The file to read. Without it standard input is read.
     pub file: Option<FileName>,

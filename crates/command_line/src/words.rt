@@ -4,7 +4,7 @@ use input_text::FileName;
 use std::net::Ipv4Addr;
 
 /// An order to `station`.
-#[derive(Debug, Drop)]
+#[derive(Drop)]
 pub enum Order {
     /// Plays a script from standard input.
     Replay {
@@ -33,7 +33,7 @@ pub enum Order {
 }
 
 /// An order to `lbserver`.
-#[derive(Debug, Drop)]
+#[derive(Drop)]
 pub struct ServerOrder {
     /// The address to listen on. Every client that can reach it can drive trains.
     pub address: Ipv4Addr,

@@ -6,7 +6,7 @@ use command_line::{FileName, open_error_words};
 use std::io::{ErrorKind, Write};
 
 /// Why a filter does not open its file, or does not write a requested text.
-#[derive(Debug, Drop)]
+#[derive(Drop)]
 pub(crate) enum StartFault {
     /// Status 2: the file cannot be opened.
     Unopened { file: FileName, why: ErrorKind },

@@ -3,7 +3,7 @@ ghost use Rattle.std.specs.Prelude.{IsTrue};
 ghost use Rattle.websocket.specs.Headers.{is_graphic_text};
 
 /// The response to a request.
-#[derive(Clone, Copy, Debug, PartialEq, Eq)]
+#[derive(Clone, Copy, PartialEq, Eq)]
 pub enum Response {
     /// None yet: the head is incomplete and may become a request.
     Incomplete,
@@ -16,7 +16,7 @@ pub enum Response {
 }
 
 /// A valid WebSocket handshake.
-#[derive(Clone, Copy, Debug, PartialEq, Eq)]
+#[derive(Clone, Copy, PartialEq, Eq)]
 pub struct UpgradeRequest {
     /// The value of `Sec-WebSocket-Accept`.
     pub(crate) accept_key: [u8; 28],
