@@ -110,7 +110,7 @@ fn after_rounds(rt: &impl Abort, alloc: Global, is_cut: bool) -> Result<Station,
 }
 
 /// All that a row holds: two rows are the same if this is.
-pub fn fields(row: Row) -> (State, u16, [u8; 8]) {
+pub(super) fn fields(row: Row) -> (State, u16, [u8; 8]) {
     let bytes = [
         row.kind, row.spd, row.dirf, row.snd, row.more, row.ss2, row.id1, row.id2,
     ];
