@@ -172,46 +172,42 @@ const READ_ROWS: [(&'static [u8], Option<Instr>); 14] = [
 /// The name of an instruction, its address and its other fields: two are the same if these are.
 type Parts = (&'static str, Option<Address>, [u16; 4]);
 
-fn parts(instruction: Option<Instr>) -> Parts {
+fn parts(instruction: Instr) -> Parts {
     match instruction {
-        None => ("none", None, [0; 4]),
-        Some(Instr::Idle) => ("idle", None, [0; 4]),
-        Some(Instr::Reset) => ("reset", None, [0; 4]),
-        Some(Instr::StopAll { emergency }) => ("stop all", None, [u16::from(emergency), 0, 0, 0]),
-        Some(Instr::Speed { address, d, low }) => {
+        Instr::Idle => ("idle", None, [0; 4]),
+        Instr::Reset => ("reset", None, [0; 4]),
+        Instr::StopAll { emergency } => ("stop all", None, [u16::from(emergency), 0, 0, 0]),
+        Instr::Speed { address, d, low } => {
             ("speed", Some(address), [u16::from(d), u16::from(low), 0, 0])
         }
-        Some(Instr::Speed128 { address, d, s }) => {
+        Instr::Speed128 { address, d, s } => {
             (
                 "speed 128",
                 Some(address),
                 [u16::from(d), u16::from(s), 0, 0],
             )
         }
-        Some(Instr::GroupOne { address, bits }) => {
+        Instr::GroupOne { address, bits } => {
             ("group one", Some(address), [u16::from(bits), 0, 0, 0])
         }
-        Some(Instr::GroupTwo { address, bits }) => {
+        Instr::GroupTwo { address, bits } => {
             ("group two", Some(address), [u16::from(bits), 0, 0, 0])
         }
-        Some(Instr::GroupThree { address, bits }) => {
+        Instr::GroupThree { address, bits } => {
             ("group three", Some(address), [u16::from(bits), 0, 0, 0])
         }
-        Some(
-            Instr::Accessory {
-                module,
-                pair,
-                closed,
-                on,
-            },
-        ) => {
-            let fields = [
-                module.number(),
-                u16::from(pair),
-                u16::from(closed),
-                u16::from(on),
-            ];
-            ("accessory", None, fields)
+        Instr::Accessory {
+            module,
+            pair,
+            closed,
+            on,
+        } => {
+            let number = module.number();
+            (
+                "accessory",
+                None,
+                [number, u16::from(pair), u16::from(closed), u16::from(on)],
+            )
         }
     }
 }
@@ -219,7 +215,10 @@ fn parts(instruction: Option<Instr>) -> Parts {
 /// Asserts that these bytes spell this instruction.
 fn check_reading(rt: &impl Abort, bytes: &[u8], instruction: Option<Instr>) -> Result<(), Fail> {
     let packet = Packet::of(bytes).ok_or("no packet")?;
-    assert!(rt; parts(read(&packet)) == parts(instruction), "{bytes:?}");
+    assert!(rt;
+        read(&packet).map(parts) == instruction.map(parts),
+        "{bytes:?}"
+    );
     Ok(())
 }
 
