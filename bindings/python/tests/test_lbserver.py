@@ -101,6 +101,36 @@ stream.recv(100)
                 server.power_on()
                 self.assertEqual(server.wait_for_node("x"), Motion("stop", 0, None, True, 0))
 
+    def test_address(self):
+        # The server's own client connects where the program listens, to one that listens everywhere on this machine.
+        text = """#!/usr/bin/env python3
+import socket, sys
+listener = socket.create_server(("{bound}", 0))
+assert sys.argv[1:] == ["--port", "0", "--address", "{named}"], sys.argv
+print(f"listening {named}:{listener.getsockname()[1]}", flush=True)
+stream, _ = listener.accept()
+stream.sendall(b"VERSION x\\r\\n")
+stream.recv(100)
+stream.sendall(b"RECEIVE 83 7C\\r\\nSENT OK\\r\\n")
+print("message 83 7C  track power on", flush=True)
+stream.recv(100)
+"""
+        for named, bound in (("127.0.0.2", "127.0.0.2"), ("0.0.0.0", "127.0.0.1")):
+            with tempfile.TemporaryDirectory() as folder:
+                program = pathlib.Path(folder, "program")
+                program.write_text(text.replace("{named}", named).replace("{bound}", bound))
+                program.chmod(0o755)
+                with Server("--address", named, program=program, port=0) as server:
+                    server.power_on()
+                    self.assertEqual(server.host, bound)
+                    # A pattern is looked for within a line; a text is the whole line.
+                    self.assertEqual(server.wait_for(re.compile("83 (..)  track p"))[1], "7C")
+                    self.assertEqual(server.wait_for(re.compile("power on$")).start(), 21)
+                    self.assertEqual(server.wait_for("message 83 7C  track power on"), "message 83 7C  track power on")
+                    for wanted in ("track power on", "message 83 7C  track power", re.compile("^track")):
+                        with self.assertRaisesRegex(TimeoutError, "waited in vain"):
+                            server.wait_for(wanted, seconds=0.02)
+
     def test_programs_that_fail(self):
         for program in ("/bin/false", "/bin/echo"):
             with self.assertRaisesRegex(ConnectionError, "does not listen"), Server(program=program, port=1):
@@ -149,6 +179,19 @@ class TestClient(unittest.TestCase):
                 self.assertEqual(found, SlotData(1, 3, "in use", 128, 63, False, "reverse", 1 << 5, "on"))
                 self.assertIsNone(client.send(0xA0, 1, 0x40))
         self.assertEqual(received, ["SEND BF 00 03 43", "SEND A0 01 40 1E", ""])
+
+    def test_written_slot(self):
+        body = bytes.fromhex("EF 0E 01 33 03 00 00 07 00 00 00 00 00")
+        write = "EF 0E 01 33 03 00 00 07 00 00 00 00 00 28"
+        with scripted(
+            ["VERSION x"],
+            [f"RECEIVE {write}", "SENT OK", "RECEIVE B4 6F 7F 5B"],
+            [f"RECEIVE {write}", "SENT OK", "RECEIVE B4 6F 00 24"],
+        ) as (port, received):
+            with Client("127.0.0.1", port) as client:
+                self.assertEqual(client.send(*body), Acknowledge(0xEF, True))
+                self.assertEqual(client.send(*body), Acknowledge(0xEF, False))
+        self.assertEqual(received, [f"SEND {write}", f"SEND {write}", ""])
 
     def test_switch_requests(self):
         sent, read = ["RECEIVE B0 04 10 5B", "SENT OK"], ["RECEIVE BB 01 00 45", "SENT OK"]
@@ -229,16 +272,20 @@ class TestClient(unittest.TestCase):
     def test_sensor_reports(self):
         # OPC_INPUT_REP: the sensor of turnout address 0, then 1 with the auxiliary input, then the last sensor.
         first, second, last = "RECEIVE B2 00 40 0D", "RECEIVE B2 00 70 3D", "RECEIVE B2 7F 7F 4D"
+        third, other = "RECEIVE B2 01 50 1C", "RECEIVE B2 00 60 2D"
         with scripted(
-            ["VERSION x", first], ["RECEIVE 83 7C", second, "SENT OK"], [last, "TURNS OK"], [first, "NODES OK"]
+            ["VERSION x", first],
+            ["RECEIVE 83 7C", second, "SENT OK"],
+            [last, "TURNS OK"],
+            [first, "NODES OK", third, other],
         ) as (port, _):
             with Client("127.0.0.1", port) as client:
                 self.assertEqual(client.sensor_report(), SensorReport(1, False))
                 client.power_on()
                 client.turns(1)
                 self.assertEqual(client.nodes(), {})
-                for wanted in (SensorReport(2, True), SensorReport(4096, True), SensorReport(1, False)):
-                    self.assertEqual(client.sensor_report(), wanted)
+                for sensor, occupied in ((2, True), (4096, True), (1, False), (3, True), (2, False)):
+                    self.assertEqual(client.sensor_report(), SensorReport(sensor, occupied))
             with self.assertRaises(ClosedError):
                 client.sensor_report()
 
@@ -316,6 +363,15 @@ class TestServer(unittest.TestCase):
             self.assertLess(time.monotonic() - start, 5)
             with self.assertRaises(ClosedError):
                 server.power_on()
+
+    def test_another_address(self):
+        with Server("--address", "127.0.0.2", roster=ROSTER) as server, server.client() as client:
+            client.power_on()
+            server.wait_for("message 83 7C  track power on")
+            self.assertEqual((server.host, server.nodes), ("127.0.0.2", {}))
+            self.assertEqual(server.loco(3).take().state, "in use")
+            with self.assertRaises(ConnectionRefusedError):
+                Client("127.0.0.1", server.port)
 
     def test_clients(self):
         with Server("--turns", "4", roster=ROSTER) as server, server.client() as one, server.client() as other:

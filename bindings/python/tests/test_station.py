@@ -153,6 +153,22 @@ class TestLayouts(Test):
                 motion = station.running("one")
                 self.assertEqual((motion.kind, motion.steps, motion.step), ("step", mode, motion.last_step))
 
+    def test_reversed(self):
+        # With bit 0 of CV29 a decoder takes forward for reverse (S-9.2.2).
+        decoders = [LocoDecoder.at(3, reversed=True), LocoDecoder.at(3), LocoDecoder.at(128, reversed=True)]
+        with Station(decoders) as station:
+            station.power_on()
+            for address in (3, 128):
+                loco = station.loco(address)
+                loco.take()
+                loco.speed(63)
+                loco.function(9)
+            station.turns(32)
+            self.assertEqual(
+                [station.running(i) for i in range(3)],
+                [Motion("step", 63, 128, forward, 1 << 9) for forward in (False, True, False)],
+            )
+
     def test_roster_text(self):
         decoders = [LocoDecoder.at(1234, name="express"), AccessoryDecoder(7), LocoDecoder(5, cv29=1)]
         with Station(decoders) as one, Station(roster_text(decoders)) as other:
@@ -280,6 +296,12 @@ class TestEvents(Test):
             self.assertEqual(station.running(63).kind, "stop")
             station.turns(20, missed=["node-0"])
             self.assertEqual(station.running("node-63").step, 63)
+            # Speed 20, which the first and, by its index, the second decoder miss.
+            station.run(bytes_of("A001154B"))
+            station.turns(20, missed=["node-0", 1])
+            self.assertEqual([station.running(i).step for i in (0, 1, 2, 63)], [63, 63, 20, 20])
+            station.turns(20, missed=[])
+            self.assertEqual([station.running(i).step for i in (0, 1)], [20, 20])
 
     def test_threads(self):
         with Station([SHORT]) as station:
@@ -319,6 +341,11 @@ class TestMessages(Test):
             station.power_off()
             self.assertEqual(station.send(0xBB, 2, 0).power, "off")
             self.assertEqual(station.send(0xBD, 0, 0x30), Acknowledge(0xBD, True))
+            # Slot 3 written: locomotive 5, in use, 128 steps with consists allowed. Slot 2 may not have it, too.
+            self.assertEqual(station.send(0xEF, 0x0E, 3, 0x37, 5, 0, 0, 7, 0, 0, 0, 0, 0), Acknowledge(0xEF, True))
+            self.assertEqual(station.send(0xBB, 3, 0), SlotData(3, 5, "in use", 128, 0, False, "forward", 0, "off"))
+            refused = station.send(0xEF, 0x0E, 2, 0x33, 5, 0, 0, 7, 0, 0, 0, 0, 0)
+            self.assertEqual(refused, Acknowledge(0xEF, False))
 
     def test_no_messages(self):
         with Station() as station:
@@ -383,8 +410,17 @@ class TestThrottle(Test):
             self.fails(StationError, "not taken", one.speed, 1)
             # Free: the slot is no longer the locomotive's.
             station.send(0xB5, found.slot, 0)
+            error = self.fails(RefusedError, "locomotive 3: the station sends only function group three", other.function, 9)
+            self.assertEqual(error.opcode, 0xED)
             self.fails(StationError, "take it again", other.data)
             self.assertIsNone(other.slot)
+            # Another locomotive comes into its slot, and is not driven instead.
+            self.assertEqual(other.take().slot, found.slot)
+            station.send(0xB5, found.slot, 0)
+            self.assertEqual(station.loco(4).take().slot, found.slot)
+            self.fails(StationError, "take it again", other.data)
+            self.assertIsNone(other.slot)
+            self.assertEqual(other.take().slot, 2)
 
     def test_refusals(self):
         with Station() as station:
