@@ -1,6 +1,8 @@
 /* play ROSTER SCRIPT LINES: plays a script on the layout of a roster, and prints what `station replay` prints.
  *
- * play sizes: prints the sizes of the structs of station.h and where their fields stand. */
+ * play sizes: prints the sizes of the structs of station.h and where their fields stand.
+ *
+ * play numbers: prints its kinds and statuses. */
 #include <stdio.h>
 #include <stdlib.h>
 #include <string.h>
@@ -154,6 +156,15 @@ static void print_sizes(void) {
     FIELD(station_motion, steps), FIELD(station_motion, forward);
 }
 
+#define NUMBER(name) printf("%s %d\n", #name, STATION_##name)
+
+static void print_numbers(void) {
+    NUMBER(BYTE), NUMBER(TURN), NUMBER(NOISE);
+    NUMBER(QUIET), NUMBER(REPLY), NUMBER(PACKET), NUMBER(OFF);
+    NUMBER(STOP), NUMBER(EMERGENCY), NUMBER(STEP);
+    NUMBER(MADE), NUMBER(BAD_LINES), NUMBER(BAD_DECODERS), NUMBER(NO_MEMORY), NUMBER(ALREADY_MADE);
+}
+
 /* What is wrong with a roster. */
 static const char *fault_of(const char *roster, size_t size) {
     uint8_t fault = 0, node = 0;
@@ -176,8 +187,12 @@ int main(int argc, char **argv) {
         print_sizes();
         return 0;
     }
+    if (argc == 2 && strcmp(argv[1], "numbers") == 0) {
+        print_numbers();
+        return 0;
+    }
     if (argc != 4) {
-        fprintf(stderr, "usage: play ROSTER SCRIPT LINES | play sizes\n");
+        fprintf(stderr, "usage: play ROSTER SCRIPT LINES | play sizes | play numbers\n");
         return 2;
     }
     size_t size;

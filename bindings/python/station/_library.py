@@ -16,7 +16,7 @@ NAME = "libstation.so"
 QUIET, REPLY, PACKET, OFF = range(4)
 STOP, EMERGENCY, STEP = range(3)
 BYTE, TURN, NOISE = range(3)
-BAD_LINES, BAD_DECODERS, NO_MEMORY = 1, 2, 3
+MADE, BAD_LINES, BAD_DECODERS, NO_MEMORY, ALREADY_MADE = range(5)
 
 
 class Layout(Structure):
@@ -116,6 +116,14 @@ def array_of(kind: Any, values: Any) -> Any:
     for i, value in enumerate(values):
         array[i] = value
     return array
+
+
+def numbers() -> Iterator[str]:
+    """The kinds and statuses, as `play numbers` prints them."""
+    events, answers, motions = "BYTE TURN NOISE", "QUIET REPLY PACKET OFF", "STOP EMERGENCY STEP"
+    statuses = "MADE BAD_LINES BAD_DECODERS NO_MEMORY ALREADY_MADE"
+    for name in f"{events} {answers} {motions} {statuses}".split():
+        yield f"{name} {globals()[name]}"
 
 
 def sizes() -> Iterator[str]:

@@ -2,6 +2,7 @@
 
     play.py ROSTER SCRIPT LINES    prints what `station replay` prints
     play.py sizes                  prints the sizes of the structs and the offsets of their fields
+    play.py numbers                prints the kinds and statuses
 """
 
 import pathlib
@@ -9,7 +10,7 @@ import sys
 
 sys.path.insert(0, str(pathlib.Path(__file__).resolve().parent.parent))
 from station import Station  # noqa: E402
-from station._library import sizes  # noqa: E402
+from station._library import numbers, sizes  # noqa: E402
 
 
 def play(roster, script, lines):
@@ -35,6 +36,8 @@ def play(roster, script, lines):
 
 if sys.argv[1:] == ["sizes"]:
     print(*sizes(), sep="\n")
+elif sys.argv[1:] == ["numbers"]:
+    print(*numbers(), sep="\n")
 elif len(sys.argv) == 4:
     print(*play(pathlib.Path(sys.argv[1]), sys.argv[2], int(sys.argv[3])), sep="\n")
 else:
