@@ -10,7 +10,7 @@ from .layout import Answer, Byte, Event, Noise, Station, Turn
 from .messages import Acknowledge, Reply, SensorReport, SlotData, message_bytes, message_hex
 from .throttle import Loco, Throttle, Turnout
 
-__version__ = "1.0.0"
+__version__ = "1.1.0"
 __all__ = [
     "AccessoryDecoder",
     "Acknowledge",
