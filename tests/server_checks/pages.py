@@ -102,34 +102,6 @@ def check_page(server, data):
         same("the page, read slowly", found.endswith(b"\r\n\r\n" + data), True)
 
 
-def requests():
-    """requests that are refused have the responses of docs/PAGES.md, and are no clients"""
-    with serve("--turns", "1", page=True) as server:
-        own = f"127.0.0.1:{server.page_port}"
-        for request, status in (
-            (get("/index.html"), "404 Not Found"),
-            (get("/pages/throttle.html"), "404 Not Found"),
-            (b"POST / HTTP/1.1\r\nContent-Length: 2\r\n\r\n{}", "405 Method Not Allowed"),
-            (b"HEAD / HTTP/1.1\r\n\r\n", "405 Method Not Allowed"),
-            (b"SEND 83 7C\r\n", "400 Bad Request"),
-            (get("/", 8200 * "x"), "431 Request Header Fields Too Large"),
-            (get("/bus", f"Host: {own}", f"Origin: http://{own}"), "400 Bad Request"),
-            (upgrade_request(own, None, Page.KEY), "403 Forbidden"),
-            (upgrade_request(own, "http://example.com", Page.KEY), "403 Forbidden"),
-            (upgrade_request(own, f"https://{own}", Page.KEY), "403 Forbidden"),
-            (upgrade_request(own, "http://127.0.0.1", Page.KEY), "403 Forbidden"),
-            (upgrade_request("layout.example", "http://layout.example", Page.KEY), "421 Misdirected Request"),
-            (get("/", "Host: layout.example"), "421 Misdirected Request"),
-            (get("/", "Host: "), "421 Misdirected Request"),
-            (get("/"), "400 Bad Request"),
-        ):
-            head, body = response_to(server, request)
-            same(f"{request[:60]}", head.partition("\r\n")[0], f"HTTP/1.1 {status}")
-            holds("a line that says why", body)
-            same("Allow: GET", "\r\nallow: get\r\n" in head.lower(), status.startswith("405"))
-        same("printed", server.printed()[2:], [])
-
-
 def names():
     """a browser that names another host receives the word --host, and by that name the page loads and connects"""
     with serve("--turns", "1", "--host", "layout.example", "--host", "Station", page=True) as server:

@@ -3,7 +3,6 @@
 import os
 import re
 import subprocess
-import tempfile
 import time
 
 from server_checks.common import (
@@ -17,7 +16,6 @@ from server_checks.common import (
     printed_after,
     program,
     receive,
-    run,
     same,
     send,
     serve,
@@ -164,35 +162,6 @@ def placements():
         with Client(server) as client:
             client.write(["PLACE shunter siding far"])
             same("without a plan", client.line(), "PLACE ERROR no plan")
-
-
-def interrogations():
-    """--plan: an interrogation is answered by each sensor once"""
-    with serve(*OVAL, "--turns", "0", "--clients", "1") as server:
-        with Client(server) as client:
-            client.write(send(*INTERROGATION, POWER_ON))
-            lines = client.lines_until(*receive(POWER_ON))
-            wanted = [report(sensor, sensor in (1, 4)) for sensor in range(1, 6)]
-            same("reports", reports_in(lines), wanted)
-        same("status", server.process.wait(20), 0)
-
-
-def plans():
-    """--plan: a fault names the file and the part, with status 3; without the option nothing is reported"""
-    for text, wanted in (
-        ("version = 2\n", "the plan: version must be 1"),
-        ("version = 1\n[[block]]\nname = 'x'\nlength = 0\n", "block 1: length must be 1 to 100000"),
-        ("version = 1\n" + 2 * "[[block]]\nname = 'x'\nlength = 9\n", "block 1: another block has this name"),
-        ("x", "the plan: it is not TOML"),
-    ):
-        with tempfile.NamedTemporaryFile("w") as file:
-            file.write(text)
-            file.flush()
-            done = run("--port", "0", *OVAL[:2], "--plan", file.name)
-            same(wanted, done, (3, "", f"lbserver: {file.name}, {wanted}\n"))
-    with serve(*OVAL[:2], "--turns", "1", "--clients", "1") as server:
-        with Client(server) as client:
-            holds("no reports", not reports_in(drive(client, 1300)))
 
 
 def shuttle():
