@@ -1,6 +1,7 @@
 """Runs of `station`, by docs/PROGRAM.md: its words, files, scripts and examples, and `serve` with clients that have ended."""
 
 import contextlib
+import os
 import socket
 import subprocess
 
@@ -34,6 +35,16 @@ USAGE = [
     (["serve", "--port", "80", "--reads", "4294967296"], []),
     (["serve", "--port", "80", "--connections", "0"], []),
     (["serve", "--port", "80", "--connections", "1001"], []),
+]
+
+# Words whose last is a file that is missing. A roster is read before the port is bound.
+UNREAD = [
+    ["monitor", "no such file"],
+    ["monitor", "caf\u00e9.hex"],
+    ["replay", "--roster", "no such file"],
+    ["replay", "--lines", "8", "--roster", "a b.toml"],
+    ["serve", "--port", "1", "--roster", "no such file"],
+    ["serve", "--port=65535", "--turns=0", "--reads=4294967295", "--connections=1000", "--roster=no such file"],
 ]
 
 # Words, a script, the status and what is printed, or the fault line.
@@ -100,14 +111,18 @@ def try_scripts():
     for capture, status, text in CAPTURES:
         with file_of(capture) as file:
             check(["monitor", file], b"", status, text)
-    for words in (["monitor"], ["replay", "--roster"], ["serve", "--port", "1", "--roster"]):
-        # The roster is read before the port is bound.
-        check([*words, "no such file"], b"turn 0", 2, b"cannot read no such file")
+    for words in UNREAD:
+        file = words[-1].rpartition("=")[2]
+        check(words, b"turn 0", 2, f"cannot read {file}".encode())
     check(["replay"], b" " * 1_048_576, 0, b"")
     check(["replay"], b" " * 1_048_577, 5, b"script fault 6 at line 0")
     for length, status, text in ((65_536, 3, "roster fault 2 at node 0"), (65_537, 2, "{} is too long")):
         with file_of(b" " * length) as file:
             check(["replay", "--roster", file], b"", status, text.format(file).encode())
+    if os.path.exists("/dev/full"):
+        with open("/dev/full", "wb") as full:
+            found = run("station", ["monitor", "examples/capture.hex"], stdout=full)
+        compare("a monitor on a full device", found[::2], (4, b"station: output\n"))
     print("station: words, scripts, captures and files")
 
 
@@ -175,6 +190,9 @@ SERVED = [
     ([], [ON], 0, "track 1 off\ntrack 2 FF 00 FF\n", b"", ""),
     (["--turns", "2"], [ON], 0, "track 1 off\ntrack 2 off\ntrack 3 FF 00 FF\ntrack 4 FF 00 FF\n", b"", ""),
     (["--reads", "1", "--turns", "0"], [ON], 4, "", None, "station: serve fault 4\n"),
+    # A read has at most 64 bytes, and without the option there are at most 100,000.
+    (["--turns", "0"], [bytes(64 * 100_001)], 4, "", None, "station: serve fault 4\n"),
+    (["--turns", "0", "--reads", "4294967295"], [bytes(64 * 100_001)], 0, "", b"", ""),
     # Two clients make one message. Turns are numbered anew in each connection.
     (
         ["--connections", "2"],
@@ -205,6 +223,15 @@ SERVED = [
 ]
 
 
+def sent_to_end(client, data):
+    """Sends bytes, and no more behind them. The server may close before it has read them."""
+    try:
+        client.sendall(data)
+        client.shutdown(socket.SHUT_WR)
+    except (BrokenPipeError, ConnectionResetError):
+        pass
+
+
 def received(client):
     """What a client receives until its connection ends, and None if that is a reset."""
     found = b""
@@ -229,8 +256,7 @@ def try_served():
                 clients = []
                 for data in sent:
                     client = stack.enter_context(socket.create_connection(("127.0.0.1", port), timeout=20))
-                    client.sendall(data)
-                    client.shutdown(socket.SHUT_WR)
+                    sent_to_end(client, data)
                     clients.append(client)
                 if last is not None:
                     # The others are not answered.

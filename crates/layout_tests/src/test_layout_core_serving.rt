@@ -2,10 +2,9 @@
 
 ghost use Rattle.std.specs.Prelude.{◌≡◌, ◌≤◌, IfOk, length};
 
-use super::test_layout_core_ends::fields;
 use decoder_node::NodeList;
 use layout_core::{Broken, Limits, Port, ServeFault, Sink, Source, Summary, World, serve};
-use ln_ops::State;
+use ln_ops::{Row, State};
 use std::alloc::Global;
 use std::io;
 use std::io::{Read, Write};
@@ -391,6 +390,14 @@ fn a_connection_may_be_too_long(rt: HostRuntime) -> Result<(), Fail> {
         assert!(rt; are_too_few(rt.alloc(), reads as u32, *done)?);
     }
     Ok(())
+}
+
+/// All that a row holds: two rows are the same if this is.
+fn fields(row: Row) -> (State, u16, [u8; 8]) {
+    let bytes = [
+        row.kind, row.spd, row.dirf, row.snd, row.more, row.ss2, row.id1, row.id2,
+    ];
+    (row.state, row.address, bytes)
 }
 
 /// Whether each slot reads as in a new layout.

@@ -1,23 +1,20 @@
 //! A train on the oval: what the sensors report, to the microsecond.
 
-mod example;
-pub(crate) mod layout;
-mod text;
+mod layout;
 
 use decoder_cv::CvSet;
 use decoder_node::NodeSpec;
-use layout::{EXPRESS, block, decoders, end_a, end_b, layout, oval, say, say_missed};
+use layout::{EXPRESS, block, decoders, end_a, end_b, layout, oval, say_missed};
 use layout_core::World;
 use railway::{
-    Conflict, End, Exit, Joint, Plan, Position, Railway, Reports, SensorReport, Train, TrainState,
+    BlockEnd, Conflict, End, Exit, Joint, Plan, Position, Railway, Reports, SensorReport, Train,
+    TrainState,
 };
+use std::process::Abort;
 use std::test::Fail;
 
 /// Reports: sensors, and whether their blocks are occupied.
 type Rows = &'static [(u16, bool)];
-
-/// Times that elapse in microseconds, and what is reported of each.
-type Story = &'static [(u32, Rows)];
 
 /// Whether these are the reports.
 fn are(reports: &Reports, rows: Rows) -> bool {
@@ -32,101 +29,76 @@ fn are(reports: &Reports, rows: Rows) -> bool {
     same
 }
 
-/// Returns the first row of a story that is not as it says.
-fn first_wrong(railway: &mut Railway, world: &World, story: Story) -> Option<usize> {
-    for (i, (micros, rows)) in story.iter().enumerate() {
-        if !are(&railway.elapse(*micros, world), rows) {
-            return Some(i);
+/// A step of a story: what is done or elapses, and what is reported, or how things stand then.
+#[derive(Clone, Copy)]
+enum Step {
+    /// A message, given without its check, and 40 turns.
+    Say(&'static [u8]),
+    /// The same; the locomotive misses the turns.
+    Missed(&'static [u8]),
+    /// Microseconds, and the reports.
+    Elapse(u32, Rows),
+    /// The train is put there.
+    Place(Position, Rows),
+    /// A full report.
+    Full(Rows),
+    /// How far front and rear are from end A of their blocks, in nanometres.
+    Front(u64),
+    Rear(u64),
+    Derailed(Option<u16>),
+    Occupied(u8),
+    Exit(BlockEnd, Exit),
+    Conflicts(&'static [Conflict]),
+}
+
+/// Whether the train stands as a step says.
+fn stands(train: &TrainState, step: Step) -> bool {
+    match step {
+        Step::Front(at) => train.front.at == at,
+        Step::Rear(at) => train.rear.at == at,
+        Step::Derailed(turnout) => {
+            train.derailed_at == turnout && train.is_derailed() == turnout.is_some()
         }
+        _ => false,
     }
-    None
+}
+
+/// Whether the railway is as a step says.
+fn is_so(railway: &Railway, step: Step) -> bool {
+    match step {
+        Step::Full(rows) => are(&railway.report_all(), rows),
+        Step::Occupied(block) => railway.is_occupied(usize::from(block)),
+        Step::Exit(end, exit) => railway.exit(end) == exit,
+        Step::Conflicts(conflicts) => railway.conflicts().as_slice() == conflicts,
+        step => match railway.trains().get(0) {
+            Some(train) => stands(train, step),
+            None => false,
+        },
+    }
+}
+
+/// Does what a step says, and returns whether all is as it says.
+fn carry_out(world: &mut World, railway: &mut Railway, step: Step) -> bool {
+    match step {
+        Step::Say(body) => {
+            say_missed(world, body, 0);
+            true
+        }
+        Step::Missed(body) => {
+            say_missed(world, body, 1);
+            true
+        }
+        Step::Elapse(micros, rows) => are(&railway.elapse(micros, world), rows),
+        Step::Place(position, rows) => match railway.place(0, position) {
+            Ok(reports) => are(&reports, rows),
+            Err(_) => false,
+        },
+        step => is_so(railway, step),
+    }
 }
 
 /// Speed step 63 of 126, which is 150 millimetres a second, forward.
-fn drive(world: &mut World) {
-    say(world, &[0xA0, 0x01, 0x40]);
-}
-
-/// The front has 400 millimetres to go to the east, the rear 600; then a metre each.
-const ROUND: Story = &[
-    (2_666_666, &[]),
-    (1, &[(4, true)]),
-    (1_333_332, &[]),
-    (1, &[(2, false)]),
-    // Occupied blocks are reported before free ones.
-    (6_666_667, &[(5, true), (4, false)]),
-    (6_666_667, &[(1, true), (5, false)]),
-    (8_000_000, &[(2, true), (1, false)]),
-];
-
-/// A full report at the start: the train is in main.
-const FULL: Rows = &[(1, false), (2, true), (3, false), (4, false), (5, false)];
-
-#[test]
-fn round_the_oval(rt: HostRuntime) -> Result<(), Fail> {
-    let mut world = layout(&rt)?;
-    let mut railway = oval_railway()?;
-    assert!(rt; are(&railway.report_all(), FULL));
-    assert!(rt;
-        railway.elapse(1_000_000, &world).is_empty(),
-        "a train that nobody drives"
-    );
-    drive(&mut world);
-    assert!(rt; first_wrong(&mut railway, &world, ROUND) == None);
-    Ok(())
-}
-
-fn oval_railway() -> Result<Railway, Fail> {
-    Railway::new(oval()?, &decoders()?).map_err(|_| "plan".into())
-}
-
-/// Returns a train as it is.
-fn train(railway: &Railway, i: usize) -> Result<TrainState, Fail> {
-    Ok(*railway.trains().get(i).ok_or("train")?)
-}
-
-#[test]
-fn a_train_runs_as_its_decoder_does(rt: HostRuntime) -> Result<(), Fail> {
-    let mut world = layout(&rt)?;
-    let mut railway = oval_railway()?;
-    drive(&mut world);
-    // A stop that the decoder misses, and then receives.
-    say_missed(&mut world, &[0xA0, 0x01, 0x00], 1);
-    assert!(rt; are(&railway.elapse(3_000_000, &world), &[(4, true)]));
-    say(&mut world, &[0xA0, 0x01, 0x00]);
-    assert!(rt; railway.elapse(60_000_000, &world).is_empty());
-    Ok(())
-}
-
-/// Where the express is put.
-const MAIN: Position = Position {
-    block: 1,
-    at: 600,
-    facing: End::B,
-};
-
-#[test]
-fn a_turnout_thrown_under_a_train_derails_it(rt: HostRuntime) -> Result<(), Fail> {
-    let mut world = layout(&rt)?;
-    let mut railway = oval_railway()?;
-    drive(&mut world);
-    // The front is 50 millimetres in the east, the rear in main.
-    assert!(rt; are(&railway.elapse(3_000_000, &world), &[(4, true)]));
-    assert!(rt; railway.exit(end_b(1)) == Exit::Leads(end_a(3)));
-    say(&mut world, &[0xB0, 0x01, 0x10]);
-    assert!(rt; railway.elapse(60_000_000, &world).is_empty());
-    assert!(rt; train(&railway, 0)?.derailed_at == Some(2));
-    assert!(rt; railway.is_occupied(1) && railway.is_occupied(3));
-    assert!(rt; railway.exit(end_b(1)) == Exit::Against);
-    // It is put back, and the turnout lies against it.
-    let placed = railway.place(0, MAIN).map_err(|_| "place")?;
-    assert!(rt; are(&placed, &[(4, false)]));
-    assert!(rt; !train(&railway, 0)?.is_derailed());
-    assert!(rt; railway.elapse(60_000_000, &world).is_empty());
-    assert!(rt; train(&railway, 0)?.derailed_at == Some(2));
-    assert_eq!(rt; train(&railway, 0)?.front.at, 999_999_999_999);
-    Ok(())
-}
+const DRIVE: Step = Step::Say(&[0xA0, 0x01, 0x40]);
 
 /// Two blocks in a line, with sensors 1 and 2, between buffer stops. A train is in the second.
 fn line() -> Result<Plan, Fail> {
@@ -141,32 +113,8 @@ fn line() -> Result<Plan, Fail> {
     Ok(plan)
 }
 
-#[test]
-fn a_train_stops_at_a_buffer_stop(rt: HostRuntime) -> Result<(), Fail> {
-    let mut world = layout(&rt)?;
-    let mut railway = Railway::new(line()?, &decoders()?).map_err(|_| "plan")?;
-    assert!(rt; railway.exit(end_b(1)) == Exit::BufferStop);
-    drive(&mut world);
-    assert!(rt; railway.elapse(60_000_000, &world).is_empty());
-    assert_eq!(rt; train(&railway, 0)?.front.at, 999_999_999_999);
-    assert_eq!(rt; train(&railway, 0)?.rear.at, 800_000_000_000);
-    // Backward, to the other one.
-    say(&mut world, &[0xA1, 0x01, 0x20]);
-    assert!(rt;
-        are(
-            &railway.elapse(60_000_000, &world),
-            &[(1, true), (2, false)]
-        )
-    );
-    assert_eq!(rt; train(&railway, 0)?.rear.at, 0);
-    assert_eq!(rt; train(&railway, 0)?.front.at, 199_999_999_999);
-    assert!(rt; !train(&railway, 0)?.is_derailed());
-    Ok(())
-}
-
-#[test]
-fn two_trains_in_a_block_conflict(rt: HostRuntime) -> Result<(), Fail> {
-    let mut world = layout(&rt)?;
+/// The oval with a second train, in the east.
+fn two_trains() -> Result<Plan, Fail> {
     let mut plan = oval()?;
     let _ = plan.trains.try_push(Train {
         decoder: 2,
@@ -176,17 +124,147 @@ fn two_trains_in_a_block_conflict(rt: HostRuntime) -> Result<(), Fail> {
         },
         ..EXPRESS
     });
+    Ok(plan)
+}
+
+/// The plan of a story.
+#[derive(Clone, Copy)]
+enum Made {
+    Oval,
+    Line,
+    TwoTrains,
+}
+
+fn railway_of(made: Made) -> Result<Railway, Fail> {
+    let plan = match made {
+        Made::Oval => oval()?,
+        Made::Line => line()?,
+        Made::TwoTrains => two_trains()?,
+    };
     let mut nodes = decoders()?;
     let _ = nodes.try_push(NodeSpec::Loco(CvSet::new(4, 0, 0, 6)?));
-    let mut railway = Railway::new(plan, &nodes).map_err(|_| "plan")?;
-    assert!(rt; railway.conflicts().is_empty());
-    drive(&mut world);
-    assert!(rt; railway.elapse(3_000_000, &world).is_empty());
-    let conflict = Conflict {
-        block: 3,
-        first: 0,
-        second: 1,
-    };
-    assert!(rt; railway.conflicts().as_slice() == [conflict].as_slice());
+    Railway::new(plan, &nodes).map_err(|_| "plan".into())
+}
+
+/// Where the express is put.
+const MAIN: Position = Position {
+    block: 1,
+    at: 600,
+    facing: End::B,
+};
+
+/// The ends of blocks 1 and 3 that turnout 2 joins.
+const MAIN_B: BlockEnd = BlockEnd {
+    block: 1,
+    end: End::B,
+};
+
+const EAST_A: BlockEnd = BlockEnd {
+    block: 3,
+    end: End::A,
+};
+
+/// Stories by their names.
+const STORIES: &[(&str, Made, &[Step])] = &[
+    // The front has 400 millimetres to go to the east, the rear 600; then a metre each. Occupied blocks are
+    // reported before free ones.
+    (
+        "round the oval",
+        Made::Oval,
+        &[
+            Step::Full(&[(1, false), (2, true), (3, false), (4, false), (5, false)]),
+            // A train that nobody drives.
+            Step::Elapse(1_000_000, &[]),
+            DRIVE,
+            Step::Elapse(2_666_666, &[]),
+            Step::Elapse(1, &[(4, true)]),
+            Step::Elapse(1_333_332, &[]),
+            Step::Elapse(1, &[(2, false)]),
+            Step::Elapse(6_666_667, &[(5, true), (4, false)]),
+            Step::Elapse(6_666_667, &[(1, true), (5, false)]),
+            Step::Elapse(8_000_000, &[(2, true), (1, false)]),
+        ],
+    ),
+    // A stop that the decoder misses, and then receives.
+    (
+        "a train runs as its decoder does",
+        Made::Oval,
+        &[
+            DRIVE,
+            Step::Missed(&[0xA0, 0x01, 0x00]),
+            Step::Elapse(3_000_000, &[(4, true)]),
+            Step::Say(&[0xA0, 0x01, 0x00]),
+            Step::Elapse(60_000_000, &[]),
+        ],
+    ),
+    // The front is 50 millimetres in the east, the rear in main. Then the train is put back, and the turnout
+    // lies against it.
+    (
+        "a turnout thrown under a train derails it",
+        Made::Oval,
+        &[
+            DRIVE,
+            Step::Elapse(3_000_000, &[(4, true)]),
+            Step::Exit(MAIN_B, Exit::Leads(EAST_A)),
+            Step::Say(&[0xB0, 0x01, 0x10]),
+            Step::Elapse(60_000_000, &[]),
+            Step::Derailed(Some(2)),
+            Step::Occupied(1),
+            Step::Occupied(3),
+            Step::Exit(MAIN_B, Exit::Against),
+            Step::Place(MAIN, &[(4, false)]),
+            Step::Derailed(None),
+            Step::Elapse(60_000_000, &[]),
+            Step::Derailed(Some(2)),
+            Step::Front(999_999_999_999),
+        ],
+    ),
+    // And backward, to the other one.
+    (
+        "a train stops at a buffer stop",
+        Made::Line,
+        &[
+            Step::Exit(MAIN_B, Exit::BufferStop),
+            DRIVE,
+            Step::Elapse(60_000_000, &[]),
+            Step::Front(999_999_999_999),
+            Step::Rear(800_000_000_000),
+            Step::Say(&[0xA1, 0x01, 0x20]),
+            Step::Elapse(60_000_000, &[(1, true), (2, false)]),
+            Step::Rear(0),
+            Step::Front(199_999_999_999),
+            Step::Derailed(None),
+        ],
+    ),
+    (
+        "two trains in a block conflict",
+        Made::TwoTrains,
+        &[
+            Step::Conflicts(&[]),
+            DRIVE,
+            Step::Elapse(3_000_000, &[]),
+            Step::Conflicts(&[Conflict {
+                block: 3,
+                first: 0,
+                second: 1,
+            }]),
+        ],
+    ),
+];
+
+/// Asserts the steps of a story.
+fn check(rt: &impl Abort, world: &mut World, railway: &mut Railway, name: &str, steps: &[Step]) {
+    for step in steps {
+        assert!(rt; carry_out(world, railway, *step), "{name}");
+    }
+}
+
+#[test]
+fn trains_run(rt: HostRuntime) -> Result<(), Fail> {
+    for (name, made, steps) in STORIES {
+        let mut railway = railway_of(*made)?;
+        let mut world = layout(&rt)?;
+        check(&rt, &mut world, &mut railway, name, steps);
+    }
     Ok(())
 }

@@ -8,7 +8,7 @@ use railway::{Block, BlockEnd, End, Joint, Plan, Position, Train, Turnout};
 use std::test::Fail;
 
 /// A block of a metre, with this sensor.
-pub(crate) fn block(name: &str, sensor: u16) -> Result<Block, Fail> {
+pub(super) fn block(name: &str, sensor: u16) -> Result<Block, Fail> {
     let mut block = Block::default();
     block.name.try_push_str(name).map_err(|_| "name")?;
     block.length = 1000;
@@ -16,17 +16,17 @@ pub(crate) fn block(name: &str, sensor: u16) -> Result<Block, Fail> {
     Ok(block)
 }
 
-pub(crate) const fn end_a(block: u8) -> BlockEnd {
+pub(super) const fn end_a(block: u8) -> BlockEnd {
     BlockEnd { block, end: End::A }
 }
 
-pub(crate) const fn end_b(block: u8) -> BlockEnd {
+pub(super) const fn end_b(block: u8) -> BlockEnd {
     BlockEnd { block, end: End::B }
 }
 
 /// A train of 200 millimetres in block 1, its front 600 millimetres from end A. It runs 300
 /// millimetres a second at the last step.
-pub(crate) const EXPRESS: Train = Train {
+pub(super) const EXPRESS: Train = Train {
     decoder: 0,
     top: 300,
     length: 200,
@@ -39,7 +39,7 @@ pub(crate) const EXPRESS: Train = Train {
 
 /// The blocks west, main, siding, east and back, with sensors 1 to 5. Turnout 1 leads from the west
 /// to main or, thrown, to the siding; turnout 2 from the east.
-pub(crate) fn oval() -> Result<Plan, Fail> {
+pub(super) fn oval() -> Result<Plan, Fail> {
     let mut plan = Plan::default();
     let _ = plan.blocks.try_push(block("west", 1)?);
     let _ = plan.blocks.try_push(block("main", 2)?);
@@ -71,7 +71,7 @@ pub(crate) fn oval() -> Result<Plan, Fail> {
 }
 
 /// The decoder of locomotive 3, and that of switches 1 to 4.
-pub(crate) fn decoders() -> Result<NodeList, Fail> {
+pub(super) fn decoders() -> Result<NodeList, Fail> {
     let mut nodes = NodeList::new();
     nodes.push(NodeSpec::Loco(CvSet::new(3, 0, 0, 6)?));
     nodes.push(NodeSpec::Accessory(Module::new(1).ok_or("module")?));
@@ -79,12 +79,12 @@ pub(crate) fn decoders() -> Result<NodeList, Fail> {
 }
 
 /// Passes a message, given without its check, to line 0, and runs 40 turns.
-pub(crate) fn say(world: &mut World, body: &[u8]) {
+pub(super) fn say(world: &mut World, body: &[u8]) {
     say_missed(world, body, 0);
 }
 
 /// The same; decoder i misses the turns if bit i of `missed` is set.
-pub(crate) fn say_missed(world: &mut World, body: &[u8], missed: u64) {
+pub(super) fn say_missed(world: &mut World, body: &[u8], missed: u64) {
     let check = body.iter().fold(0xFF, |sum, byte| sum ^ *byte);
     pass(world, body);
     pass(world, &[check]);
@@ -105,7 +105,7 @@ fn pass(world: &mut World, bytes: &[u8]) {
 }
 
 /// A layout with power on, in which slot 1 is that of locomotive 3.
-pub(crate) fn layout(rt: &HostRuntime) -> Result<World, Fail> {
+pub(super) fn layout(rt: &HostRuntime) -> Result<World, Fail> {
     let mut world = World::new(rt.alloc(), 1, decoders()?)?;
     say(&mut world, &[0xBF, 0x00, 0x03]);
     say(&mut world, &[0xBA, 0x01, 0x01]);

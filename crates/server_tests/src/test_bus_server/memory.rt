@@ -4,7 +4,7 @@ ghost use Rattle.std.specs.List.{flat_map};
 ghost use Rattle.decoder_node.specs.declared.node.NodeSpec.{NodeSpec};
 ghost use Rattle.layout_core.specs.Nodes.{spec_of};
 ghost use Rattle.bus_server.specs.Observations.{Observed};
-ghost use Rattle.layout_tests.specs.Kept.{events_of_entry, observation_of};
+ghost use Rattle.server_tests.specs.Kept.{events_of_entry, observation_of};
 
 use super::kept::{Entry, Seen};
 use bus::Outcome;

@@ -3,10 +3,10 @@ use Rattle.std.specs.Prelude.{List, [], ◌∷◌, None, map, option_map}
 use Rattle.bus_server.specs.Observations.{Observation, Observed, Overflowed, Skipped}
 use Rattle.loconet_tcp.specs.declared.outcome.Outcome.TheVariants as outcome
 use Rattle.bus_server.specs.TransportEvents.{Polled, TransportEvent, Accepted, Received, PeerClosed, Written, ServerClosed, ReadBlocked, WriteBlocked, NonePending, Refused}
-use Rattle.layout_tests.specs.declared.test_bus_server.kept.Entry.{Entry}
-use Rattle.layout_tests.specs.declared.test_bus_server.kept.Entry.TheVariants as entry
-use Rattle.layout_tests.specs.declared.test_bus_server.kept.Seen.{Seen}
-use Rattle.layout_tests.specs.declared.test_bus_server.kept.Seen.TheVariants as seen
+use Rattle.server_tests.specs.declared.test_bus_server.kept.Entry.{Entry}
+use Rattle.server_tests.specs.declared.test_bus_server.kept.Entry.TheVariants as entry
+use Rattle.server_tests.specs.declared.test_bus_server.kept.Seen.{Seen}
+use Rattle.server_tests.specs.declared.test_bus_server.kept.Seen.TheVariants as seen
 
 -- one entry is one event, but a read one for each byte
 abbrev pub events_of_entry : Entry → List TransportEvent

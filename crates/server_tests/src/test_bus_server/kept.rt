@@ -2,7 +2,7 @@
 use loconet_tcp::{PlaceError, Reason, TurnsError};
 
 /// One call of a transport, and what it returned: what `TransportEvent` is in contracts, but a read is one entry.
-#[derive(Debug, Drop, PartialEq, Eq)]
+#[derive(Drop)]
 pub enum Entry {
     Polled(Option<u32>),
     Accepted(u8),
@@ -17,7 +17,7 @@ pub enum Entry {
 }
 
 /// One observation of a layout without decoders.
-#[derive(Debug, Drop, PartialEq, Eq)]
+#[derive(Drop)]
 pub enum Seen {
     Nothing,
     Connected(u8),

@@ -7,5 +7,3 @@ mod memory;
 mod runs;
 #[cfg(test)]
 mod script_run;
-#[cfg(test)]
-mod trains;

@@ -156,10 +156,10 @@ pub(crate) fn messages_before_overflow(observed: &[Seen]) -> u64 {
 pub(crate) fn disconnects_by_overflow(observed: &[Seen], client: u8) -> bool {
     let mut overflowed = false;
     for seen in observed {
-        if *seen == Seen::Disconnected(client) {
+        if matches!(seen, Seen::Disconnected(who) if *who == client) {
             return overflowed;
         }
-        overflowed = *seen == Seen::Overflowed(client);
+        overflowed = matches!(seen, Seen::Overflowed(who) if *who == client);
     }
     false
 }

@@ -4,28 +4,24 @@ use std::io;
 use std::io::{Error, ErrorKind, Read, Write};
 use std::test::Fail;
 
-/// A stream with given bytes, `step` at once, and then nothing, or its end. It accepts a limited
-/// number of bytes, and then none, or fails.
+/// A stream with given bytes, and then nothing. It accepts a limited number of bytes, and then none,
+/// or fails.
 #[derive(Drop)]
-pub(crate) struct Memory {
-    pub(crate) input: Vec<u8>,
-    pub(crate) at: usize,
-    pub(crate) step: usize,
-    pub(crate) output: Vec<u8>,
-    pub(crate) room: usize,
-    pub(crate) has_ended: bool,
-    pub(crate) fails: bool,
+pub(super) struct Memory {
+    pub(super) input: Vec<u8>,
+    pub(super) at: usize,
+    pub(super) output: Vec<u8>,
+    pub(super) room: usize,
+    pub(super) fails: bool,
 }
 
 impl Memory {
-    pub(crate) fn new(alloc: Global, input: &[u8]) -> Result<Memory, Fail> {
+    pub(super) fn new(alloc: Global, input: &[u8]) -> Result<Memory, Fail> {
         Ok(Memory {
             input: Vec::from_slice(alloc, input)?,
             at: 0,
-            step: usize::MAX,
             output: Vec::new(alloc),
             room: usize::MAX,
-            has_ended: false,
             fails: false,
         })
     }
@@ -34,8 +30,8 @@ impl Memory {
 impl Read for Memory {
     fn read(&mut self, buf: &mut [u8]) -> io::Result<usize> {
         let rest = self.input.get(self.at..).unwrap_or(&[]);
-        let count = buf.len().min(rest.len()).min(self.step);
-        if count == 0 && !self.has_ended {
+        let count = buf.len().min(rest.len());
+        if count == 0 {
             return Err(Error::from(ErrorKind::WouldBlock));
         }
         buf[..count].copy_from_slice(&rest[..count]);

@@ -2,9 +2,9 @@ use Rattle.std.proofs.Common.{◌∷◌, ◌++◌, [], List, Option, ap, ap₂, 
 use Rattle.layout_core.specs.declared.node.Node.{Node}
 use Rattle.railway.specs.Railway.{RailwayState}
 use Rattle.bus_server.specs.Observations.{Observed, Observation}
-use Rattle.layout_tests.specs.Kept.{observation_of}
-use Rattle.layout_tests.proofs.Small.{none_there}
-use Rattle.layout_tests.proofs.test_bus_server.memory.RecorderObserver.observe.Goals as goal
+use Rattle.server_tests.specs.Kept.{observation_of}
+use Rattle.server_tests.proofs.Small.{none_there}
+use Rattle.server_tests.proofs.test_bus_server.memory.RecorderObserver.observe.Goals as goal
 
 pub returns-clause-observed : goal.returns-clause-observed
 returns-clause-observed g c =
