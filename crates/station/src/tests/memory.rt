@@ -4,7 +4,6 @@
 //! These tests take the memory of the process, and so need the allocator of the C library:
 //! `rt test`, and not `rt try`.
 
-use super::examples::LAYOUT;
 use crate::{OrderFault, execute, order};
 use command_line::{no_text, read_words};
 use decoder_node::NodeList;
@@ -18,6 +17,18 @@ use std::net::TcpListener;
 use std::test::Fail;
 use std::{fs, mem};
 use test_support::{Given, Scarcity};
+
+/// A shunter and a turnout.
+const LAYOUT: &[u8] = b"version = 2
+[[node]]
+name = \"shunter\"
+kind = \"loco\"
+cvs = [[1, 3], [3, 10], [17, 192], [18, 0], [29, 2]]
+[[node]]
+name = \"yard\"
+kind = \"accessory\"
+module = 1
+";
 
 const SHOWN: &[u8] = b"node shunter short 3 stop forward F 0000000000000
 node yard module 1 outputs 00000000

@@ -98,7 +98,7 @@ fn what_is_served_is_printed_or_it_is_told(rt: HostRuntime) -> Result<(), Fail> 
     let words = ["serve", "--port", "5550", "--roster", file];
     for ((most, interrupts, writes, end, status, count), told) in rows {
         let mut output = Rough::new(rt.alloc(), most, interrupts, writes, end);
-        let (ended, faults, _) = serve_to(&rt, &words, &[&[0x83, 0x7C]], &mut output);
+        let (ended, faults) = serve_to(&rt, &words, &[&[0x83, 0x7C]], &mut output);
         assert_eq!(rt; faults.as_slice(), told);
         assert_eq!(rt; ended, status);
         assert_eq!(rt; output.written.as_slice(), &SERVED[..count]);
