@@ -11,6 +11,7 @@ import pickle
 import sys
 import threading
 import unittest
+import unittest.mock
 
 TOP = pathlib.Path(__file__).resolve().parents[3]
 sys.path.insert(0, str(TOP / "bindings/python"))
@@ -178,6 +179,19 @@ class TestLayouts(Test):
                 [decoder.place for decoder in other.decoders.values()], ["long 1234", "module 7", "short 5"]
             )
 
+    def test_statuses(self):
+        # A library that makes no layout: the numbers are those of station.h.
+        for status, error, text in (
+            (1, StationError, "no layout was made: status 1"),
+            (3, MemoryError, "no memory for a layout"),
+            (4, StationError, "no layout was made: status 4"),
+        ):
+            library = unittest.mock.Mock(**{"station_new.return_value": status, "station_read.return_value": status})
+            with unittest.mock.patch("station._library.load", return_value=library):
+                for roster in ([SHORT], LAYOUT):
+                    self.fails(error, text, Station, roster)
+            library.station_free.assert_not_called()
+
     def test_no_library(self):
         for path in ("none.so", str(LAYOUT)):
             self.fails(LibraryError, "make -C bindings", Station, library=path)
@@ -285,7 +299,10 @@ class TestEvents(Test):
                     call()
             for call in (lambda: station.turn([1]), lambda: station.turn(["shunter"]), lambda: station.running("x")):
                 self.fails(StationError, "there is no decoder", call)
+            self.fails(StationError, "there is no decoder -1", station.running, -1)
+            self.fails(StationError, "there is no decoder 1", station.running, 1)
             self.fails(StationError, "no accessory", station.outputs, 0)
+            self.assertEqual(station.turns(0), [])
             # No event of a list that is refused is run.
             self.assertEqual(station.turn(), Answer("off", b""))
 

@@ -12,14 +12,21 @@ sys.path.insert(0, str(TOP / "bindings/python"))
 from station import (  # noqa: E402
     AccessoryDecoder,
     Acknowledge,
+    Answer,
+    Byte,
     LocoDecoder,
+    Motion,
+    Noise,
+    Outputs,
     RefusedError,
     SensorReport,
     StationError,
     Throttle,
+    Turn,
     message_hex,
 )
-from station.messages import has_reply, reply_of, sensor_report_in  # noqa: E402
+from station.decoders import HasNodes, decoders_in, roster_fault, roster_text  # noqa: E402
+from station.messages import checked_message, has_reply, reply_of, sensor_report_in  # noqa: E402
 
 # Locomotive 3 in slot 1, in use, 128 steps, stopped, forward, track on.
 SLOT = "E7 0E 01 33 03 00 00 07 00 00 00 00 00 20"
@@ -95,8 +102,98 @@ class TestDecoders(unittest.TestCase):
             self.assertIn(fault, decoder.fault() or "valid")
 
 
+    def test_rosters(self):
+        # A pair of each variable, or keys; CV17 is 192 and CV18 0 where they are missing.
+        loco = 'version = {}\n[[node]]\nname = "x"\nkind = "loco"\n{}\n'
+        for text, wanted in (
+            (loco.format(2, "cvs = [[29, 34], [18, 210], [17, 196], [1, 3]]"), LocoDecoder.at(1234, name="x")),
+            (loco.format(2, "cvs = [[1, 3], [3, 10], [29, 2]]"), LocoDecoder.at(3, name="x")),
+            (loco.format(1, "cv1 = 3\ncv17 = 196\ncv18 = 210\ncv29 = 34"), LocoDecoder.at(1234, name="x")),
+            (loco.format(1, "cv1 = 3\ncv29 = 2"), LocoDecoder.at(3, name="x")),
+        ):
+            self.assertEqual(decoders_in(text), [wanted])
+        decoders = [LocoDecoder.at(1234, name="x"), AccessoryDecoder(510, "y")]
+        self.assertEqual(decoders_in(roster_text(decoders)), decoders)
+
+    def test_faults_of_rosters(self):
+        def text(cvs="[1, 3], [29, 2]", name="x"):
+            return f'version = 2\n[[node]]\nname = "{name}"\nkind = "loco"\ncvs = [{cvs}]\n'
+
+        two = text() + text().partition("\n")[2]
+        for roster, decoder, number, reason in (
+            # What is found here, in more words than the number has.
+            (text("[0, 3]"), 1, 9, "CV0 is none: they are 1 to 1024"),
+            (text("[1025, 3]"), 1, 9, "CV1025 is none: they are 1 to 1024"),
+            (text("[1, 3], [1024, 0], [1024, 0]"), 1, 9, "CV1024 is there twice"),
+            (text("[1, 3], [1024, 0]"), 1, 9, "CV29 is missing"),
+            (two, 2, 4, "an earlier decoder has this name"),
+            (text(name="seventeen-letters"), 1, 4, "name is 'seventeen-letters', and has to be 1 to 16 letters, digits, - or _"),
+            (text(), 0, 7, "no decoder"),
+            # What is not.
+            (text(), 1, 1, "not TOML"),
+            (text(), 1, 2, "a key is missing or unknown, or a value is of a wrong type"),
+            (text(), 1, 3, "more than 64 decoders"),
+            (text(), 1, 4, "its name is not 1 to 16 letters, digits, - or _, or an earlier decoder has it"),
+            (text(), 1, 5, "a variable is not 0 to 255, or they make no locomotive decoder"),
+            (text(name="sixteen--letters"), 1, 6, "its module is not 1 to 510"),
+            (text(), 1, 9, "a variable is not 1 to 1024 or is there twice, or 1 or 29 is missing"),
+            (text(), 1, 8, "it is invalid"),
+        ):
+            error = roster_fault(roster, decoder, number)
+            self.assertEqual((error.reason, error.number, error.decoder), (reason, number, decoder or None))
+
+    def test_states(self):
+        class Two(HasNodes):
+            nodes = {"loco": Motion("step", 126, 128, True, 1 << 12 | 1), "yard": Outputs(0b10000001)}
+
+        self.assertEqual([Two().running("loco").function(k) for k in (0, 1, 11, 12)], [True, False, False, True])
+        self.assertEqual([Two().outputs("yard").output(k) for k in (0, 1, 6, 7)], [True, False, False, True])
+        self.assertEqual((Two().running("loco").last_step, Motion("stop", 0, None, True, 0).last_step), (126, None))
+        for call, text in (
+            (lambda: Two().running("yard"), "decoder yard is no locomotive decoder"),
+            (lambda: Two().outputs("loco"), "decoder loco is no accessory decoder"),
+            (lambda: Two().running("none"), "there is no decoder none"),
+        ):
+            with self.assertRaisesRegex(StationError, text):
+                call()
+
+    def test_ranges(self):
+        for kind, least, most, others in (
+            (AccessoryDecoder, (0,), (65535,), ((-1,), (65536,))),
+            (Byte, (0, 0), (255, 255), ((-1, 0), (256, 0), (0, -1), (0, 256))),
+            (Noise, (0, 0), (255, 65535), ((-1, 0), (256, 0), (0, -1), (0, 65536))),
+            (Turn, (0,), ((1 << 64) - 1,), ((-1,), (1 << 64,))),
+            (LocoDecoder, (0, 0, 0, 0), (255, 255, 255, 255), ((256,), (3, 256), (3, 0, -1), (3, 0, 0, 256))),
+        ):
+            # Values that are kept in a set, so they do not change.
+            self.assertEqual(len({kind(*least), kind(*least), kind(*most)}), 2)
+            for numbers in others:
+                with self.assertRaisesRegex(ValueError, "and has to be"):
+                    kind(*numbers)
+        values = {Motion("stop", 0, None, True, 0), Outputs(0), SensorReport(1, True), Acknowledge(0xBF, True), Answer("off", b"")}
+        self.assertEqual(len(values | {reply_of(bytes.fromhex(SLOT))}), 6)
+        self.assertEqual(Turn(), Turn(0))
+
+
 class TestMessages(unittest.TestCase):
     """Replies and reports."""
+
+    def test_bodies(self):
+        # The opcode says how long a message is; from E0 on its second byte does, check byte and all.
+        for body, wanted in (
+            ("80", "80 7F"),
+            ("9F", "9F 60"),
+            ("A0 7F 7F", "A0 7F 7F 5F"),
+            ("BF 00 03", "BF 00 03 43"),
+            ("C0 00 00 00 00", "C0 00 00 00 00 3F"),
+            ("DF 01 02 03 04", "DF 01 02 03 04 24"),
+            ("E0 03", "E0 03 1C"),
+            ("E0 04 00", "E0 04 00 1B"),
+        ):
+            self.assertEqual(checked_message(bytes.fromhex(body)).hex(" ").upper(), wanted)
+        for body in ("", "7F", "80 00", "A0", "A0 80 00", "A0 00 80", "A0 00", "C0 00 00", "E0", "E0 02", "E0 04", "DF 01 02"):
+            with self.assertRaisesRegex(ValueError, "no message"):
+                checked_message(bytes.fromhex(body))
 
     def test_slot_data(self):
         for text, field, wanted in (
@@ -241,9 +338,20 @@ class TestThrottle(unittest.TestCase):
         for speed in (0, 1, 63, 126):
             loco.speed(speed)
         loco.emergency_stop()
-        self.assertEqual(
-            throttle.sent, ["A0 01 00 5E", "A0 01 02 5C", "A0 01 40 1E", "A0 01 7F 21", "A0 01 01 5F"]
-        )
+        wanted = ["A0 01 00 5E", "A0 01 02 5C", "A0 01 40 1E", "A0 01 7F 21", "A0 01 01 5F"]
+        self.assertEqual(throttle.sent, wanted)
+        for call, number, text in (
+            (loco.speed, 127, "a speed is 127, and has to be 0 to 126"),
+            (loco.speed, -1, "a speed is -1"),
+            (loco.function, 13, "a function is 13, and has to be 0 to 12"),
+            (loco.function, -1, "a function is -1"),
+            (loco.steps, 126, "steps is 126, and has to be 14, 28 or 128"),
+            (throttle.loco, 10240, "an address is 10240, and has to be 1 to 10239"),
+            (throttle.turnout, 2049, "a turnout is 2049, and has to be 1 to 2048"),
+        ):
+            with self.assertRaisesRegex(ValueError, text):
+                call(number)
+        self.assertEqual(throttle.sent, wanted)
 
     def test_direction_and_functions(self):
         # DIRF and SND of the slot, then what is sent: all bits but the one that is asked stay.
@@ -341,7 +449,9 @@ class TestThrottle(unittest.TestCase):
             turnout = throttle.turnout(number)
             for call in (turnout.throw, turnout.off, turnout.close, turnout.off):
                 call()
-            self.assertEqual(throttle.sent, [throw, off, close, off_again])
+            # Before, it is the output that throws.
+            throttle.turnout(number).off()
+            self.assertEqual(throttle.sent, [throw, off, close, off_again, off])
 
     def test_off_after_a_refusal(self):
         throttle = Recorder(None, SWITCH_REFUSED)
