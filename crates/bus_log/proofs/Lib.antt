@@ -5,4 +5,5 @@ pub mod Logging
 pub mod RailwayNames
 pub mod Sending
 pub mod Staying
+pub mod Taking
 pub mod Writing

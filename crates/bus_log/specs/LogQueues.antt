@@ -1,5 +1,5 @@
 -- Lines that are queued to be printed, as far as they fit.
-use Rattle.std.specs.Prelude.{ℕ, ◌≡◌, ◌<◌, ◌⊎◌, ◌+◌, ◌==◌, ◌&&◌, Bool, if◌then◌else◌, nat_le, nat_lt, List, [], ◌∷◌, ◌++◌, length, Option}
+use Rattle.std.specs.Prelude.{ℕ, ◌≡◌, ◌<◌, ◌⊎◌, ◌+◌, ◌==◌, ◌&&◌, Bool, if◌then◌else◌, nat_le, nat_lt, List, [], ◌∷◌, ◌++◌, All, length, Option}
 use Rattle.std.specs.Io.KnownBytes.{Appends}
 use Rattle.bus_log.specs.Lines.{saturating_successor}
 
@@ -53,3 +53,9 @@ Reports old new text = ((text ≡ []) × (new.left_out ≡ old.left_out)) ⊎ ((
 abbrev pub WritesQueued : (old new : LogState) → (before after : Option (List ℕ)) → Type 0
 WritesQueued old new before after =
     (written text : List ℕ) × Appends before after written × (old.queued ++ text ≡ written ++ new.queued) × Reports old new text × (new.line ≡ old.line)
+
+-- Each write took bytes, until one took none, or no bytes are queued, or 64 writes were made. What
+-- each took is known if the output keeps the counts.
+abbrev pub WritesUntilBlocked : (new : LogState) → (before after : Option (List ℕ)) → Type 0
+WritesUntilBlocked new before after =
+    (counts : List ℕ) × All (λ count. 0 < count) counts × (Appends before after (counts ++ 0 ∷ []) ⊎ (Appends before after counts × ((new.queued ≡ []) ⊎ (length counts ≡ 64))))

@@ -1,8 +1,8 @@
 //! The output of queued lines.
-ghost use Rattle.std.specs.Prelude.{◌≡◌, ◌<◌, ◌≤◌, Bool, IfOk, List, Option, length, ℕ};
-ghost use Rattle.std.specs.Io.KnownBytes.{WriteAppends};
+ghost use Rattle.std.specs.Prelude.{◌≡◌, ◌<◌, ◌≤◌, ◌∷◌, [], Bool, IfOk, List, OnOk, Option, length, ℕ};
+ghost use Rattle.std.specs.Io.KnownBytes.{Appends, WriteAppends};
 ghost use Rattle.input_text.specs.Write.{failed_after};
-ghost use Rattle.bus_log.specs.LogQueues.{WritesQueued};
+ghost use Rattle.bus_log.specs.LogQueues.{WritesQueued, WritesUntilBlocked};
 
 use crate::log_queue::LogQueue;
 use crate::printer::Printer;
@@ -20,6 +20,9 @@ pub trait LogOutput {
     /// The bytes written so far, if they are known.
     ghost written: { Self → Option (List ℕ) };
 
+    /// The number of bytes that each write has taken so far, if these are known.
+    ghost counts: { Self → Option (List ℕ) };
+
     /// Whether a write failed.
     ghost failed: { Self → Bool };
 
@@ -33,6 +36,8 @@ pub trait LogOutput {
         requires some { 0 < length bytes.now }
         ensures bound { IfOk result (λ count. count ≤ length bytes.now) }
         ensures bytes { WriteAppends (written self.old) (written self.new) result bytes.now }
+        ensures counts { IfOk result
+            (λ count. Appends (counts self.old) (counts self.new) (count ∷ [])) }
         ensures failed { failed self.new ≡ failed_after result (failed self.old) };
 }
 
@@ -51,6 +56,8 @@ impl Printer<'_> {
     ) -> Result<(), WriteError>
         ensures written { WritesQueued self.old.log self.new.log (T.written output.old)
             (T.written output.new) }
+        ensures progress { OnOk result (WritesUntilBlocked self.new.log (T.counts output.old)
+            (T.counts output.new)) }
         ensures failed { T.failed output.new ≡ failed_after result (T.failed output.old) }
         ensures kept { printer_state self.new ≡ printer_state self.old }
         ensures roster { self.new.roster ≡ self.old.roster }
@@ -71,9 +78,11 @@ pub fn write_queued<T: LogOutput>(
     longest: Duration,
 ) -> Result<(), WriteError>
     ensures written { WritesQueued log.old log.new (T.written output.old) (T.written output.new) }
+    ensures progress { OnOk result
+        (WritesUntilBlocked log.new (T.counts output.old) (T.counts output.new)) }
     ensures failed { T.failed output.new ≡ failed_after result (T.failed output.old) }
 {
-    for _ in 0..MOST_WRITES {
+    for _write in 0..MOST_WRITES {
         log.report_left_out();
         if !log.has_queued() {
             return Ok(());

@@ -1,5 +1,5 @@
 //! Standard output, written only while it accepts bytes.
-ghost use Rattle.std.specs.Prelude.{◌≡◌, IfOk, OnOk, false, true};
+ghost use Rattle.std.specs.Prelude.{◌≡◌, IfOk, None, OnOk, false, true};
 ghost use Rattle.std.specs.Io.KnownBytes.{Appends};
 ghost use Rattle.input_text.specs.Write.{failed_after};
 
@@ -109,6 +109,8 @@ impl<O: Write> StandardOutput<O> {
 
 impl<O: Write> LogOutput for StandardOutput<O> {
     ghost written = { λ output. O.contents output.writer };
+
+    ghost counts = { λ _. None };
 
     ghost failed = { λ output. output.failed };
 
