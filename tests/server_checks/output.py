@@ -1,6 +1,8 @@
 """A standard output that nobody reads, slot reads, and an output that is to be quiet."""
 
 import contextlib
+import os
+import pty
 import re
 import subprocess
 import threading
@@ -12,6 +14,7 @@ from server_checks.common import (
     holds,
     is_tried_again,
     printed_after,
+    program,
     receive,
     run,
     same,
@@ -21,7 +24,7 @@ from server_checks.common import (
     turns_of,
 )
 from server_checks.queues import read_beside
-from serving import Client, Page, message, message_hex
+from serving import Client, Page, Server, message, message_hex
 
 
 # A message without meaning to the station, which is sent after all others.
@@ -54,7 +57,36 @@ def unread_output():
     with serve("--turns", "0", output=subprocess.PIPE) as server, contextlib.ExitStack() as stack:
         everybody = [stack.enter_context(Client(server)) for _ in range(8)]
         order = send_all(everybody)
-        check_log(read_log(server, everybody[0]), order)
+        check_log(read_log(server, server.process.stdout, everybody[0]), order)
+
+
+class OnTerminal(Server):
+    """The program on a terminal. What it prints is on `screen`, of which only the first line is read."""
+
+    def __init__(self, *words):
+        screen, terminal = pty.openpty()
+        self.screen = os.fdopen(screen, "rb", buffering=0)
+        super().__init__(program["path"], *words, output=os.fdopen(terminal, "wb", buffering=0))
+
+    def _listens(self):
+        return self.screen.readline().startswith(b"listening ")
+
+    def close(self):
+        super().close()
+        self.output.close()
+        self.screen.close()
+
+
+def unread_terminal():
+    """where nobody reads the terminal, 3,000 messages of a client are answered, and what is read is in order"""
+    texts = [message_hex(0xA0, 1 + i // 128, i % 128) for i in range(3000)]
+    with OnTerminal("--turns", "0") as server, Client(server) as client:
+        reader, lines = read_beside(client, 2 * len(texts))
+        client.write(send(*texts))
+        reader.join(30)
+        same("lines of the client", lines, [line for text in texts for line in (f"RECEIVE {text}", "SENT OK")])
+        order = ["client 1 joins", *(speed_line(text, 1 + i // 128, i % 128) for i, text in enumerate(texts))]
+        check_log(read_log(server, server.screen, client), order)
 
 
 def file_output():
@@ -66,18 +98,24 @@ def file_output():
         same("printed", printed_after(server, LAST), [*order, LAST])
 
 
-def read_log(server, client):
-    """Reads what was printed, to a message that is sent once there is room again."""
+def read_log(server, stream, client):
+    """Reads what was printed to the stream, to a message that is sent once there is room again."""
     lines = []
-    reader = threading.Thread(target=lambda: lines.extend(iter(server.process.stdout.readline, b"")), daemon=True)
+
+    def read():
+        # A terminal ends with an error.
+        with contextlib.suppress(OSError):
+            lines.extend(line.decode("ascii").rstrip("\r\n") for line in iter(stream.readline, b""))
+
+    reader = threading.Thread(target=read, daemon=True)
     reader.start()
     count = -1
     while len(lines) != count:
         count = len(lines)
         time.sleep(0.3)
     client.stream.sendall(message(0x80))
-    holds("the last line", server.until(lambda: f"{LAST}\n".encode() in lines[-10:]))
-    return [line.decode("ascii").removesuffix("\n") for line in lines]
+    holds("the last line", server.until(lambda: LAST in lines[-10:]))
+    return lines
 
 
 def check_log(lines, order):
@@ -94,7 +132,7 @@ def check_log(lines, order):
             same("a line of the log", line, order[at] if at < len(order) else None)
             at += 1
     same("lines", at, len(order))
-    # A pipe holds 65,536 bytes, and the messages are some 400,000.
+    # A pipe holds 65,536 bytes, a terminal fewer, and the lines are at least 130,000.
     holds("lines are left out", left_out > 0)
 
 

@@ -11,6 +11,7 @@ mod reach;
 mod roster_file;
 mod roster_line;
 mod standard_output;
+mod terminal_writer;
 
 use command_line::{not_utf8_server_text, read_words, texts};
 use executing::execute;
@@ -18,6 +19,7 @@ use fault::ServerFault;
 use standard_output::StandardOutput;
 use std::io;
 use std::process::ExitCode;
+use terminal_writer::TerminalWriter;
 
 fn main(rt: HostRuntime) -> ExitCode {
     ExitCode::from(match run_words(&rt) {
@@ -31,6 +33,6 @@ fn main(rt: HostRuntime) -> ExitCode {
 fn run_words(rt: &HostRuntime) -> Result<u8, ServerFault> {
     let words = read_words(rt.alloc(), rt, |alloc| not_utf8_server_text(alloc))?;
     let texts = texts(rt.alloc(), words.as_slice())?;
-    let mut output = StandardOutput::new(rt, io::writer(rt))?;
+    let mut output = StandardOutput::new(rt, TerminalWriter::new(rt, io::writer(rt)))?;
     Ok(execute(rt, texts.as_slice(), &mut output, &mut rt.stderr()))
 }
