@@ -121,6 +121,9 @@ stream.recv(100)
                 program.write_text(text.replace("{named}", named).replace("{bound}", bound))
                 program.chmod(0o755)
                 with Server("--address", named, program=program, port=0) as server:
+                    self.assertEqual(repr(server), f"<Server on {bound}:{server.port}, running>")
+                    with self.assertRaisesRegex(StationError, "the server is running"):
+                        server.__enter__()
                     server.power_on()
                     self.assertEqual(server.host, bound)
                     # A pattern is looked for within a line; a text is the whole line.
@@ -130,6 +133,7 @@ stream.recv(100)
                     for wanted in ("track power on", "message 83 7C  track power", re.compile("^track")):
                         with self.assertRaisesRegex(TimeoutError, "waited in vain"):
                             server.wait_for(wanted, seconds=0.02)
+                self.assertEqual(repr(server), f"<Server on {bound}:{server.port}, not running>")
 
     def test_programs_that_fail(self):
         for program in ("/bin/false", "/bin/echo"):
@@ -288,6 +292,18 @@ class TestClient(unittest.TestCase):
                     self.assertEqual(client.sensor_report(), SensorReport(sensor, occupied))
             with self.assertRaises(ClosedError):
                 client.sensor_report()
+
+    def test_no_reply(self):
+        with scripted(["VERSION x"], ["RECEIVE BB 01 00 45", "SENT OK", "SENT OK"]) as (port, _):
+            with Client("127.0.0.1", port) as client:
+                with self.assertRaisesRegex(StationError, "no reply: SENT OK"):
+                    client.send(0xBB, 1, 0)
+
+    def test_connection(self):
+        with scripted(["VERSION x"]) as (port, _), Client("127.0.0.1", port, room=4096) as client:
+            # Each line is sent at once, and the system doubles the room for its own use.
+            self.assertNotEqual(client.stream.getsockopt(socket.IPPROTO_TCP, socket.TCP_NODELAY), 0)
+            self.assertEqual(client.stream.getsockopt(socket.SOL_SOCKET, socket.SO_RCVBUF), 8192)
 
     def test_rejected_and_closed(self):
         with scripted(["ERROR no place"]) as (port, _):

@@ -427,7 +427,7 @@ class TestThrottle(Test):
             self.fails(StationError, "not taken", one.speed, 1)
             # Free: the slot is no longer the locomotive's.
             station.send(0xB5, found.slot, 0)
-            error = self.fails(RefusedError, "locomotive 3: the station sends only function group three", other.function, 9)
+            error = self.fails(RefusedError, "locomotive 3: the station sends only function", other.function, 9)
             self.assertEqual(error.opcode, 0xED)
             self.fails(StationError, "take it again", other.data)
             self.assertIsNone(other.slot)

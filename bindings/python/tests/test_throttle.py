@@ -65,6 +65,7 @@ class TestDecoders(unittest.TestCase):
             (LocoDecoder.at(3), (3, 192, 0, 2)),
             (LocoDecoder.at(3, reversed=True), (3, 192, 0, 3)),
             (LocoDecoder.at(3, steps=28), (3, 192, 0, 2)),
+            (LocoDecoder(5), (5, 192, 0, 0)),
             (LocoDecoder.at(3, steps=14), (3, 192, 0, 0)),
             (LocoDecoder.at(1, steps=14, reversed=True), (1, 192, 0, 1)),
             (LocoDecoder.at(127), (127, 192, 0, 2)),
@@ -119,6 +120,7 @@ class TestDecoders(unittest.TestCase):
         def text(cvs="[1, 3], [29, 2]", name="x"):
             return f'version = 2\n[[node]]\nname = "{name}"\nkind = "loco"\ncvs = [{cvs}]\n'
 
+        letters = "1 to 16 letters, digits, - or _"
         two = text() + text().partition("\n")[2]
         for roster, decoder, number, reason in (
             # What is found here, in more words than the number has.
@@ -127,13 +129,15 @@ class TestDecoders(unittest.TestCase):
             (text("[1, 3], [1024, 0], [1024, 0]"), 1, 9, "CV1024 is there twice"),
             (text("[1, 3], [1024, 0]"), 1, 9, "CV29 is missing"),
             (two, 2, 4, "an earlier decoder has this name"),
-            (text(name="seventeen-letters"), 1, 4, "name is 'seventeen-letters', and has to be 1 to 16 letters, digits, - or _"),
-            (text(), 0, 7, "no decoder"),
+            (text(name="seventeen-letters"), 1, 4, f"name is 'seventeen-letters', and has to be {letters}"),
+            ("version = 1\n", 0, 7, "no decoder"),
+            ("version = 2\n", 0, 7, "no decoder"),
+            ("version = 0\n", 0, 2, "version is 0, and has to be 1 or 2"),
             # What is not.
             (text(), 1, 1, "not TOML"),
             (text(), 1, 2, "a key is missing or unknown, or a value is of a wrong type"),
             (text(), 1, 3, "more than 64 decoders"),
-            (text(), 1, 4, "its name is not 1 to 16 letters, digits, - or _, or an earlier decoder has it"),
+            (text(), 1, 4, f"its name is not {letters}, or an earlier decoder has it"),
             (text(), 1, 5, "a variable is not 0 to 255, or they make no locomotive decoder"),
             (text(name="sixteen--letters"), 1, 6, "its module is not 1 to 510"),
             (text(), 1, 9, "a variable is not 1 to 1024 or is there twice, or 1 or 29 is missing"),
@@ -170,8 +174,9 @@ class TestDecoders(unittest.TestCase):
             for numbers in others:
                 with self.assertRaisesRegex(ValueError, "and has to be"):
                     kind(*numbers)
-        values = {Motion("stop", 0, None, True, 0), Outputs(0), SensorReport(1, True), Acknowledge(0xBF, True), Answer("off", b"")}
-        self.assertEqual(len(values | {reply_of(bytes.fromhex(SLOT))}), 6)
+        states = {Motion("stop", 0, None, True, 0), Outputs(0), SensorReport(1, True)}
+        replies = {Acknowledge(0xBF, True), Answer("off", b""), reply_of(bytes.fromhex(SLOT))}
+        self.assertEqual(len(states | replies), 6)
         self.assertEqual(Turn(), Turn(0))
 
 
@@ -191,7 +196,8 @@ class TestMessages(unittest.TestCase):
             ("E0 04 00", "E0 04 00 1B"),
         ):
             self.assertEqual(checked_message(bytes.fromhex(body)).hex(" ").upper(), wanted)
-        for body in ("", "7F", "80 00", "A0", "A0 80 00", "A0 00 80", "A0 00", "C0 00 00", "E0", "E0 02", "E0 04", "DF 01 02"):
+        others = ("", "7F", "80 00", "A0", "A0 80 00", "A0 00 80", "A0 00", "C0 00 00", "DF 01 02", "E0", "E0 02", "E0 04")
+        for body in others:
             with self.assertRaisesRegex(ValueError, "no message"):
                 checked_message(bytes.fromhex(body))
 
@@ -399,11 +405,12 @@ class TestThrottle(unittest.TestCase):
 
     def test_nine_to_twelve_together(self):
         # What is refused is not kept, and taking it again forgets all.
-        throttle, loco = taken(PACKET_TAKEN, PACKET_TAKEN, PACKET_TAKEN, PACKET_REFUSED, PACKET_TAKEN, SLOT, SLOT, PACKET_TAKEN)
+        replies = [PACKET_TAKEN] * 3 + [PACKET_REFUSED, PACKET_TAKEN, SLOT, SLOT, PACKET_TAKEN]
+        throttle, loco = taken(*replies)
         loco.function(9)
         loco.function(10)
         loco.function(9, False)
-        with self.assertRaisesRegex(RefusedError, "locomotive 3: the station sends only function group three") as caught:
+        with self.assertRaisesRegex(RefusedError, "locomotive 3: the station sends only function") as caught:
             loco.function(11)
         self.assertEqual(caught.exception.opcode, 0xED)
         loco.function(12)
