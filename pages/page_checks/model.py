@@ -1,0 +1,162 @@
+"""The part of the page's script that needs no document, in node."""
+
+import json
+import re
+import shutil
+import subprocess
+
+from .common import PAGE, check
+
+# Bytes are of LocoNet Personal Use Edition 1.0, with check bytes worked out by hand.
+
+MODEL_CHECKS = r"""
+const rows = [];
+const row = (name, found, wanted) => rows.push({ name, found: JSON.stringify(found), wanted: JSON.stringify(wanted) });
+const sent = (name, bytes, wanted) => row(`sends ${name}`, hexOf(bytes), wanted);
+sent('power on', ask.powerOn(), '83 7C');
+sent('power off', ask.powerOff(), '82 7D');
+sent('stop of all', ask.stopAll(), '85 7A');
+sent('address 3', ask.address(3), 'BF 00 03 43');
+sent('address 1234', ask.address(1234), 'BF 09 52 1B');
+sent('a null move', ask.use(1), 'BA 01 01 45');
+sent('a read of slot 5', ask.slot(5), 'BB 05 00 41');
+sent('speed 63 of 126', ask.speed(1, 0x40), 'A0 01 40 1E');
+sent('an emergency stop', ask.speed(1, 1), 'A0 01 01 5F');
+sent('F0, forward', ask.directionAndFive(1, 0x10), 'A1 01 10 4F');
+sent('F5', ask.fiveToEight(1, 1), 'A2 01 01 5D');
+sent('a slot made common', ask.state(1, 0x13), 'B5 01 13 58');
+sent('turnout 5 thrown, on', turnoutRequest(5, false, true), 'B0 04 10 5B');
+sent('turnout 5 thrown, off', turnoutRequest(5, false, false), 'B0 04 00 4B');
+sent('turnout 2048 closed, on', turnoutRequest(2048, true, true), 'B0 7F 3F 0F');
+sent('F9 of address 3', groupThree(3, 1), 'ED 0B 7F 23 22 03 21 00 00 00 45');
+sent('F12 of address 1234', groupThree(1234, 8), 'ED 0B 7F 33 27 44 52 28 00 00 4C');
+
+const tells = (text, words) => row(`tells ${text}`, wordsOf(bytesOf(text)), words);
+tells('E7 0E 01 33 03 00 00 07 00 00 00 00 00 20', 'slot 1: locomotive 3, in use, 128 steps, stop, forward; track on');
+tells('E7 0E 01 23 03 00 00 06 00 00 00 00 00 31', 'slot 1: locomotive 3, idle, 128 steps, stop, forward; track off');
+tells('A0 01 40 1E', 'slot 1: speed 63 of 126');
+tells('A1 01 30 6F', 'slot 1: F0 to F4: F0 on, reverse');
+tells('A2 01 00 5C', 'slot 1: F5 to F8: all off');
+tells('B0 04 10 5B', 'turnout 5 thrown, on');
+tells('B4 3F 00 74', 'no free slot for the locomotive');
+tells('B4 3B 00 70', 'message BB refused');
+tells('B5 01 13 58', 'slot 1: common, 128 steps');
+tells('BA 01 01 45', 'use slot 1');
+tells('ED 0B 7F 23 22 03 21 00 00 00 45', 'send to the track: locomotive 3: F9 to F12: F9 on');
+tells('81 7E', 'busy');
+tells('83 7D', 'wrong check');
+tells('83', 'wrong length');
+tells('A0 01 83 7C', 'data above 7F');
+tells('7C', 'no opcode');
+
+// S-9.2.1: two of the 128 codes are stops, so the steps are 1 to 126; the others round down.
+const steps = (spd, kind, motion) => row(`SPD ${spd} of type ${kind}`, motionOf(spd, kind), motion);
+[[0, 3, 'stop'], [1, 0, 'emergency'], [2, 3, 'step 1 of 126'], [127, 3, 'step 126 of 126'], [2, 0, 'step 1 of 28'],
+  [6, 0, 'step 1 of 28'], [7, 0, 'step 2 of 28'], [127, 0, 'step 28 of 28'], [10, 2, 'step 1 of 14'], [11, 2, 'step 2 of 14'],
+  [127, 2, 'step 14 of 14']].forEach((row) => steps(...row));
+
+const line = readNode('node shunter short 3 step 63 of 128 forward F 1000000000001');
+row('the line of a locomotive', [line.name, line.address, line.motion, line.share],
+  ['shunter', 3, 'step 63 of 126', 0.5]);
+row('and its functions', [line.functions[0], line.functions[1], line.functions[12]], [true, false, true]);
+row('the last step is full speed', ['3 step 126 of 128', '3 step 28 of 28', '3 step 14 of 14'].map((text) => {
+  const { motion, share } = readNode(`node shunter short ${text} forward F 0000000000000`);
+  return [motion, share];
+}), [['step 126 of 126', 1], ['step 28 of 28', 1], ['step 14 of 14', 1]]);
+row('the line of an accessory decoder', readNode('node yard module 1 outputs 01000000').outputs[1], true);
+const wanted = (text, ...lines) => lines.map((line) => isWanted(readNode(`node ${line}`), text));
+const decoders = ['shunter short 3 stop forward F 0000000000000', 'yard module 20 outputs 00000000'];
+row('a decoder is found by its name', wanted(' Shunt', ...decoders), [true, false]);
+row('by the first digits of its address',
+  ['3', '13', '33'].map((text) => wanted(text, decoders[0])[0]), [true, false, false]);
+row('and by its turnouts, of module 20 these are 77 to 80',
+  ['77', '80', '81', '20'].map((text) => wanted(text, decoders[1])[0]), [true, true, false, false]);
+row('without a text every decoder is shown', wanted('', ...decoders), [true, true]);
+row('a line with markup is no line', readNode('node <b>x</b> module 1 outputs 01000000'), null);
+
+const plan = new Plan();
+const tell = (...lines) => lines.forEach((text) => plan.hear(text));
+tell('BLOCK main 1500 a 300 100 b 700 -100', 'BLOCK siding 1500', 'TRAIN shunter main 6 b main');
+row('a block is drawn from end a to end b', ['a', 'b'].map((end) => plan.blocks.get('main')[end]),
+  [{ x: 300, y: 100 }, { x: 700, y: -100 }]);
+row('a plan with an end that has no place is a list', plan.isDrawn, false);
+row('a block says which train is in it', ['main', 'siding'].map((block) => plan.wordsOf(block)), ['shunter', 'free']);
+tell('TRAIN express siding 0 a main derailed');
+row('two trains in a block are a conflict', plan.wordsOf('main'), 'conflict: shunter, express derailed');
+row('a train is in the blocks of both its ends', plan.wordsOf('siding'), 'express derailed');
+tell('TRAIN express siding 0 a siding');
+row('until its rear has left one', ['main', 'siding'].map((block) => plan.wordsOf(block)), ['shunter', 'express']);
+
+const station = new Station();
+const hear = (text) => station.hear(bytesOf(text), false);
+const verdict = () => verdictOf(station, readNode('node shunter short 3 step 63 of 128 forward F 0000000000000')).words;
+row('nothing is claimed before the power is known', verdict(), 'power not known');
+hear('E7 0E 01 33 03 40 00 07 00 00 00 00 00 60');
+row('slot data that answers nothing is not believed', station.power, 'unknown');
+hear('BB 01 00 45');
+hear('E7 0E 01 33 03 40 00 07 00 00 00 00 00 60');
+row('a locomotive that runs as its slot asks', verdict(), 'as asked');
+hear('A0 01 00 5E');
+row('and not yet, after another speed', verdict(), 'not yet: stop');
+hear('A0 01 40 1E');
+hear('A1 01 30 6F');
+row('nor after another direction and F0', verdict(), 'not yet: reverse, F0 on');
+hear('A1 01 20 7F');
+row('a direction alone may be reversed by CV29', verdict(), 'not yet: reverse, or CV29 reverses it');
+hear('85 7A');
+row('nothing is claimed while paused', [station.power, verdict()], ['paused', 'power paused']);
+hear('82 7D');
+hear('85 7A');
+row('a stop of all without power is passed over', station.power, 'off');
+hear('83 7C');
+hear('ED 0B 7F 23 22 03 21 00 00 00 45');
+hear('B4 7D 7F 49');
+row('F9 to F12 are known once they were asked', functionsOf(station.slots[1]).slice(9), [true, false, false, false]);
+hear('B5 01 03 48');
+row('a slot that is set free', station.slots[1], null);
+hear('B0 04 10 5B');
+hear('B4 30 00 7B');
+row('a turnout that is refused', station.turnoutOf(5).refused > 0, true);
+row('and not as it was asked', station.turnoutOf(5).asked, null);
+row('the words of a refusal', refusalWords(bytesOf('B0 04 10 5B'), bytesOf('B4 30 00 7B')), 'Refused: turnout 5 thrown, on');
+row('with the reason', refusalWords(bytesOf('BF 00 4D 0D'), bytesOf('B4 3F 00 74')),
+  'Refused: take locomotive 77 (no free slot for the locomotive)');
+station.forgetRefusals(Date.now() - 60000);
+row('its refusal is remembered for a minute', station.turnoutOf(5).refused > 0, true);
+station.forgetRefusals(Date.now());
+row('and then forgotten', station.turnoutOf(5).refused, 0);
+
+const put = [];
+const talk = new Talk((text) => put.push(text), { message() {}, node() {}, joined() {}, refused() {} });
+const answer = talk.send(ask.address(3));
+['RECEIVE 83 7C', 'RECEIVE BF 00 03 43', 'SENT OK', 'RECEIVE B4 3F 00 74'].forEach((text) => talk.hear(text));
+const told = [];
+const refused = new Talk(() => {}, { message: (bytes, own) => told.push([hexOf(bytes), own]) });
+refused.send(turnoutRequest(2048, true, true));
+['RECEIVE B0 7F 3F 0F', 'SENT OK', 'RECEIVE B4 30 00 7B', 'RECEIVE 83 7C'].forEach((text) => refused.hear(text));
+row('whose messages these are', told, [['B0 7F 3F 0F', true], ['B4 30 00 7B', true], ['83 7C', false]]);
+const wrong = talk.send([0x83, 0x7D]);
+talk.hear('SENT ERROR wrong check byte');
+const late = talk.send(ask.powerOn());
+talk.end();
+Promise.all([answer, wrong, late]).then(([first, second, third]) => {
+  row('the line that is sent', put[0], 'SEND BF 00 03 43');
+  row('the reply behind the own message', hexOf(first.reply), 'B4 3F 00 74');
+  row('a message that is refused', second.error, 'ERROR wrong check byte');
+  row('a message under way when the connection ends', third.error, 'the connection was lost');
+  console.log(JSON.stringify(rows));
+});
+"""
+
+
+def try_model():
+    """The first script of the page, without a document."""
+    if not shutil.which("node"):
+        print("--  the model is not checked: there is no node here")
+        return
+    model = re.search(r'<script id="model">(.*?)</script>', PAGE.read_text(), re.DOTALL).group(1)
+    run = subprocess.run(["node", "-"], input=model + MODEL_CHECKS, capture_output=True, text=True)
+    if run.returncode:
+        raise SystemExit(run.stderr)
+    for row in json.loads(run.stdout):
+        check(row["name"], row["found"], row["wanted"])
