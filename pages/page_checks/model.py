@@ -29,6 +29,10 @@ sent('turnout 5 thrown, on', turnoutRequest(5, false, true), 'B0 04 10 5B');
 sent('turnout 5 thrown, off', turnoutRequest(5, false, false), 'B0 04 00 4B');
 sent('turnout 2048 closed, on', turnoutRequest(2048, true, true), 'B0 7F 3F 0F');
 sent('F9 of address 3', groupThree(3, 1), 'ED 0B 7F 23 22 03 21 00 00 00 45');
+sent('F9 of address 127', groupThree(127, 1), 'ED 0B 7F 23 22 7F 21 00 00 00 39');
+sent('F9 of address 128', groupThree(128, 1), 'ED 0B 7F 33 27 40 00 21 00 00 13');
+sent('F9 of address 1025', groupThree(1025, 1), 'ED 0B 7F 33 25 44 01 21 00 00 14');
+sent('F10 of address 3', groupThree(3, 2), 'ED 0B 7F 23 22 03 22 00 00 00 46');
 sent('F12 of address 1234', groupThree(1234, 8), 'ED 0B 7F 33 27 44 52 28 00 00 4C');
 
 const tells = (text, words) => row(`tells ${text}`, wordsOf(bytesOf(text)), words);
@@ -36,13 +40,23 @@ tells('E7 0E 01 33 03 00 00 07 00 00 00 00 00 20', 'slot 1: locomotive 3, in use
 tells('E7 0E 01 23 03 00 00 06 00 00 00 00 00 31', 'slot 1: locomotive 3, idle, 128 steps, stop, forward; track off');
 tells('A0 01 40 1E', 'slot 1: speed 63 of 126');
 tells('A1 01 30 6F', 'slot 1: F0 to F4: F0 on, reverse');
+[['01 5E', 1], ['02 5D', 2], ['04 5B', 3], ['08 57', 4]].forEach(([bytes, number]) =>
+  tells(`A1 01 ${bytes}`, `slot 1: F0 to F4: F${number} on, forward`));
 tells('A2 01 00 5C', 'slot 1: F5 to F8: all off');
+[['01 5D', 5], ['02 5E', 6], ['04 58', 7], ['08 54', 8]].forEach(([bytes, number]) =>
+  tells(`A2 01 ${bytes}`, `slot 1: F5 to F8: F${number} on`));
 tells('B0 04 10 5B', 'turnout 5 thrown, on');
 tells('B4 3F 00 74', 'no free slot for the locomotive');
 tells('B4 3B 00 70', 'message BB refused');
 tells('B5 01 13 58', 'slot 1: common, 128 steps');
+tells('B5 01 3B 70', 'slot 1: in use, 128 steps, top of a consist');
+tells('B5 01 73 38', 'slot 1: in use, 128 steps, end of a consist');
+tells('B5 01 7B 30', 'slot 1: in use, 128 steps, inside a consist');
+tells('B2 00 50 1D', 'sensor 1 high');
+tells('B2 00 60 2D', 'sensor 2 low');
 tells('BA 01 01 45', 'use slot 1');
 tells('ED 0B 7F 23 22 03 21 00 00 00 45', 'send to the track: locomotive 3: F9 to F12: F9 on');
+tells('ED 0B 7F 23 22 03 22 00 00 00 46', 'send to the track: locomotive 3: F9 to F12: F10 on');
 tells('81 7E', 'busy');
 tells('83 7D', 'wrong check');
 tells('83', 'wrong length');
