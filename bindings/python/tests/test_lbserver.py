@@ -135,6 +135,25 @@ stream.recv(100)
                             server.wait_for(wanted, seconds=0.02)
                 self.assertEqual(repr(server), f"<Server on {bound}:{server.port}, not running>")
 
+    def test_words_of_a_page(self):
+        # The server waits for both lines. A page that the options name is the only one.
+        text = """#!/usr/bin/env python3
+import sys, time
+print("listening 127.0.0.1:1", flush=True)
+time.sleep(0.2)
+print("words", *sys.argv[1:], flush=True)
+time.sleep(60)
+"""
+        with tempfile.TemporaryDirectory() as folder:
+            program = pathlib.Path(folder, "program")
+            program.write_text(text)
+            program.chmod(0o755)
+            own = ["--page-file=x"]
+            for options, page in (([], ["--page-file", str(TOP / "pages/throttle.html")]), (own, own)):
+                with Server(*options, program=program, port=0, page=True) as server:
+                    wanted = ["words", "--port", "0", "--page", str(server.page_port), *page]
+                    self.assertEqual(server.printed()[1:], [" ".join(wanted)])
+
     def test_programs_that_fail(self):
         for program in ("/bin/false", "/bin/echo"):
             with self.assertRaisesRegex(ConnectionError, "does not listen"), Server(program=program, port=1):
