@@ -17,8 +17,6 @@ mod test_decoder_rx;
 #[cfg(test)]
 mod test_describe;
 #[cfg(test)]
-mod test_describe_forms;
-#[cfg(test)]
 mod test_half_bits;
 #[cfg(test)]
 mod test_ln_frame;

@@ -2,7 +2,6 @@
 
 ghost use Rattle.slot_table.specs.Entry.{IsSlot};
 
-use super::hostile::cuts_messages;
 use super::say;
 use refresh_ring::Kind;
 use station_core::Station;
@@ -143,7 +142,6 @@ fn all_wait(rt: &impl Abort, alloc: Global, rows: &[(&str, &[u8], &[u8], u8)]) -
         say(rt, &mut station, said);
         assert!(rt; *slot >= 1 && *slot <= 119);
         assert!(rt; ahead(&station, *slot) == EACH, "{name}");
-        cuts_messages(rt, alloc, name, &[LOADED, *before, *said])?;
     }
     Ok(())
 }
@@ -153,7 +151,6 @@ fn these_wait(rt: &impl Abort, alloc: Global, rows: &[(&str, &[u8], Ahead)]) -> 
         let mut station = prepared(rt, alloc, USED)?;
         say(rt, &mut station, said);
         assert!(rt; ahead(&station, 1) == *waiting, "{name}");
-        cuts_messages(rt, alloc, name, &[LOADED, USED, *said])?;
     }
     Ok(())
 }
