@@ -5,7 +5,7 @@
 //!
 //! [`Server::run`] is the loop. [`Losses`] draws the packets that decoders miss.
 //!
-//! The tests are in `layout_tests/src`: `test_bus_server` and `test_losses.rt`.
+//! The tests are in `server_tests/src`: `test_bus_server` and `test_losses.rt`.
 #![tactic(auto)]
 
 mod after_round;

@@ -7,7 +7,7 @@
 //! let words = message_words(&[0x83, 0x7C]);  // "track power on"
 //! ```
 //!
-//! The tests are in `library_tests/src/test_describe.rt` and `test_describe_forms.rt`.
+//! The tests are in `library_tests/src/test_describe.rt` and `tests/process_checks/explained.py`.
 #![tactic(auto)]
 
 mod fields;

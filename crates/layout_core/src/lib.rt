@@ -12,7 +12,8 @@
 //! }
 //! ```
 //!
-//! The tests are in `layout_tests/src`: `test_layout_core.rt` and `test_layout_core_serving.rt`.
+//! The tests are in `layout_tests/src`: `test_layout_core.rt` and `test_layout_core_serving.rt`, and
+//! in `tests/process_checks/layouts.py`.
 #![tactic(auto)]
 
 mod decoder_state;

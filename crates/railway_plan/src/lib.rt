@@ -4,7 +4,7 @@
 //! decoders of a roster. Both return the first fault instead: a [`PlanTextFault`] is printed as
 //! `block 2: length must be 1 to 100000`.
 //!
-//! The tests are in `layout_tests/src/test_railway/text.rt`.
+//! The tests are in `tests/server_checks/plans.py`.
 #![tactic(auto)]
 
 mod bounds;

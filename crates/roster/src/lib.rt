@@ -1,6 +1,6 @@
 //! The decoders of a layout, read from a roster: a text in TOML.
 //!
-//! The tests are in `layout_tests/src/test_roster.rt`.
+//! The tests are in `tests/process_checks/rosters.py`.
 #![tactic(auto)]
 
 mod decoder;

@@ -11,7 +11,8 @@
 //! if let Some(packet) = station.turn() { /* send it on the track */ }
 //! ```
 //!
-//! The tests are in `library_tests/src`: `test_station_core.rt` and `test_station_core/`.
+//! The tests are in `library_tests/src`: `test_station_core.rt` and `test_station_core/`, and in
+//! `tests/process_checks/conversations.py`.
 #![tactic(auto)]
 
 mod call;

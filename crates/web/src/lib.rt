@@ -15,7 +15,7 @@
 //! }
 //! ```
 //!
-//! The tests are in `layout_tests/src`: `test_web.rt` and `test_web/`.
+//! The tests are in `server_tests/src`: `test_web.rt` and `test_web/`, and in `tests/server_checks`.
 #![tactic(auto)]
 
 mod exchange;
