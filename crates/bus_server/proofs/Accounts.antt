@@ -14,11 +14,12 @@ use Rattle.bus_server.specs.TransportEvents.{Polled, ServerClosed, Accepted, Wri
 use Rattle.bus_server.specs.Fronts.{Account, IsFront, account_handled, account_applied, account_written, account_run, account_observed, account_after_outcome, account_answered}
 use Rattle.bus_server.specs.ClientQueues.{SendQueues, enqueued_all, queues_after}
 use Rattle.bus_server.specs.declared.pace.Pace.{Pace}
-use Rattle.bus_server.specs.declared.pace.Pace.TheVariants.{AfterMessages, RealTime}
-use Rattle.bus_server.specs.Runs.{RunsByClock, RunsRounds, Round}
+use Rattle.bus_server.specs.Runs.{RunsRounds, Round}
 use Rattle.bus_server.specs.Applied.{Handled, Applies, LoggedEvent, RunsEvent, RunsEvents, AppliesAll, ServerState, answer_to, outcome_in, round_start, with_backlog}
 use Rattle.bus_server.proofs.Keeping.{enqueued_there, none_set, set_at, told_there}
+use Rattle.bus_server.specs.Track.{RunsTrack}
 use Rattle.bus_server.proofs.Rounding.{round_serves}
+use Rattle.bus_server.proofs.Tracking.{track_ran, with_due}
 
 some_same : {A : Type 0} (a b : A) → Some a ≡ Some b → a ≡ b
 some_same {A = A} a b h = ap (λ (o : Option A). unwrap_or o a) h
@@ -132,7 +133,7 @@ as_before i account applied old new none same fits = nothing_more i account appl
 front_act : (i : ℕ) (account : Account) (log : TransportEvent) (applied : List LoggedEvent) (old new : ServerState) → Applies log applied old new → IsFront i account old
     → IsFront i (account_applied i (account_written i account log) applied) new
 front_act i account (Accepted client) applied old new h fits = front_happened i account applied (with_backlog old) new h.2 fits
-front_act i account (Received client byte) applied old new h fits = front_happened i account applied (with_backlog old) new h.2 fits
+front_act i account (Received client byte) applied old new h fits = front_happened i account applied (with_backlog old) new h.1.2 fits
 front_act i account (PeerClosed client) applied old new h fits = front_happened i account applied old new h.2 fits
 front_act i account (ServerClosed client) applied old new h fits = front_happened i account applied old new h.1.2 fits
 front_act i account (Written client bytes) applied old new h fits =
@@ -149,10 +150,12 @@ front_acts i account [] old new same fits = subst (λ (s : ServerState). IsFront
 front_acts i account (one_handled ∷ handled) old new h fits =
     front_acts i (account_applied i (account_written i account one_handled.log) one_handled.applied) handled h.0 new h.2 (front_act i account one_handled.log one_handled.applied old h.0 h.1 fits)
 
-front_time : (i : ℕ) (account : Account) (pace : Pace) (readings : List ℕ) (elapsing : List LoggedEvent) (old new : ServerState) → RunsByClock pace readings elapsing old new → IsFront i account old
+front_time : (i : ℕ) (account : Account) (pace : Pace) (readings : List ℕ) (elapsing : List LoggedEvent) (old new : ServerState) → RunsTrack pace readings elapsing old new → IsFront i account old
     → IsFront i (account_applied i account elapsing) new
-front_time i account (AfterMessages turns) readings elapsing old new h fits = as_before i account elapsing old new h.1 h.2 fits
-front_time i account (RealTime rate) readings elapsing old new h fits = front_happened i account elapsing old new h.2.2 fits
+front_time i account pace readings elapsing old new h fits =
+    let ran = track_ran pace readings elapsing old new h in
+    let after : IsFront i (account_applied i account elapsing) (with_due new.turns_due new.time_due new.has_backlog ran.0) = front_happened i account elapsing old ran.0 ran.1 fits in
+    subst (λ (s : ServerState). IsFront i (account_applied i account elapsing) s) (sym ran.2) after
 
 -- A round starts.
 front_starts : (i : ℕ) (account : Account) (round : Round) (old : ServerState) → round.answers ≡ answer_to old → IsFront i account old → IsFront i (account_answered i account round) (round_start old)

@@ -12,13 +12,14 @@ use Rattle.bus.specs.Bus.{AreEvents, BusState, after_event, after_events, is_eve
 use Rattle.bus.specs.Invariant.{IsInvariant}
 use Rattle.bus.specs.Layout.{layout_event, layout_events}
 use Rattle.bus_server.specs.declared.pace.Pace.{Pace}
-use Rattle.bus_server.specs.declared.pace.Pace.TheVariants.{AfterMessages, RealTime}
 use Rattle.bus_server.specs.Observations.{Observation}
-use Rattle.bus_server.specs.Runs.{AreDrawn, RunsByClock, RunsRounds, IsEventRun, Round, logged_in}
+use Rattle.bus_server.specs.Runs.{AreDrawn, RunsRounds, IsEventRun, Round, logged_in}
 use Rattle.bus_server.specs.Applied.{Handled, Applies, LoggedEvent, RunsEvent, RunsEvents, AppliesAll, ServerState, events_of, with_backlog, round_start}
 use Rattle.bus_server.specs.TransportEvents.{Polled, ServerClosed, Accepted, WriteBlocked, PeerClosed, NonePending, TransportEvent, Written, ReadBlocked, Received, Refused}
 use Rattle.bus_server.specs.declared.losses.Losses.{Losses}
+use Rattle.bus_server.specs.Track.{RunsTrack}
 use Rattle.bus_server.proofs.Rounding.{round_serves}
+use Rattle.bus_server.proofs.Tracking.{HasRun, track_ran}
 
 -- what the layers below promise: events of a bus keep it, and what decoders hear adds up
 pub record Laws : Type 0 where
@@ -91,9 +92,9 @@ course_behind events old new h = record { legal = h.legal; bus = h.bus; nodes = 
 pub course_polled : (events : List Event) (old new : ServerState) → IsEventRun events (round_start old) new → IsEventRun events old new
 course_polled events old new h = record { legal = h.legal; bus = h.bus; nodes = h.nodes; losses = h.losses }
 
-act_course : Laws → (log : TransportEvent) (applied : List LoggedEvent) (old new : ServerState) → IsInvariant old.bus → Applies log applied old new → IsEventRun (events_of applied) old new
+pub act_course : Laws → (log : TransportEvent) (applied : List LoggedEvent) (old new : ServerState) → IsInvariant old.bus → Applies log applied old new → IsEventRun (events_of applied) old new
 act_course laws (Accepted client) applied old new kept h = course_behind (events_of applied) old new (happened_course laws applied (with_backlog old) new kept h.2)
-act_course laws (Received client byte) applied old new kept h = course_behind (events_of applied) old new (happened_course laws applied (with_backlog old) new kept h.2)
+act_course laws (Received client byte) applied old new kept h = course_behind (events_of applied) old new (happened_course laws applied (with_backlog old) new kept h.1.2)
 act_course laws (PeerClosed client) applied old new kept h = happened_course laws applied old new kept h.2
 act_course laws (ServerClosed client) applied old new kept h = happened_course laws applied old new kept h.1.2
 act_course laws (Written client bytes) applied old new kept h = nothing_brought laws applied old new h.0 (ap (λ (s : ServerState). s.bus) h.3) (ap (λ (s : ServerState). s.nodes) h.3) (ap (λ (s : ServerState). s.losses) h.3)
@@ -112,9 +113,13 @@ acts_course laws (one_handled ∷ handled) old new kept h =
     cut_course one_handled.applied (flat_map (λ one_handled. one_handled.applied) handled) old new
     (course_more laws (events_of one_handled.applied) (events_of (flat_map (λ one_handled. one_handled.applied) handled)) old h.0 new kept (act_course laws one_handled.log one_handled.applied old h.0 kept h.1) (λ k. acts_course laws handled h.0 new k h.2))
 
-pub time_course : Laws → (pace : Pace) (readings : List ℕ) (elapsing : List LoggedEvent) (old new : ServerState) → IsInvariant old.bus → RunsByClock pace readings elapsing old new → IsEventRun (events_of elapsing) old new
-time_course laws (AfterMessages turns) readings elapsing old new kept h = nothing_done laws elapsing old new h.1 h.2
-time_course laws (RealTime rate) readings elapsing old new kept h = happened_course laws elapsing old new kept h.2.2
+pub ran_course : Laws → (applied : List LoggedEvent) (old new : ServerState) → IsInvariant old.bus → HasRun applied old new → IsEventRun (events_of applied) old new
+ran_course laws applied old new kept h =
+    let course = happened_course laws applied old h.0 kept h.1 in
+    subst (λ (s : ServerState). IsEventRun (events_of applied) old s) (sym h.2) (record { legal = course.legal; bus = course.bus; nodes = course.nodes; losses = course.losses })
+
+pub time_course : Laws → (pace : Pace) (readings : List ℕ) (elapsing : List LoggedEvent) (old new : ServerState) → IsInvariant old.bus → RunsTrack pace readings elapsing old new → IsEventRun (events_of elapsing) old new
+time_course laws pace readings elapsing old new kept h = ran_course laws elapsing old new kept (track_ran pace readings elapsing old new h)
 
 pub rounds_course : Laws → (most : ℕ) (rounds : List Round) (old new : ServerState) → IsInvariant old.bus → RunsRounds most rounds old new → IsEventRun (events_of (logged_in rounds)) old new
 rounds_course laws most [] old new kept h = same_end laws old new h

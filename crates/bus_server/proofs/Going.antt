@@ -1,14 +1,14 @@
 -- How a hub, its transport and its observer progress, one event after another.
-use Rattle.std.proofs.Common.{◌≡◌, ℕ, zero, suc, ◌+◌, ◌<◌, ◌≤◌, Bool, true, false, List, [], ◌∷◌, ◌++◌, length, take, drop, Option, Some, None, Result, Ok, Err, refl, ap, sym, subst, ◌∙◌, arith, append_assoc, append-nil}
+use Rattle.std.proofs.Common.{◌≡◌, ℕ, zero, suc, ◌<◌, ◌≤◌, Bool, true, false, List, [], ◌∷◌, ◌++◌, length, take, drop, Option, Some, None, Result, Ok, Err, refl, ap, sym, subst, ◌∙◌, arith, append_assoc, append-nil}
 use Rattle.std.specs.Prelude.{◌==◌, is_some, not, OnOk}
 use Rattle.std.specs.List.{list_all}
-use Rattle.std.proofs.lemmas.Bool.{and_parts, and_from}
+use Rattle.std.proofs.lemmas.Bool.{and_from}
 use Rattle.std.proofs.lemmas.List.{length-take, map-append, take-append-drop, take-take}
 use Rattle.std.proofs.lemmas.List.Concat.{flat_map-append}
 use Rattle.std.proofs.lemmas.List.Folds.{list_all-append}
 use Rattle.bus.specs.declared.event.Event.{Event}
 use Rattle.bus.specs.declared.event.Event.TheVariants.{Connects, Receives, Disconnects, Reports, Elapses, Turn}
-use Rattle.bus.specs.Bus.{BusState, after_event}
+use Rattle.bus.specs.Bus.{BusState}
 use Rattle.bus.specs.Course.{is_time, micros_in}
 use Rattle.bus_server.specs.Observations.{Observed, Observation}
 use Rattle.layout_core.specs.declared.world.World.{World}
@@ -18,8 +18,9 @@ use Rattle.bus.specs.Log.{Extends}
 use Rattle.bus_server.specs.declared.losses.Losses.{Losses}
 use Rattle.bus_server.specs.Progress.{Progresses, ProgressesWithoutInput, Snapshot}
 use Rattle.bus_server.specs.Rounds.{IsUnread, PreservesRound}
-use Rattle.bus_server.specs.Applied.{Handled, AreTurns, Applies, LoggedEvent, RunsEvent, RunsFor, RunsEvents, IsDrawn, AppliesAll, ServerState, events_of, overflow_notice, transport_events, observations_in, observations_of}
+use Rattle.bus_server.specs.Applied.{Handled, Applies, LoggedEvent, RunsEvent, RunsEvents, IsDrawn, AppliesAll, ServerState, events_of, overflow_notice, transport_events, observations_in, observations_of}
 use Rattle.bus_server.specs.Queues.{queued}
+use Rattle.bus_server.specs.Shown.{Shown}
 use Rattle.bus_server.specs.Sensors.{is_report}
 use Rattle.bus_server.specs.Steps.{ObservesReports}
 use Rattle.bus_server.specs.TransportEvents.{TransportEvent}
@@ -64,6 +65,13 @@ pub seen_layout : (a b : Option (List Observation)) (outcome : Outcome) (seen wo
 seen_layout a b outcome seen world lent railway same same_railway grows =
     subst (λ (r : Option RailwayState). Extends a b (Observed outcome world.nodes r ∷ [])) same_railway
     (subst (λ (w : World). Extends a b (Observed outcome w.nodes lent ∷ [])) same grows)
+
+-- what is shown after a round
+pub shown_of : (a b : Option (List Shown)) (seen world : World) (lent railway : Option RailwayState) → seen ≡ world → lent ≡ railway → Extends a b (record { nodes = seen.nodes; railway = lent } ∷ [])
+    → Extends a b (record { nodes = world.nodes; railway = railway } ∷ [])
+shown_of a b seen world lent railway same same_railway grows =
+    subst (λ (r : Option RailwayState). Extends a b (record { nodes = world.nodes; railway = r } ∷ [])) same_railway
+    (subst (λ (w : World). Extends a b (record { nodes = w.nodes; railway = lent } ∷ [])) same grows)
 
 -- What is served.
 
@@ -145,40 +153,13 @@ none_drawn (Reports sensor occupied) bus nodes losses h = refl
 none_drawn (Elapses micros missed) bus nodes losses h = cc
 none_drawn (Turn missed) bus nodes losses h = cc
 
--- What sensors report is no turn, and takes no time.
+-- What sensors report takes no time.
 
 -- only sensors report
 abbrev pub AreReports : List Event → Type 0
 AreReports events = list_all is_report events ≡ true
 
-pub turns_none : (reports : List Event) → AreReports reports → AreTurns 0 reports
-turns_none [] are = tt
-turns_none (Reports sensor occupied ∷ reports) are = turns_none reports are
-turns_none (Connects client ∷ reports) are = cc
-turns_none (Receives client byte ∷ reports) are = cc
-turns_none (Disconnects client ∷ reports) are = cc
-turns_none (Elapses micros missed ∷ reports) are = cc
-turns_none (Turn missed ∷ reports) are = cc
-
-reports_before : (count : ℕ) (reports turns : List Event) → AreReports reports → AreTurns count turns → AreTurns count (reports ++ turns)
-reports_before count [] turns are h = h
-reports_before count (Reports sensor occupied ∷ reports) turns are h = reports_before count reports turns are h
-reports_before count (Connects client ∷ reports) turns are h = cc
-reports_before count (Receives client byte ∷ reports) turns are h = cc
-reports_before count (Disconnects client ∷ reports) turns are h = cc
-reports_before count (Elapses micros missed ∷ reports) turns are h = cc
-reports_before count (Turn missed ∷ reports) turns are h = cc
-
-reports_are_time : (reports : List Event) → AreReports reports → list_all is_time reports ≡ true
-reports_are_time [] are = refl
-reports_are_time (Reports sensor occupied ∷ reports) are = reports_are_time reports are
-reports_are_time (Connects client ∷ reports) are = cc
-reports_are_time (Receives client byte ∷ reports) are = cc
-reports_are_time (Disconnects client ∷ reports) are = cc
-reports_are_time (Elapses micros missed ∷ reports) are = cc
-reports_are_time (Turn missed ∷ reports) are = cc
-
-reports_take_none : (reports : List Event) (bus : BusState) → AreReports reports → micros_in bus reports ≡ 0
+pub reports_take_none : (reports : List Event) (bus : BusState) → AreReports reports → micros_in bus reports ≡ 0
 reports_take_none [] bus are = refl
 reports_take_none (Reports sensor occupied ∷ reports) bus are = omega (arith, reports_take_none reports bus are)
 reports_take_none (Connects client ∷ reports) bus are = cc
@@ -186,10 +167,6 @@ reports_take_none (Receives client byte ∷ reports) bus are = cc
 reports_take_none (Disconnects client ∷ reports) bus are = cc
 reports_take_none (Elapses micros missed ∷ reports) bus are = cc
 reports_take_none (Turn missed ∷ reports) bus are = cc
-
-pub reports_behind : (count : ℕ) (reports turns : List LoggedEvent) → AreReports (events_of reports) → AreTurns count (events_of turns) → AreTurns count (events_of (reports ++ turns))
-reports_behind count reports turns are h =
-    subst (λ (events : List Event). AreTurns count events) (sym (map-append (λ (one : LoggedEvent). one.event) reports turns)) (reports_before count (events_of reports) (events_of turns) are h)
 
 -- An outcome was observed, and then what sensors report.
 
@@ -207,25 +184,6 @@ observes_more outcome next sensor occupied a b c old mid new so_far one grows =
           ∙ and_from (list_all is_report (events_of so_far.0)) true so_far.2 refl,
       happened_more so_far.0 (last ∷ []) old mid new so_far.3 (new, one, refl),
     )
-
--- Turns after a message.
-
-one_more : (count missed : ℕ) (turns reports : List Event) → AreTurns count turns → AreReports reports → AreTurns (suc count) (turns ++ Turn missed ∷ reports)
-one_more count missed (Reports sensor occupied ∷ turns) reports are only = one_more count missed turns reports are only
-one_more zero missed [] reports are only = turns_none reports only
-one_more (suc n) missed [] reports are only = absurd are
-one_more count missed (Connects client ∷ turns) reports are only = absurd are
-one_more count missed (Receives client byte ∷ turns) reports are only = absurd are
-one_more count missed (Disconnects client ∷ turns) reports are only = absurd are
-one_more count missed (Elapses micros disconnected ∷ turns) reports are only = absurd are
-one_more zero missed (Turn disconnected ∷ turns) reports are only = absurd are
-one_more (suc n) missed (Turn disconnected ∷ turns) reports are only = one_more n missed turns reports are only
-
-pub turns_more : (count missed : ℕ) (observed : Observation) (turns reports : List LoggedEvent) → AreTurns count (events_of turns) → AreReports (events_of reports)
-    → AreTurns (count + 1) (events_of (turns ++ record { event = Turn missed; observed = observed } ∷ reports))
-turns_more count missed observed turns reports are only =
-    subst (λ (events : List Event). AreTurns (count + 1) events) (sym (map-append (λ (one : LoggedEvent). one.event) turns (record { event = Turn missed; observed = observed } ∷ reports)))
-    (subst (λ (n : ℕ). AreTurns n (events_of turns ++ Turn missed ∷ events_of reports)) {x = suc count} {y = count + 1} (omega arith) (one_more count missed (events_of turns) (events_of reports) are only))
 
 -- Small things.
 
@@ -247,28 +205,3 @@ pub piece_of : (send_queue : Option (List ℕ)) (piece : List ℕ) (count : ℕ)
 piece_of None piece count front some within = absurd (omega (arith, some, ap length front, length-take {A = ℕ} (length piece) []))
 piece_of (Some bytes) piece count front some within =
     ap Some (sym (ap (λ (xs : List ℕ). xs ++ drop count bytes) (ap (take count) front ∙ take-take count (length piece) bytes within) ∙ take-append-drop count bytes))
-
--- Time that passes.
-
-micros_more : (micros missed : ℕ) (events reports : List Event) (bus : BusState) → AreReports reports → micros_in bus (events ++ Elapses micros missed ∷ reports) ≡ micros_in bus events + micros
-micros_more micros missed [] reports bus only = let none = reports_take_none reports (after_event bus (Elapses micros missed)) only in omega (arith, none)
-micros_more micros missed (event ∷ events) reports bus only = omega (arith, micros_more micros missed events reports (after_event bus event) only)
-
-time_more : (micros missed : ℕ) (events reports : List Event) → list_all is_time events ≡ true → AreReports reports → list_all is_time (events ++ Elapses micros missed ∷ reports) ≡ true
-time_more micros missed [] reports h only = reports_are_time reports only
-time_more micros missed (event ∷ events) reports h only =
-    let p = and_parts (is_time event) (list_all is_time events) h in
-    and_from (is_time event) (list_all is_time (events ++ Elapses micros missed ∷ reports)) p.0 (time_more micros missed events reports p.1 only)
-
-pub no_time : (all : ServerState) → RunsFor 0 [] all all
-no_time all = (refl, refl, refl)
-
-pub more_time : (first micros missed : ℕ) (observed : Observation) (applied reports : List LoggedEvent) (old mid after new : ServerState) → RunsFor first applied old mid → RunsEvent (Elapses micros missed) observed mid after
-    → AreReports (events_of reports) → RunsEvents reports after new → RunsFor (first + micros) (applied ++ record { event = Elapses micros missed; observed = observed } ∷ reports) old new
-more_time first micros missed observed applied reports old mid after new so_far now only rest =
-    let events : events_of (applied ++ record { event = Elapses micros missed; observed = observed } ∷ reports) ≡ events_of applied ++ Elapses micros missed ∷ events_of reports =
-    map-append (λ (one : LoggedEvent). one.event) applied (record { event = Elapses micros missed; observed = observed } ∷ reports) in (
-      ap (list_all is_time) events ∙ time_more micros missed (events_of applied) (events_of reports) so_far.0 only,
-      ap (micros_in old.bus) events ∙ micros_more micros missed (events_of applied) (events_of reports) old.bus only ∙ ap (λ (n : ℕ). n + micros) so_far.1,
-      happened_then (Elapses micros missed) observed applied reports old mid after new so_far.2 now rest,
-    )

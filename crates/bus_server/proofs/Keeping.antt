@@ -1,6 +1,6 @@
 -- What a round has done stays done while no client is read.
 use Rattle.std.proofs.Common.{◌≡◌, ◌≢◌, ℕ, zero, suc, ◌+◌, ◌<◌, ◌⊎◌, inl, inr, Bool, true, false, List, [], ◌∷◌, ◌++◌, length, Option, Some, None, refl, ap, ap₂, sym, subst, ◌∙◌, arith, append_assoc, append-nil, ne_eqb, eq-eqb, if◌then◌else◌, nat_le}
-use Rattle.std.specs.Prelude.{◌==◌, ◌&&◌, ◌||◌, slice_set, is_some, map, not, replicate}
+use Rattle.std.specs.Prelude.{◌==◌, ◌&&◌, ◌||◌, slice_set, is_some, not, replicate}
 use Rattle.std.specs.List.{list_all, list_any, slice_index_or}
 use Rattle.std.proofs.lemmas.Bool.{and_parts, and_from, cases_eq}
 use Rattle.std.proofs.lemmas.List.{get_or-set_same, get_or-set_other}
@@ -8,18 +8,17 @@ use Rattle.std.proofs.lemmas.List.Folds.{list_any-append}
 use Rattle.bus.specs.declared.event.Event.{Event}
 use Rattle.bus.specs.declared.event.Event.TheVariants.{Connects, Receives, Disconnects, Reports, Elapses, Turn}
 use Rattle.loconet_tcp.specs.declared.outcome.Outcome.{Outcome}
-use Rattle.loconet_tcp.specs.declared.outcome.Outcome.TheVariants.{Connected, Disconnected}
+use Rattle.loconet_tcp.specs.declared.outcome.Outcome.TheVariants.{Connected}
 use Rattle.bus_server.specs.Observations.{Observation}
 use Rattle.bus.specs.Bus.{BusState}
 use Rattle.loconet_tcp.specs.Texts.{text_for}
 use Rattle.loconet_tcp.specs.ClientLines.{version_text}
-use Rattle.bus_server.specs.declared.pace.Pace.{Pace}
-use Rattle.bus_server.specs.declared.pace.Pace.TheVariants.{AfterMessages, RealTime}
-use Rattle.bus_server.specs.Rounds.{HasMoreClients, IsWrittenTo, PreservesRound, HasEmptyQueue, IsUnread, WritesInARow, backlog_after, is_read, is_reading, is_write_blocked}
-use Rattle.bus_server.specs.Applied.{Handled, AreTurns, RunsEventWithTurns, Applies, LoggedEvent, RunsEvent, RunsEvents, IsWithTurns, AppliesAll, ServerState, events_of, is_connected, has_overflowed, transport_events, observations_in, turns_after, with_backlog}
+use Rattle.bus_server.specs.Rounds.{HasMoreClients, IsWrittenTo, PreservesRound, HasEmptyQueue, IsUnread, WritesInARow, backlog_after, is_reading, is_write_blocked}
+use Rattle.bus_server.specs.Applied.{Handled, RunsEventWithReports, Applies, LoggedEvent, RunsEvent, RunsEvents, IsWithReports, AppliesAll, ServerState, events_of, is_connected, has_overflowed, transport_events, observations_in, with_backlog}
+use Rattle.bus_server.specs.Sensors.{is_report}
 use Rattle.bus_server.specs.Queues.{is_within_capacity, enqueued, queued}
 use Rattle.bus_server.specs.ClientQueues.{SendQueues, enqueued_all, enqueued_from}
-use Rattle.bus_server.specs.TransportEvents.{Accepted, TransportEvent, Written, Received, Refused}
+use Rattle.bus_server.specs.TransportEvents.{Accepted, TransportEvent, Written, Refused}
 
 -- What was done is done of a longer list.
 
@@ -157,49 +156,40 @@ left_is_not_late client observed old new happened =
     ap (λ (bus : BusState). is_some (slice_index_or bus.clients client None) && not (is_some (slice_index_or new.queues client None))) happened.bus
     ∙ ap (λ (w : Option (List ℕ)). is_some w && not (is_some (slice_index_or new.queues client None))) (none_set old.bus.clients client)
 
--- Only a message has turns after it. After an event that makes no sensor report, none reports.
+-- After an event that makes no sensor report, none reports.
 
 no_cons : {A B : Type 0} (x : A) (xs : List A) → [] ≡ x ∷ xs → B
 no_cons x xs h = cc
 
-nothing_due : (event : Event) (observed : Observation) (events : List Event) (old new : ServerState) → AreTurns 0 (event ∷ events) → old.unreported ≡ [] → RunsEvent event observed old new → ⊥
-nothing_due (Connects client) observed events old new are none h = are
-nothing_due (Receives client byte) observed events old new are none h = are
-nothing_due (Disconnects client) observed events old new are none h = are
-nothing_due (Elapses micros missed) observed events old new are none h = are
-nothing_due (Turn missed) observed events old new are none h = are
-nothing_due (Reports sensor occupied) observed events old new are none h = no_cons (record { sensor = sensor; occupied = occupied }) new.unreported (sym none ∙ h.unreported)
+nothing_due : (event : Event) (observed : Observation) (old new : ServerState) → is_report event ≡ true → old.unreported ≡ [] → RunsEvent event observed old new → ⊥
+nothing_due (Connects client) observed old new reports none h = cc
+nothing_due (Receives client byte) observed old new reports none h = cc
+nothing_due (Disconnects client) observed old new reports none h = cc
+nothing_due (Elapses micros missed) observed old new reports none h = cc
+nothing_due (Turn missed) observed old new reports none h = cc
+nothing_due (Reports sensor occupied) observed old new reports none h = no_cons (record { sensor = sensor; occupied = occupied }) new.unreported (sym none ∙ h.unreported)
 
 -- the event makes no sensor report
-abbrev IsSilent : Event → ServerState → Type 0
+abbrev pub IsSilent : Event → ServerState → Type 0
 IsSilent event old = (observed : Observation) (new : ServerState) → RunsEvent event observed old new → new.unreported ≡ []
 
-first_alone : (event : Event) (one : LoggedEvent) (behind : List LoggedEvent) (old new : ServerState) → one.event ≡ event → IsSilent event old → AreTurns 0 (events_of behind) → RunsEvents (one ∷ behind) old new → RunsEvent event one.observed old new
-first_alone event one [] old new same silent none h = subst (λ (e : Event). RunsEvent e one.observed old new) same (subst (λ (s : ServerState). RunsEvent one.event one.observed old s) (sym h.2) h.1)
-first_alone event one (other ∷ behind) old new same silent none h =
-    absurd (nothing_due other.event other.observed (events_of behind) h.0 h.2.0 none (silent one.observed h.0 (subst (λ (e : Event). RunsEvent e one.observed old h.0) same h.1)) h.2.1)
+first_alone : (event : Event) (one : LoggedEvent) (behind : List LoggedEvent) (old new : ServerState) → one.event ≡ event → IsSilent event old → list_all is_report (events_of behind) ≡ true → RunsEvents (one ∷ behind) old new
+    → RunsEvent event one.observed old new
+first_alone event one [] old new same silent are h = subst (λ (e : Event). RunsEvent e one.observed old new) same (subst (λ (s : ServerState). RunsEvent one.event one.observed old s) (sym h.2) h.1)
+first_alone event one (other ∷ behind) old new same silent are h =
+    absurd (nothing_due other.event other.observed h.0 h.2.0 (and_parts (is_report other.event) (list_all is_report (events_of behind)) are).0
+    (silent one.observed h.0 (subst (λ (e : Event). RunsEvent e one.observed old h.0) same h.1)) h.2.1)
 
-pub alone : (pace : Pace) (event : Event) (outcome : Outcome) (applied : List LoggedEvent) (old new : ServerState) → turns_after pace outcome ≡ 0 → IsSilent event old → IsWithTurns event (turns_after pace outcome) (events_of applied) → RunsEvents applied old new
+pub alone : (event : Event) (applied : List LoggedEvent) (old new : ServerState) → IsSilent event old → IsWithReports event (events_of applied) → RunsEvents applied old new
     → (observed : Observation) × RunsEvent event observed old new
-alone pace event outcome [] old new none silent are h = absurd are
-alone pace event outcome (one ∷ behind) old new none silent are h =
-    (one.observed, first_alone event one behind old new are.0 silent (subst (λ (n : ℕ). AreTurns n (events_of behind)) none are.1) h)
+alone event [] old new silent are h = absurd are
+alone event (one ∷ behind) old new silent are h = (one.observed, first_alone event one behind old new are.0 silent are.1 h)
 
-no_turns : (pace : Pace) (client : ℕ) → turns_after pace (Disconnected client) ≡ 0
-no_turns (RealTime rate) client = refl
-no_turns (AfterMessages turns) client = refl
+pub only_leaves : (client : ℕ) (applied : List LoggedEvent) (old new : ServerState) → RunsEventWithReports (Disconnects client) applied old new → (observed : Observation) × RunsEvent (Disconnects client) observed old new
+only_leaves client applied old new brings = alone (Disconnects client) applied old new (λ observed after h. h.unreported.1) brings.1 brings.2
 
-none_joining : (pace : Pace) (client : ℕ) → turns_after pace (Connected client) ≡ 0
-none_joining (RealTime rate) client = refl
-none_joining (AfterMessages turns) client = refl
-
-pub only_leaves : (client : ℕ) (applied : List LoggedEvent) (old new : ServerState) → RunsEventWithTurns (Disconnects client) applied old new → (observed : Observation) × RunsEvent (Disconnects client) observed old new
-only_leaves client applied old new brings =
-    alone old.pace (Disconnects client) (Disconnected client) applied old new (no_turns old.pace client) (λ observed after h. h.unreported.1) brings.1 brings.2
-
-pub only_joins : (client : ℕ) (applied : List LoggedEvent) (old new : ServerState) → RunsEventWithTurns (Connects client) applied old new → (observed : Observation) × RunsEvent (Connects client) observed old new
-only_joins client applied old new brings =
-    alone old.pace (Connects client) (Connected client) applied old new (none_joining old.pace client) (λ observed after h. h.unreported.1) brings.1 brings.2
+pub only_joins : (client : ℕ) (applied : List LoggedEvent) (old new : ServerState) → RunsEventWithReports (Connects client) applied old new → (observed : Observation) × RunsEvent (Connects client) observed old new
+only_joins client applied old new brings = alone (Connects client) applied old new (λ observed after h. h.unreported.1) brings.1 brings.2
 
 -- A client joins.
 
@@ -283,12 +273,11 @@ joined_places client observed old new within happened =
 pub heard_now : (client : ℕ) → ((client == client) || false) ≡ true
 heard_now client = or_left (client == client) false (eq-eqb client client refl)
 
+pub is_of : (client : ℕ) → (client == client) ≡ true
+is_of client = eq-eqb client client refl
+
 pub read_now : (client : ℕ) → ((client == client) && true) ≡ true
 read_now client = and_from (client == client) true (eq-eqb client client refl) refl
-
-pub all_read : (client : ℕ) (bytes : List ℕ) → list_all (is_read client) (map (λ byte. Received client byte) bytes) ≡ true
-all_read client [] = refl
-all_read client (byte ∷ bytes) = and_from (client == client) (list_all (is_read client) (map (λ byte. Received client byte) bytes)) (eq-eqb client client refl) (all_read client bytes)
 
 -- that there may be more input undoes nothing
 pub keeps_backlog : (more : List TransportEvent) (old new : ServerState) → PreservesRound more (with_backlog old) new → PreservesRound more old new

@@ -1,273 +1,69 @@
 -- A client that keeps up stays connected.
-use Rattle.std.proofs.Common.{◌≡◌, ℕ, zero, suc, ◌+◌, ◌*◌, ◌<◌, ◌≤◌, ◌⊎◌, inl, inr, Bool, true, false, if◌then◌else◌, nat_le, List, [], ◌∷◌, ◌++◌, length, take, Option, Some, None, refl, ap, ap₂, sym, subst, ◌∙◌, arith, eqb-true, ne_eqb}
-use Rattle.std.specs.Prelude.{◌==◌, ◌&&◌, ◌||◌, Err, Ok, Result, codes, is_some, nat_lt, not, slice_set}
-use Rattle.std.specs.List.{before_first, list_all, list_any, position_or_len, slice_index_or}
-use Rattle.std.specs.Option.{option_map}
+use Rattle.std.proofs.Common.{◌≡◌, ℕ, zero, suc, ◌+◌, ◌*◌, ◌-◌, ◌<◌, ◌≤◌, ◌⊎◌, inl, inr, Bool, true, false, if◌then◌else◌, nat_le, List, [], ◌∷◌, ◌++◌, length, take, Option, Some, None, refl, ap, ap₂, sym, subst, ◌∙◌, arith, eqb-true, ne_eqb}
+use Rattle.std.specs.Prelude.{◌==◌, ◌&&◌, ◌||◌, is_some, not, slice_set}
+use Rattle.std.specs.List.{list_all, list_any, slice_index_or}
 use Rattle.std.proofs.lemmas.Bool.{and_parts, cases_eq, le-leb}
 use Rattle.std.proofs.lemmas.Bool.Decides.{nat_tests}
 use Rattle.std.proofs.lemmas.List.{get_or-set_other, length-append, length-take}
 use Rattle.std.proofs.lemmas.List.Folds.{list_any-append}
-use Rattle.std.proofs.lemmas.Slice.Eq.{bytes_eq-Decides}
-use Rattle.ascii_words.specs.Words.{is_blank, words_of}
-use Rattle.ln_frame.specs.Message.{IsWhole, are_data, has_form, is_len, is_whole, message_len}
-use Rattle.ln_ops.specs.Reply.{reply_bytes}
-use Rattle.ln_ops.specs.Sensor.{is_interrogation}
-use Rattle.ln_ops.specs.declared.reply.Reply.{Reply}
-use Rattle.ln_ops.specs.declared.reply.Reply.TheVariants.{LongAck, SlotData}
+use Rattle.ln_ops.specs.Sensor.{report_bytes}
 use Rattle.layout_core.specs.declared.node.Node.{Node}
 use Rattle.layout_core.specs.DecoderStates.{decoder_line, decoder_state_of}
 use Rattle.layout_core.specs.Nodes.{spec_of}
 use Rattle.railway.specs.Railway.{RailwayState}
-use Rattle.loconet_tcp.specs.ClientLines.{hex_words, line_end, node_text, nodes_ok_text, place_text, receive_text, sent_error_text, sent_ok_text, turns_text, version_text}
-use Rattle.loconet_tcp.specs.Requests.{bytes_of, is_nodes, is_place, is_send, is_turns, parse_place, parse_send, request_of, turns_of}
-use Rattle.loconet_tcp.specs.Text.{is_end}
-use Rattle.loconet_tcp.specs.Texts.{reply_text, text_for}
+use Rattle.loconet_tcp.specs.ClientLines.{line_end, node_text, nodes_ok_text, turns_ok_text, version_text}
+use Rattle.loconet_tcp.specs.Texts.{text_for}
 use Rattle.loconet_tcp.specs.declared.outcome.Outcome.{Outcome}
-use Rattle.loconet_tcp.specs.declared.outcome.Outcome.TheVariants.{Connected, Nothing, Placed, Rejected, Sent, TurnBegan, TurnsRequested}
-use Rattle.loconet_tcp.specs.declared.request.Reason.{Reason}
-use Rattle.loconet_tcp.specs.declared.request.Reason.TheVariants.{NoMessage, NotHex, TooLong, WrongCheck}
-use Rattle.loconet_tcp.specs.declared.request.PlaceError.{PlaceError}
-use Rattle.loconet_tcp.specs.declared.request.PlaceError.TheVariants as place_error
-use Rattle.loconet_tcp.specs.declared.request.Placement.{Placement}
-use Rattle.loconet_tcp.specs.declared.request.TurnsError.{TurnsError}
-use Rattle.loconet_tcp.specs.declared.request.TurnsError.TheVariants.{NoNumber, RealTime}
-use Rattle.std.specs.Str.{bytes_eq}
+use Rattle.loconet_tcp.specs.declared.outcome.Outcome.TheVariants.{Connected, Nothing, Placed, Rejected, Reported, Sent, TurnBegan, TurnsRequested}
 use Rattle.loconet_tcp.specs.declared.request.Request.{Request}
 use Rattle.loconet_tcp.specs.declared.request.Request.TheVariants.{Invalid, Nodes, Place, Send, Turns}
-use Rattle.std.specs.List.{after_first}
-use Rattle.bus.specs.Bus.{BusState, after_event, client_of, granted, outcome_of_request, pending_text_at, reply_to, request_at}
+use Rattle.bus.specs.Bus.{BusState, after_event, client_of, granted, pending_text_at, reply_to, request_at}
 use Rattle.bus.specs.Course.{is_time}
-use Rattle.bus_server.specs.Observations.{Observation}
 use Rattle.bus.specs.declared.event.Event.{Event}
 use Rattle.bus.specs.declared.event.Event.TheVariants.{Connects, Disconnects, Elapses, Receives, Reports, Turn}
 use Rattle.bus_server.specs.Answers.{next_line, node_lines}
-use Rattle.bus_server.specs.Applied.{answer_to, Applies, AppliesAll, AreTurns, Handled, LoggedEvent, RunsEvent, RunsEventWithTurns, RunsEvents, ServerState, events_of, has_overflowed, is_connected, outcome_in, transport_events, with_backlog, round_start}
+use Rattle.bus_server.specs.Applied.{answer_to, Applies, AppliesAll, Handled, IsWithReports, LoggedEvent, RunsEvent, RunsEventWithReports, RunsEvents, ServerState, events_of, has_overflowed, is_connected, is_crowded, outcome_in, transport_events, with_backlog, round_start}
 use Rattle.bus_server.specs.ClientQueues.{SendQueues, enqueued_all, enqueued_from, queues_after}
-use Rattle.bus_server.specs.KeepUp.{IsUpToDate, IsWithoutRailway, KeepsUp, is_blocked, is_closed}
-use Rattle.bus_server.specs.Queues.{enqueued, queued}
-use Rattle.bus_server.specs.Rounds.{IsRound, IsUnread, ServesClient, ServesClients, is_read, is_reading, is_write_blocked}
+use Rattle.bus_server.specs.Due.{due_to, have_passed, turns_answer}
+use Rattle.bus_server.specs.KeepUp.{IsAtRest, IsUpToDate, KeepsUp, is_blocked, is_closed}
+use Rattle.bus_server.specs.Observations.{Observation}
+use Rattle.bus_server.specs.Placements.{answered, place_answer}
+use Rattle.bus_server.specs.Queues.{enqueued, is_more_than_half, queued}
+use Rattle.bus_server.specs.Rounds.{IsReadOn, IsRound, IsUnread, Reads, ReadsOn, ServesClient, ServesClients, is_read, is_reading, is_write_blocked}
 use Rattle.bus_server.specs.declared.pace.Pace.{Pace}
 use Rattle.bus_server.specs.declared.pace.Pace.TheVariants.{AfterMessages, RealTime}
-use Rattle.bus_server.specs.Runs.{Round, RunsByClock, RunsRounds, transport_log}
-use Rattle.bus_server.specs.Placements.{answered, place_answer}
-use Rattle.bus_server.specs.Sensors.{full_report, is_report, railway_after, railway_placed, reports_after, reports_due}
+use Rattle.bus_server.specs.Runs.{Round, RunsRounds, transport_log}
+use Rattle.bus_server.specs.Sensors.{is_report}
+use Rattle.bus_server.specs.Track.{RunsStep, RunsSteps, RunsTrack, RunsTurns, RunsTurnsOf, is_piece, is_turn, with_time_due, with_turns_run}
 use Rattle.bus_server.specs.TransportEvents.{Accepted, NonePending, PeerClosed, Polled, ReadBlocked, Received, Refused, ServerClosed, TransportEvent, WriteBlocked, Written}
 use Rattle.bus_server.proofs.Going.{log-append}
 use Rattle.bus_server.proofs.Keeping.{enqueued_there, joined_one, none_of_both, none_set, only_joins, only_leaves, left_is_not_late, put_keeps, row_before, row_behind, set_at}
 use Rattle.bus_server.proofs.Placing.{length-enqueued}
+use Rattle.bus_server.proofs.Sizes.{HasFew, HasFewBlocks, SameBlocks, answered_request, event_few, none_due, report_size, request_most, request_sound}
 
--- A request has at least five bytes, its line end with them, and a message at most 127.
+-- What is queued for a client, and with it the reports that are still due, which are at most as many bytes; nothing has overflowed.
 
-length-words : (bytes : List ℕ) → length (hex_words bytes) ≡ 3 * length bytes
-length-words [] = refl
-length-words (b ∷ bytes) = let more = length-words bytes in omega arith
+abbrev size : (client : ℕ) → ServerState → ℕ
+size client state = length (queued (slice_index_or state.queues client None))
 
-most_bytes : (op s n : ℕ) → is_len (message_len op s) n ≡ true → n ≤ 127
-most_bytes op s n h = grind (arith, nat_tests)
-
-most_whole : (message : List ℕ) → IsWhole message → length message ≤ 127
-most_whole [] w = cc
-most_whole (op ∷ []) w = cc
-most_whole (op ∷ s ∷ m) w =
-    let form = and_parts (has_form (op ∷ s ∷ m)) _ w in
-    most_bytes op s (length (op ∷ s ∷ m)) (and_parts (is_len (message_len op s) (length (op ∷ s ∷ m))) (are_data (s ∷ m)) form.0).0
-
--- the line of a request begins with SEND, TURNS or PLACE or is NODES, and what is sent is a whole message
-abbrev IsFromLine : List ℕ → Option Request → Type 0
-IsFromLine kept None = Unit {0}
-IsFromLine kept (Some (Invalid reason)) = 4 ≤ length kept
-IsFromLine kept (Some (Send message)) = (4 ≤ length kept) × IsWhole message
-IsFromLine kept (Some (Turns count)) = 4 ≤ length kept
-IsFromLine kept (Some Nodes) = 4 ≤ length kept
-IsFromLine kept (Some (Place placement)) = 4 ≤ length kept
-
-first_bytes : (line word : List ℕ) → bytes_eq (before_first is_blank line) word ≡ true → length word ≤ length line
-first_bytes line word h =
-    let same : before_first is_blank line ≡ word = (bytes_eq-Decides (before_first is_blank line) word).0 h in
-    let size : length (before_first is_blank line) ≡ length word = ap length same in
-    omega (arith, size, length-take (position_or_len is_blank line) line)
-
-four_bytes : (line : List ℕ) → is_send line ≡ true → 4 ≤ length line
-four_bytes line h = first_bytes line (codes "SEND") h
-
-five_bytes : (line : List ℕ) → is_turns line ≡ true → 4 ≤ length line
-five_bytes line h = omega (arith, first_bytes line (codes "TURNS") h)
-
-place_bytes : (line : List ℕ) → is_place line ≡ true → 4 ≤ length line
-place_bytes line h = omega (arith, first_bytes line (codes "PLACE") h)
-
-nodes_bytes : (line : List ℕ) → is_nodes line ≡ true → 4 ≤ length line
-nodes_bytes line h =
-    let same : line ≡ codes "NODES" = (bytes_eq-Decides line (codes "NODES")).0 h in
-    let size : length line ≡ 5 = ap length same in
-    omega (arith, size)
-
-whole_by : (line : List ℕ) (whole form : Bool) (bytes : List ℕ) → 4 ≤ length line → is_whole bytes ≡ whole
-    → IsFromLine line (Some (if whole then Send bytes else if form then Invalid WrongCheck else Invalid NoMessage))
-whole_by line true form bytes four e = (four, e)
-whole_by line false true bytes four e = four
-whole_by line false false bytes four e = four
-
-whole_sends : (line : List ℕ) (bytes : Option (List ℕ)) → 4 ≤ length line → IsFromLine line (Some (parse_send bytes))
-whole_sends line None four = four
-whole_sends line (Some bytes) four = whole_by line (is_whole bytes) (has_form bytes) bytes four refl
-
-from_other_line : (line : List ℕ) (turns place nodes : Bool) (count : Option ℕ) (placement : Result Placement PlaceError) → is_turns line ≡ turns → is_place line ≡ place → is_nodes line ≡ nodes
-    → IsFromLine line (if turns then Some (Turns count) else if place then Some (Place placement) else if nodes then Some Nodes else None)
-from_other_line line true place nodes count placement e f g = five_bytes line e
-from_other_line line false true nodes count placement e f g = place_bytes line f
-from_other_line line false false true count placement e f g = nodes_bytes line g
-from_other_line line false false false count placement e f g = tt
-
-from_line : (line : List ℕ) (sends long : Bool) (bytes : Option (List ℕ)) (other : Option Request) → is_send line ≡ sends → IsFromLine line other
-    → IsFromLine line (if sends then Some (if long then Invalid TooLong else parse_send bytes) else other)
-from_line line false long bytes other e h = h
-from_line line true true bytes other e h = four_bytes line e
-from_line line true false bytes other e h = whole_sends line bytes (four_bytes line e)
-
-at_end : (kept : List ℕ) (ends : Bool) → IsFromLine kept (if ends then request_of kept else None)
-at_end kept false = tt
-at_end kept true =
-    let rest : List ℕ = after_first is_blank kept in
-    let placement : Result Placement PlaceError = if nat_lt 400 (length kept) then Err place_error.TooLong else parse_place (words_of rest) in
-    from_line kept (is_send kept) (nat_lt 400 (length kept)) (bytes_of (words_of rest))
-    (if is_turns kept then Some (Turns (turns_of rest)) else if is_place kept then Some (Place placement) else if is_nodes kept then Some Nodes else None) refl
-    (from_other_line kept (is_turns kept) (is_place kept) (is_nodes kept) (turns_of rest) placement refl refl refl)
-
-request_line : (kept : Option (List ℕ)) (byte : ℕ) → IsFromLine (queued kept) (request_at kept byte)
-request_line None byte = tt
-request_line (Some kept) byte = at_end kept (is_end byte)
-
--- The text of a request is at most 789 bytes.
-
-receive_most : (message : List ℕ) → IsWhole message → length (receive_text message) ≤ 390
-receive_most message whole = omega (arith, length-words message, most_whole message whole, length-append (hex_words message) line_end)
-
-reply_most : (reply : Option Reply) → length (reply_text (option_map reply_bytes reply)) ≤ 390
-reply_most None = omega arith
-reply_most (Some (SlotData f)) =
-    let size : length (reply_bytes (SlotData f)) ≡ 14 = refl in
-    omega (arith, size, length-words (reply_bytes (SlotData f)), length-append (hex_words (reply_bytes (SlotData f))) line_end)
-reply_most (Some (LongAck opc ack)) =
-    let size : length (reply_bytes (LongAck opc ack)) ≡ 4 = refl in
-    omega (arith, size, length-words (reply_bytes (LongAck opc ack)), length-append (hex_words (reply_bytes (LongAck opc ack))) line_end)
-
-ok_most : (sender : Bool) → length (if sender then sent_ok_text else []) ≤ 9
-ok_most true = omega arith
-ok_most false = omega arith
-
-error_most : (sender : Bool) (reason : Reason) → length (if sender then sent_error_text reason else []) ≤ 789
-error_most false reason = omega arith
-error_most true TooLong = omega arith
-error_most true NotHex = omega arith
-error_most true NoMessage = omega arith
-error_most true WrongCheck = omega arith
-
-turns_most : (asker : Bool) (turns : Result ℕ TurnsError) → length (if asker then turns_text turns else []) ≤ 789
-turns_most false turns = omega arith
-turns_most true (Ok count) = omega arith
-turns_most true (Err RealTime) = omega arith
-turns_most true (Err NoNumber) = omega arith
-
-place_most : (asker : Bool) (answer : Result (Unit {0}) PlaceError) → length (if asker then place_text answer else []) ≤ 789
-place_most false answer = omega arith
-place_most true (Ok done) = omega arith
-place_most true (Err place_error.NoPlan) = omega arith
-place_most true (Err place_error.TooLong) = omega arith
-place_most true (Err place_error.NoNumber) = omega arith
-place_most true (Err place_error.NoEnd) = omega arith
-place_most true (Err place_error.UnknownTrain) = omega arith
-place_most true (Err place_error.UnknownBlock) = omega arith
-place_most true (Err place_error.OffTrack) = omega arith
-
-three_most : (a b c : List ℕ) → length a ≤ 390 → length b ≤ 9 → length c ≤ 390 → length (a ++ b ++ c) ≤ 789
-three_most a b c h k l = omega (arith, h, k, l, length-append (a ++ b) c, length-append a b)
-
--- the outcome of a request, with the answer where it puts a train on the track
-abbrev answered_request : ServerState → (client : ℕ) → Option Request → Outcome
-answered_request state client request = answered state.names state.railway (outcome_of_request state.bus client request)
-
-request_most : (state : ServerState) (client i : ℕ) (kept : List ℕ) (request : Option Request) → IsFromLine kept request → length (text_for i (answered_request state client request)) ≤ 789
-request_most state client i kept None h = omega arith
-request_most state client i kept (Some (Invalid reason)) h = error_most (client == i) reason
-request_most state client i kept (Some (Turns count)) h = turns_most (client == i) (granted state.bus.stepped count)
-request_most state client i kept (Some Nodes) h = omega arith
-request_most state client i kept (Some (Place placement)) h = place_most (client == i) (place_answer state.names state.railway placement)
-request_most state client i kept (Some (Send message)) h =
-    three_most (receive_text message) (if client == i then sent_ok_text else []) (reply_text (reply_to state.bus.station message)) (receive_most message h.1) (ok_most (client == i)) (reply_most _)
-
--- Without a railway no sensor reports.
-
-none_placed : (names : List (List ℕ)) (bus : BusState) (client : ℕ) (request : Option Request) → railway_placed names (outcome_of_request bus client request) None ≡ None
-none_placed names bus client None = refl
-none_placed names bus client (Some (Invalid reason)) = refl
-none_placed names bus client (Some (Send message)) = refl
-none_placed names bus client (Some (Turns count)) = refl
-none_placed names bus client (Some Nodes) = refl
-none_placed names bus client (Some (Place (Ok placement))) = refl
-none_placed names bus client (Some (Place (Err error))) = refl
-
-no_railway : (names : List (List ℕ)) (bus : BusState) (nodes : List Node) (event : Event) → railway_after names bus nodes event None ≡ None
-no_railway names bus nodes (Connects client) = refl
-no_railway names bus nodes (Receives client byte) = none_placed names bus client (request_at (client_of bus client) byte)
-no_railway names bus nodes (Disconnects client) = refl
-no_railway names bus nodes (Reports sensor occupied) = refl
-no_railway names bus nodes (Elapses micros missed) = refl
-no_railway names bus nodes (Turn missed) = refl
-
-none_asked : (asks : Bool) → (if asks then full_report None else []) ≡ []
-none_asked true = refl
-none_asked false = refl
-
-none_reported : (names : List (List ℕ)) (bus : BusState) (client : ℕ) (request : Option Request) → reports_due names (outcome_of_request bus client request) None [] ≡ []
-none_reported names bus client None = refl
-none_reported names bus client (Some (Invalid reason)) = refl
-none_reported names bus client (Some (Send message)) = none_asked (is_interrogation message)
-none_reported names bus client (Some (Turns count)) = refl
-none_reported names bus client (Some Nodes) = refl
-none_reported names bus client (Some (Place (Ok placement))) = refl
-none_reported names bus client (Some (Place (Err error))) = refl
-
-no_reports : (names : List (List ℕ)) (bus : BusState) (nodes : List Node) (event : Event) → reports_after names bus nodes event None ≡ []
-no_reports names bus nodes (Connects client) = refl
-no_reports names bus nodes (Receives client byte) = none_reported names bus client (request_at (client_of bus client) byte)
-no_reports names bus nodes (Disconnects client) = refl
-no_reports names bus nodes (Reports sensor occupied) = refl
-no_reports names bus nodes (Elapses micros missed) = refl
-no_reports names bus nodes (Turn missed) = refl
-
-no_cons : {A B : Type 0} (x : A) (xs : List A) → [] ≡ x ∷ xs → B
-no_cons x xs h = cc
-
-none_due : (event : Event) (observed : Observation) (old new : ServerState) → RunsEvent event observed old new → old.unreported ≡ [] → is_report event ≡ false
-none_due (Reports sensor occupied) observed old new runs none = no_cons (record { sensor = sensor; occupied = occupied }) new.unreported (sym none ∙ runs.unreported)
-none_due (Connects client) observed old new runs none = refl
-none_due (Receives client byte) observed old new runs none = refl
-none_due (Disconnects client) observed old new runs none = refl
-none_due (Elapses micros missed) observed old new runs none = refl
-none_due (Turn missed) observed old new runs none = refl
-
-made_due : (event : Event) (observed : Observation) (old new : ServerState) → RunsEvent event observed old new → old.unreported ≡ [] → new.unreported ≡ reports_after old.names old.bus old.nodes event old.railway
-made_due (Reports sensor occupied) observed old new runs none = no_cons (record { sensor = sensor; occupied = occupied }) new.unreported (sym none ∙ runs.unreported)
-made_due (Connects client) observed old new runs none = runs.unreported.1
-made_due (Receives client byte) observed old new runs none = runs.unreported.1
-made_due (Disconnects client) observed old new runs none = runs.unreported.1
-made_due (Elapses micros missed) observed old new runs none = runs.unreported.1
-made_due (Turn missed) observed old new runs none = runs.unreported.1
-
-still_without : (event : Event) (observed : Observation) (old new : ServerState) → RunsEvent event observed old new → IsWithoutRailway old → IsWithoutRailway new
-still_without event observed old new runs h = (
-  runs.railway ∙ ap (λ (r : Option RailwayState). railway_after old.names old.bus old.nodes event r) h.0 ∙ no_railway old.names old.bus old.nodes event,
-  made_due event observed old new runs h.1 ∙ ap (λ (r : Option RailwayState). reports_after old.names old.bus old.nodes event r) h.0 ∙ no_reports old.names old.bus old.nodes event,
-)
-
--- A client has at most this much text in its queue, which has not overflowed, and there is no railway.
+abbrev Sized : (client n : ℕ) → ServerState → Type 0
+Sized client n state = (client < length state.queues) × (size client state ≤ n) × (has_overflowed state client ≡ false) × HasFew state
 
 abbrev Within : (client n : ℕ) → ServerState → Type 0
-Within client n state = (client < length state.queues) × (length (queued (slice_index_or state.queues client None)) ≤ n) × (has_overflowed state client ≡ false) × IsWithoutRailway state
+Within client n state = (client < length state.queues) × (size client state + 21 * length state.unreported ≤ n) × (has_overflowed state client ≡ false) × HasFew state
 
 within_more : (client n m : ℕ) (state : ServerState) → n ≤ m → Within client n state → Within client m state
 within_more client n m state more h = (h.0, omega (arith, more, h.1), h.2, h.3)
+
+as_sized : (client n : ℕ) (state : ServerState) → Within client n state → Sized client n state
+as_sized client n state h = (h.0, omega (arith, h.1), h.2, h.3)
+
+-- with the reports that may be due
+as_within : (client n : ℕ) (state : ServerState) → Sized client n state → Within client (n + 2688) state
+as_within client n state h = (h.0, omega (arith, h.1, h.3.0), h.2, h.3)
+
+when_none_due : (client n : ℕ) (state : ServerState) → state.unreported ≡ [] → Sized client n state → Within client n state
+when_none_due client n state none h = let zero_due : length state.unreported ≡ 0 = ap length none in (h.0, omega (arith, h.1, zero_due), h.2, h.3)
 
 length-set_queue : {A : Type 0} (all : List A) (i : ℕ) (a : A) → length (slice_set all i a) ≡ length all
 length-set_queue [] i a = refl
@@ -286,30 +82,35 @@ enqueued_within text (Some bytes) n m has most room =
     enqueued_by (nat_le (length bytes + length text) 65536) text bytes m (le-leb (length bytes + length text) 65536 (omega (arith, has, most, room))) (omega (arith, has, most))
 
 -- Texts are enqueued for all.
-texts_within : (client n m : ℕ) (text : ℕ → List ℕ) (old new : ServerState) → new.queues ≡ enqueued_from 0 text old.queues → is_connected new client ≡ is_connected old client → IsWithoutRailway new
-    → n + length (text client) ≤ m → m ≤ 65536 → Within client n old → Within client m new
-texts_within client n m text old new queues connected without most room h =
+texts_within : (client n m : ℕ) (text : ℕ → List ℕ) (old new : ServerState) → new.queues ≡ enqueued_from 0 text old.queues → is_connected new client ≡ is_connected old client → HasFew new
+    → size client old + length (text client) + 21 * length new.unreported ≤ m → m ≤ 65536 → Within client n old → Within client m new
+texts_within client n m text old new queues connected few most room h =
     let queue = slice_index_or old.queues client None in
-    let does = enqueued_within (text client) queue n m h.1 most room in (
+    let at_most : size client old + length (text client) ≤ size client old + length (text client) = omega arith in
+    let does = enqueued_within (text client) queue (size client old) (size client old + length (text client)) (omega arith) at_most (omega (arith, most, room)) in
+    let put : size client new ≤ size client old + length (text client) =
+    subst (λ (all : SendQueues). length (queued (slice_index_or all client None)) ≤ size client old + length (text client)) (sym queues)
+    (subst (λ (q : Option (List ℕ)). length (queued q) ≤ size client old + length (text client)) (sym (enqueued_there text old.queues client)) does.0) in (
       subst (λ (all : SendQueues). client < length all) (sym queues) (omega (arith, h.0, length-enqueued 0 text old.queues)),
-      subst (λ (all : SendQueues). length (queued (slice_index_or all client None)) ≤ m) (sym queues)
-          (subst (λ (q : Option (List ℕ)). length (queued q) ≤ m) (sym (enqueued_there text old.queues client)) does.0),
+      omega (arith, put, most),
       ap₂ (λ (a b : Bool). a && not b) connected (ap (λ (all : SendQueues). is_some (slice_index_or all client None)) queues ∙ ap is_some (enqueued_there text old.queues client) ∙ does.1) ∙ h.2,
-      without,
+      few,
     )
 
-enqueues_within : (client n m : ℕ) (outcome : Outcome) (old new : ServerState) → new.queues ≡ enqueued_all outcome old.queues → is_connected new client ≡ is_connected old client → IsWithoutRailway new
-    → n + length (text_for client outcome) ≤ m → m ≤ 65536 → Within client n old → Within client m new
-enqueues_within client n m outcome old new queues connected without most room h = texts_within client n m (λ i. text_for i outcome) old new queues connected without most room h
+enqueues_within : (client n m : ℕ) (outcome : Outcome) (old new : ServerState) → new.queues ≡ enqueued_all outcome old.queues → is_connected new client ≡ is_connected old client → HasFew new
+    → size client old + length (text_for client outcome) + 21 * length new.unreported ≤ m → m ≤ 65536 → Within client n old → Within client m new
+enqueues_within client n m outcome old new queues connected few most room h = texts_within client n m (λ i. text_for i outcome) old new queues connected few most room h
 
 -- Nothing happens to the queues.
-same_within : (client n : ℕ) (old new : ServerState) → new.queues ≡ old.queues → is_connected new client ≡ is_connected old client → IsWithoutRailway new → Within client n old → Within client n new
-same_within client n old new queues connected without h = (
-  subst (λ (all : SendQueues). client < length all) (sym queues) h.0,
-  subst (λ (all : SendQueues). length (queued (slice_index_or all client None)) ≤ n) (sym queues) h.1,
-  ap₂ (λ (a b : Bool). a && not b) connected (ap (λ (all : SendQueues). is_some (slice_index_or all client None)) queues) ∙ h.2,
-  without,
-)
+same_within : (client n m : ℕ) (old new : ServerState) → new.queues ≡ old.queues → is_connected new client ≡ is_connected old client → HasFew new
+    → size client old + 21 * length new.unreported ≤ m → Within client n old → Within client m new
+same_within client n m old new queues connected few most h =
+    let same : size client new ≡ size client old = ap (λ (all : SendQueues). length (queued (slice_index_or all client None))) queues in (
+      subst (λ (all : SendQueues). client < length all) (sym queues) h.0,
+      omega (arith, same, most),
+      ap₂ (λ (a b : Bool). a && not b) connected (ap (λ (all : SendQueues). is_some (slice_index_or all client None)) queues) ∙ h.2,
+      few,
+    )
 
 -- A byte is read.
 
@@ -330,29 +131,57 @@ connected_still clients reader client byte = elim (cases_eq client reader) [
   | inr differs ↦ ap is_some (get_or-set_other clients reader client (pending_text_at (slice_index_or clients reader None) byte) None differs)
 ]
 
-request_within : (client reader n m : ℕ) (request : Option Request) (old new : ServerState) → new.queues ≡ queues_after (answered_request old reader request) old.queues
-    → is_connected new client ≡ is_connected old client → IsWithoutRailway new → n + length (text_for client (answered_request old reader request)) ≤ m → m ≤ 65536 → Within client n old → Within client m new
-request_within client reader n m None old new queues connected without most room h =
-    within_more client n m new (omega (arith, most)) (same_within client n old new queues connected without h)
-request_within client reader n m (Some (Invalid reason)) old new queues connected without most room h =
-    enqueues_within client n m (Rejected reader reason) old new queues connected without most room h
-request_within client reader n m (Some (Send message)) old new queues connected without most room h =
-    enqueues_within client n m (Sent reader message (reply_to old.bus.station message)) old new queues connected without most room h
-request_within client reader n m (Some (Turns count)) old new queues connected without most room h =
-    enqueues_within client n m (TurnsRequested reader (granted old.bus.stepped count)) old new queues connected without most room h
-request_within client reader n m (Some (Place placement)) old new queues connected without most room h =
-    enqueues_within client n m (Placed reader (place_answer old.names old.railway placement)) old new queues connected without most room h
-request_within client reader n m (Some Nodes) old new queues connected without most room h =
-    within_more client n m new (omega (arith, most)) (same_within client n old new queues connected without h)
+-- the text of a request, and the reports that it makes due
+request_within : (client reader n : ℕ) (request : Option Request) (old new : ServerState) → new.queues ≡ queues_after (answered_request old reader request) old.queues
+    → is_connected new client ≡ is_connected old client → HasFew new → length (text_for client (answered_request old reader request)) ≤ 789 → n + 3477 ≤ 65536 → Within client n old → Within client (n + 3477) new
+request_within client reader n None old new queues connected few most room h = same_within client n (n + 3477) old new queues connected few (omega (arith, few.0, h.1)) h
+request_within client reader n (Some (Invalid reason)) old new queues connected few most room h =
+    enqueues_within client n (n + 3477) (Rejected reader reason) old new queues connected few (omega (arith, most, few.0, h.1)) room h
+request_within client reader n (Some (Send message)) old new queues connected few most room h =
+    enqueues_within client n (n + 3477) (Sent reader message (reply_to old.bus.station message)) old new queues connected few (omega (arith, most, few.0, h.1)) room h
+request_within client reader n (Some (Turns count)) old new queues connected few most room h =
+    enqueues_within client n (n + 3477) (TurnsRequested reader (granted old.bus.stepped count)) old new queues connected few (omega (arith, most, few.0, h.1)) room h
+request_within client reader n (Some (Place placement)) old new queues connected few most room h =
+    enqueues_within client n (n + 3477) (Placed reader (place_answer old.names old.railway placement)) old new queues connected few (omega (arith, most, few.0, h.1)) room h
+request_within client reader n (Some Nodes) old new queues connected few most room h = same_within client n (n + 3477) old new queues connected few (omega (arith, few.0, h.1)) h
 
-receives_within : (client reader byte n m : ℕ) (observed : Observation) (old new : ServerState) → RunsEvent (Receives reader byte) observed old new
-    → n + length (text_for client (outcome_in old (Receives reader byte))) ≤ m → m ≤ 65536 → Within client n old → Within client m new
-receives_within client reader byte n m observed old new runs most room h =
-    request_within client reader n m (request_at (client_of old.bus reader) byte) old new runs.queues
+receives_within : SameBlocks → (client reader byte n : ℕ) (observed : Observation) (old new : ServerState) → RunsEvent (Receives reader byte) observed old new → n + 3477 ≤ 65536 → Within client n old → Within client (n + 3477) new
+receives_within same client reader byte n observed old new runs room h =
+    request_within client reader n (request_at (client_of old.bus reader) byte) old new runs.queues
     (ap (λ (bus : BusState). is_some (slice_index_or bus.clients client None)) runs.bus ∙ connected_still old.bus.clients reader client byte)
-    (still_without (Receives reader byte) observed old new runs h.3) most room h
+    (event_few same (Receives reader byte) observed old new refl runs h.3.1)
+    (request_most old reader client (request_at (client_of old.bus reader) byte) (request_sound (client_of old.bus reader) byte)) room h
 
--- Time elapses.
+-- Sensors report.
+
+report_within : (client n sensor : ℕ) (occupied : Bool) (observed : Observation) (old new : ServerState) → RunsEvent (Reports sensor occupied) observed old new → n ≤ 65536 → Within client n old → Within client n new
+report_within client n sensor occupied observed old new runs room h =
+    let less : length old.unreported ≡ suc (length new.unreported) = ap length runs.unreported in
+    let few : HasFew new = (omega (arith, less, h.3.0), subst HasFewBlocks (sym runs.railway) h.3.1) in
+    enqueues_within client n n (Reported (report_bytes sensor occupied)) old new runs.queues (ap (λ (bus : BusState). is_some (slice_index_or bus.clients client None)) runs.bus) few
+    (omega (arith, report_size sensor occupied, less, h.1)) room h
+
+one_report_within : (client n : ℕ) (event : Event) (observed : Observation) (old new : ServerState) → is_report event ≡ true → RunsEvent event observed old new → n ≤ 65536 → Within client n old → Within client n new
+one_report_within client n (Reports sensor occupied) observed old new reports runs room h = report_within client n sensor occupied observed old new runs room h
+one_report_within client n (Connects i) observed old new reports runs room h = cc
+one_report_within client n (Receives i byte) observed old new reports runs room h = cc
+one_report_within client n (Disconnects i) observed old new reports runs room h = cc
+one_report_within client n (Elapses micros missed) observed old new reports runs room h = cc
+one_report_within client n (Turn missed) observed old new reports runs room h = cc
+
+reports_within : (client n : ℕ) (applied : List LoggedEvent) (old new : ServerState) → list_all is_report (events_of applied) ≡ true → RunsEvents applied old new → n ≤ 65536 → Within client n old → Within client n new
+reports_within client n [] old new are same room h = subst (λ (s : ServerState). Within client n s) (sym same) h
+reports_within client n (one ∷ more) old new are runs room h =
+    let p = and_parts (is_report one.event) (list_all is_report (events_of more)) are in
+    reports_within client n more runs.0 new p.1 runs.2 room (one_report_within client n one.event one.observed old runs.0 p.0 runs.1 room h)
+
+-- an event, and then the reports after it
+first_event : (event : Event) (applied : List LoggedEvent) (old new : ServerState) → IsWithReports event (events_of applied) → RunsEvents applied old new
+    → (observed : Observation) × (mid : ServerState) × (reports : List LoggedEvent) × RunsEvent event observed old mid × RunsEvents reports mid new × (list_all is_report (events_of reports) ≡ true)
+first_event event [] old new are runs = absurd are
+first_event event (one ∷ more) old new are runs = (one.observed, runs.0, more, subst (λ (e : Event). RunsEvent e one.observed old runs.0) are.0 runs.1, runs.2, are.1)
+
+-- A step of the track.
 
 turn_queues : (names : List (List ℕ)) (railway : Option RailwayState) (ends : Bool) (packet : Option (List ℕ)) (queues : SendQueues)
     → queues_after (answered names railway (if ends then TurnBegan packet else Nothing)) queues ≡ queues
@@ -379,43 +208,87 @@ queues_in_time (Reports sensor occupied) old h none = cc
 queues_in_time (Turn missed) old h none = refl
 queues_in_time (Elapses micros missed) old h none = turn_queues old.names old.railway (nat_le old.bus.remaining micros) _ old.queues
 
--- what is so of a client in time: its queue, and what is kept of each client's text
-abbrev InTime : (client n : ℕ) → (old new : ServerState) → Type 0
-InTime client n old new = Within client n new × (new.bus.clients ≡ old.bus.clients)
+-- an event of time that is no report
+abbrev IsStep : Event → Type 0
+IsStep event = (is_time event ≡ true) × (is_report event ≡ false)
 
-time_within : (client n : ℕ) (event : Event) (observed : Observation) (old new : ServerState) → is_time event ≡ true → RunsEvent event observed old new → Within client n old → InTime client n old new
-time_within client n event observed old new time runs h =
-    let clients : new.bus.clients ≡ old.bus.clients = ap (λ (bus : BusState). bus.clients) runs.bus ∙ clients_in_time event old.bus time in (
-      same_within client n old new (runs.queues ∙ queues_in_time event old time (none_due event observed old new runs h.3.1))
-          (ap (λ (all : List (Option (List ℕ))). is_some (slice_index_or all client None)) clients) (still_without event observed old new runs h.3) h,
-      clients,
-    )
+turn_is_step : (event : Event) → is_turn event ≡ true → IsStep event
+turn_is_step (Turn missed) is = (refl, refl)
+turn_is_step (Connects client) is = cc
+turn_is_step (Receives client byte) is = cc
+turn_is_step (Disconnects client) is = cc
+turn_is_step (Reports sensor occupied) is = cc
+turn_is_step (Elapses micros missed) is = cc
 
-times_within : (client n : ℕ) (applied : List LoggedEvent) (old new : ServerState) → list_all is_time (events_of applied) ≡ true → RunsEvents applied old new → Within client n old → InTime client n old new
-times_within client n [] old new time same h = (subst (λ (s : ServerState). Within client n s) (sym same) h, ap (λ (s : ServerState). s.bus.clients) same)
-times_within client n (one ∷ more) old new time runs h =
-    let p = and_parts (is_time one.event) (list_all is_time (events_of more)) time in
-    let first = time_within client n one.event one.observed old runs.0 p.0 runs.1 h in
-    let rest = times_within client n more runs.0 new p.1 runs.2 first.0 in
-    (rest.0, rest.1 ∙ first.1)
+piece_is_step : (event : Event) → is_piece event ≡ true → IsStep event
+piece_is_step (Elapses micros missed) is = (refl, refl)
+piece_is_step (Turn missed) is = cc
+piece_is_step (Connects client) is = cc
+piece_is_step (Receives client byte) is = cc
+piece_is_step (Disconnects client) is = cc
+piece_is_step (Reports sensor occupied) is = cc
 
-turns_are_time : (count : ℕ) (events : List Event) → AreTurns count events → list_all is_time events ≡ true
-turns_are_time count (Reports sensor occupied ∷ events) are = turns_are_time count events are
-turns_are_time zero [] are = refl
-turns_are_time (suc n) [] are = absurd are
-turns_are_time count (Connects client ∷ events) are = absurd are
-turns_are_time count (Receives client byte ∷ events) are = absurd are
-turns_are_time count (Disconnects client ∷ events) are = absurd are
-turns_are_time count (Elapses micros missed ∷ events) are = absurd are
-turns_are_time zero (Turn missed ∷ events) are = absurd are
-turns_are_time (suc n) (Turn missed ∷ events) are = turns_are_time n events are
+time_within : SameBlocks → (client n : ℕ) (event : Event) (observed : Observation) (old new : ServerState) → IsStep event → RunsEvent event observed old new → n + 2688 ≤ 65536 → Within client n old → Within client (n + 2688) new
+time_within same client n event observed old new step runs room h =
+    let clients : new.bus.clients ≡ old.bus.clients = ap (λ (bus : BusState). bus.clients) runs.bus ∙ clients_in_time event old.bus step.0 in
+    let few = event_few same event observed old new step.1 runs h.3.1 in
+    same_within client n (n + 2688) old new (runs.queues ∙ queues_in_time event old step.0 step.1)
+    (ap (λ (all : List (Option (List ℕ))). is_some (slice_index_or all client None)) clients) few (omega (arith, few.0, h.1)) h
 
--- an event of a client, before its turns
-first_event : (event : Event) (applied : List LoggedEvent) (old new : ServerState) → RunsEventWithTurns event applied old new
-    → (observed : Observation) × (mid : ServerState) × (turns : List LoggedEvent) × RunsEvent event observed old mid × RunsEvents turns mid new × (list_all is_time (events_of turns) ≡ true)
-first_event event [] old new h = absurd h.1
-first_event event (one ∷ more) old new h =
-    (one.observed, h.2.0, more, subst (λ (e : Event). RunsEvent e one.observed old h.2.0) h.1.0 h.2.1, h.2.2, turns_are_time _ (events_of more) h.1.1)
+step_within : SameBlocks → (is_step : Event → Bool) → ((event : Event) → is_step event ≡ true → IsStep event) → (client n : ℕ) (applied : List LoggedEvent) (old new : ServerState) → RunsStep is_step applied old new
+    → n + 2688 ≤ 65536 → Within client n old → Within client (n + 2688) new
+step_within same is_step are client n applied old new step room h =
+    let first = first_event step.0 applied old new step.2 step.3 in
+    reports_within client (n + 2688) first.2 first.1 new first.5 first.4 room (time_within same client n step.0 first.0 old first.1 (are step.0 step.1) first.3 room h)
+
+-- while no queue is more than half full
+
+unread_parts : (a b : Bool) → (a || b) ≡ false → (a ≡ false) × (b ≡ false)
+unread_parts true b h = cc
+unread_parts false b h = (refl, h)
+
+uncrowded_at : (queues : SendQueues) (i : ℕ) → list_any is_more_than_half queues ≡ false → length (queued (slice_index_or queues i None)) ≤ 32768
+uncrowded_at [] i none = omega arith
+uncrowded_at (queue ∷ queues) zero none =
+    let first = (unread_parts (is_more_than_half queue) (list_any is_more_than_half queues) none).0 in
+    grind (arith, nat_tests, first)
+uncrowded_at (queue ∷ queues) (suc i) none = uncrowded_at queues i (unread_parts (is_more_than_half queue) (list_any is_more_than_half queues) none).1
+
+uncrowded : (client n : ℕ) (state : ServerState) → is_crowded state ≡ false → Sized client n state → Sized client 32768 state
+uncrowded client n state none h = (h.0, uncrowded_at state.queues client none, h.2, h.3)
+
+steps_within : SameBlocks → (is_step : Event → Bool) → ((event : Event) → is_step event ≡ true → IsStep event) → (client n count : ℕ) (applied : List LoggedEvent) (old new : ServerState)
+    → RunsSteps is_step count applied old new → 35456 ≤ n → n + 2688 ≤ 65536 → Within client n old → Within client (n + 2688) new
+steps_within same is_step are client n zero applied old new steps most room h = subst (λ (s : ServerState). Within client (n + 2688) s) (sym steps.1) (within_more client n (n + 2688) old (omega arith) h)
+steps_within same is_step are client n (suc zero) applied old new steps most room h =
+    step_within same is_step are client n steps.1 steps.2 new steps.6 room (subst (λ (s : ServerState). Within client n s) (sym steps.4.1) h)
+steps_within same is_step are client n (suc (suc count)) applied old new steps most room h =
+    let some : 0 < suc count = omega arith in
+    let before = steps_within same is_step are client n (suc count) steps.0 old steps.2 steps.4 most room h in
+    let half = as_within client 32768 steps.2 (uncrowded client (n + 2688) steps.2 (steps.5 some) (as_sized client (n + 2688) steps.2 before)) in
+    step_within same is_step are client n steps.1 steps.2 new steps.6 room (within_more client 35456 n steps.2 most half)
+
+turns_of_within : SameBlocks → (client other n : ℕ) (applied : List LoggedEvent) (old new : ServerState) → RunsTurnsOf other applied old new → 35456 ≤ n → n + 2688 ≤ 65536 → Within client n old → Within client (n + 2688) new
+turns_of_within same client other n applied old new turns most room h = elim turns [
+  | inl none ↦ subst (λ (s : ServerState). Within client (n + 2688) s) (sym none.2) (within_more client n (n + 2688) old (omega arith) h)
+  | inr some ↦
+      let ran : Within client (n + 2688) (with_turns_run other some.1 some.2) = steps_within same is_turn turn_is_step client n some.1 applied old some.2 some.3 most room h in
+      subst (λ (s : ServerState). Within client (n + 2688) s) (sym some.5) ran
+]
+
+turns_within : SameBlocks → (client below : ℕ) (applied : List LoggedEvent) (old new : ServerState) → RunsTurns below applied old new → below ≤ 8 → Within client 35456 old → Within client (35456 + 2688 * below) new
+turns_within same client zero applied old new turns most h = subst (λ (s : ServerState). Within client 35456 s) (sym turns.1) h
+turns_within same client (suc n) applied old new turns most h =
+    let before = turns_within same client n turns.0 old turns.2 turns.4 (omega (arith, most)) h in
+    within_more client (35456 + 2688 * n + 2688) (35456 + 2688 * suc n) new (omega arith)
+    (turns_of_within same client n (35456 + 2688 * n) turns.1 turns.2 new turns.5 (omega arith) (omega (arith, most)) before)
+
+track_within : SameBlocks → (client : ℕ) (pace : Pace) (readings : List ℕ) (applied : List LoggedEvent) (old new : ServerState) → RunsTrack pace readings applied old new → Within client 35456 old → Within client 56960 new
+track_within same client (AfterMessages turns) readings applied old new h within = turns_within same client 8 applied old new h.1 (omega arith) within
+track_within same client (RealTime rate) readings applied old new h within =
+    let time = h.2 in
+    let ran : Within client 38144 (with_time_due (h.0 - time.1) time.2) = steps_within same is_piece piece_is_step client 35456 time.0 applied (with_time_due h.0 old) time.2 time.3 (omega arith) (omega arith) within in
+    subst (λ (s : ServerState). Within client 56960 s) (sym time.6) (within_more client 38144 56960 (with_time_due (h.0 - time.1) time.2) (omega arith) ran)
 
 -- Booleans.
 
@@ -442,13 +315,6 @@ is_open false unfull h = refl
 opened : (connected : Bool) (queue : Option (List ℕ)) (bytes : List ℕ) → queue ≡ Some bytes → (connected && not (is_some queue)) ≡ false
 opened connected queue bytes is = is_open connected (is_some queue) (ap is_some is)
 
-is_four : (kept : List ℕ) (asked : Request) → IsFromLine kept (Some asked) → 4 ≤ length kept
-is_four kept (Invalid reason) h = h
-is_four kept (Send message) h = h.0
-is_four kept (Turns count) h = h
-is_four kept Nodes h = h
-is_four kept (Place placement) h = h
-
 -- A client connects or disconnects.
 
 version_most : (newcomer : Bool) → length (if newcomer then version_text else []) ≤ 26
@@ -456,163 +322,130 @@ version_most true = omega arith
 version_most false = omega arith
 
 -- a client that connects has the version line in its queue, and no more
-joined_within : (client : ℕ) (observed : Observation) (old new : ServerState) → RunsEvent (Connects client) observed old new → client < length old.queues → IsWithoutRailway old → Within client 26 new
-joined_within client observed old new runs there without =
+joined_within : (client : ℕ) (observed : Observation) (old new : ServerState) → RunsEvent (Connects client) observed old new → client < length old.queues → HasFewBlocks old.railway → Within client 26 new
+joined_within client observed old new runs there few =
     let queues : new.queues ≡ enqueued_all (Connected client) (slice_set old.queues client (Some [])) = runs.queues in
-    let queue : slice_index_or new.queues client None ≡ Some version_text = ap (λ (all : SendQueues). slice_index_or all client None) queues ∙ joined_one old.queues client there in (
+    let queue : slice_index_or new.queues client None ≡ Some version_text = ap (λ (all : SendQueues). slice_index_or all client None) queues ∙ joined_one old.queues client there in
+    let put : size client new ≤ 26 = subst (λ (q : Option (List ℕ)). length (queued q) ≤ 26) (sym queue) (version_most true) in
+    let none : length new.unreported ≡ 0 = ap length runs.unreported.1 in (
       subst (λ (all : SendQueues). client < length all) (sym queues)
           (omega (arith, there, length-enqueued 0 (λ i. text_for i (Connected client)) (slice_set old.queues client (Some [])), length-set_queue old.queues client (Some []))),
-      subst (λ (q : Option (List ℕ)). length (queued q) ≤ 26) (sym queue) (version_most true),
+      omega (arith, put, none),
       opened (is_connected new client) (slice_index_or new.queues client None) version_text queue,
-      still_without (Connects client) observed old new runs without,
+      (omega (arith, none), subst HasFewBlocks (sym runs.railway) few),
     )
 
 joins_within : (client other n : ℕ) (observed : Observation) (old new : ServerState) → 26 ≤ n → n ≤ 65536 → RunsEvent (Connects other) observed old new → Within client n old → Within client n new
 joins_within client other n observed old new least room runs h = elim (cases_eq client other) [
-  | inl same ↦ within_more client 26 n new least (joined_within client observed old new (subst (λ (i : ℕ). RunsEvent (Connects i) observed old new) (sym same) runs) h.0 h.3)
+  | inl same ↦ within_more client 26 n new least (joined_within client observed old new (subst (λ (i : ℕ). RunsEvent (Connects i) observed old new) (sym same) runs) h.0 h.3.1)
   | inr differs ↦
       let before = slice_set old.queues other (Some []) in
       let queue : slice_index_or before client None ≡ slice_index_or old.queues client None = get_or-set_other old.queues other client (Some []) None differs in
       let text : length (text_for client (Connected other)) ≡ 0 = ap (λ (b : Bool). length (if b then version_text else [])) (ne_eqb other client (λ same. differs (sym same))) in
+      let none : length new.unreported ≡ 0 = ap length runs.unreported.1 in
+      let few : HasFew new = (omega (arith, none), subst HasFewBlocks (sym runs.railway) h.3.1) in
       let opened : ServerState = record old { queues = before } in
+      let as_old : size client opened ≡ size client old = ap (λ (q : Option (List ℕ)). length (queued q)) queue in
       let prepared : Within client n opened = (
         omega (arith, h.0, length-set_queue old.queues other (Some [])),
-        subst (λ (q : Option (List ℕ)). length (queued q) ≤ n) (sym queue) h.1,
+        omega (arith, as_old, h.1),
         ap (λ (q : Option (List ℕ)). is_connected old client && not (is_some q)) queue ∙ h.2,
         h.3,
       ) in
       enqueues_within client n n (Connected other) opened new runs.queues
       (ap (λ (bus : BusState). is_some (slice_index_or bus.clients client None)) runs.bus ∙ ap is_some (get_or-set_other old.bus.clients other client (Some []) None differs))
-      (still_without (Connects other) observed old new runs h.3) (omega (arith, text)) room prepared
+      few (omega (arith, text, none, as_old, h.1)) room prepared
 ]
 
 leaves_within : (client other n : ℕ) (observed : Observation) (old new : ServerState) → RunsEvent (Disconnects other) observed old new → Within client n old → Within client n new
 leaves_within client other n observed old new runs h =
     let queues : new.queues ≡ slice_set old.queues other None = runs.queues in
     let there : client < length new.queues = subst (λ (all : SendQueues). client < length all) (sym queues) (omega (arith, h.0, length-set_queue old.queues other None)) in
-    let without = still_without (Disconnects other) observed old new runs h.3 in
+    let none : length new.unreported ≡ 0 = ap length runs.unreported.1 in
+    let few : HasFew new = (omega (arith, none), subst HasFewBlocks (sym runs.railway) h.3.1) in
     elim (cases_eq client other) [
       | inl same ↦
           let leaves : RunsEvent (Disconnects client) observed old new = subst (λ (i : ℕ). RunsEvent (Disconnects i) observed old new) (sym same) runs in
-          let queue : slice_index_or new.queues client None ≡ None = ap (λ (all : SendQueues). slice_index_or all client None) leaves.queues ∙ none_set old.queues client in
-          (there, subst (λ (q : Option (List ℕ)). length (queued q) ≤ n) (sym queue) (omega arith), left_is_not_late client observed old new leaves, without)
+          let queue : size client new ≡ 0 = ap (λ (all : SendQueues). length (queued (slice_index_or all client None))) leaves.queues ∙ ap (λ (q : Option (List ℕ)). length (queued q)) (none_set old.queues client) in
+          (there, omega (arith, queue, none), left_is_not_late client observed old new leaves, few)
       | inr differs ↦
           let queue : slice_index_or new.queues client None ≡ slice_index_or old.queues client None = ap (λ (all : SendQueues). slice_index_or all client None) queues ∙ get_or-set_other old.queues other client None None differs in
+          let as_old : size client new ≡ size client old = ap (λ (q : Option (List ℕ)). length (queued q)) queue in
           let kept : is_connected new client ≡ is_connected old client =
           ap (λ (bus : BusState). is_some (slice_index_or bus.clients client None)) runs.bus ∙ ap is_some (get_or-set_other old.bus.clients other client None None differs) in
-          (there, subst (λ (q : Option (List ℕ)). length (queued q) ≤ n) (sym queue) h.1, ap₂ (λ (a b : Bool). a && not b) kept (ap is_some queue) ∙ h.2, without)
+          (there, omega (arith, as_old, none, h.1), ap₂ (λ (a b : Bool). a && not b) kept (ap is_some queue) ∙ h.2, few)
     ]
 
--- One client is read. Of the text that is kept of it, four bytes count: after p bytes at most p are kept, or p is at least 4.
-
-abbrev Paced : (client reader n p : ℕ) → ServerState → Type 0
-Paced client reader n p state = Within client n state × ((length (queued (client_of state.bus reader)) ≤ p) ⊎ (4 ≤ p))
-
--- after a number of bytes
-abbrev HasRoom : (client reader bytes : ℕ) → ServerState → Type 0
-HasRoom client reader bytes state = (n p : ℕ) × (5 * n + 789 * p ≤ 10336 + 789 * bytes) × Paced client reader n p state
-
-kept_by : (ends short : Bool) (kept : List ℕ) (byte : ℕ) → length (if ends then [] else if short then kept ++ byte ∷ [] else kept) ≤ length kept + 1
-kept_by true short kept byte = omega arith
-kept_by false true kept byte = omega (arith, length-append kept (byte ∷ []))
-kept_by false false kept byte = omega arith
-
-kept_most : (kept : Option (List ℕ)) (byte : ℕ) → length (queued (pending_text_at kept byte)) ≤ length (queued kept) + 1
-kept_most None byte = omega arith
-kept_most (Some kept) byte = kept_by (is_end byte) (nat_lt (length kept) 401) kept byte
-
-ended_by : (ends : Bool) (request : Option Request) (asked : Request) (more : List ℕ) → (if ends then request else None) ≡ Some asked → length (if ends then [] else more) ≡ 0
-ended_by true request asked more e = refl
-ended_by false request asked more e = cc
-
-kept_none : (kept : Option (List ℕ)) (byte : ℕ) (asked : Request) → request_at kept byte ≡ Some asked → length (queued (pending_text_at kept byte)) ≡ 0
-kept_none None byte asked e = cc
-kept_none (Some kept) byte asked e = ended_by (is_end byte) (request_of kept) asked _ e
-
--- what is kept of the reader's text after its byte, and the turns after that
-kept_then : (reader byte : ℕ) (observed : Observation) (old mid new : ServerState) → RunsEvent (Receives reader byte) observed old mid → new.bus.clients ≡ mid.bus.clients
-    → client_of new.bus reader ≡ pending_text_at (client_of old.bus reader) byte
-kept_then reader byte observed old mid new runs same =
-    ap (λ (all : List (Option (List ℕ))). slice_index_or all reader None) (same ∙ ap (λ (bus : BusState). bus.clients) runs.bus) ∙ pending_there old.bus.clients reader byte
-
-paced_by : (client reader byte n p bytes : ℕ) (request : Option Request) (observed : Observation) (turns : List LoggedEvent) (old mid new : ServerState)
-    → RunsEvent (Receives reader byte) observed old mid → RunsEvents turns mid new → list_all is_time (events_of turns) ≡ true
-    → request_at (client_of old.bus reader) byte ≡ request → bytes < 400 → 5 * n + 789 * p ≤ 10336 + 789 * bytes → Paced client reader n p old → HasRoom client reader (bytes + 1) new
-paced_by client reader byte n p bytes None observed turns old mid new runs after time asks within_bytes spent h =
-    let text : length (text_for client (outcome_in old (Receives reader byte))) ≡ 0 = ap (λ (r : Option Request). length (text_for client (answered_request old reader r))) asks in
-    let one = receives_within client reader byte n n observed old mid runs (omega (arith, text)) (omega (arith, spent, within_bytes)) h.0 in
-    let all = times_within client n turns mid new time after one in
-    let kept = kept_then reader byte observed old mid new runs all.1 in
-    let most : length (queued (client_of new.bus reader)) ≤ length (queued (client_of old.bus reader)) + 1 =
-    subst (λ (k : Option (List ℕ)). length (queued k) ≤ length (queued (client_of old.bus reader)) + 1) (sym kept) (kept_most (client_of old.bus reader) byte) in (
-      n,
-      p + 1,
-      omega (arith, spent),
-      (
-        all.0,
-        elim h.1 [
-          | inl few ↦ inl (omega (arith, most, few))
-          | inr four ↦ inr (omega (arith, four))
-        ],
-      ),
-    )
-paced_by client reader byte n p bytes (Some asked) observed turns old mid new runs after time asks within_bytes spent h =
-    let line = request_line (client_of old.bus reader) byte in
-    let text : length (text_for client (outcome_in old (Receives reader byte))) ≤ 789 = request_most old reader client (queued (client_of old.bus reader)) (request_at (client_of old.bus reader) byte) line in
-    let four : 4 ≤ length (queued (client_of old.bus reader)) = is_four (queued (client_of old.bus reader)) asked (subst (IsFromLine (queued (client_of old.bus reader))) asks line) in
-    let paid : 4 ≤ p = elim h.1 [
-      | inl few ↦ omega (arith, few, four)
-      | inr enough ↦ enough
-    ] in
-    let one = receives_within client reader byte n (n + 789) observed old mid runs (omega (arith, text)) (omega (arith, spent, within_bytes, paid)) h.0 in
-    let all = times_within client (n + 789) turns mid new time after one in
-    let kept = kept_then reader byte observed old mid new runs all.1 in
-    let none : length (queued (client_of new.bus reader)) ≡ 0 = ap (λ (k : Option (List ℕ)). length (queued k)) kept ∙ kept_none (client_of old.bus reader) byte asked asks in
-    (n + 789, 0, omega (arith, spent, paid), (all.0, inl (omega (arith, none))))
-
-byte_read : (client reader byte bytes : ℕ) (applied : List LoggedEvent) (old new : ServerState) → RunsEventWithTurns (Receives reader byte) applied old new → bytes < 400 → HasRoom client reader bytes old → HasRoom client reader (bytes + 1) new
-byte_read client reader byte bytes applied old new runs within_bytes h =
-    let first = first_event (Receives reader byte) applied old new runs in
-    paced_by client reader byte h.0 h.1 bytes (request_at (client_of old.bus reader) byte) first.0 first.2 old first.1 new first.3 first.4 first.5 refl within_bytes h.2 h.3
-
-reader_left : (client reader bytes : ℕ) (observed : Observation) (old new : ServerState) → RunsEvent (Disconnects reader) observed old new → HasRoom client reader bytes old → HasRoom client reader (bytes + 1) new
-reader_left client reader bytes observed old new runs h =
-    let kept : client_of new.bus reader ≡ None = ap (λ (bus : BusState). client_of bus reader) runs.bus ∙ none_set old.bus.clients reader in
-    let none : length (queued (client_of new.bus reader)) ≤ h.1 = subst (λ (k : Option (List ℕ)). length (queued k) ≤ h.1) (sym kept) (omega arith) in
-    (h.0, h.1, omega (arith, h.2), (leaves_within client reader h.0 observed old new runs h.3.0, inl none))
-
-more_room : (client reader bytes : ℕ) (old new : ServerState) → new ≡ old → HasRoom client reader bytes old → HasRoom client reader (bytes + 1) new
-more_room client reader bytes old new same h = subst (λ (s : ServerState). HasRoom client reader (bytes + 1) s) (sym same) (h.0, h.1, omega (arith, h.2), h.3)
+-- One client is read, from a queue in which the text of one more request has room.
 
 -- what is read closes no connection
-abbrev ReadOne : (client reader bytes : ℕ) → TransportEvent → ServerState → Type 0
-ReadOne client reader bytes log new = HasRoom client reader (bytes + 1) new × (is_closed client log ≡ false)
+abbrev ReadOne : (client n : ℕ) → TransportEvent → ServerState → Type 0
+ReadOne client n log new = Within client (n + 3477) new × (is_closed client log ≡ false)
 
-read_one : (client reader bytes : ℕ) (log : TransportEvent) (applied : List LoggedEvent) (old new : ServerState) → Applies log applied old new → is_read reader log ≡ true → bytes < 400 → HasRoom client reader bytes old
-    → ReadOne client reader bytes log new
-read_one client reader bytes (Received i byte) applied old new does is within_bytes h =
-    (byte_read client reader byte bytes applied (with_backlog old) new (subst (λ (k : ℕ). RunsEventWithTurns (Receives k byte) applied (with_backlog old) new) (eqb-true i reader is) does) within_bytes h, refl)
-read_one client reader bytes (PeerClosed i) applied old new does is within_bytes h =
-    let leaves = only_leaves i applied old new does in
-    (reader_left client reader bytes leaves.0 old new (subst (λ (k : ℕ). RunsEvent (Disconnects k) leaves.0 old new) (eqb-true i reader is) leaves.1) h, refl)
-read_one client reader bytes (ReadBlocked i) applied old new does is within_bytes h = (more_room client reader bytes old new does.1 h, refl)
-read_one client reader bytes (Polled longest) applied old new does is within_bytes h = cc
-read_one client reader bytes (Accepted i) applied old new does is within_bytes h = cc
-read_one client reader bytes (Written i written) applied old new does is within_bytes h = cc
-read_one client reader bytes (ServerClosed i) applied old new does is within_bytes h = cc
-read_one client reader bytes (WriteBlocked i) applied old new does is within_bytes h = cc
-read_one client reader bytes NonePending applied old new does is within_bytes h = cc
-read_one client reader bytes Refused applied old new does is within_bytes h = cc
+received_within : SameBlocks → (client reader byte n : ℕ) (applied : List LoggedEvent) (old new : ServerState) → RunsEventWithReports (Receives reader byte) applied old new → n + 3477 ≤ 65536 → Sized client n old
+    → Within client (n + 3477) new
+received_within same client reader byte n applied old new runs room h =
+    let first = first_event (Receives reader byte) applied old new runs.1 runs.2 in
+    let ready = when_none_due client n old (none_due (Receives reader byte) first.0 old first.1 refl first.3) h in
+    reports_within client (n + 3477) first.2 first.1 new first.5 first.4 room (receives_within same client reader byte n first.0 old first.1 first.3 room ready)
 
-reads : (client reader bytes : ℕ) (handled : List Handled) (old new : ServerState) → AppliesAll handled old new → list_all (is_read reader) (transport_events handled) ≡ true → bytes + length (transport_events handled) ≤ 400
-    → HasRoom client reader bytes old → Within client 65536 new × (list_any (is_closed client) (transport_events handled) ≡ false)
-reads client reader bytes [] old new same are most h =
-    (subst (λ (s : ServerState). Within client 65536 s) (sym same) (within_more client h.0 65536 old (omega (arith, h.2, most)) h.3.0), refl)
-reads client reader bytes (one ∷ handled) old new does are most h =
-    let p = and_parts (is_read reader one.log) (list_all (is_read reader) (transport_events handled)) are in
-    let first = read_one client reader bytes one.log one.applied old does.0 does.1 p.0 (omega (arith, most)) h in
-    let rest = reads client reader (bytes + 1) handled does.0 new does.2 p.1 (omega (arith, most)) first.0 in
+left_within : (client reader n : ℕ) (applied : List LoggedEvent) (old new : ServerState) → RunsEventWithReports (Disconnects reader) applied old new → Sized client n old → Within client (n + 3477) new
+left_within client reader n applied old new runs h =
+    let leaves = only_leaves reader applied old new runs in
+    within_more client n (n + 3477) new (omega arith)
+    (leaves_within client reader n leaves.0 old new leaves.1 (when_none_due client n old (none_due (Disconnects reader) leaves.0 old new refl leaves.1) h))
+
+read_one : SameBlocks → (client reader n : ℕ) (log : TransportEvent) (applied : List LoggedEvent) (old new : ServerState) → Applies log applied old new → is_read reader log ≡ true → n + 3477 ≤ 65536 → Sized client n old
+    → ReadOne client n log new
+read_one same client reader n (Received i byte) applied old new does is room h = (received_within same client i byte n applied (with_backlog old) new does.1 room h, refl)
+read_one same client reader n (PeerClosed i) applied old new does is room h = (left_within client i n applied old new does h, refl)
+read_one same client reader n (ReadBlocked i) applied old new does is room h =
+    (subst (λ (s : ServerState). Within client (n + 3477) s) (sym does.1) (within_more client (n + 2688) (n + 3477) old (omega arith) (as_within client n old h)), refl)
+read_one same client reader n (Polled longest) applied old new does is room h = cc
+read_one same client reader n (Accepted i) applied old new does is room h = cc
+read_one same client reader n (Written i written) applied old new does is room h = cc
+read_one same client reader n (ServerClosed i) applied old new does is room h = cc
+read_one same client reader n (WriteBlocked i) applied old new does is room h = cc
+read_one same client reader n NonePending applied old new does is room h = cc
+read_one same client reader n Refused applied old new does is room h = cc
+
+-- and then it is read on
+read_on : (client reader n : ℕ) (old new : ServerState) → IsReadOn reader old new → 32768 ≤ n → Sized client n old → Within client (n + 3477) new → Sized client n new
+read_on client reader n old new on most before h = elim on.1 [
+  | inl none ↦ (h.0, omega (arith, most, uncrowded_at new.queues client none), h.2, h.3)
+  | inr same ↦ (h.0, subst (λ (all : SendQueues). length (queued (slice_index_or all client None)) ≤ n) (sym same) before.1, h.2, h.3)
+]
+
+-- what a number of reads leave
+abbrev ReadAll : (client n : ℕ) → List Handled → ServerState → Type 0
+ReadAll client n handled new = Sized client n new × (list_any (is_closed client) (transport_events handled) ≡ false)
+
+reads_on : SameBlocks → (client reader n : ℕ) (handled : List Handled) (old new : ServerState) → ReadsOn reader handled old new → 32768 ≤ n → n + 3477 ≤ 65536 → Sized client n old → ReadAll client n handled new
+reads_on same client reader n [] old new reads most room h = (subst (λ (s : ServerState). Sized client n s) (sym reads) h, refl)
+reads_on same client reader n (one ∷ handled) old new reads most room h =
+    let first = read_one same client reader n one.log one.applied old reads.0 reads.2 reads.1 room h in
+    let rest = reads_on same client reader n handled reads.0 new reads.4 most room (read_on client reader n old reads.0 reads.3 most h first.0) in
     (rest.0, none_of_both (is_closed client one.log) (list_any (is_closed client) (transport_events handled)) first.1 rest.1)
+
+reads : SameBlocks → (client reader : ℕ) (handled : List Handled) (old new : ServerState) → Reads reader handled old new → Within client 57617 old
+    → Within client 65536 new × (list_any (is_closed client) (transport_events handled) ≡ false)
+reads same client reader handled old new does h = elim does [
+  | inl waits ↦ (
+    subst (λ (s : ServerState). Within client 65536 s) (sym waits.2) (within_more client 57617 65536 old (omega arith) h),
+    subst (λ (all : List Handled). list_any (is_closed client) (transport_events all) ≡ false) (sym waits.1) refl,
+  )
+  | inr (inl all) ↦
+      let read = reads_on same client reader 57617 handled old new all.1 (omega arith) (omega arith) (as_sized client 57617 old h) in
+      (within_more client 60305 65536 new (omega arith) (as_within client 57617 new read.0), read.1)
+  | inr (inr ends) ↦
+      let before = reads_on same client reader 57617 ends.1 old ends.3 ends.6 (omega arith) (omega arith) (as_sized client 57617 old h) in
+      let last = read_one same client reader 57617 ends.2.log ends.2.applied ends.3 new ends.8 ends.7 (omega arith) before.0 in (
+        within_more client 61094 65536 new (omega arith) last.0,
+        subst (λ (all : List Handled). list_any (is_closed client) (transport_events all) ≡ false) (sym ends.4)
+            (ap (list_any (is_closed client)) (log-append ends.1 (ends.2 ∷ [])) ∙ list_any-append (is_closed client) (transport_events ends.1) (ends.2.log ∷ [])
+            ∙ none_of_both (list_any (is_closed client) (transport_events ends.1)) (list_any (is_closed client) (ends.2.log ∷ [])) before.1 (none_of_both (is_closed client ends.2.log) false last.1 refl)),
+      )
+]
 
 -- All are written to, or pending clients accepted: nothing is read.
 
@@ -631,14 +464,17 @@ written_within client other n bytes applied old new does h =
     let one : Applies (Written other bytes) [] old changed = (refl, rest, does.2, refl) in
     let unfull = (put_keeps other bytes [] old changed refl one).on_time client h.2 in
     let there : client < length changed.queues = omega (arith, h.0, length-set_queue old.queues other (Some rest)) in
-    let most : length (queued (slice_index_or changed.queues client None)) ≤ n = elim (cases_eq client other) [
+    let most : size client changed + 21 * length old.unreported ≤ n = elim (cases_eq client other) [
       | inl same ↦
           let queue : slice_index_or changed.queues client None ≡ Some rest =
           subst (λ (i : ℕ). slice_index_or (slice_set old.queues other (Some rest)) i None ≡ Some rest) (sym same) (set_at old.queues other (bytes ++ rest) rest does.2) in
           let before : slice_index_or old.queues client None ≡ Some (bytes ++ rest) = subst (λ (i : ℕ). slice_index_or old.queues i None ≡ Some (bytes ++ rest)) (sym same) does.2 in
-          let size : length (queued (slice_index_or old.queues client None)) ≡ length (bytes ++ rest) = ap (λ (q : Option (List ℕ)). length (queued q)) before in
-          subst (λ (q : Option (List ℕ)). length (queued q) ≤ n) (sym queue) (omega (arith, h.1, size, length-append bytes rest))
-      | inr differs ↦ subst (λ (q : Option (List ℕ)). length (queued q) ≤ n) (sym (get_or-set_other old.queues other client (Some rest) None differs)) h.1
+          let before_size : size client old ≡ length (bytes ++ rest) = ap (λ (q : Option (List ℕ)). length (queued q)) before in
+          let left : size client changed ≡ length rest = ap (λ (q : Option (List ℕ)). length (queued q)) queue in
+          omega (arith, h.1, before_size, left, length-append bytes rest)
+      | inr differs ↦
+          let left : size client changed ≡ size client old = ap (λ (q : Option (List ℕ)). length (queued q)) (get_or-set_other old.queues other client (Some rest) None differs) in
+          omega (arith, h.1, left)
     ] in
     subst (λ (s : ServerState). Within client n s) (sym set) (there, most, unfull, h.3)
 
@@ -664,10 +500,6 @@ unread_one client n (WriteBlocked i) applied old new does unread least room h = 
 unread_one client n NonePending applied old new does unread least room h = (subst (λ (s : ServerState). Within client n s) (sym does.1) h, refl)
 unread_one client n Refused applied old new does unread least room h = (subst (λ (s : ServerState). Within client n s) (sym does.2) h, refl)
 
-unread_parts : (a b : Bool) → (a || b) ≡ false → (a ≡ false) × (b ≡ false)
-unread_parts true b h = cc
-unread_parts false b h = (refl, h)
-
 unread_all : (client n : ℕ) (handled : List Handled) (old new : ServerState) → AppliesAll handled old new → IsUnread (transport_events handled) → 26 ≤ n → n ≤ 65536 → Within client n old
     → Within client n new × (list_any (is_closed client) (transport_events handled) ≡ false)
 unread_all client n [] old new same unread least room h = (subst (λ (s : ServerState). Within client n s) (sym same) h, refl)
@@ -683,10 +515,10 @@ abbrev is_accepting : (client : ℕ) → TransportEvent → Bool
 is_accepting i (Accepted client) = client == i
 is_accepting i other = false
 
-accepted_one : (client : ℕ) (log : TransportEvent) (applied : List LoggedEvent) (old new : ServerState) → Applies log applied old new → is_accepting client log ≡ true → Within client 65536 old → Within client 789 new
+accepted_one : (client : ℕ) (log : TransportEvent) (applied : List LoggedEvent) (old new : ServerState) → Applies log applied old new → is_accepting client log ≡ true → Within client 65536 old → Within client 3477 new
 accepted_one client (Accepted i) applied old new does is h =
     let joins = only_joins i applied (with_backlog old) new does in
-    within_more client 26 789 new (omega arith) (joined_within client joins.0 (with_backlog old) new (subst (λ (k : ℕ). RunsEvent (Connects k) joins.0 (with_backlog old) new) (eqb-true i client is) joins.1) h.0 h.3)
+    within_more client 26 3477 new (omega arith) (joined_within client joins.0 (with_backlog old) new (subst (λ (k : ℕ). RunsEvent (Connects k) joins.0 (with_backlog old) new) (eqb-true i client is) joins.1) h.0 h.3.1)
 accepted_one client (Polled longest) applied old new does is h = cc
 accepted_one client (Received i byte) applied old new does is h = cc
 accepted_one client (PeerClosed i) applied old new does is h = cc
@@ -698,14 +530,14 @@ accepted_one client NonePending applied old new does is h = cc
 accepted_one client Refused applied old new does is h = cc
 
 accepted_small : (client : ℕ) (handled : List Handled) (old new : ServerState) → AppliesAll handled old new → IsUnread (transport_events handled) → list_any (is_accepting client) (transport_events handled) ≡ true
-    → Within client 65536 old → Within client 789 new
+    → Within client 65536 old → Within client 3477 new
 accepted_small client [] old new does unread some h = cc
 accepted_small client (one ∷ handled) old new does unread some h =
     let p = unread_parts (is_reading one.log) (list_any is_reading (transport_events handled)) unread in
     elim (either (is_accepting client one.log) (list_any (is_accepting client) (transport_events handled)) some) [
       | inl now ↦
           let small = accepted_one client one.log one.applied old does.0 does.1 now h in
-          (unread_all client 789 handled does.0 new does.2 p.1 (omega arith) (omega arith) small).0
+          (unread_all client 3477 handled does.0 new does.2 p.1 (omega arith) (omega arith) small).0
       | inr later ↦
           let first = unread_one client 65536 one.log one.applied old does.0 does.1 p.0 (omega arith) (omega arith) h in
           accepted_small client handled does.0 new does.2 p.1 later first.0
@@ -751,56 +583,55 @@ both_stay : (client n : ℕ) (first second : List TransportEvent) (new : ServerS
 both_stay client n first second new none h =
     (h.0, list_any-append (is_closed client) first second ∙ none_of_both (list_any (is_closed client) first) (list_any (is_closed client) second) none h.1)
 
--- A client has at most 789 bytes in its queue after it was written to, and 647 more once a line of an answer is enqueued.
-serve_keeps : (client reader : ℕ) (handled : List Handled) (old new : ServerState) → client < 8 → ServesClient reader handled old new → KeepsUp client (transport_events handled) → Within client 1436 old
-    → StaysUp client 789 (transport_events handled) new
-serve_keeps client reader handled old new among serve up h =
+-- A client has at most 3,477 bytes in its queue after it was written to, with the reports that may be due.
+serve_keeps : SameBlocks → (client reader : ℕ) (handled : List Handled) (old new : ServerState) → client < 8 → ServesClient reader handled old new → KeepsUp client (transport_events handled) → Within client 57617 old
+    → StaysUp client 3477 (transport_events handled) new
+serve_keeps same client reader handled old new among serve up h =
     let heard = serve.0 in
     let written = serve.1 in
     let log : transport_events handled ≡ transport_events heard ++ transport_events written = ap transport_events serve.3 ∙ log-append heard written in
     let up_log : KeepsUp client (transport_events heard ++ transport_events written) = subst (KeepsUp client) log up in
     let up_written = up_behind client (transport_events heard) (transport_events written) up_log in
-    let start : HasRoom client reader 0 old = (1436, 4, omega arith, (h, inr (omega arith))) in
-    let read = reads client reader 0 heard old serve.2 serve.4 serve.5.2 (omega (arith, serve.5.1)) start in
-    let put = unread_all client 65536 written serve.2 new serve.6 serve.7 (omega arith) (omega arith) read.0 in
-    let small : Within client 789 new = elim (serve.8 client among).0 [
-      | inl empty ↦ (put.0.0, subst (λ (bytes : List ℕ). length bytes ≤ 789) (sym empty) (omega arith), put.0.2, put.0.3)
-      | inr (inl blocked) ↦ accepted_small client written serve.2 new serve.6 serve.7 (blocked_all client (transport_events written) blocked up_written.0) read.0
+    let read = reads same client reader heard old serve.2 serve.4 h in
+    let put = unread_all client 65536 written serve.2 new serve.5 serve.6 (omega arith) (omega arith) read.0 in
+    let small : Within client 3477 new = elim (serve.7 client among).0 [
+      | inl empty ↦ let none : size client new ≡ 0 = ap length empty in (put.0.0, omega (arith, none, put.0.3.0), put.0.2, put.0.3)
+      | inr (inl blocked) ↦ accepted_small client written serve.2 new serve.5 serve.6 (blocked_all client (transport_events written) blocked up_written.0) read.0
       | inr (inr four) ↦ absurd (up_written.1 four)
     ] in
-    subst (λ (all : List TransportEvent). StaysUp client 789 all new) (sym log) (both_stay client 789 (transport_events heard) (transport_events written) new read.1 (small, put.1))
+    subst (λ (all : List TransportEvent). StaysUp client 3477 all new) (sym log) (both_stay client 3477 (transport_events heard) (transport_events written) new read.1 (small, put.1))
 
 -- the last of some
-last_keeps : (client n : ℕ) (handled first last : List Handled) (old mid new : ServerState) → client < 8 → handled ≡ first ++ last → ServesClient n last mid new → KeepsUp client (transport_events handled)
-    → (KeepsUp client (transport_events first) → StaysUp client 1436 (transport_events first) mid) → StaysUp client 789 (transport_events handled) new
-last_keeps client n handled first last old mid new among both serve up before =
+last_keeps : SameBlocks → (client n : ℕ) (handled first last : List Handled) (old mid new : ServerState) → client < 8 → handled ≡ first ++ last → ServesClient n last mid new → KeepsUp client (transport_events handled)
+    → (KeepsUp client (transport_events first) → StaysUp client 57617 (transport_events first) mid) → StaysUp client 3477 (transport_events handled) new
+last_keeps same client n handled first last old mid new among both serve up before =
     let log : transport_events handled ≡ transport_events first ++ transport_events last = ap transport_events both ∙ log-append first last in
     let up_log : KeepsUp client (transport_events first ++ transport_events last) = subst (KeepsUp client) log up in
     let so_far = before (up_before client (transport_events first) (transport_events last) up_log) in
-    let after = serve_keeps client n last mid new among serve (up_behind client (transport_events first) (transport_events last) up_log) so_far.0 in
-    subst (λ (all : List TransportEvent). StaysUp client 789 all new) (sym log) (both_stay client 789 (transport_events first) (transport_events last) new so_far.1 after)
+    let after = serve_keeps same client n last mid new among serve (up_behind client (transport_events first) (transport_events last) up_log) so_far.0 in
+    subst (λ (all : List TransportEvent). StaysUp client 3477 all new) (sym log) (both_stay client 3477 (transport_events first) (transport_events last) new so_far.1 after)
 
-serves_keep : (client count : ℕ) (handled : List Handled) (old new : ServerState) → client < 8 → ServesClients count handled old new → KeepsUp client (transport_events handled) → Within client 1436 old
-    → StaysUp client 1436 (transport_events handled) new
-serves_keep client zero handled old new among serves up h =
-    subst (λ (all : List Handled). StaysUp client 1436 (transport_events all) new) (sym serves.0) (subst (λ (s : ServerState). Within client 1436 s) (sym serves.1) h, refl)
-serves_keep client (suc n) handled old new among serves up h =
-    let all = last_keeps client n handled serves.0 serves.1 old serves.2 new among serves.3 serves.5 up (λ first. serves_keep client n serves.0 old serves.2 among serves.4 first h) in
-    (within_more client 789 1436 new (omega arith) all.0, all.1)
+serves_keep : SameBlocks → (client count : ℕ) (handled : List Handled) (old new : ServerState) → client < 8 → ServesClients count handled old new → KeepsUp client (transport_events handled) → Within client 57617 old
+    → StaysUp client 57617 (transport_events handled) new
+serves_keep same client zero handled old new among serves up h =
+    subst (λ (all : List Handled). StaysUp client 57617 (transport_events all) new) (sym serves.0) (subst (λ (s : ServerState). Within client 57617 s) (sym serves.1) h, refl)
+serves_keep same client (suc n) handled old new among serves up h =
+    let all = last_keeps same client n handled serves.0 serves.1 old serves.2 new among serves.3 serves.5 up (λ first. serves_keep same client n serves.0 old serves.2 among serves.4 first h) in
+    (within_more client 3477 57617 new (omega arith) all.0, all.1)
 
-round_keeps : (client : ℕ) (handled : List Handled) (old new : ServerState) → client < 8 → IsRound handled old new → KeepsUp client (transport_events handled) → Within client 1436 old → StaysUp client 789 (transport_events handled) new
-round_keeps client handled old new among round up h =
+round_keeps : SameBlocks → (client : ℕ) (handled : List Handled) (old new : ServerState) → client < 8 → IsRound handled old new → KeepsUp client (transport_events handled) → Within client 57617 old → StaysUp client 3477 (transport_events handled) new
+round_keeps same client handled old new among round up h =
     let turns = round.0 in
     let last = round.1 in
     let log : transport_events handled ≡ transport_events turns ++ transport_events last = ap transport_events round.3 ∙ log-append turns last in
     let up_log : KeepsUp client (transport_events turns ++ transport_events last) = subst (KeepsUp client) log up in
     let serves : ServesClients (suc 7) turns old round.2 = round.4 in
-    let served = last_keeps client 7 turns serves.0 serves.1 old serves.2 round.2 among serves.3 serves.5 (up_before client (transport_events turns) (transport_events last) up_log)
-    (λ first. serves_keep client 7 serves.0 old serves.2 among serves.4 first h) in
-    let accepted = unread_all client 789 last round.2 new round.5 round.6 (omega arith) (omega arith) served.0 in
-    subst (λ (all : List TransportEvent). StaysUp client 789 all new) (sym log) (both_stay client 789 (transport_events turns) (transport_events last) new served.1 accepted)
+    let served = last_keeps same client 7 turns serves.0 serves.1 old serves.2 round.2 among serves.3 serves.5 (up_before client (transport_events turns) (transport_events last) up_log)
+    (λ first. serves_keep same client 7 serves.0 old serves.2 among serves.4 first h) in
+    let accepted = unread_all client 3477 last round.2 new round.5 round.6 (omega arith) (omega arith) served.0 in
+    subst (λ (all : List TransportEvent). StaysUp client 3477 all new) (sym log) (both_stay client 3477 (transport_events turns) (transport_events last) new served.1 accepted)
 
--- A round starts: a line of an answer has at most 647 bytes.
+-- A round starts: a line of an answer has at most 647 bytes, and that turns have passed is told in 10.
 
 line_most : (line : List ℕ) → length (node_text (take 640 line)) ≤ 647
 line_most line = omega (arith, length-append (take 640 line) line_end, length-take 640 line)
@@ -815,26 +646,33 @@ next_most : (names : List (List ℕ)) (nodes : List Node) (count : Option ℕ) �
 next_most names nodes None = omega arith
 next_most names nodes (Some count) = lines_most names nodes count
 
-starts_within : (client : ℕ) (old : ServerState) → Within client 789 old → Within client 1436 (round_start old)
+turns_answer_most : (passed : Bool) → length (if passed then turns_ok_text else []) ≤ 10
+turns_answer_most true = omega arith
+turns_answer_most false = omega arith
+
+starts_within : (client : ℕ) (old : ServerState) → Within client 56960 old → Within client 57617 (round_start old)
 starts_within client old h =
-    texts_within client 789 1436 (answer_to old) old (round_start old) refl refl h.3 (omega (arith, next_most old.names old.nodes (slice_index_or old.answers client None))) (omega arith) h
+    let line = next_line (node_lines old.names old.nodes) (slice_index_or old.answers client None) in
+    let due = due_to old.turns_due client in
+    let answer : length (answer_to old client) ≤ 657 =
+    omega (arith, next_most old.names old.nodes (slice_index_or old.answers client None), turns_answer_most (have_passed due), length-append line (turns_answer due)) in
+    texts_within client 56960 57617 (answer_to old) old (round_start old) refl refl h.3 (omega (arith, answer, h.1)) (omega arith) h
 
-clock_keeps : (client : ℕ) (pace : Pace) (readings : List ℕ) (elapsing : List LoggedEvent) (old new : ServerState) → RunsByClock pace readings elapsing old new → Within client 789 old → Within client 789 new
-clock_keeps client (AfterMessages turns) readings elapsing old new h within = subst (λ (s : ServerState). Within client 789 s) (sym h.2) within
-clock_keeps client (RealTime rate) readings elapsing old new h within = (times_within client 789 elapsing old new h.2.0 h.2.2 within).0
-
-rounds_keep : (client most : ℕ) (rounds : List Round) (old new : ServerState) → client < 8 → RunsRounds most rounds old new → KeepsUp client (transport_log rounds) → Within client 789 old → list_any (is_closed client) (transport_log rounds) ≡ false
-rounds_keep client most [] old new among h up within = refl
-rounds_keep client most (round ∷ rounds) old new among h up within =
+rounds_keep : SameBlocks → (client most : ℕ) (rounds : List Round) (old new : ServerState) → client < 8 → RunsRounds most rounds old new → KeepsUp client (transport_log rounds) → Within client 56960 old
+    → list_any (is_closed client) (transport_log rounds) ≡ false
+rounds_keep same client most [] old new among h up within = refl
+rounds_keep same client most (round ∷ rounds) old new among h up within =
     let went = h.2 in
     let first = Polled round.longest ∷ transport_events round.handled in
     let up_first = up_behind client (Polled round.longest ∷ []) (transport_events round.handled) (up_before client first (transport_log rounds) up) in
-    let served = round_keeps client round.handled (round_start old) went.1 among went.2 up_first (starts_within client old within) in
-    let timed = clock_keeps client went.1.pace round.readings round.elapsing went.1 h.1 went.3 served.0 in
-    let rest = rounds_keep client most rounds h.1 new among h.3 (up_behind client first (transport_log rounds) up) timed in
+    let served = round_keeps same client round.handled (round_start old) went.1 among went.2 up_first (starts_within client old within) in
+    let ran = track_within same client went.1.pace round.readings round.elapsing went.1 h.1 went.3 (within_more client 3477 35456 went.1 (omega arith) served.0) in
+    let rest = rounds_keep same client most rounds h.1 new among h.3 (up_behind client first (transport_log rounds) up) ran in
     list_any-append (is_closed client) first (transport_log rounds) ∙ none_of_both (list_any (is_closed client) first) (list_any (is_closed client) (transport_log rounds)) served.1 rest
 
-pub stays_connected : (client most : ℕ) (rounds : List Round) (old new : ServerState) → IsWithoutRailway old → client < 8 → length old.queues ≡ 8 → IsUpToDate client old → RunsRounds most rounds old new → KeepsUp client (transport_log rounds)
-    → list_any (is_closed client) (transport_log rounds) ≡ false
-stays_connected client most rounds old new without among eight here runs up =
-    rounds_keep client most rounds old new among runs up (omega (arith, among, eight), subst (λ (bytes : List ℕ). length bytes ≤ 789) (sym here.0) (omega arith), here.1, without)
+pub stays_connected : SameBlocks → (client most : ℕ) (rounds : List Round) (old new : ServerState) → IsAtRest old → client < 8 → length old.queues ≡ 8 → IsUpToDate client old → RunsRounds most rounds old new
+    → KeepsUp client (transport_log rounds) → list_any (is_closed client) (transport_log rounds) ≡ false
+stays_connected same client most rounds old new rest among eight here runs up =
+    let none : length old.unreported ≡ 0 = ap length rest.0 in
+    let empty : size client old ≡ 0 = ap length here.0 in
+    rounds_keep same client most rounds old new among runs up (omega (arith, among, eight), omega (arith, none, empty), here.1, (omega (arith, none), rest.1))

@@ -1,12 +1,21 @@
 -- What a client knows of a sensor by the reports on the bus.
-use Rattle.std.proofs.Common.{◌≡◌, ℕ, ◌<◌, Bool, true, false, if◌then◌else◌, List, [], ◌∷◌, ◌++◌, length, Option, None, Some, refl, ap, sym, subst, ◌∙◌, append-nil}
-use Rattle.std.specs.Prelude.{Err, IsTrue, Ok}
-use Rattle.std.specs.List.{flat_map, slice_index_or}
-use Rattle.std.proofs.lemmas.List.{map-append}
+use Rattle.std.proofs.Common.{◌≡◌, ℕ, ◌<◌, Bool, true, false, if◌then◌else◌, List, [], ◌∷◌, ◌++◌, length, Option, None, Some, refl, ap, ap₂, sym, subst, ◌∙◌, append-nil, nat_le}
+use Rattle.std.specs.Prelude.{◌==◌, Err, IsTrue, Ok, is_some, not}
+use Rattle.std.specs.List.{flat_map, list_all, slice_index_or}
+use Rattle.std.specs.Option.{option_map, option_to_list}
+use Rattle.std.proofs.lemmas.Bool.{and_parts}
+use Rattle.std.proofs.lemmas.List.Concat.{flat_map-append}
+use Rattle.std.proofs.lemmas.List.Folds.{list_all-append}
 use Rattle.layout_core.specs.declared.node.Node.{Node}
 use Rattle.ln_ops.specs.declared.sensor.SensorReport.{SensorReport}
-use Rattle.ln_ops.specs.Sensor.{is_interrogation}
+use Rattle.ln_ops.specs.Reply.{reply_bytes}
+use Rattle.ln_ops.specs.Sensor.{is_interrogation, is_sensor, report_bytes, report_of}
+use Rattle.ln_ops.specs.declared.reply.Reply.{Reply}
+use Rattle.ln_ops.specs.declared.reply.Reply.TheVariants.{LongAck, SlotData}
+use Rattle.station_core.specs.Moved.{answer_to_message, packet_of_turn}
+use Rattle.loconet_tcp.specs.Texts.{messages_in}
 use Rattle.loconet_tcp.specs.declared.outcome.Outcome.{Outcome}
+use Rattle.loconet_tcp.specs.declared.outcome.Outcome.TheVariants.{Nothing, Reported, Sent, TurnBegan}
 use Rattle.loconet_tcp.specs.declared.request.Request.{Request}
 use Rattle.loconet_tcp.specs.declared.request.Request.TheVariants.{Invalid, Nodes, Place, Send, Turns}
 use Rattle.railway.specs.declared.block.Block.{Block}
@@ -18,19 +27,21 @@ use Rattle.railway.specs.Reports.{full, is_occupied, level_after}
 use Rattle.bus.specs.declared.event.Event.{Event}
 use Rattle.bus.specs.declared.event.Event.TheVariants.{Connects, Receives, Disconnects, Reports, Elapses, Turn}
 use Rattle.bus.specs.Bus.{BusState, client_of, outcome_of, outcome_of_request, request_at}
-use Rattle.bus_server.specs.Observations.{Observation}
-use Rattle.bus_server.specs.Applied.{Applies, AppliesAll, Handled, LoggedEvent, RunsEvent, RunsEvents, ServerState, events_of, with_backlog, round_start}
-use Rattle.bus_server.specs.Known.{IsKnown, IsSensorOf, reports_among}
+use Rattle.bus_server.specs.Observations.{Observation, Observed}
+use Rattle.bus_server.specs.Applied.{Applies, AppliesAll, Handled, LoggedEvent, RunsEvent, RunsEvents, ServerState, outcome_in, with_backlog, round_start}
+use Rattle.bus_server.specs.Known.{ClaimNothing, IsKnown, IsSensorOf, is_no_claim, level_by, messages_of, received_in, reports_read}
 use Rattle.bus_server.specs.declared.pace.Pace.{Pace}
-use Rattle.bus_server.specs.declared.pace.Pace.TheVariants.{AfterMessages, RealTime}
-use Rattle.bus_server.specs.Runs.{Round, RunsByClock, RunsRounds, logged_in}
-use Rattle.bus_server.specs.Placements.{places}
+use Rattle.bus_server.specs.Runs.{Round, RunsRounds, logged_in}
+use Rattle.bus_server.specs.Placements.{answered, places}
 use Rattle.bus_server.specs.Sensors.{asks_sensors, full_report, railway_elapsed, railway_placed, reports_due, reports_elapsed, running_time}
 use Rattle.bus_server.specs.TransportEvents.{Accepted, NonePending, PeerClosed, Polled, ReadBlocked, Received, Refused, ServerClosed, TransportEvent, WriteBlocked, Written}
+use Rattle.bus_server.specs.Track.{RunsTrack}
 use Rattle.bus_server.proofs.Rounding.{round_serves}
+use Rattle.bus_server.proofs.Tracking.{track_ran, with_due}
 
 -- what a railway promises of the reports of its sensors
 pub record SensorLaws : Type 0 where
+  pub read : (sensor : ℕ) (occupied : Bool) → IsTrue (is_sensor sensor) → report_of (report_bytes sensor occupied) ≡ Some (record { sensor = sensor; occupied = occupied })
   pub whole : (railway : RailwayState) (happening : Happening) → IsTrue (is_railway railway) → IsTrue (is_railway (after railway happening))
   pub blocks : (railway : RailwayState) (happening : Happening) → (after railway happening).network.blocks ≡ railway.network.blocks
   pub full : (railway : RailwayState) (block sensor : ℕ) (before : Bool) → IsTrue (is_railway railway) → block < length railway.network.blocks
@@ -40,33 +51,24 @@ pub record SensorLaws : Type 0 where
       → (slice_index_or railway.network.blocks block default_block).sensor ≡ Some sensor
       → level_after (reports_of_all railway happenings) sensor (is_occupied railway.trains block) ≡ is_occupied (after_all railway happenings).trains block
 
--- The reports of more events.
+-- The reports of more messages.
 
-one_more : (event : Event) (events : List Event) (sensor : ℕ) (level : Bool)
-    → level_after (reports_among (event ∷ events)) sensor level ≡ level_after (reports_among events) sensor (level_after (reports_among (event ∷ [])) sensor level)
-one_more (Connects client) events sensor level = refl
-one_more (Receives client byte) events sensor level = refl
-one_more (Disconnects client) events sensor level = refl
-one_more (Reports reporting occupied) events sensor level = refl
-one_more (Elapses micros missed) events sensor level = refl
-one_more (Turn missed) events sensor level = refl
-
-level-append : (first second : List Event) (sensor : ℕ) (level : Bool)
-    → level_after (reports_among (first ++ second)) sensor level ≡ level_after (reports_among second) sensor (level_after (reports_among first) sensor level)
+level-append : (first second : List SensorReport) (sensor : ℕ) (level : Bool) → level_after (first ++ second) sensor level ≡ level_after second sensor (level_after first sensor level)
 level-append [] second sensor level = refl
-level-append (event ∷ first) second sensor level =
-    one_more event (first ++ second) sensor level
-    ∙ level-append first second sensor (level_after (reports_among (event ∷ [])) sensor level)
-    ∙ ap (λ (l : Bool). level_after (reports_among second) sensor l) (sym (one_more event first sensor level))
+level-append (report ∷ first) second sensor level = level-append first second sensor (if report.sensor == sensor then report.occupied else level)
 
 -- the level that a client knows after logged events
 abbrev known_after : (sensor : ℕ) → List LoggedEvent → Bool → Bool
-known_after sensor applied level = level_after (reports_among (events_of applied)) sensor level
+known_after sensor applied level = level_by (received_in applied) sensor level
 
 known-append : (sensor : ℕ) (first second : List LoggedEvent) (level : Bool) → known_after sensor (first ++ second) level ≡ known_after sensor second (known_after sensor first level)
 known-append sensor first second level =
-    ap (λ (events : List Event). level_after (reports_among events) sensor level) (map-append (λ (one : LoggedEvent). one.event) first second)
-    ∙ level-append (events_of first) (events_of second) sensor level
+    ap (λ (messages : List (List ℕ)). level_by messages sensor level) (flat_map-append (λ (one : LoggedEvent). messages_of one.observed) first second)
+    ∙ ap (λ (reports : List SensorReport). level_after reports sensor level) (flat_map-append (λ (message : List ℕ). option_to_list (report_of message)) (received_in first) (received_in second))
+    ∙ level-append (reports_read (received_in first)) (reports_read (received_in second)) sensor level
+
+claim_parts : (first second : List LoggedEvent) → ClaimNothing (first ++ second) → ClaimNothing first × ClaimNothing second
+claim_parts first second h = and_parts (list_all (λ one. is_no_claim one.observed) first) (list_all (λ one. is_no_claim one.observed) second) (sym (list_all-append (λ (one : LoggedEvent). is_no_claim one.observed) first second) ∙ h)
 
 -- One event.
 
@@ -131,20 +133,88 @@ asked_known laws names block sensor level bus client (Some (Send message)) railw
   ap (λ (d : List SensorReport). level_after d sensor level) (made ∙ ap (λ (a : Bool). if a then full_report (Some railway) else []) asks) ∙ laws.full railway block sensor level whole is.0 is.1,
 )
 
-event_known : SensorLaws → (block sensor : ℕ) (level : Bool) (event : Event) (observed : Observation) (old new : ServerState) → RunsEvent event observed old new → IsKnown block sensor level old
-    → IsKnown block sensor (level_after (reports_among (event ∷ [])) sensor level) new
-event_known laws block sensor level (Connects client) observed old new runs h = same_known block sensor level old new runs.railway (runs.unreported.1 ∙ sym runs.unreported.0) h
-event_known laws block sensor level (Disconnects client) observed old new runs h = same_known block sensor level old new runs.railway (runs.unreported.1 ∙ sym runs.unreported.0) h
-event_known laws block sensor level (Receives client byte) observed old new runs h =
+-- The messages of an event are no reports, but for that of a sensor.
+
+no_reply : (reply : Option Reply) → reports_read (option_to_list (option_map reply_bytes reply)) ≡ []
+no_reply None = refl
+no_reply (Some (SlotData f)) = refl
+no_reply (Some (LongAck opc ack)) = refl
+
+none_read : (report : Option SensorReport) → not (is_some report) ≡ true → option_to_list report ≡ []
+none_read None h = refl
+none_read (Some report) h = cc
+
+-- what a client knows does not change by this outcome
+abbrev TellsNothing : (sensor : ℕ) → (level : Bool) → Outcome → Type 0
+TellsNothing sensor level outcome = level_by (messages_in outcome) sensor level ≡ level
+
+sent_tells : (sensor : ℕ) (level : Bool) (client : ℕ) (message : List ℕ) (reply : Option Reply) → not (is_some (report_of message)) ≡ true → TellsNothing sensor level (Sent client message (option_map reply_bytes reply))
+sent_tells sensor level client message reply h =
+    ap₂ (λ (a b : List SensorReport). level_after (a ++ b) sensor level) (none_read (report_of message) h) (no_reply reply)
+
+request_tells : (names : List (List ℕ)) (beside : Option RailwayState) (bus : BusState) (sensor : ℕ) (level : Bool) (client : ℕ) (request : Option Request) (nodes : List Node) (railway : Option RailwayState)
+    → is_no_claim (Observed (answered names beside (outcome_of_request bus client request)) nodes railway) ≡ true → TellsNothing sensor level (answered names beside (outcome_of_request bus client request))
+request_tells names beside bus sensor level client None nodes railway h = refl
+request_tells names beside bus sensor level client (Some (Invalid reason)) nodes railway h = refl
+request_tells names beside bus sensor level client (Some (Turns count)) nodes railway h = refl
+request_tells names beside bus sensor level client (Some Nodes) nodes railway h = refl
+request_tells names beside bus sensor level client (Some (Place placement)) nodes railway h = refl
+request_tells names beside bus sensor level client (Some (Send message)) nodes railway h = sent_tells sensor level client message (answer_to_message bus.station (Some message)) h
+
+-- time tells nothing
+time_tells : (names : List (List ℕ)) (beside : Option RailwayState) (ends : Bool) (packet : Option (List ℕ)) (sensor : ℕ) (level : Bool) → TellsNothing sensor level (answered names beside (if ends then TurnBegan packet else Nothing))
+time_tells names beside true packet sensor level = refl
+time_tells names beside false packet sensor level = refl
+
+-- what a client knows after the messages of an event
+abbrev level_of_event : (sensor : ℕ) → Observation → Bool → Bool
+level_of_event sensor observed level = level_by (messages_of observed ++ []) sensor level
+
+-- an event whose outcome tells nothing
+untold : (sensor : ℕ) (level : Bool) (observed : Observation) (outcome : Outcome) (nodes : List Node) (railway : Option RailwayState) → observed ≡ Observed outcome nodes railway → TellsNothing sensor level outcome
+    → level_of_event sensor observed level ≡ level
+untold sensor level observed outcome nodes railway saw tells =
+    ap (λ (o : Observation). level_of_event sensor o level) saw ∙ ap (λ (messages : List (List ℕ)). level_by messages sensor level) (append-nil (messages_in outcome)) ∙ tells
+
+known_still : (block sensor : ℕ) (level : Bool) (observed : Observation) (new : ServerState) → level_of_event sensor observed level ≡ level → IsKnown block sensor level new → IsKnown block sensor (level_of_event sensor observed level) new
+known_still block sensor level observed new same h = subst (λ (l : Bool). IsKnown block sensor l new) (sym same) h
+
+-- a report tells what it reports
+reported : SensorLaws → (reporting : ℕ) (occupied : Bool) (sensor : ℕ) (level : Bool) (observed : Observation) (nodes : List Node) (railway : Option RailwayState) → is_sensor reporting ≡ true
+    → observed ≡ Observed (Reported (report_bytes reporting occupied)) nodes railway
+    → level_of_event sensor observed level ≡ (if reporting == sensor then occupied else level)
+reported laws reporting occupied sensor level observed nodes railway legal saw =
+    ap (λ (o : Observation). level_of_event sensor o level) saw
+    ∙ ap (λ (report : Option SensorReport). level_after (option_to_list report ++ []) sensor level) (laws.read reporting occupied legal)
+
+event_known : SensorLaws → (block sensor : ℕ) (level : Bool) (event : Event) (observed : Observation) (old new : ServerState) → RunsEvent event observed old new → is_no_claim observed ≡ true → IsKnown block sensor level old
+    → IsKnown block sensor (level_of_event sensor observed level) new
+event_known laws block sensor level (Connects client) observed old new runs quiet h =
+    known_still block sensor level observed new (untold sensor level observed (outcome_in old (Connects client)) new.nodes new.railway runs.saw refl)
+    (same_known block sensor level old new runs.railway (runs.unreported.1 ∙ sym runs.unreported.0) h)
+event_known laws block sensor level (Disconnects client) observed old new runs quiet h =
+    known_still block sensor level observed new (untold sensor level observed (outcome_in old (Disconnects client)) new.nodes new.railway runs.saw refl)
+    (same_known block sensor level old new runs.railway (runs.unreported.1 ∙ sym runs.unreported.0) h)
+event_known laws block sensor level (Receives client byte) observed old new runs quiet h =
     let outcome : Outcome = outcome_of old.bus (Receives client byte) in
-    request_known laws old.names block sensor level old.bus client (request_at (client_of old.bus client) byte) h.0 new
+    let request : Option Request = request_at (client_of old.bus client) byte in
+    known_still block sensor level observed new
+    (untold sensor level observed (outcome_in old (Receives client byte)) new.nodes new.railway runs.saw
+    (request_tells old.names old.railway old.bus sensor level client request new.nodes new.railway (subst (λ (o : Observation). is_no_claim o ≡ true) runs.saw quiet)))
+    (request_known laws old.names block sensor level old.bus client request h.0 new
     (runs.railway ∙ ap (λ (r : Option RailwayState). railway_placed old.names outcome r) h.1)
     (runs.unreported.1 ∙ ap (λ (r : Option RailwayState). reports_due old.names outcome r []) h.1)
-    h.2 h.3 (sym (ap (λ (d : List SensorReport). level_after d sensor level) runs.unreported.0) ∙ h.4)
-event_known laws block sensor level (Reports reporting occupied) observed old new runs h =
+    h.2 h.3 (sym (ap (λ (d : List SensorReport). level_after d sensor level) runs.unreported.0) ∙ h.4))
+event_known laws block sensor level (Reports reporting occupied) observed old new runs quiet h =
+    subst (λ (l : Bool). IsKnown block sensor l new) (sym (reported laws reporting occupied sensor level observed new.nodes new.railway runs.legal runs.saw))
     (h.0, runs.railway ∙ h.1, h.2, h.3, sym (ap (λ (d : List SensorReport). level_after d sensor level) runs.unreported) ∙ h.4)
-event_known laws block sensor level (Elapses micros missed) observed old new runs h = elapsed_known laws block sensor (running_time old.bus micros) level old.nodes old new runs.unreported.0 runs.railway runs.unreported.1 h
-event_known laws block sensor level (Turn missed) observed old new runs h = elapsed_known laws block sensor (running_time old.bus old.bus.remaining) level old.nodes old new runs.unreported.0 runs.railway runs.unreported.1 h
+event_known laws block sensor level (Elapses micros missed) observed old new runs quiet h =
+    known_still block sensor level observed new
+    (untold sensor level observed (outcome_in old (Elapses micros missed)) new.nodes new.railway runs.saw (time_tells old.names old.railway (nat_le old.bus.remaining micros) (packet_of_turn old.bus.station) sensor level))
+    (elapsed_known laws block sensor (running_time old.bus micros) level old.nodes old new runs.unreported.0 runs.railway runs.unreported.1 h)
+event_known laws block sensor level (Turn missed) observed old new runs quiet h =
+    known_still block sensor level observed new (untold sensor level observed (outcome_in old (Turn missed)) new.nodes new.railway runs.saw refl)
+    (elapsed_known laws block sensor (running_time old.bus old.bus.remaining) level old.nodes old new runs.unreported.0 runs.railway runs.unreported.1 h)
 
 pub becomes_known : SensorLaws → (block sensor client byte : ℕ) (level : Bool) (railway : RailwayState) (observed : Observation) (old new : ServerState) → old.railway ≡ Some railway
     → IsTrue (is_railway railway) → IsSensorOf block sensor railway → asks_sensors (outcome_of old.bus (Receives client byte)) ≡ true → RunsEvent (Receives client byte) observed old new
@@ -159,12 +229,13 @@ becomes_known laws block sensor client byte level railway observed old new besid
 -- A run.
 
 module _ (laws : SensorLaws) (block sensor : ℕ) where
-  happened_known : (applied : List LoggedEvent) (level : Bool) (old new : ServerState) → RunsEvents applied old new → IsKnown block sensor level old → IsKnown block sensor (known_after sensor applied level) new
-  happened_known [] level old new same h = subst (λ (s : ServerState). IsKnown block sensor level s) (sym same) h
-  happened_known (one ∷ more) level old new runs h =
-      let first = event_known laws block sensor level one.event one.observed old runs.0 runs.1 h in
-      subst (λ (l : Bool). IsKnown block sensor l new) (sym (one_more one.event (events_of more) sensor level))
-      (happened_known more (level_after (reports_among (one.event ∷ [])) sensor level) runs.0 new runs.2 first)
+  happened_known : (applied : List LoggedEvent) (level : Bool) (old new : ServerState) → RunsEvents applied old new → ClaimNothing applied → IsKnown block sensor level old → IsKnown block sensor (known_after sensor applied level) new
+  happened_known [] level old new same quiet h = subst (λ (s : ServerState). IsKnown block sensor level s) (sym same) h
+  happened_known (one ∷ more) level old new runs quiet h =
+      let p = and_parts (is_no_claim one.observed) (list_all (λ one. is_no_claim one.observed) more) quiet in
+      let first = event_known laws block sensor level one.event one.observed old runs.0 runs.1 p.0 h in
+      subst (λ (l : Bool). IsKnown block sensor l new) (sym (known-append sensor (one ∷ []) more level))
+      (happened_known more (level_of_event sensor one.observed level) runs.0 new runs.2 p.1 first)
 
   none_known : (applied : List LoggedEvent) (level : Bool) (new : ServerState) → applied ≡ [] → IsKnown block sensor level new → IsKnown block sensor (known_after sensor applied level) new
   none_known applied level new none h = subst (λ (all : List LoggedEvent). IsKnown block sensor (known_after sensor all level) new) (sym none) h
@@ -172,47 +243,52 @@ module _ (laws : SensorLaws) (block sensor : ℕ) where
   as_before : (applied : List LoggedEvent) (level : Bool) (old new : ServerState) → applied ≡ [] → new ≡ old → IsKnown block sensor level old → IsKnown block sensor (known_after sensor applied level) new
   as_before applied level old new none same h = none_known applied level new none (subst (λ (s : ServerState). IsKnown block sensor level s) (sym same) h)
 
-  act_known : (log : TransportEvent) (applied : List LoggedEvent) (level : Bool) (old new : ServerState) → Applies log applied old new → IsKnown block sensor level old
+  act_known : (log : TransportEvent) (applied : List LoggedEvent) (level : Bool) (old new : ServerState) → Applies log applied old new → ClaimNothing applied → IsKnown block sensor level old
       → IsKnown block sensor (known_after sensor applied level) new
-  act_known (Accepted client) applied level old new does h = happened_known applied level (with_backlog old) new does.2 h
-  act_known (Received client byte) applied level old new does h = happened_known applied level (with_backlog old) new does.2 h
-  act_known (PeerClosed client) applied level old new does h = happened_known applied level old new does.2 h
-  act_known (ServerClosed client) applied level old new does h = happened_known applied level old new does.1.2 h
-  act_known (Written client bytes) applied level old new does h =
+  act_known (Accepted client) applied level old new does quiet h = happened_known applied level (with_backlog old) new does.2 quiet h
+  act_known (Received client byte) applied level old new does quiet h = happened_known applied level (with_backlog old) new does.1.2 quiet h
+  act_known (PeerClosed client) applied level old new does quiet h = happened_known applied level old new does.2 quiet h
+  act_known (ServerClosed client) applied level old new does quiet h = happened_known applied level old new does.1.2 quiet h
+  act_known (Written client bytes) applied level old new does quiet h =
       none_known applied level new does.0 (subst (λ (s : ServerState). IsKnown block sensor level s) (sym does.3) h)
-  act_known Refused applied level old new does h = as_before applied level (with_backlog old) new does.0 does.2 h
-  act_known (Polled longest) applied level old new does h = absurd does
-  act_known (ReadBlocked client) applied level old new does h = as_before applied level old new does.0 does.1 h
-  act_known (WriteBlocked client) applied level old new does h = as_before applied level old new does.0 does.1 h
-  act_known NonePending applied level old new does h = as_before applied level old new does.0 does.1 h
+  act_known Refused applied level old new does quiet h = as_before applied level (with_backlog old) new does.0 does.2 h
+  act_known (Polled longest) applied level old new does quiet h = absurd does
+  act_known (ReadBlocked client) applied level old new does quiet h = as_before applied level old new does.0 does.1 h
+  act_known (WriteBlocked client) applied level old new does quiet h = as_before applied level old new does.0 does.1 h
+  act_known NonePending applied level old new does quiet h = as_before applied level old new does.0 does.1 h
 
   abbrev applied_in : List Handled → List LoggedEvent
   applied_in handled = flat_map (λ one_handled. one_handled.applied) handled
 
-  acts_known : (handled : List Handled) (level : Bool) (old new : ServerState) → AppliesAll handled old new → IsKnown block sensor level old → IsKnown block sensor (known_after sensor (applied_in handled) level) new
-  acts_known [] level old new same h = subst (λ (s : ServerState). IsKnown block sensor level s) (sym same) h
-  acts_known (one_handled ∷ handled) level old new does h =
-      let first = act_known one_handled.log one_handled.applied level old does.0 does.1 h in
+  acts_known : (handled : List Handled) (level : Bool) (old new : ServerState) → AppliesAll handled old new → ClaimNothing (applied_in handled) → IsKnown block sensor level old → IsKnown block sensor (known_after sensor (applied_in handled) level) new
+  acts_known [] level old new same quiet h = subst (λ (s : ServerState). IsKnown block sensor level s) (sym same) h
+  acts_known (one_handled ∷ handled) level old new does quiet h =
+      let p = claim_parts one_handled.applied (applied_in handled) quiet in
+      let first = act_known one_handled.log one_handled.applied level old does.0 does.1 p.0 h in
       subst (λ (l : Bool). IsKnown block sensor l new) (sym (known-append sensor one_handled.applied (applied_in handled) level))
-      (acts_known handled (known_after sensor one_handled.applied level) does.0 new does.2 first)
+      (acts_known handled (known_after sensor one_handled.applied level) does.0 new does.2 p.1 first)
 
-  time_known : (pace : Pace) (readings : List ℕ) (elapsing : List LoggedEvent) (level : Bool) (old new : ServerState) → RunsByClock pace readings elapsing old new → IsKnown block sensor level old
+  time_known : (pace : Pace) (readings : List ℕ) (elapsing : List LoggedEvent) (level : Bool) (old new : ServerState) → RunsTrack pace readings elapsing old new → ClaimNothing elapsing → IsKnown block sensor level old
       → IsKnown block sensor (known_after sensor elapsing level) new
-  time_known (AfterMessages turns) readings elapsing level old new runs h = as_before elapsing level old new runs.1 runs.2 h
-  time_known (RealTime rate) readings elapsing level old new runs h = happened_known elapsing level old new runs.2.2 h
+  time_known pace readings elapsing level old new runs quiet h =
+      let ran = track_ran pace readings elapsing old new runs in
+      let after : IsKnown block sensor (known_after sensor elapsing level) (with_due new.turns_due new.time_due new.has_backlog ran.0) = happened_known elapsing level old ran.0 ran.1 quiet h in
+      subst (λ (s : ServerState). IsKnown block sensor (known_after sensor elapsing level) s) (sym ran.2) after
 
-  rounds_known : (most : ℕ) (rounds : List Round) (level : Bool) (old new : ServerState) → RunsRounds most rounds old new → IsKnown block sensor level old
+  rounds_known : (most : ℕ) (rounds : List Round) (level : Bool) (old new : ServerState) → RunsRounds most rounds old new → ClaimNothing (logged_in rounds) → IsKnown block sensor level old
       → IsKnown block sensor (known_after sensor (logged_in rounds) level) new
-  rounds_known most [] level old new same h = subst (λ (s : ServerState). IsKnown block sensor level s) (sym same) h
-  rounds_known most (round ∷ rounds) level old new runs h =
+  rounds_known most [] level old new same quiet h = subst (λ (s : ServerState). IsKnown block sensor level s) (sym same) h
+  rounds_known most (round ∷ rounds) level old new runs quiet h =
       let went = runs.2 in
       let handled = applied_in round.handled in
-      let served = acts_known round.handled level (round_start old) went.1 (round_serves round.handled (round_start old) went.1 went.2) h in
-      let timed = time_known went.1.pace round.readings round.elapsing (known_after sensor handled level) went.1 runs.1 went.3 served in
-      let rest = rounds_known most rounds (known_after sensor round.elapsing (known_after sensor handled level)) runs.1 new runs.3 timed in
+      let both = claim_parts (handled ++ round.elapsing) (logged_in rounds) quiet in
+      let one = claim_parts handled round.elapsing both.0 in
+      let served = acts_known round.handled level (round_start old) went.1 (round_serves round.handled (round_start old) went.1 went.2) one.0 h in
+      let timed = time_known went.1.pace round.readings round.elapsing (known_after sensor handled level) went.1 runs.1 went.3 one.1 served in
+      let rest = rounds_known most rounds (known_after sensor round.elapsing (known_after sensor handled level)) runs.1 new runs.3 both.1 timed in
       subst (λ (l : Bool). IsKnown block sensor l new)
       (sym (known-append sensor (handled ++ round.elapsing) (logged_in rounds) level ∙ ap (λ (l : Bool). known_after sensor (logged_in rounds) l) (known-append sensor handled round.elapsing level))) rest
 
-pub stays_known : SensorLaws → (block sensor most : ℕ) (level : Bool) (rounds : List Round) (old new : ServerState) → RunsRounds most rounds old new → IsKnown block sensor level old
+pub stays_known : SensorLaws → (block sensor most : ℕ) (level : Bool) (rounds : List Round) (old new : ServerState) → RunsRounds most rounds old new → ClaimNothing (logged_in rounds) → IsKnown block sensor level old
     → IsKnown block sensor (known_after sensor (logged_in rounds) level) new
-stays_known laws block sensor most level rounds old new runs h = rounds_known laws block sensor most rounds level old new runs h
+stays_known laws block sensor most level rounds old new runs quiet h = rounds_known laws block sensor most rounds level old new runs quiet h

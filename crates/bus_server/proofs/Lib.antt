@@ -8,9 +8,12 @@ pub mod Knowing
 pub mod Missed
 pub mod Missing
 pub mod Naming
+pub mod Nothings
 pub mod Placing
 pub mod Rounding
+pub mod Sizes
 pub mod Stepping
 pub mod Stopping
 pub mod Times
+pub mod Tracking
 pub mod WholeRuns

@@ -15,9 +15,6 @@ use Rattle.loconet_tcp.specs.declared.outcome.Outcome.TheVariants.{Nothing, Conn
 use Rattle.bus.specs.Bus.{BusState, request_at, client_of, is_event, outcome_of_request, outcome_of}
 use Rattle.loconet_tcp.specs.Texts.{text_for}
 use Rattle.railway.specs.Railway.{RailwayState}
-use Rattle.bus_server.specs.declared.pace.Pace.{Pace}
-use Rattle.bus_server.specs.declared.pace.Pace.TheVariants.{AfterMessages, RealTime}
-use Rattle.bus_server.specs.Applied.{turns_after}
 use Rattle.bus_server.specs.Placements.{answered}
 use Rattle.bus_server.specs.Queues.{is_within_capacity, enqueued, queued}
 use Rattle.bus_server.specs.ClientQueues.{SendQueues, names_client, enqueued_all, enqueued_from, queues_after}
@@ -43,7 +40,7 @@ placed_by bus (Elapses micros missed) legal = passing_placed (packet_of_turn bus
 placed_by bus (Reports sensor occupied) legal = refl
 placed_by bus (Turn missed) legal = refl
 
--- the answer names the same client, and as many turns follow
+-- the answer names the same client
 
 pub names-answered : (names : List (List ℕ)) (railway : Option RailwayState) (outcome : Outcome) → names_client (answered names railway outcome) ≡ names_client outcome
 names-answered names railway Nothing = refl
@@ -57,20 +54,6 @@ names-answered names railway (TurnsRequested client turns) = refl
 names-answered names railway (NodesRequested client) = refl
 names-answered names railway (PlaceRequested client placement) = refl
 names-answered names railway (Placed client answer) = refl
-
-pub turns-answered : (names : List (List ℕ)) (railway : Option RailwayState) (pace : Pace) (outcome : Outcome) → turns_after pace (answered names railway outcome) ≡ turns_after pace outcome
-turns-answered names railway pace Nothing = refl
-turns-answered names railway pace (TurnBegan packet) = refl
-turns-answered names railway pace (Disconnected client) = refl
-turns-answered names railway pace (Connected client) = refl
-turns-answered names railway pace (Rejected client reason) = refl
-turns-answered names railway pace (Sent client message reply) = refl
-turns-answered names railway pace (Reported message) = refl
-turns-answered names railway pace (TurnsRequested client turns) = refl
-turns-answered names railway pace (NodesRequested client) = refl
-turns-answered names railway (AfterMessages turns) (PlaceRequested client placement) = refl
-turns-answered names railway (RealTime rate) (PlaceRequested client placement) = refl
-turns-answered names railway pace (Placed client answer) = refl
 
 pub length-enqueued : (place : ℕ) (text : ℕ → List ℕ) (queues : SendQueues) → length (enqueued_from place text queues) ≡ length queues
 length-enqueued place text [] = refl

@@ -1,7 +1,7 @@
 -- A round, client by client.
-use Rattle.std.proofs.Common.{◌≡◌, ℕ, zero, suc, ◌+◌, ◌<◌, ◌≤◌, inl, inr, Bool, true, false, if◌then◌else◌, List, [], ◌∷◌, ◌++◌, length, refl, ap, ap₂, sym, subst, ◌∙◌, arith, append_assoc, append-nil, eqb-true, replicate}
+use Rattle.std.proofs.Common.{◌≡◌, ℕ, zero, suc, ◌+◌, ◌<◌, ◌≤◌, inl, inr, Bool, true, false, if◌then◌else◌, List, [], ◌∷◌, ◌++◌, length, map, take, Option, refl, ap, ap₂, sym, subst, ◌∙◌, arith, append_assoc, append-nil, eqb-true, replicate}
 use Rattle.std.specs.Prelude.{◌==◌}
-use Rattle.std.specs.List.{list_all, list_any}
+use Rattle.std.specs.List.{list_all, list_any, slice_index_or}
 use Rattle.std.proofs.lemmas.Bool.{and_from, cases_eq}
 use Rattle.std.proofs.lemmas.List.{length-append}
 use Rattle.std.proofs.lemmas.List.Folds.{list_all-append, list_any-append}
@@ -9,10 +9,10 @@ use Rattle.bus.specs.declared.event.Event.TheVariants.{Disconnects}
 use Rattle.bus_server.specs.Observations.{Observation}
 use Rattle.bus.specs.Log.{Extends}
 use Rattle.bus_server.specs.Progress.{ProgressesWithoutInput, Snapshot, WritesFront}
-use Rattle.bus_server.specs.Rounds.{AllWrittenTo, HasMoreClients, ServesClients, IsRead, IsRound, IsUnread, IsWrittenTo, is_reading, PreservesRound, AcceptsPending, WritesInARow, backlog_after, refusals, is_write}
-use Rattle.bus_server.specs.Applied.{Handled, RunsEventWithTurns, Applies, LoggedEvent, AppliesAll, ServerState, is_connected, has_overflowed, transport_events, observations_in, observations_of}
+use Rattle.bus_server.specs.Rounds.{AllWrittenTo, HasMoreClients, Reads, ReadsOn, ServesClients, IsReadOn, IsRound, IsUnread, IsWrittenTo, is_read, is_reading, PreservesRound, AcceptsPending, WritesInARow, backlog_after, refusals, is_write}
+use Rattle.bus_server.specs.Applied.{Handled, RunsEventWithReports, Applies, LoggedEvent, AppliesAll, ServerState, is_connected, has_overflowed, transport_events, observations_in, observations_of}
 use Rattle.bus_server.specs.declared.transport.IoOutcome.TheVariants.{WouldBlock}
-use Rattle.bus_server.specs.TransportEvents.{WriteBlocked, PeerClosed, NonePending, TransportEvent, Written, Refused}
+use Rattle.bus_server.specs.TransportEvents.{WriteBlocked, PeerClosed, NonePending, TransportEvent, Received, Written, Refused}
 use Rattle.bus_server.proofs.Going.{Claim, calm_then, goes_one, log-append, same_on_wire, serves_more, observed-append}
 use Rattle.bus_server.proofs.Keeping.{heard_now, left_keeps, left_waits, only_leaves, put_keeps, keeps_refused, read_now, none_of_both, one_refused, turned_away_all, turned_passed, turned_shown, written_behind}
 
@@ -59,7 +59,7 @@ wrote_later client old new wrote observed = elim wrote.0 [
       (old.state, (refl, refl), refl) wrote.1 refl (inr (inl (heard_now client)))
 ]
 
-pub wrote_to_none : (client : ℕ) (applied : List LoggedEvent) (old new : Snapshot) → Extends old.log new.log (PeerClosed client ∷ []) → Extends old.observed new.observed (observations_of applied) → RunsEventWithTurns (Disconnects client) applied old.state new.state
+pub wrote_to_none : (client : ℕ) (applied : List LoggedEvent) (old new : Snapshot) → Extends old.log new.log (PeerClosed client ∷ []) → Extends old.observed new.observed (observations_of applied) → RunsEventWithReports (Disconnects client) applied old.state new.state
     → ProgressesWithoutInput (IsWrittenTo client) old new
 wrote_to_none client applied old new grows observed does =
     let remaining = only_leaves client applied old.state new.state does in
@@ -91,11 +91,39 @@ put_then client count old mid new =
 
 -- The turns of a round.
 
-pub next_turn : (client : ℕ) (first heard written : List Handled) (old before mid new : ServerState) → ServesClients client first old before → AppliesAll heard before mid → IsRead client (transport_events heard)
+pub next_turn : (client : ℕ) (first heard written : List Handled) (old before mid new : ServerState) → ServesClients client first old before → Reads client heard before mid
     → AppliesAll written mid new → IsUnread (transport_events written) → AllWrittenTo 8 (transport_events written) new → ServesClients (client + 1) (first ++ (heard ++ written)) old new
-next_turn client first heard written old before mid new had serves is_read writes unread all =
+next_turn client first heard written old before mid new had reads writes unread all =
     subst (λ (n : ℕ). ServesClients n (first ++ (heard ++ written)) old new) {x = suc client} {y = client + 1} (omega arith)
-    (first, heard ++ written, before, refl, had, (heard, written, mid, refl, serves, is_read, writes, unread, all))
+    (first, heard ++ written, before, refl, had, (heard, written, mid, refl, reads, writes, unread, all))
+
+-- a read of one byte
+pub one_received : (client count : ℕ) (buf : List ℕ) (log log' : Option (List TransportEvent)) → (0 < count) × (count ≤ length buf) → length buf ≡ 1 → Extends log log' (map (λ byte. Received client byte) (take count buf))
+    → Extends log log' (Received client (slice_index_or buf 0 0) ∷ [])
+one_received client count [] log log' within one h = absurd (omega (arith, one))
+one_received client count (byte ∷ b ∷ more) log log' within one h = absurd (omega (arith, one))
+one_received client zero (byte ∷ []) log log' within one h = absurd (omega (arith, within.0))
+one_received client (suc (suc n)) (byte ∷ []) log log' within one h = absurd (omega (arith, within.1))
+one_received client (suc zero) (byte ∷ []) log log' within one h = h
+
+pub reads_on_apply : (client : ℕ) (handled : List Handled) (old new : ServerState) → ReadsOn client handled old new → AppliesAll handled old new
+reads_on_apply client [] old new same = same
+reads_on_apply client (one ∷ handled) old new h = (h.0, h.2, reads_on_apply client handled h.0 new h.4)
+
+pub reads_on_more : (client : ℕ) (handled : List Handled) (one : Handled) (old mid new : ServerState) → ReadsOn client handled old mid → is_read client one.log ≡ true → Applies one.log one.applied mid new → IsReadOn client mid new
+    → ReadsOn client (handled ++ one ∷ []) old new
+reads_on_more client [] one old mid new same is applies on =
+    subst (λ (s : ServerState). ReadsOn client (one ∷ []) s new) same (new, is, applies, on, refl)
+reads_on_more client (first ∷ handled) one old mid new h is applies on = (h.0, h.1, h.2, h.3, reads_on_more client handled one h.0 mid new h.4 is applies on)
+
+pub reads_apply : (client : ℕ) (handled : List Handled) (old new : ServerState) → Reads client handled old new → AppliesAll handled old new
+reads_apply client handled old new reads = elim reads [
+  | inl waits ↦ subst (λ (all : List Handled). AppliesAll all old new) (sym waits.1) waits.2
+  | inr (inl all) ↦ reads_on_apply client handled old new all.1
+  | inr (inr ends) ↦
+      subst (λ (all : List Handled). AppliesAll all old new) (sym ends.4)
+      (serves_more ends.1 (ends.2 ∷ []) old ends.3 new (reads_on_apply client ends.1 old ends.3 ends.6) (new, ends.8, refl))
+]
 
 pub turns_serve : (count : ℕ) (handled : List Handled) (old new : ServerState) → ServesClients count handled old new → AppliesAll handled old new
 turns_serve zero handled old new h = subst (λ (all : List Handled). AppliesAll all old new) (sym h.0) h.1
@@ -103,7 +131,7 @@ turns_serve (suc n) handled old new h =
     let turn = h.5 in
     subst (λ (all : List Handled). AppliesAll all old new) (sym h.3)
     (serves_more h.0 h.1 old h.2 new (turns_serve n h.0 old h.2 h.4)
-    (subst (λ (all : List Handled). AppliesAll all h.2 new) (sym turn.3) (serves_more turn.0 turn.1 h.2 turn.2 new turn.4 turn.6)))
+    (subst (λ (all : List Handled). AppliesAll all h.2 new) (sym turn.3) (serves_more turn.0 turn.1 h.2 turn.2 new (reads_apply n turn.0 h.2 turn.2 turn.4) turn.5)))
 
 pub round_serves : (handled : List Handled) (old new : ServerState) → IsRound handled old new → AppliesAll handled old new
 round_serves handled old new round = subst (λ (all : List Handled). AppliesAll all old new) (sym round.3) (serves_more round.0 round.1 old round.2 new (turns_serve 8 round.0 old round.2 round.4) round.5)

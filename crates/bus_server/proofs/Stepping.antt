@@ -36,6 +36,8 @@ runs event observed losses railway unreported old new h piece drawn told trains 
   queues = h.queues ∙ ap (λ (outcome : Outcome). queues_after outcome old.queues) told;
   names = h.names;
   answers = h.answers;
+  turns_due = h.turns_due;
+  time_due = h.time_due;
   losses = subst (λ (l : Losses). IsDrawn event old.bus (length old.nodes) old.losses l) (sym h.losses) drawn;
   pace = h.pace;
   has_backlog = h.has_backlog;

@@ -1,5 +1,5 @@
 -- The effect of transport events, and of time, on a server.
-use Rattle.std.specs.Prelude.{ℕ, zero, suc, ◌≡◌, ◌<◌, Bool, true, false, if◌then◌else◌, ◌&&◌, nat_le, not, is_some, length, ◌||◌, List, [], ◌∷◌, ◌++◌, map, replicate, MatchBool, Option, Some, None, Ok, slice_set}
+use Rattle.std.specs.Prelude.{ℕ, ◌≡◌, ◌<◌, Bool, true, false, if◌then◌else◌, ◌&&◌, nat_le, nat_lt, not, is_some, length, ◌||◌, List, [], ◌∷◌, ◌++◌, map, replicate, MatchBool, Option, Some, None, slice_set}
 use Rattle.decoder_node.specs.declared.node.NodeSpec.{NodeSpec}
 use Rattle.std.specs.List.{flat_map, list_all, list_any, slice_index_or}
 use Rattle.layout_core.specs.declared.node.Node.{Node}
@@ -10,27 +10,27 @@ use Rattle.railway.specs.Railway.{RailwayState}
 use Rattle.bus_server.specs.declared.losses.Losses.{Losses}
 use Rattle.bus_server.specs.Draws.{IsDraw}
 use Rattle.bus_server.specs.declared.pace.Pace.{Pace}
-use Rattle.bus_server.specs.declared.pace.Pace.TheVariants.{AfterMessages}
+use Rattle.bus_server.specs.declared.track_due.TurnsDue.{TurnsDue}
+use Rattle.bus_server.specs.Due.{after_answer, due_after, due_to, is_due, none_due, turns_answer}
 use Rattle.bus_server.specs.Paces.{clock_time, follows_messages}
 use Rattle.bus.specs.declared.event.Event.{Event}
-use Rattle.bus.specs.declared.event.Event.TheVariants.{Receives, Connects, Disconnects, Reports, Elapses, Turn}
+use Rattle.bus.specs.declared.event.Event.TheVariants.{Receives, Connects, Disconnects, Elapses, Turn}
 use Rattle.loconet_tcp.specs.declared.outcome.Outcome.{Outcome}
-use Rattle.loconet_tcp.specs.declared.outcome.Outcome.TheVariants.{Sent, TurnsRequested}
 use Rattle.bus.specs.Bus.{BusState, after_event, client_of, first_bus, is_event, outcome_of}
-use Rattle.bus.specs.Course.{is_time, micros_in}
 use Rattle.bus.specs.Layout.{layout_event}
 use Rattle.bus_server.specs.Observations.{Observed, Observation, Overflowed}
 use Rattle.bus_server.specs.Answers.{Answers, after_line, answers_after, next_line, node_lines}
 use Rattle.bus_server.specs.Counts.{disconnected_after}
 use Rattle.bus_server.specs.Placements.{answered}
-use Rattle.bus_server.specs.Sensors.{IsDue, IsWithinTurn, railway_after, reports_after}
+use Rattle.bus_server.specs.Sensors.{IsDue, IsWithinTurn, is_report, railway_after, reports_after}
+use Rattle.bus_server.specs.Queues.{is_more_than_half}
 use Rattle.bus_server.specs.ClientQueues.{SendQueues, enqueued_from, queues_after}
 use Rattle.bus_server.specs.TransportEvents.{Polled, ServerClosed, Accepted, PeerClosed, TransportEvent, Written, Received, Refused}
 
 -- A server: its bus, the decoders and their names, the railway beside them (or None) and what its
--- sensors are still to report, the queue of each client, the answer under way to each, the
--- generator of losses, what turns follow, how many clients have disconnected, and whether there may
--- be more input than was read.
+-- sensors are still to report, the queue of each client, the answer under way to each, the turns due
+-- to each and the microseconds that are due, the generator of losses, what turns follow, how many
+-- clients have disconnected, and whether there may be more input than was read.
 pub record ServerState : Type 0 where
   pub bus : BusState
   pub nodes : List Node
@@ -39,6 +39,8 @@ pub record ServerState : Type 0 where
   pub unreported : List SensorReport
   pub queues : SendQueues
   pub answers : Answers
+  pub turns_due : List TurnsDue
+  pub time_due : ℕ
   pub losses : Losses
   pub pace : Pace
   pub disconnected : ℕ
@@ -54,6 +56,8 @@ initial_state nodes names railway pace losses = record {
   unreported = [];
   queues = replicate 8 None;
   answers = replicate 8 None;
+  turns_due = replicate 8 none_due;
+  time_due = 0;
   losses = losses;
   pace = pace;
   disconnected = 0;
@@ -82,6 +86,8 @@ pub record RunsEvent (event : Event) (observed : Observation) (old new : ServerS
   pub queues : new.queues ≡ queues_after (outcome_in old event) old.queues
   pub names : new.names ≡ old.names
   pub answers : new.answers ≡ answers_after (outcome_of old.bus event) old.answers
+  pub turns_due : new.turns_due ≡ due_after (outcome_of old.bus event) old.pace old.turns_due
+  pub time_due : new.time_due ≡ old.time_due
   pub losses : IsDrawn event old.bus (length old.nodes) old.losses new.losses
   pub pace : new.pace ≡ old.pace
   pub has_backlog : new.has_backlog ≡ old.has_backlog
@@ -104,26 +110,6 @@ abbrev pub RunsEvents : List LoggedEvent → ServerState → ServerState → Typ
 RunsEvents [] old new = new ≡ old
 RunsEvents (one ∷ more) old new = (mid : ServerState) × RunsEvent one.event one.observed old mid × RunsEvents more mid new
 
--- The track runs for a number of microseconds, however they are divided, and sensors report;
--- nothing else happens.
-abbrev pub RunsFor : (micros : ℕ) → List LoggedEvent → ServerState → ServerState → Type 0
-RunsFor micros applied old new =
-    (list_all is_time (events_of applied) ≡ true) × (micros_in old.bus (events_of applied) ≡ micros) × RunsEvents applied old new
-
--- how many turns follow an outcome, if turns follow messages: those after a message, or those
--- requested
-abbrev pub turns_after : Pace → Outcome → ℕ
-turns_after (AfterMessages turns) (Sent client message reply) = turns
-turns_after (AfterMessages turns) (TurnsRequested client (Ok count)) = count
-turns_after pace other = 0
-
--- a number of turns, and what sensors report before, between and after them
-abbrev pub AreTurns : ℕ → List Event → Type 0
-AreTurns n (Reports sensor occupied ∷ events) = AreTurns n events
-AreTurns zero [] = Unit {0}
-AreTurns (suc n) (Turn missed ∷ events) = AreTurns n events
-AreTurns n other = ⊥
-
 -- a client is connected
 abbrev pub is_connected : ServerState → (client : ℕ) → Bool
 is_connected state client = is_some (client_of state.bus client)
@@ -137,16 +123,23 @@ is_accepted state other = true
 abbrev pub has_overflowed : ServerState → (client : ℕ) → Bool
 has_overflowed state client = is_connected state client && not (is_some (slice_index_or state.queues client None))
 
--- this event, and a number of turns after it, with what sensors report
-abbrev pub IsWithTurns : Event → ℕ → List Event → Type 0
-IsWithTurns event turns [] = ⊥
-IsWithTurns event turns (first ∷ behind) = (first ≡ event) × AreTurns turns behind
+-- a queue is more than half full
+abbrev pub is_crowded : ServerState → Bool
+is_crowded state = list_any is_more_than_half state.queues
 
--- An event of a client is run, and after a message its turns, with what sensors report; a client
--- connects at a free index.
-abbrev pub RunsEventWithTurns : Event → List LoggedEvent → ServerState → ServerState → Type 0
-RunsEventWithTurns event applied old new =
-    (is_accepted old event ≡ true) × IsWithTurns event (turns_after old.pace (outcome_of old.bus event)) (events_of applied) × RunsEvents applied old new
+-- turns are due to a client
+abbrev pub has_turns_due : ServerState → (client : ℕ) → Bool
+has_turns_due state client = is_due (due_to state.turns_due client)
+
+-- this event, and what sensors report after it
+abbrev pub IsWithReports : Event → List Event → Type 0
+IsWithReports event [] = ⊥
+IsWithReports event (first ∷ behind) = (first ≡ event) × (list_all is_report behind ≡ true)
+
+-- An event of a client is run, with what sensors report; a client connects at a free index.
+abbrev pub RunsEventWithReports : Event → List LoggedEvent → ServerState → ServerState → Type 0
+RunsEventWithReports event applied old new =
+    (is_accepted old event ≡ true) × IsWithReports event (events_of applied) × RunsEvents applied old new
 
 -- an event of the transport, and the events of the bus that it caused
 pub record Handled : Type 0 where
@@ -157,10 +150,15 @@ pub record Handled : Type 0 where
 abbrev pub is_answering : ServerState → Bool
 is_answering state = list_any is_some state.answers
 
--- How long a server waits for input, in microseconds: not while there may be more of it or an answer is under way; else until
--- the turn under way ends; where turns follow messages, without end.
+-- turns or time are due
+abbrev pub is_track_due : ServerState → Bool
+is_track_due state = list_any is_due state.turns_due || nat_lt 0 state.time_due
+
+-- How long a server waits for input, in microseconds: not while there may be more of it, an answer is under way or the track is
+-- due to run; else until the turn under way ends; where turns follow messages, without end.
 abbrev pub longest_wait : ServerState → Option ℕ
-longest_wait state = if state.has_backlog || is_answering state then Some 0 else clock_time state.pace state.bus.remaining
+longest_wait state =
+    if state.has_backlog || is_answering state || is_track_due state then Some 0 else clock_time state.pace state.bus.remaining
 
 -- there may be more input; and none was found since the last wait
 abbrev pub with_backlog : ServerState → ServerState
@@ -169,30 +167,34 @@ with_backlog state = record state { has_backlog = true }
 abbrev pub without_backlog : ServerState → ServerState
 without_backlog state = record state { has_backlog = false }
 
--- the line that each client receives next of the answer under way to it
+-- what each client receives next: a line of the answer under way to it, and that its turns have passed
 abbrev pub answer_to : ServerState → (client : ℕ) → List ℕ
-answer_to state client = next_line (node_lines state.names state.nodes) (slice_index_or state.answers client None)
+answer_to state client =
+    next_line (node_lines state.names state.nodes) (slice_index_or state.answers client None) ++ turns_answer (due_to state.turns_due client)
 
 -- it is enqueued
 abbrev pub with_answers : ServerState → ServerState
 with_answers state = record state {
   queues = enqueued_from 0 (answer_to state) state.queues;
   answers = map (after_line (length state.names)) state.answers;
+  turns_due = map after_answer state.turns_due;
 }
 
 -- the start of a round, after its wait
 abbrev pub round_start : ServerState → ServerState
 round_start state = with_answers (without_backlog state)
 
--- What each event of the transport does, after a wait. A client that is accepted or closes, and each byte, is an event of the bus. What is
--- written is the front of the client's queue. The server closes a client only if its queue has overflowed, and refuses one only
--- while all eight are connected. After what was read, accepted or refused there may be more.
+-- What each event of the transport does, after a wait. A client that is accepted or closes, and each byte, is an event of the
+-- bus; a client is not read while turns are due to it. What is written is the front of the client's queue. The server closes a
+-- client only if its queue has overflowed, and refuses one only while all eight are connected. After what was read, accepted or
+-- refused there may be more.
 abbrev pub Applies : TransportEvent → List LoggedEvent → ServerState → ServerState → Type 0
 Applies (Polled longest) applied old new = ⊥
-Applies (Accepted client) applied old new = RunsEventWithTurns (Connects client) applied (with_backlog old) new
-Applies (Received client byte) applied old new = RunsEventWithTurns (Receives client byte) applied (with_backlog old) new
-Applies (PeerClosed client) applied old new = RunsEventWithTurns (Disconnects client) applied old new
-Applies (ServerClosed client) applied old new = (has_overflowed old client ≡ true) × RunsEventWithTurns (Disconnects client) applied old new
+Applies (Accepted client) applied old new = RunsEventWithReports (Connects client) applied (with_backlog old) new
+Applies (Received client byte) applied old new =
+    (has_turns_due old client ≡ false) × RunsEventWithReports (Receives client byte) applied (with_backlog old) new
+Applies (PeerClosed client) applied old new = RunsEventWithReports (Disconnects client) applied old new
+Applies (ServerClosed client) applied old new = (has_overflowed old client ≡ true) × RunsEventWithReports (Disconnects client) applied old new
 Applies (Written client bytes) applied old new =
     (applied ≡ []) × (rest : List ℕ) × (slice_index_or old.queues client None ≡ Some (bytes ++ rest)) × (new ≡ record old { queues = slice_set old.queues client (Some rest) })
 Applies Refused applied old new = (applied ≡ []) × ((client : ℕ) → client < 8 → is_connected old client ≡ true) × (new ≡ with_backlog old)

@@ -1,5 +1,5 @@
 -- A client that keeps up is not disconnected by the server.
-use Rattle.std.specs.Prelude.{ℕ, ◌≡◌, ◌<◌, ◌==◌, Bool, false, List, [], length, None}
+use Rattle.std.specs.Prelude.{ℕ, ◌≡◌, ◌<◌, ◌≤◌, ◌==◌, Bool, false, IfSome, List, [], length}
 use Rattle.std.specs.List.{list_any}
 use Rattle.bus_server.specs.Applied.{ServerState, has_overflowed}
 use Rattle.bus_server.specs.Rounds.{HasEmptyQueue, WritesInARow}
@@ -24,15 +24,14 @@ KeepsUp client log = (list_any (is_blocked client) log ≡ false) × (WritesInAR
 abbrev pub IsUpToDate : (client : ℕ) → ServerState → Type 0
 IsUpToDate client state = HasEmptyQueue client state × (has_overflowed state client ≡ false)
 
--- no railway is beside the bus, so that no sensor reports
-abbrev pub IsWithoutRailway : ServerState → Type 0
-IsWithoutRailway state = (state.railway ≡ None) × (state.unreported ≡ [])
+-- Nothing is still to report, and the railway beside the bus, if there is one, has at most the 64 blocks of a plan.
+abbrev pub IsAtRest : ServerState → Type 0
+IsAtRest state = (state.unreported ≡ []) × IfSome state.railway (λ railway. length railway.network.blocks ≤ 64)
 
--- In a run of a server without a railway that begins when nothing is queued for a client, the
--- server does not close its connection if it keeps up, whatever the other clients do. (With a
--- railway, sensors report in any number.)
+-- In a run of a server that begins when nothing is queued for a client, the server does not close its
+-- connection if it keeps up, whatever the other clients do and however much sensors report.
 abbrev pub StaysConnected : Type 0
 StaysConnected = (client most : ℕ) (rounds : List Round) (old new : ServerState)
-    → IsWithoutRailway old → client < 8 → length old.queues ≡ 8 → IsUpToDate client old
+    → IsAtRest old → client < 8 → length old.queues ≡ 8 → IsUpToDate client old
     → RunsRounds most rounds old new → KeepsUp client (transport_log rounds)
     → list_any (is_closed client) (transport_log rounds) ≡ false

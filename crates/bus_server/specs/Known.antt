@@ -1,24 +1,46 @@
 -- What a client knows of a sensor by the reports on the bus.
-use Rattle.std.specs.Prelude.{ℕ, ◌≡◌, ◌<◌, Bool, true, List, [], ◌∷◌, length, Some, IsTrue}
-use Rattle.std.specs.List.{slice_index_or}
+use Rattle.std.specs.Prelude.{ℕ, ◌≡◌, ◌<◌, Bool, true, List, [], is_some, length, not, Some, IsTrue}
+use Rattle.std.specs.List.{flat_map, list_all, slice_index_or}
+use Rattle.std.specs.Option.{option_to_list}
+use Rattle.ln_ops.specs.Sensor.{report_of}
 use Rattle.ln_ops.specs.declared.sensor.SensorReport.{SensorReport}
 use Rattle.railway.specs.Blocks.{default_block}
 use Rattle.railway.specs.Railway.{RailwayState, is_railway}
 use Rattle.railway.specs.Reports.{is_occupied, level_after}
-use Rattle.bus.specs.declared.event.Event.{Event}
-use Rattle.bus.specs.declared.event.Event.TheVariants.{Receives, Reports}
+use Rattle.loconet_tcp.specs.Texts.{messages_in}
+use Rattle.loconet_tcp.specs.declared.outcome.Outcome.TheVariants.{Sent}
+use Rattle.bus.specs.declared.event.Event.TheVariants.{Receives}
 use Rattle.bus.specs.Bus.{outcome_of}
-use Rattle.bus_server.specs.Observations.{Observation}
-use Rattle.bus_server.specs.Applied.{RunsEvent, ServerState, events_of}
+use Rattle.bus_server.specs.Observations.{Observation, Observed}
+use Rattle.bus_server.specs.Applied.{LoggedEvent, RunsEvent, ServerState}
 use Rattle.bus_server.specs.Runs.{Round, RunsRounds, logged_in}
 use Rattle.bus_server.specs.Sensors.{asks_sensors}
 
--- the reports among events, in order
-abbrev pub reports_among : List Event → List SensorReport
-reports_among [] = []
-reports_among (Reports sensor occupied ∷ events) =
-    record { sensor = sensor; occupied = occupied } ∷ reports_among events
-reports_among (other ∷ events) = reports_among events
+-- the messages that clients receive of an observation: each sent, its reply, and each report
+abbrev pub messages_of : Observation → List (List ℕ)
+messages_of (Observed outcome nodes railway) = messages_in outcome
+messages_of other = []
+
+-- all of a run, in order
+abbrev pub received_in : List LoggedEvent → List (List ℕ)
+received_in applied = flat_map (λ one. messages_of one.observed) applied
+
+-- the reports among messages, as layout software reads them
+abbrev pub reports_read : List (List ℕ) → List SensorReport
+reports_read messages = flat_map (λ message. option_to_list (report_of message)) messages
+
+-- the level of a sensor that a client knows by messages: that of its last report
+abbrev pub level_by : List (List ℕ) → (sensor : ℕ) → Bool → Bool
+level_by messages sensor level = level_after (reports_read messages) sensor level
+
+-- It is not a message of a client that reads as a report (OPC_INPUT_REP).
+abbrev pub is_no_claim : Observation → Bool
+is_no_claim (Observed (Sent client message reply) nodes railway) = not (is_some (report_of message))
+is_no_claim other = true
+
+-- no client sends such a message
+abbrev pub ClaimNothing : List LoggedEvent → Type 0
+ClaimNothing applied = list_all (λ one. is_no_claim one.observed) applied ≡ true
 
 -- the sensor is that of a block of the railway
 abbrev pub IsSensorOf : (block sensor : ℕ) → RailwayState → Type 0
@@ -33,12 +55,11 @@ IsKnown block sensor level state =
     × IsSensorOf block sensor railway
     × (level_after state.unreported sensor level ≡ is_occupied railway.trains block)
 
--- It stays so in every run, by the reports in it.
+-- It stays so in every run in which no client sends a report, by the messages that clients receive.
 abbrev pub StaysKnown : Type 0
 StaysKnown = (block sensor most : ℕ) (level : Bool) (rounds : List Round) (old new : ServerState)
-    → RunsRounds most rounds old new → IsKnown block sensor level old
-    → IsKnown block sensor
-    (level_after (reports_among (events_of (logged_in rounds))) sensor level) new
+    → RunsRounds most rounds old new → ClaimNothing (logged_in rounds) → IsKnown block sensor level old
+    → IsKnown block sensor (level_by (received_in (logged_in rounds)) sensor level) new
 
 -- After a message that asks all sensors to report it is so, whatever the client knew.
 abbrev pub BecomesKnown : Type 0

@@ -4,6 +4,7 @@ pub mod ClientQueues
 pub mod Counts
 pub mod Drawn
 pub mod Draws
+pub mod Due
 pub mod Fronts
 pub mod KeepUp
 pub mod Known
@@ -14,9 +15,12 @@ pub mod Paces
 pub mod Placements
 pub mod Progress
 pub mod Queues
+pub mod Reading
 pub mod Rounds
 pub mod Runs
 pub mod Sensors
+pub mod Shown
 pub mod Steps
 pub mod Stops
+pub mod Track
 pub mod TransportEvents

@@ -1,5 +1,5 @@
 -- The queue of a client.
-use Rattle.std.specs.Prelude.{ℕ, ◌+◌, Bool, if◌then◌else◌, nat_le, List, [], ◌++◌, length, Option, Some, None}
+use Rattle.std.specs.Prelude.{ℕ, ◌+◌, Bool, if◌then◌else◌, nat_le, nat_lt, List, [], ◌++◌, length, Option, Some, None}
 
 -- the bytes in it; none where it is closed
 abbrev pub queued : Option (List ℕ) → List ℕ
@@ -9,6 +9,10 @@ queued (Some bytes) = bytes
 -- at most 65,536 bytes
 abbrev pub is_within_capacity : Option (List ℕ) → Bool
 is_within_capacity send_queue = nat_le (length (queued send_queue)) 65536
+
+-- more than half full
+abbrev pub is_more_than_half : Option (List ℕ) → Bool
+is_more_than_half send_queue = nat_lt 32768 (length (queued send_queue))
 
 -- A text is enqueued. A queue that would have more than 65,536 bytes is closed (own).
 abbrev pub enqueued : List ℕ → Option (List ℕ) → Option (List ℕ)

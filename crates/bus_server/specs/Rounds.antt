@@ -1,7 +1,7 @@
 -- A round of a server: all clients are read and written to, and pending clients are accepted.
 use Rattle.std.specs.Prelude.{ℕ, zero, suc, ◌≡◌, ◌⊎◌, ◌<◌, ◌≤◌, ◌==◌, Bool, true, false, if◌then◌else◌, List, [], ◌∷◌, ◌++◌, length, replicate, None}
 use Rattle.std.specs.List.{list_all, list_any, slice_index_or}
-use Rattle.bus_server.specs.Applied.{Handled, AppliesAll, ServerState, is_connected, has_overflowed, transport_events, with_backlog}
+use Rattle.bus_server.specs.Applied.{Handled, Applies, AppliesAll, ServerState, has_overflowed, has_turns_due, is_connected, is_crowded, transport_events, with_backlog}
 use Rattle.bus_server.specs.Queues.{queued}
 use Rattle.bus_server.specs.TransportEvents.{Accepted, WriteBlocked, PeerClosed, NonePending, TransportEvent, Written, ReadBlocked, Received, Refused}
 
@@ -44,10 +44,6 @@ AcceptsPending more = (before : List TransportEvent) × ((more ≡ before ++ Non
 abbrev pub AllWrittenTo : (below : ℕ) → List TransportEvent → ServerState → Type 0
 AllWrittenTo below more state = (client : ℕ) → client < below → IsWrittenTo client more state × (has_overflowed state client ≡ false)
 
--- a client is read, 400 bytes at most, and nothing else happens
-abbrev pub IsRead : (client : ℕ) → List TransportEvent → Type 0
-IsRead client more = (0 < length more) × (length more ≤ 400) × (list_all (is_read client) more ≡ true)
-
 -- a read of any client
 abbrev pub is_reading : TransportEvent → Bool
 is_reading (Received client byte) = true
@@ -58,10 +54,42 @@ is_reading other = false
 abbrev pub IsUnread : List TransportEvent → Type 0
 IsUnread more = list_any is_reading more ≡ false
 
+-- a read that finds no more bytes
+abbrev pub is_last_read : TransportEvent → Bool
+is_last_read (PeerClosed client) = true
+is_last_read (ReadBlocked client) = true
+is_last_read other = false
+
+-- After an event of a client it is read on: no turns are due to it, and no queue is more than half full, unless the event
+-- enqueued nothing.
+abbrev pub IsReadOn : (client : ℕ) → (old new : ServerState) → Type 0
+IsReadOn client old new = (has_turns_due new client ≡ false) × ((is_crowded new ≡ false) ⊎ (new.queues ≡ old.queues))
+
+-- Or it is not: there are no more bytes, turns are due to it, or a queue is more than half full.
+abbrev pub IsReadLater : (client : ℕ) → TransportEvent → ServerState → Type 0
+IsReadLater client log new = (is_last_read log ≡ true) ⊎ (has_turns_due new client ≡ true) ⊎ (is_crowded new ≡ true)
+
+-- a client is read, and then read on, one byte after another
+abbrev pub ReadsOn : (client : ℕ) → List Handled → ServerState → ServerState → Type 0
+ReadsOn client [] old new = new ≡ old
+ReadsOn client (one ∷ handled) old new =
+    (mid : ServerState) × (is_read client one.log ≡ true) × Applies one.log one.applied old mid × IsReadOn client old mid
+    × ReadsOn client handled mid new
+
+-- A client is read, 400 bytes at most, and nothing else happens: until it is to be read later. It is not read at all while turns
+-- are due to it, which what it sends waits for.
+abbrev pub Reads : (client : ℕ) → List Handled → ServerState → ServerState → Type 0
+Reads client handled old new =
+    ((has_turns_due old client ≡ true) × (handled ≡ []) × (new ≡ old))
+    ⊎ ((has_turns_due old client ≡ false) × ReadsOn client handled old new × (length handled ≡ 400))
+    ⊎ ((has_turns_due old client ≡ false) × (before : List Handled) × (last : Handled) × (mid : ServerState)
+    × (handled ≡ before ++ last ∷ []) × (length handled ≤ 400) × ReadsOn client before old mid
+    × (is_read client last.log ≡ true) × Applies last.log last.applied mid new × IsReadLater client last.log new)
+
 -- A client is served: it is read, and then all are written to, and none is read.
 abbrev pub ServesClient : (client : ℕ) → List Handled → ServerState → ServerState → Type 0
 ServesClient client handled old new =
-    (heard written : List Handled) × (mid : ServerState) × (handled ≡ heard ++ written) × AppliesAll heard old mid × IsRead client (transport_events heard)
+    (heard written : List Handled) × (mid : ServerState) × (handled ≡ heard ++ written) × Reads client heard old mid
     × AppliesAll written mid new × IsUnread (transport_events written) × AllWrittenTo 8 (transport_events written) new
 
 -- a number are served, one after another

@@ -12,6 +12,7 @@ use Rattle.bus_server.specs.Answers.{answers_after}
 use Rattle.bus_server.specs.Applied.{LoggedEvent, RunsEvents, ServerState, events_of, observations_of, outcome_in}
 use Rattle.bus_server.specs.ClientQueues.{queues_after}
 use Rattle.bus_server.specs.Counts.{disconnected_after}
+use Rattle.bus_server.specs.Due.{due_after}
 use Rattle.bus_server.specs.Sensors.{is_report, railway_elapsed, railway_placed, reports_due, reports_elapsed, running_time}
 
 -- Trains have run for a time, as the decoders do, if the track has power, and what sensors report of
@@ -34,6 +35,8 @@ pub record RunsOnBus (event : Event) (observed : Observation) (old new : ServerS
   pub queues : new.queues ≡ queues_after (outcome_in old event) old.queues
   pub names : new.names ≡ old.names
   pub answers : new.answers ≡ answers_after (outcome_of old.bus event) old.answers
+  pub turns_due : new.turns_due ≡ due_after (outcome_of old.bus event) old.pace old.turns_due
+  pub time_due : new.time_due ≡ old.time_due
   pub losses : new.losses ≡ old.losses
   pub pace : new.pace ≡ old.pace
   pub has_backlog : new.has_backlog ≡ old.has_backlog

@@ -1,112 +1,101 @@
 -- A run that stopped at a fault: what was applied up to it, and which device failed.
-use Rattle.std.specs.Prelude.{ℕ, ◌≡◌, ◌⊎◌, ◌<◌, ◌≤◌, Bool, true, map, List, [], ◌∷◌, ◌++◌, Result, Ok, Err}
+use Rattle.std.specs.Prelude.{ℕ, ◌≡◌, ◌⊎◌, ◌<◌, ◌≤◌, Bool, true, List, [], ◌∷◌, ◌++◌, Result, Ok, Err}
 use Rattle.bus.specs.Log.{Extends}
-use Rattle.bus.specs.Bus.{outcome_of}
-use Rattle.bus.specs.declared.event.Event.{Event}
-use Rattle.bus.specs.declared.event.Event.TheVariants.{Connects, Disconnects, Receives}
+use Rattle.bus.specs.Course.{micros_in}
 use Rattle.bus.specs.Cycle.{RunsInTime}
 use Rattle.bus_server.specs.declared.running.Stop.{Stop}
 use Rattle.bus_server.specs.declared.running.Stop.TheVariants.{Transport, Clock, Observer, AfterRound}
 use Rattle.bus_server.specs.declared.pace.Pace.{Pace}
-use Rattle.bus_server.specs.declared.pace.Pace.TheVariants.{RealTime}
-use Rattle.bus_server.specs.Paces.{track_time}
-use Rattle.bus_server.specs.Applied.{AppliesAll, AreTurns, Handled, IsWithTurns, LoggedEvent, RunsEvents, RunsFor, ServerState, events_of, has_overflowed, is_accepted, longest_wait, observations_in, round_start, transport_events, turns_after, with_backlog}
+use Rattle.bus_server.specs.declared.pace.Pace.TheVariants.{AfterMessages, RealTime}
+use Rattle.bus_server.specs.Applied.{Applies, AppliesAll, Handled, LoggedEvent, ServerState, events_of, has_overflowed, longest_wait, observations_in, round_start, transport_events}
 use Rattle.bus_server.specs.Progress.{Snapshot}
 use Rattle.bus_server.specs.Rounds.{IsRound}
-use Rattle.bus_server.specs.Runs.{IsEventRun, Round, RunsByClock, RunsRounds, RunSnapshot, StartsRound, logged_in, observation_log, readings_of, transport_log}
+use Rattle.bus_server.specs.Runs.{HasGrown, IsEventRun, Round, RunsRounds, RunSnapshot, StartsRound, logged_in, shown}
+use Rattle.bus_server.specs.Track.{IsTimeDue, RunsSteps, RunsTrack, RunsTurns, is_piece, is_turn, turns_left, with_time_due}
 use Rattle.bus_server.specs.TransportEvents.{Accepted, PeerClosed, Received, ServerClosed, TransportEvent}
 
--- some of `turns` turns were run
-abbrev pub BeginsTurns : (turns : ℕ) → List LoggedEvent → ServerState → ServerState → Type 0
-BeginsTurns turns applied old new = (count : ℕ) × (count ≤ turns) × AreTurns count (events_of applied) × RunsEvents applied old new
-
--- an event of a client was run, and some of the turns that follow it
-abbrev pub BeginsEvent : Event → List LoggedEvent → ServerState → ServerState → Type 0
-BeginsEvent event applied old new =
-    (is_accepted old event ≡ true) × (count : ℕ) × (count ≤ turns_after old.pace (outcome_of old.bus event)) × IsWithTurns event count (events_of applied)
-    × RunsEvents applied old new
-
--- What was applied of an event of the transport at which the observer failed: its event of the bus,
--- and some of the turns that follow. Nothing, if the observer failed at the notice of an overflow.
+-- What was applied of an event of the transport at which the observer failed: all but, perhaps, some of what sensors report. At
+-- the notice of an overflow nothing was applied.
 abbrev pub Begins : TransportEvent → List LoggedEvent → ServerState → ServerState → Type 0
-Begins (Accepted client) applied old new = BeginsEvent (Connects client) applied (with_backlog old) new
-Begins (Received client byte) applied old new = BeginsEvent (Receives client byte) applied (with_backlog old) new
-Begins (PeerClosed client) applied old new = BeginsEvent (Disconnects client) applied old new
+Begins (Accepted client) applied old new = Applies (Accepted client) applied old new
+Begins (Received client byte) applied old new = Applies (Received client byte) applied old new
+Begins (PeerClosed client) applied old new = Applies (PeerClosed client) applied old new
 Begins (ServerClosed client) applied old new =
-    (has_overflowed old client ≡ true) × (((applied ≡ []) × (new ≡ old)) ⊎ BeginsEvent (Disconnects client) applied old new)
+    Applies (ServerClosed client) applied old new ⊎ ((has_overflowed old client ≡ true) × (applied ≡ []) × (new ≡ old))
 Begins other applied old new = ⊥
 
--- the bytes that were read with a byte, after it
-abbrev pub IsRestOfRead : TransportEvent → List TransportEvent → Type 0
-IsRestOfRead (Received client byte) rest = (bytes : List ℕ) × (rest ≡ map (λ byte. Received client byte) bytes)
-IsRestOfRead other rest = rest ≡ []
-
--- The observer failed at the last of these. All before it was applied, and nothing after it, which is
--- the rest of a read.
-abbrev pub StopsIn : List Handled → (rest : List TransportEvent) → ServerState → ServerState → Type 0
-StopsIn handled rest old new =
+-- The observer failed at the last of these. All before it was applied, and nothing followed.
+abbrev pub StopsIn : List Handled → ServerState → ServerState → Type 0
+StopsIn handled old new =
     (before : List Handled) × (last : Handled) × (mid : ServerState) × (handled ≡ before ++ last ∷ []) × AppliesAll before old mid
-    × Begins last.log last.applied mid new × IsRestOfRead last.log rest
+    × Begins last.log last.applied mid new
 
 -- the logs grew by this
 abbrev pub Stops : (old new : Snapshot) → Type 0
 Stops old new =
-    (handled : List Handled) × (rest : List TransportEvent) × Extends old.log new.log (transport_events handled ++ rest)
-    × Extends old.observed new.observed (observations_in handled) × StopsIn handled rest old.state new.state
+    (handled : List Handled) × Extends old.log new.log (transport_events handled)
+    × Extends old.observed new.observed (observations_in handled) × StopsIn handled old.state new.state
 
--- the track ran for a part of the time that the clock gave
-abbrev pub RunsPart : (micros : ℕ) → List LoggedEvent → ServerState → ServerState → Type 0
-RunsPart micros elapsing old new = (part : ℕ) × (part ≤ micros) × RunsFor part elapsing old new
+-- The observer failed in turns that are due: those of some clients were run, and some of the next client's.
+abbrev pub StopsInTurns : List LoggedEvent → ServerState → ServerState → Type 0
+StopsInTurns applied old new =
+    (client count : ℕ) × (before last : List LoggedEvent) × (mid : ServerState) × (client < 8) × (applied ≡ before ++ last)
+    × RunsTurns client before old mid × RunsSteps is_turn count last mid new × (count ≤ turns_left mid client) × (count ≤ 100)
 
--- Turns follow time, and it did not elapse to its end: the clock could not be read, or the observer failed in that time.
-abbrev pub StopsByClock : {T C O A : Type 0} → Stop T C O A → Pace → (readings : List ℕ) → List LoggedEvent → ServerState → ServerState → Type 0
-StopsByClock (Clock fault) (RealTime rate) readings elapsing old new = (readings ≡ []) × (elapsing ≡ []) × (new ≡ old)
-StopsByClock (Observer fault) (RealTime rate) readings elapsing old new = (micros : ℕ) × (readings ≡ micros ∷ []) × RunsPart (track_time rate micros) elapsing old new
-StopsByClock stop pace readings elapsing old new = ⊥
+-- The observer failed in the time that is due: at what was skipped, or when a part had elapsed.
+abbrev pub StopsInTime : (due : ℕ) → List LoggedEvent → ServerState → ServerState → Type 0
+StopsInTime due applied old new =
+    (count : ℕ) × RunsSteps is_piece count applied (with_time_due due old) new × (micros_in old.bus (events_of applied) ≤ due)
+    × (count ≤ 100)
 
--- After a whole round, time did not elapse to its end.
-abbrev pub StopsElapsing : {T C O A : Type 0} → Stop T C O A → Round → (rest : List TransportEvent) → ServerState → ServerState → Type 0
-StopsElapsing stop last rest old new =
-    (rest ≡ []) × (mid : ServerState) × IsRound last.handled old mid × StopsByClock stop mid.pace last.readings last.elapsing mid new
+-- After a round the clock could not be read, or the observer failed.
+abbrev pub StopsOnTrack : {T C O A : Type 0} → Stop T C O A → Pace → (readings : List ℕ) → List LoggedEvent → ServerState → ServerState → Type 0
+StopsOnTrack (Clock fault) (RealTime rate) readings applied old new =
+    (old.time_due ≡ 0) × (readings ≡ []) × (applied ≡ []) × (new ≡ old)
+StopsOnTrack (Observer fault) (RealTime rate) readings applied old new =
+    (due : ℕ) × IsTimeDue rate old.time_due readings due × StopsInTime due applied old new
+StopsOnTrack (Observer fault) (AfterMessages turns) readings applied old new = (readings ≡ []) × StopsInTurns applied old new
+StopsOnTrack stop pace readings applied old new = ⊥
 
--- the observer failed in a round, before time elapsed
-abbrev pub StopsRound : Round → (rest : List TransportEvent) → ServerState → ServerState → Type 0
-StopsRound last rest old new = (last.readings ≡ []) × (last.elapsing ≡ []) × StopsIn last.handled rest old new
+-- a whole round, and then on the track
+abbrev pub StopsElapsing : {T C O A : Type 0} → Stop T C O A → Round → ServerState → ServerState → Type 0
+StopsElapsing stop last old new =
+    (last.shown ≡ []) × (mid : ServerState) × IsRound last.handled old mid × StopsOnTrack stop mid.pace last.readings last.elapsing mid new
 
--- what is done after a round failed, after the round and the time after it
-abbrev pub StopsAfterRound : Round → (rest : List TransportEvent) → ServerState → ServerState → Type 0
-StopsAfterRound last rest old new =
-    (rest ≡ []) × (mid : ServerState) × IsRound last.handled old mid × RunsByClock mid.pace last.readings last.elapsing mid new
+-- the observer failed in a round, before the track ran
+abbrev pub StopsRound : Round → ServerState → ServerState → Type 0
+StopsRound last old new = (last.readings ≡ []) × (last.elapsing ≡ []) × (last.shown ≡ []) × StopsIn last.handled old new
+
+-- what is done after a round failed, after the round and the track after it
+abbrev pub StopsAfterRound : Round → ServerState → ServerState → Type 0
+StopsAfterRound last old new =
+    (last.shown ≡ shown new ∷ []) × (mid : ServerState) × IsRound last.handled old mid
+    × RunsTrack mid.pace last.readings last.elapsing mid new
 
 -- A round that a device stopped. The transport failed in its wait, and nothing followed; the clock at
--- its reading, after the round; the observer in the round, or in the time after it; or what is done
+-- its reading, after the round; the observer in the round, or on the track after it; or what is done
 -- after that.
-abbrev pub StopsAt : {T C O A : Type 0} → Stop T C O A → Round → (rest : List TransportEvent) → ServerState → ServerState → Type 0
-StopsAt (Transport fault) last rest old new = (last ≡ record { longest = longest_wait old; answers = λ client. []; handled = []; readings = []; elapsing = [] }) × (rest ≡ []) × (new ≡ old)
-StopsAt {T = T} {O = O} {A = A} (Clock fault) last rest old new =
-    StartsRound last old × StopsElapsing {T = T} {O = O} {A = A} (Clock fault) last rest (round_start old) new
-StopsAt {T = T} {C = C} {A = A} (Observer fault) last rest old new =
+abbrev pub StopsAt : {T C O A : Type 0} → Stop T C O A → Round → ServerState → ServerState → Type 0
+StopsAt (Transport fault) last old new =
+    (last ≡ record { longest = longest_wait old; answers = λ client. []; handled = []; readings = []; elapsing = []; shown = [] }) × (new ≡ old)
+StopsAt {T = T} {O = O} {A = A} (Clock fault) last old new =
+    StartsRound last old × StopsElapsing {T = T} {O = O} {A = A} (Clock fault) last (round_start old) new
+StopsAt {T = T} {C = C} {A = A} (Observer fault) last old new =
     StartsRound last old
-    × (StopsRound last rest (round_start old) new ⊎ StopsElapsing {T = T} {C = C} {A = A} (Observer fault) last rest (round_start old) new)
-StopsAt (AfterRound fault) last rest old new = StartsRound last old × StopsAfterRound last rest (round_start old) new
-
--- the three logs grew by these rounds, and by the rest of a read
-abbrev pub HasLogged : List Round → (rest : List TransportEvent) → (old new : RunSnapshot) → Type 0
-HasLogged rounds rest old new =
-    Extends old.log new.log (transport_log rounds ++ rest) × Extends old.readings new.readings (readings_of rounds)
-    × Extends old.observed new.observed (observation_log rounds)
+    × (StopsRound last (round_start old) new ⊎ StopsElapsing {T = T} {C = C} {A = A} (Observer fault) last (round_start old) new)
+StopsAt (AfterRound fault) last old new = StartsRound last old × StopsAfterRound last (round_start old) new
 
 -- the last round of a run, begun while fewer clients than these had disconnected
-abbrev pub StopsLogged : {T C O A : Type 0} → (most : ℕ) → Stop T C O A → (last : Round) → (rest : List TransportEvent) → (old new : RunSnapshot) → Type 0
-StopsLogged most stop last rest old new =
-    HasLogged (last ∷ []) rest old new × (old.state.disconnected < most) × StopsAt stop last rest old.state new.state
+abbrev pub StopsLogged : {T C O A : Type 0} → (most : ℕ) → Stop T C O A → (last : Round) → (old new : RunSnapshot) → Type 0
+StopsLogged most stop last old new =
+    HasGrown (last ∷ []) old new × (old.state.disconnected < most) × StopsAt stop last old.state new.state
 
--- A run that a device stopped: whole rounds, and the one that it stopped. The logs grew by these; their events, in order, are
--- what the bus ran; and the headline in time holds of these events.
+-- A run that a device stopped: whole rounds, and the one that it stopped. The logs grew by these, so that all that was read was
+-- applied; their events, in order, are what the bus ran; and the headline in time holds of these events.
 abbrev pub IsStoppedRun : {T C O A : Type 0} → (most : ℕ) → Stop T C O A → (old new : RunSnapshot) → Type 0
 IsStoppedRun most stop old new =
-    (rounds : List Round) × (last : Round) × (rest : List TransportEvent) × HasLogged (rounds ++ last ∷ []) rest old new
-    × (mid : ServerState) × RunsRounds most rounds old.state mid × (mid.disconnected < most) × StopsAt stop last rest mid new.state
+    (rounds : List Round) × (last : Round) × HasGrown (rounds ++ last ∷ []) old new
+    × (mid : ServerState) × RunsRounds most rounds old.state mid × (mid.disconnected < most) × StopsAt stop last mid new.state
     × IsEventRun (events_of (logged_in (rounds ++ last ∷ []))) old.state new.state
     × RunsInTime old.state.bus (events_of (logged_in (rounds ++ last ∷ []))) old.state.nodes new.state.nodes
 

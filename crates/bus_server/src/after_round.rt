@@ -1,8 +1,9 @@
 //! What a program does between two rounds, as sending decoder states and trains to pages.
-ghost use Rattle.std.specs.Prelude.{◌≡◌, [], Bool, map};
+ghost use Rattle.std.specs.Prelude.{◌≡◌, ◌∷◌, [], Bool, List, Option, map, option_copied};
 ghost use Rattle.input_text.specs.Write.{failed_after};
 ghost use Rattle.layout_core.specs.Nodes.{spec_of};
 ghost use Rattle.bus.specs.Log.{Extends};
+ghost use Rattle.bus_server.specs.Shown.{Shown};
 
 use crate::observer::Observer;
 use crate::transport::Transport;
@@ -17,6 +18,9 @@ pub trait AfterRound<W: Transport, P: Observer> {
     /// Whether it has failed.
     ghost failed: { Self → Bool };
 
+    /// What each call so far was given, in order, if it is known.
+    ghost shown: { Self → Option (List Shown) };
+
     /// Does it, for a layout and the railway beside it, if there is one. Nothing is read or written
     /// for the bus, and nothing is observed.
     fn after_round(
@@ -30,5 +34,7 @@ pub trait AfterRound<W: Transport, P: Observer> {
         ensures decoder_specs { P.decoder_specs observer.new ≡ P.decoder_specs observer.old }
         ensures log { Extends (W.log transport.old) (W.log transport.new) [] }
         ensures observed { Extends (P.observed observer.old) (P.observed observer.new) [] }
-        ensures failed { failed self.new ≡ failed_after result (failed self.old) };
+        ensures failed { failed self.new ≡ failed_after result (failed self.old) }
+        ensures shown { Extends (shown self.old) (shown self.new)
+            (record { nodes = world.now.nodes; railway = option_copied railway.entry } ∷ []) };
 }

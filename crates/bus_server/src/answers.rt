@@ -1,6 +1,7 @@
 //! The answers to clients that ask how the decoders stand.
 ghost use Rattle.std.specs.Prelude.{◌≡◌, ◌<◌, ◌≤◌, ℕ, List, IsTrue, None, is_some, length, map, replicate, slice_set};
 ghost use Rattle.std.specs.List.{list_any, slice_index_or};
+ghost use Rattle.arrayvec.specs.ArrayVec.{array_vec_len};
 ghost use Rattle.decoder_node.specs.declared.node.NodeSpec.{NodeSpec as NodeSpecValue};
 ghost use Rattle.layout_core.specs.declared.node.Node.{Node};
 ghost use Rattle.layout_core.specs.DecoderStates.{decoder_line, decoder_state_of};
@@ -63,9 +64,10 @@ impl Answers {
     pub(crate) fn next_line(&self, client: u8, world: &World) -> Text
         requires client { client < 8 }
         requires specs { specs_of self.now.nodes.items ≡ map spec_of world.now.nodes }
-        ensures { result.items
+        ensures line { result.items
             ≡ next_line (node_lines (names_of self.now.nodes.items) world.now.nodes)
             (slice_index_or self.now.under_way client None) }
+        ensures most { array_vec_len result ≤ 647 }
     {
         match self.under_way[usize::from(client)] {
             Some(count) => self.line(usize::from(count), world),
@@ -101,9 +103,10 @@ impl Answers {
     /// Returns the line of a decoder; `NODES OK` if there is no decoder of this index.
     fn line(&self, decoder: usize, world: &World) -> Text
         requires specs { specs_of self.now.nodes.items ≡ map spec_of world.now.nodes }
-        ensures { result.items
+        ensures line { result.items
             ≡ slice_index_or (node_lines (names_of self.now.nodes.items) world.now.nodes) decoder
             nodes_ok_text }
+        ensures most { array_vec_len result ≤ 647 }
     {
         let mut text = Text::new();
         if decoder < self.nodes.len() {

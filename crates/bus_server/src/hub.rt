@@ -1,11 +1,12 @@
 //! The bus, with a railway beside it and a send queue for each client.
-ghost use Rattle.std.specs.Prelude.{◌≡◌, ◌<◌, ◌≤◌, ◌&&◌, ◌∷◌, [], Bool, IfNone, IfOk, IfSome, IsTrue, OnSome, is_some, length, not, slice_index_or, slice_set, drop, take, map, option_copied, None, Some, true};
+ghost use Rattle.std.specs.Prelude.{◌≡◌, ◌<◌, ◌≤◌, ◌&&◌, ◌∷◌, [], ◌++◌, Bool, IfNone, IfOk, IfSome, IsTrue, OnSome, is_some, length, not, slice_index_or, slice_set, drop, take, map, option_copied, None, Some, true};
 ghost use Rattle.std.specs.List.{list_all};
 ghost use Rattle.bus_server.specs.Queues.{is_within_capacity, queued};
 ghost use Rattle.layout_core.specs.Nodes.{spec_of};
 ghost use Rattle.bus_server.specs.Answers.{next_line, node_lines};
 ghost use Rattle.bus_server.specs.ClientQueues.{names_client, enqueued_all, enqueued_from, queues_after};
 ghost use Rattle.bus_server.specs.Counts.{disconnected_after};
+ghost use Rattle.bus_server.specs.Due.{due_to, turns_answer};
 ghost use Rattle.bus_server.specs.Names.{names_of, specs_of};
 ghost use Rattle.bus_server.specs.Paces.{is_pace};
 
@@ -15,10 +16,11 @@ use crate::named_node::NamedNodes;
 use crate::pace::Pace;
 use crate::send_queues::{SendQueues, empty_queues};
 use crate::sensors::{Sensors, powered_time};
+use crate::track_due::TrackDue;
 use crate::transport::{IoOutcome, Transport};
 use bus::{Bus, Event, Outcome};
 use layout_core::World;
-use loconet_tcp::Text;
+use loconet_tcp::{Text, push_turns_ok};
 use railway::Railway;
 use std::alloc::{AllocError, Global};
 
@@ -29,6 +31,7 @@ pub(crate) struct Hub {
     pub(crate) sensors: Sensors,
     pub(crate) queues: SendQueues,
     pub(crate) answers: Answers,
+    pub(crate) track_due: TrackDue,
     /// Draws the packets that decoders miss.
     pub(crate) losses: Losses,
     /// What turns follow.
@@ -54,7 +57,7 @@ impl Hub {
     ghost use Rattle.bus_server.specs.Rounds.{backlog_after};
     ghost use Rattle.bus_server.specs.Progress.{HasReported, WritesFront, state_of};
     ghost use Rattle.bus_server.specs.Steps.{RunsOnBus, with_trains_run};
-    ghost use Rattle.bus_server.specs.Applied.{RunsEvent, IsDrawn, initial_state, has_overflowed, outcome_in, round_start};
+    ghost use Rattle.bus_server.specs.Applied.{RunsEvent, IsDrawn, initial_state, has_overflowed, is_crowded, outcome_in, round_start};
 
     /// A new layout with these decoders, a railway beside it or none, and no clients. It takes all
     /// its memory here.
@@ -87,6 +90,7 @@ impl Hub {
             sensors: Sensors::new(railway),
             queues,
             answers: Answers::new(nodes),
+            track_due: TrackDue::none(),
             losses,
             pace,
             disconnected: 0,
@@ -107,6 +111,7 @@ impl Hub {
     {
         let outcome = self.bus.step(event);
         self.answers.update(&outcome);
+        self.track_due.update(&outcome, self.pace);
         self.disconnected = disconnected_after(&outcome, self.disconnected);
         let outcome = self.sensors.answer(outcome, &self.answers.nodes);
         enqueue(&mut self.queues, &outcome);
@@ -206,16 +211,22 @@ impl Hub {
         self.losses.draw(nodes)
     }
 
-    /// Starts a round, after its wait: no more input was found yet, and the next line of each answer
-    /// under way is enqueued.
+    /// Starts a round, after its wait: no more input was found yet, the next line of each answer under
+    /// way is enqueued, and clients are told that the turns have passed that they requested.
     pub(crate) fn start_round(&mut self)
         ensures state { state_of self.new ≡ round_start (state_of self.old) }
         ensures bus { self.new.bus ≡ self.old.bus }
         ensures unreported { self.new.sensors.unreported.items ≡ self.old.sensors.unreported.items }
     {
         self.has_backlog = false;
-        enqueue_lines(&mut self.queues, &self.answers, self.bus.world());
+        enqueue_lines(
+            &mut self.queues,
+            &self.answers,
+            &self.track_due,
+            self.bus.world(),
+        );
         self.answers.advance();
+        self.track_due.advance();
     }
 
     /// Notes that `refused` pending clients were refused: after any, there may be more.
@@ -247,6 +258,15 @@ impl Hub {
             consume(&mut self.queues, client, count);
         }
         wrote
+    }
+
+    /// Whether a queue is more than half full.
+    pub(crate) fn is_crowded(&self) -> bool
+        ensures { result ≡ is_crowded (state_of self.now) }
+    {
+        self.queues
+            .iter()
+            .any(|queue| queue.is_more_than_half_full())
     }
 
     /// Whether a client, 0 to 7, is connected and its queue has overflowed.
@@ -325,16 +345,35 @@ fn enqueue_all(queues: &mut SendQueues, outcome: &Outcome)
     }
 }
 
-/// Enqueues for each client the next line of the answer under way to it.
-fn enqueue_lines(queues: &mut SendQueues, answers: &Answers, world: &World)
+/// Enqueues for each client the next line of the answer under way to it, and that its turns have
+/// passed.
+fn enqueue_lines(queues: &mut SendQueues, answers: &Answers, track_due: &TrackDue, world: &World)
     requires { specs_of answers.now.nodes.items ≡ map spec_of world.now.nodes }
     ensures { queues.new
         ≡ enqueued_from 0 (λ client.
         next_line (node_lines (names_of answers.now.nodes.items) world.now.nodes)
-        (slice_index_or answers.now.under_way client None)) queues.old }
+        (slice_index_or answers.now.under_way client None)
+        ++ turns_answer (due_to track_due.now.turns client)) queues.old }
 {
     for client in 0..8u8 {
-        let line = answers.next_line(client, world);
-        queues[usize::from(client)].enqueue(line.as_slice());
+        let text = answer_to(client, answers, track_due, world);
+        queues[usize::from(client)].enqueue(text.as_slice());
     }
+}
+
+/// What a client receives next: a line of the answer under way to it, and that its turns have
+/// passed.
+fn answer_to(client: u8, answers: &Answers, track_due: &TrackDue, world: &World) -> Text
+    requires client { client < 8 }
+    requires specs { specs_of answers.now.nodes.items ≡ map spec_of world.now.nodes }
+    ensures { result.items
+        ≡ next_line (node_lines (names_of answers.now.nodes.items) world.now.nodes)
+        (slice_index_or answers.now.under_way client None)
+        ++ turns_answer (due_to track_due.now.turns client) }
+{
+    let mut text = answers.next_line(client, world);
+    if track_due.have_passed(client) {
+        push_turns_ok(&mut text);
+    }
+    text
 }

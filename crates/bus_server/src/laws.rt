@@ -2,9 +2,20 @@
 ghost use Rattle.bus_server.specs.Fronts.{FrontsAreWritten};
 ghost use Rattle.bus_server.specs.KeepUp.{StaysConnected};
 ghost use Rattle.bus_server.specs.Known.{BecomesKnown, StaysKnown};
-ghost use Rattle.bus_server.specs.Runs.{NoneMisses, TimeIsRead};
+ghost use Rattle.bus_server.specs.Runs.{NoneMisses, RoundsAreARun, TimeIsRead};
 
-/// If turns follow time, the track time of a run is the sum of the clock's readings, each a second at most, times the rate.
+/// Whatever rounds a run has had, also one that goes on: their events, in order, are what the bus ran, and the headline in time
+/// holds of them.
+pub fn rounds_are_a_run()
+    ensures { RoundsAreARun }
+{
+    bus::laws::events_are_the_layout();
+    layout_core::laws::events_add_up();
+    bus::laws::headline();
+}
+
+/// If turns follow time, the track time of a run, with what is still due, is the sum of the clock's readings, each a second at
+/// most, times the rate.
 pub fn time_is_read()
     ensures { TimeIsRead }
 {}
@@ -14,17 +25,21 @@ pub fn fronts_are_written()
     ensures { FrontsAreWritten }
 {}
 
-/// A server without a railway does not close the connection of a client that keeps up.
+/// A server does not close the connection of a client that keeps up, however much sensors report.
 pub fn stays_connected()
     ensures { StaysConnected }
-{}
+{
+    railway::laws::railways_are_kept();
+}
 
-/// What a client knows of a sensor by the reports on the bus is whether its block is occupied:
-/// after a message that asks all sensors to report, whatever the client knew, and from then on.
+/// What a client knows of a sensor by the messages that it receives is whether its block is occupied:
+/// after a message that asks all sensors to report, whatever the client knew, and from then on, if
+/// no client sends a report of its own.
 pub fn clients_know()
     ensures becomes { BecomesKnown }
     ensures stays { StaysKnown }
 {
+    ln_ops::laws::reports_are_read();
     railway::laws::observers_know();
     railway::laws::railways_are_kept();
 }

@@ -24,6 +24,8 @@ mod send_queues;
 mod sensors;
 mod server;
 mod time_source;
+mod track;
+mod track_due;
 mod transport;
 
 pub use crate::losses::Losses;

@@ -1,12 +1,13 @@
 //! A whole run of a server.
 ghost use Rattle.std.specs.Prelude.{◌≡◌, ◌<◌, ◌∷◌, [], ◌++◌, Bool, IfErr, List, None, OnErr, OnOk, min, ℕ};
 ghost use Rattle.std.specs.List.{flat_map};
+ghost use Rattle.bus_server.specs.declared.pace.Pace.TheVariants.{RealTime};
 ghost use Rattle.bus.specs.Log.{Extends};
 ghost use Rattle.bus_server.specs.Progress.{HasReported, ObservesLayout, state_of};
-ghost use Rattle.bus_server.specs.Applied.{LoggedEvent, longest_wait, RunsFor, observations_of};
+ghost use Rattle.bus_server.specs.Applied.{LoggedEvent, longest_wait, observations_of};
 ghost use Rattle.bus_server.specs.Paces.{track_time};
-ghost use Rattle.bus_server.specs.TransportEvents.{TransportEvent};
-ghost use Rattle.bus_server.specs.Runs.{RunsByClock, IsRun, Round, RunsLogged, RunSnapshot, skipped, run_snapshot};
+ghost use Rattle.bus_server.specs.Runs.{IsRun, Round, RunsLogged, skipped, run_snapshot};
+ghost use Rattle.bus_server.specs.Track.{IsTimeDue, RunsTrack, with_time_due};
 
 use crate::after_round::AfterRound;
 use crate::observer::Observer;
@@ -32,7 +33,7 @@ pub enum Stop<T, C, O, A> {
 }
 
 impl Server {
-    ghost use Rattle.bus_server.specs.Stops.{IsStoppedRun, RunsPart, after_round_failed, fails, StopsByClock, StopsLogged};
+    ghost use Rattle.bus_server.specs.Stops.{IsStoppedRun, after_round_failed, fails, StopsLogged, StopsOnTrack};
 
     /// Serves until `most` clients have disconnected since the server was new, or for 2 ^ 64 - 1 rounds.
     ///
@@ -53,15 +54,15 @@ impl Server {
         ensures reported { OnOk result (HasReported self.new.hub) }
         ensures run { OnOk result
             (IsRun most (run_snapshot (W.log transport.old) (C.readings clock.old)
-            (P.observed observer.old) self.old.hub)
+            (P.observed observer.old) (A.shown after_round.old) self.old.hub)
             (run_snapshot (W.log transport.new) (C.readings clock.new) (P.observed observer.new)
-            self.new.hub)) }
+            (A.shown after_round.new) self.new.hub)) }
         ensures stopped { IfErr result
             (λ stop. IsStoppedRun most stop
             (run_snapshot (W.log transport.old) (C.readings clock.old) (P.observed observer.old)
-            self.old.hub)
+            (A.shown after_round.old) self.old.hub)
             (run_snapshot (W.log transport.new) (C.readings clock.new) (P.observed observer.new)
-            self.new.hub)) }
+            (A.shown after_round.new) self.new.hub)) }
         ensures after_round { A.failed after_round.new
             ≡ after_round_failed result (A.failed after_round.old) }
     {
@@ -96,16 +97,16 @@ impl Server {
             ((round : Round)
             × RunsLogged most (round ∷ [])
             (run_snapshot (W.log transport.old) (C.readings clock.old) (P.observed observer.old)
-            self.old.hub)
+            (A.shown after_round.old) self.old.hub)
             (run_snapshot (W.log transport.new) (C.readings clock.new) (P.observed observer.new)
-            self.new.hub)) }
+            (A.shown after_round.new) self.new.hub)) }
         ensures stopped { IfErr result
-            (λ stop. (last : Round) × (rest : List TransportEvent)
-            × StopsLogged most stop last rest
+            (λ stop. (last : Round)
+            × StopsLogged most stop last
             (run_snapshot (W.log transport.old) (C.readings clock.old) (P.observed observer.old)
-            self.old.hub)
+            (A.shown after_round.old) self.old.hub)
             (run_snapshot (W.log transport.new) (C.readings clock.new) (P.observed observer.new)
-            self.new.hub)) }
+            (A.shown after_round.new) self.new.hub)) }
         ensures after_round { A.failed after_round.new
             ≡ after_round_failed result (A.failed after_round.old) }
     {
@@ -116,7 +117,7 @@ impl Server {
         if let Err(fault) = self.round(transport, observer) {
             return Err(Stop::Observer(fault));
         }
-        self.elapse::<W, C, P, A>(clock, observer)?;
+        self.run_track::<W, C, P, A>(clock, observer)?;
         match after_round.after_round(transport, observer, self.world(), self.railway()) {
             Ok(()) => Ok(()),
             Err(fault) => Err(Stop::AfterRound(fault)),
@@ -127,7 +128,8 @@ impl Server {
     fn longest_wait(&self) -> Option<u32>
         ensures { result ≡ longest_wait (state_of self.now.hub) }
     {
-        if self.has_backlog() || self.hub.answers.is_any_under_way() {
+        let hub = &self.hub;
+        if hub.has_backlog || hub.answers.is_any_under_way() || hub.track_due.is_any() {
             return Some(0);
         }
         match self.pace() {
@@ -136,8 +138,8 @@ impl Server {
         }
     }
 
-    /// Runs the track for the time since the last round, if turns follow time.
-    fn elapse<W: Transport, C: TimeSource, P: Observer, A: AfterRound<W, P>>(
+    /// Runs the track after a round: turns that are due, or the time since the last reading of the clock.
+    fn run_track<W: Transport, C: TimeSource, P: Observer, A: AfterRound<W, P>>(
         &mut self,
         clock: &mut C,
         observer: &mut P,
@@ -146,12 +148,12 @@ impl Server {
         requires reported { HasReported self.old.hub }
         ensures observes { ObservesLayout (P.decoder_specs observer.new) self.new.hub }
         ensures reported { OnOk result (HasReported self.new.hub) }
-        ensures elapses { OnOk result
+        ensures runs { OnOk result
             ((readings : List ℕ) × (elapsing : List LoggedEvent)
             × Extends (C.readings clock.old) (C.readings clock.new) readings
             × Extends (P.observed observer.old) (P.observed observer.new)
             (flat_map skipped readings ++ observations_of elapsing)
-            × RunsByClock self.old.hub.pace readings elapsing (state_of self.old.hub)
+            × RunsTrack self.old.hub.pace readings elapsing (state_of self.old.hub)
             (state_of self.new.hub)) }
         ensures not_after_round { IfErr result
             (λ stop. (before : Bool) → fails stop before ≡ before) }
@@ -160,49 +162,61 @@ impl Server {
             × Extends (C.readings clock.old) (C.readings clock.new) readings
             × Extends (P.observed observer.old) (P.observed observer.new)
             (flat_map skipped readings ++ observations_of elapsing)
-            × StopsByClock stop self.old.hub.pace readings elapsing (state_of self.old.hub)
+            × StopsOnTrack stop self.old.hub.pace readings elapsing (state_of self.old.hub)
             (state_of self.new.hub)) }
     {
         let Pace::RealTime { rate } = self.hub.pace else {
-            return Ok(());
+            return match self.run_turns(observer) {
+                Ok(()) => Ok(()),
+                Err(fault) => Err(Stop::Observer(fault)),
+            };
         };
-        let micros = match clock.elapsed() {
-            Ok(micros) => micros,
-            Err(fault) => return Err(Stop::Clock(fault)),
-        };
-        match self.run_capped(micros, rate, observer) {
+        self.take_time::<W, C, P, A>(rate, clock, observer)?;
+        match self.run_time(observer) {
             Ok(()) => Ok(()),
             Err(fault) => Err(Stop::Observer(fault)),
         }
     }
 
-    /// Runs the track for `micros` microseconds of the clock, a second at most, `rate` times as fast,
-    /// and reports the rest as skipped.
-    fn run_capped<P: Observer>(
+    /// Reads the clock unless time is due. The time that it returns, a second at most, is due then, `rate` times as fast; the rest
+    /// is reported as skipped.
+    fn take_time<W: Transport, C: TimeSource, P: Observer, A: AfterRound<W, P>>(
         &mut self,
-        micros: u64,
         rate: u8,
+        clock: &mut C,
         observer: &mut P,
-    ) -> Result<(), P::Fault>
+    ) -> Result<(), Stop<W::Fault, C::Fault, P::Fault, A::Fault>>
         requires observes { ObservesLayout (P.decoder_specs observer.old) self.old.hub }
         requires reported { HasReported self.old.hub }
         ensures observes { ObservesLayout (P.decoder_specs observer.new) self.new.hub }
-        ensures reported { OnOk result (HasReported self.new.hub) }
-        ensures log { OnOk result
-            ((elapsing : List LoggedEvent)
-            × Extends (P.observed observer.old) (P.observed observer.new)
-            (skipped micros ++ observations_of elapsing)
-            × RunsFor (track_time rate micros) elapsing (state_of self.old.hub)
-            (state_of self.new.hub)) }
-        ensures stops { OnErr result
-            ((elapsing : List LoggedEvent)
-            × Extends (P.observed observer.old) (P.observed observer.new)
-            (skipped micros ++ observations_of elapsing)
-            × RunsPart (track_time rate micros) elapsing (state_of self.old.hub)
+        ensures reported { HasReported self.new.hub }
+        ensures takes { OnOk result
+            ((readings : List ℕ) × (due : ℕ)
+            × Extends (C.readings clock.old) (C.readings clock.new) readings
+            × Extends (P.observed observer.old) (P.observed observer.new) (flat_map skipped readings)
+            × IsTimeDue rate (state_of self.old.hub).time_due readings due
+            × (state_of self.new.hub ≡ with_time_due due (state_of self.old.hub))) }
+        ensures not_after_round { IfErr result
+            (λ stop. (before : Bool) → fails stop before ≡ before) }
+        ensures stopped { IfErr result
+            (λ stop. (readings : List ℕ)
+            × Extends (C.readings clock.old) (C.readings clock.new) readings
+            × Extends (P.observed observer.old) (P.observed observer.new) (flat_map skipped readings)
+            × StopsOnTrack stop (RealTime rate) readings [] (state_of self.old.hub)
             (state_of self.new.hub)) }
     {
-        observe_skipped(micros, observer)?;
-        self.run_for(track_time(micros, rate), observer)
+        if self.hub.track_due.micros > 0 {
+            return Ok(());
+        }
+        let micros = match clock.elapsed() {
+            Ok(micros) => micros,
+            Err(fault) => return Err(Stop::Clock(fault)),
+        };
+        self.hub.track_due.micros = track_time(micros, rate);
+        match observe_skipped(micros, observer) {
+            Ok(()) => Ok(()),
+            Err(fault) => Err(Stop::Observer(fault)),
+        }
     }
 }
 

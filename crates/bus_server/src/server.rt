@@ -1,18 +1,19 @@
 //! A server and its rounds.
-ghost use Rattle.std.specs.Prelude.{◌≡◌, ◌<◌, ◌≤◌, IfOk, IsTrue, List, OnErr, OnOk, ◌++◌, false, map, option_copied, true};
+ghost use Rattle.std.specs.Prelude.{◌≡◌, ◌<◌, ◌≤◌, IfOk, IsTrue, OnErr, OnOk, false, map, option_copied};
 ghost use Rattle.layout_core.specs.Nodes.{spec_of};
 ghost use Rattle.bus.specs.Log.{Extends};
 ghost use Rattle.bus.specs.Bus.{is_event};
 ghost use Rattle.bus.specs.Course.{is_time};
 ghost use Rattle.bus.specs.State.{bus_state};
-ghost use Rattle.bus_server.specs.TransportEvents.{TransportEvent, Received};
-ghost use Rattle.bus_server.specs.Applied.{Handled, AreTurns, RunsEventWithTurns, RunsFor, RunsEvents, AppliesAll, events_of, is_accepted, initial_state, has_overflowed, transport_events, observations_in, turns_after};
+ghost use Rattle.bus_server.specs.TransportEvents.{Received};
+ghost use Rattle.bus_server.specs.Applied.{Applies, RunsEventWithReports, has_overflowed, has_turns_due, initial_state, is_accepted, outcome_in};
 ghost use Rattle.bus_server.specs.Names.{names_of, specs_of};
 ghost use Rattle.bus_server.specs.Paces.{is_pace};
+ghost use Rattle.bus_server.specs.Reading.{IsReadNext, ReadsOne};
 ghost use Rattle.bus_server.specs.Steps.{ObservesReports};
 ghost use Rattle.bus_server.specs.Progress.{HasReported, ProgressesBy, Progresses, ProgressesWithoutInput, Snapshot, AcceptsAt, IsObserved, ObservesLayout, snapshot, state_of};
-ghost use Rattle.bus_server.specs.Rounds.{AllWrittenTo, IsRead, IsRound, IsWrittenTo, AcceptsPending, refusals};
-ghost use Rattle.bus_server.specs.Stops.{BeginsEvent, BeginsTurns, RunsPart, Stops, StopsIn};
+ghost use Rattle.bus_server.specs.Rounds.{AllWrittenTo, IsRound, IsWrittenTo, AcceptsPending, Reads, refusals};
+ghost use Rattle.bus_server.specs.Stops.{Stops};
 
 use crate::hub::Hub;
 use crate::losses::Losses;
@@ -20,15 +21,13 @@ use crate::named_node::NamedNodes;
 use crate::observer::Observer;
 use crate::pace::Pace;
 use crate::transport::{IoOutcome, Transport};
-use bus::{Event, Outcome, SHORTEST_TURN};
+use bus::{Event, Outcome};
 use layout_core::World;
 use railway::Railway;
 use std::alloc::{AllocError, Global};
 
 /// The most bytes that are read from a client before all clients are written to.
-///
-/// Their text fits into an empty queue: a request has at least 5 bytes, and its text at most 789.
-const MAX_READ: usize = 400;
+const MAX_READ: u16 = 400;
 
 /// The most writes to a client before the next client is served. A queue lies in two pieces at most.
 const MAX_WRITES: u8 = 4;
@@ -221,10 +220,11 @@ impl Server {
         }
         transport.close(client);
         observer.overflowed(client)?;
-        self.apply(Event::Disconnects { client }, observer)
+        self.apply(Event::Disconnects { client }, observer)?;
+        Ok(())
     }
 
-    /// Reads what a client sent, and applies it.
+    /// Reads what a client sent, 400 bytes at most, and applies it, unless turns are due to it.
     fn receive<W: Transport, P: Observer>(
         &mut self,
         client: u8,
@@ -237,55 +237,86 @@ impl Server {
         ensures observes { ObservesLayout (P.decoder_specs observer.new) self.new.hub }
         ensures reported { OnOk result (HasReported self.new.hub) }
         ensures served { OnOk result
-            (Progresses (λ more _. IsRead client more)
+            (ProgressesBy (Reads client)
             (snapshot (W.log transport.old) (P.observed observer.old) self.old.hub)
             (snapshot (W.log transport.new) (P.observed observer.new) self.new.hub)) }
         ensures stops { OnErr result
             (Stops (snapshot (W.log transport.old) (P.observed observer.old) self.old.hub)
             (snapshot (W.log transport.new) (P.observed observer.new) self.new.hub)) }
     {
-        let mut buf = [0; MAX_READ];
-        match transport.read(client, &mut buf) {
-            IoOutcome::Bytes(count) => { self.receive_all(client, &buf[..count], observer) }
-            IoOutcome::WouldBlock => Ok(()),
-            IoOutcome::Closed => self.apply(Event::Disconnects { client }, observer),
+        if self.hub.track_due.is_due_to(client) {
+            return Ok(());
         }
+        for _byte in 0..MAX_READ {
+            if !self.receive_byte(client, transport, observer)? {
+                return Ok(());
+            }
+        }
+        Ok(())
     }
 
-    /// Applies bytes of a client.
-    fn receive_all<P: Observer>(
+    /// Reads a byte of a client and applies it. Returns whether the client is to be read on: not if there are no more bytes, turns
+    /// are due to it, or a queue is more than half full.
+    fn receive_byte<W: Transport, P: Observer>(
         &mut self,
         client: u8,
-        bytes: &[u8],
+        transport: &mut W,
         observer: &mut P,
-    ) -> Result<(), P::Fault>
+    ) -> Result<bool, P::Fault>
         requires client { client < 8 }
+        requires none_due { has_turns_due (state_of self.old.hub) client ≡ false }
         requires observes { ObservesLayout (P.decoder_specs observer.old) self.old.hub }
         requires reported { HasReported self.old.hub }
         ensures observes { ObservesLayout (P.decoder_specs observer.new) self.new.hub }
         ensures reported { OnOk result (HasReported self.new.hub) }
-        ensures served { OnOk result
-            ((handled : List Handled)
-            × (transport_events handled ≡ map (λ byte. Received client byte) bytes.now)
-            × Extends (P.observed observer.old) (P.observed observer.new) (observations_in handled)
-            × AppliesAll handled (state_of self.old.hub) (state_of self.new.hub)) }
+        ensures served { IfOk result
+            (λ goes_on. ReadsOne client goes_on
+            (snapshot (W.log transport.old) (P.observed observer.old) self.old.hub)
+            (snapshot (W.log transport.new) (P.observed observer.new) self.new.hub)) }
         ensures stops { OnErr result
-            ((handled : List Handled) × (rest : List TransportEvent)
-            × (transport_events handled ++ rest ≡ map (λ byte. Received client byte) bytes.now)
-            × Extends (P.observed observer.old) (P.observed observer.new) (observations_in handled)
-            × StopsIn handled rest (state_of self.old.hub) (state_of self.new.hub)) }
+            (Stops (snapshot (W.log transport.old) (P.observed observer.old) self.old.hub)
+            (snapshot (W.log transport.new) (P.observed observer.new) self.new.hub)) }
     {
-        for byte in bytes {
-            self.hub.has_backlog = true;
-            self.apply(
-                Event::Receives {
-                    client,
-                    byte: *byte,
-                },
-                observer,
-            )?;
+        let mut buf = [0];
+        match transport.read(client, &mut buf) {
+            IoOutcome::Bytes(_) => self.receive_one(client, buf[0], observer),
+            IoOutcome::WouldBlock => Ok(false),
+            IoOutcome::Closed => {
+                self.apply(Event::Disconnects { client }, observer)?;
+                Ok(false)
+            }
         }
-        Ok(())
+    }
+
+    /// Applies a byte of a client. Returns whether the client is to be read on.
+    fn receive_one<P: Observer>(
+        &mut self,
+        client: u8,
+        byte: u8,
+        observer: &mut P,
+    ) -> Result<bool, P::Fault>
+        requires client { client < 8 }
+        requires none_due { has_turns_due (state_of self.old.hub) client ≡ false }
+        requires observes { ObservesLayout (P.decoder_specs observer.old) self.old.hub }
+        requires reported { HasReported self.old.hub }
+        ensures observes { ObservesLayout (P.decoder_specs observer.new) self.new.hub }
+        ensures reported { OnOk result (HasReported self.new.hub) }
+        ensures happened { IfOk result (λ goes_on. IsReadNext client goes_on (Received client byte)
+            (state_of self.old.hub) (state_of self.new.hub)
+            × IsObserved (λ applied.
+            Applies (Received client byte) applied (state_of self.old.hub) (state_of self.new.hub))
+            (P.observed observer.old) (P.observed observer.new)) }
+        ensures stops { OnErr result
+            (IsObserved (λ applied.
+            Applies (Received client byte) applied (state_of self.old.hub) (state_of self.new.hub))
+            (P.observed observer.old) (P.observed observer.new)) }
+    {
+        self.hub.has_backlog = true;
+        let outcome = self.apply(Event::Receives { client, byte }, observer)?;
+        if let Outcome::Nothing = outcome {
+            return Ok(true);
+        }
+        Ok(!self.hub.track_due.is_due_to(client) && !self.hub.is_crowded())
     }
 
     /// Writes to each client, and disconnects those whose queue has overflowed.
@@ -337,44 +368,17 @@ impl Server {
             match self.hub.write(client, transport) {
                 IoOutcome::Bytes(_) => {}
                 IoOutcome::WouldBlock => return Ok(()),
-                IoOutcome::Closed => return self.apply(Event::Disconnects { client }, observer),
+                IoOutcome::Closed => {
+                    self.apply(Event::Disconnects { client }, observer)?;
+                    return Ok(());
+                }
             }
         }
         Ok(())
     }
 
-    /// Runs the track for `micros` microseconds. No piece is longer than the turn under way, so
-    /// that trains run as the decoders do.
-    ///
-    /// # Errors
-    ///
-    /// That of the observer.
-    pub fn run_for<P: Observer>(&mut self, micros: u32, observer: &mut P) -> Result<(), P::Fault>
-        requires observes { ObservesLayout (P.decoder_specs observer.old) self.old.hub }
-        requires reported { HasReported self.old.hub }
-        ensures observes { ObservesLayout (P.decoder_specs observer.new) self.new.hub }
-        ensures reported { OnOk result (HasReported self.new.hub) }
-        ensures log { OnOk result
-            (IsObserved (λ applied.
-            RunsFor micros applied (state_of self.old.hub) (state_of self.new.hub))
-            (P.observed observer.old) (P.observed observer.new)) }
-        ensures stops { OnErr result
-            (IsObserved (λ applied.
-            RunsPart micros applied (state_of self.old.hub) (state_of self.new.hub))
-            (P.observed observer.old) (P.observed observer.new)) }
-    {
-        let mut rest = micros;
-        while rest > 0 {
-            let piece = rest.min(SHORTEST_TURN).min(self.hub.bus.remaining());
-            rest -= piece;
-            let outcome = self.hub.elapse(piece as u16);
-            self.observe(&outcome, observer)?;
-        }
-        Ok(())
-    }
-
-    /// Applies an event of a client, with the turns that follow it and what sensors report.
-    fn apply<P: Observer>(&mut self, event: Event, observer: &mut P) -> Result<(), P::Fault>
+    /// Applies an event of a client, with what sensors report. Returns its outcome.
+    fn apply<P: Observer>(&mut self, event: Event, observer: &mut P) -> Result<Outcome, P::Fault>
         requires event { IsTrue (is_event event) }
         requires clients { is_time event ≡ false }
         requires place { IsTrue (is_accepted (state_of self.old.hub) event) }
@@ -382,45 +386,23 @@ impl Server {
         requires reported { HasReported self.old.hub }
         ensures observes { ObservesLayout (P.decoder_specs observer.new) self.new.hub }
         ensures reported { OnOk result (HasReported self.new.hub) }
-        ensures happened { OnOk result
-            (IsObserved (λ applied.
-            RunsEventWithTurns event applied (state_of self.old.hub) (state_of self.new.hub))
-            (P.observed observer.old) (P.observed observer.new)) }
-        ensures stops { OnErr result
-            (IsObserved (λ applied.
-            BeginsEvent event applied (state_of self.old.hub) (state_of self.new.hub))
-            (P.observed observer.old) (P.observed observer.new)) }
+        ensures outcome { IfOk result
+            (λ outcome. outcome ≡ outcome_in (state_of self.old.hub) event) }
+        ensures happened { IsObserved (λ applied.
+            RunsEventWithReports event applied (state_of self.old.hub) (state_of self.new.hub))
+            (P.observed observer.old) (P.observed observer.new) }
     {
         let outcome = self.hub.step(event);
         self.observe(&outcome, observer)?;
-        let turns = turns_after(self.hub.pace, &outcome);
-        self.run_turns(turns, observer)
-    }
-
-    /// Runs `turns` turns.
-    fn run_turns<P: Observer>(&mut self, turns: u16, observer: &mut P) -> Result<(), P::Fault>
-        requires observes { ObservesLayout (P.decoder_specs observer.old) self.old.hub }
-        requires reported { HasReported self.old.hub }
-        ensures observes { ObservesLayout (P.decoder_specs observer.new) self.new.hub }
-        ensures reported { OnOk result (HasReported self.new.hub) }
-        ensures happened { OnOk result
-            (IsObserved (λ applied. AreTurns turns (events_of applied)
-            × RunsEvents applied (state_of self.old.hub) (state_of self.new.hub))
-            (P.observed observer.old) (P.observed observer.new)) }
-        ensures stops { OnErr result
-            (IsObserved (λ applied.
-            BeginsTurns turns applied (state_of self.old.hub) (state_of self.new.hub))
-            (P.observed observer.old) (P.observed observer.new)) }
-    {
-        for _turn in 0..turns {
-            let outcome = self.hub.turn();
-            self.observe(&outcome, observer)?;
-        }
-        Ok(())
+        Ok(outcome)
     }
 
     /// Observes an outcome, and then reports what is due and observes that.
-    fn observe<P: Observer>(&mut self, outcome: &Outcome, observer: &mut P) -> Result<(), P::Fault>
+    pub(crate) fn observe<P: Observer>(
+        &mut self,
+        outcome: &Outcome,
+        observer: &mut P,
+    ) -> Result<(), P::Fault>
         requires observes { ObservesLayout (P.decoder_specs observer.old) self.old.hub }
         ensures observes { ObservesLayout (P.decoder_specs observer.new) self.new.hub }
         ensures reported { OnOk result (HasReported self.new.hub) }
@@ -434,26 +416,6 @@ impl Server {
             observer.observe(&report, hub.bus.world(), hub.railway())?;
         }
         Ok(())
-    }
-}
-
-/// How many turns follow an outcome, if turns follow messages: those after a message, or those requested.
-fn turns_after(pace: Pace, outcome: &Outcome) -> u16
-    ensures { result ≡ turns_after pace outcome.now }
-{
-    let Pace::AfterMessages {
-        turns: after_message,
-    } = pace
-    else {
-        return 0;
-    };
-    match outcome {
-        Outcome::Sent { .. } => u16::from(after_message),
-        Outcome::TurnsRequested {
-            turns: Ok(count),
-            ..
-        } => *count,
-        _ => 0,
     }
 }
 

@@ -56,7 +56,7 @@ IsNewServer order entries railway start =
 
 -- sockets, the system's clock and standard output keep no logs
 abbrev pub unlogged : ServerState → RunSnapshot
-unlogged state = record { log = None; readings = None; observed = None; state = state }
+unlogged state = record { log = None; readings = None; observed = None; shown = None; state = state }
 
 -- A run of a new server for this order, until the given number of clients have disconnected.
 abbrev pub ServesOrder : ServerOrder → List Entry → Option RailwayState → Type 0

@@ -97,6 +97,8 @@ impl<'w, 'p, R: Clock, O: Write> AfterRound<Clients<'w, R>, Printer<'p>> for Sta
 
     ghost failed = { λ output. output.failed };
 
+    ghost shown = { λ _. None };
+
     fn after_round(
         &mut self,
         transport: &mut Clients<'w, R>,

@@ -253,6 +253,7 @@ fn writes_exact_lines(rt: HostRuntime) -> Result<(), Fail> {
     push_sent_error(&mut text, Reason::NoMessage);
     push_sent_error(&mut text, Reason::WrongCheck);
     push_turns(&mut text, &Ok(1));
+    push_turns_ok(&mut text);
     push_turns(&mut text, &Err(TurnsError::RealTime));
     push_turns(&mut text, &Err(TurnsError::NoNumber));
     push_place(&mut text, &Ok(()));

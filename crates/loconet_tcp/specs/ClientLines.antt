@@ -43,9 +43,13 @@ abbrev pub turns_error_text : TurnsError → List ℕ
 turns_error_text RealTime = codes "real time"
 turns_error_text NoNumber = codes "no number from 1 to 10000"
 
--- the turns requested by the client have passed, or have not, for this reason
+-- the turns requested by the client have passed
+abbrev pub turns_ok_text : List ℕ
+turns_ok_text = codes "TURNS OK" ++ line_end
+
+-- A request for turns is answered at once only if none follow, with the reason.
 abbrev pub turns_text : Result ℕ TurnsError → List ℕ
-turns_text (Ok count) = codes "TURNS OK" ++ line_end
+turns_text (Ok count) = []
 turns_text (Err error) = codes "TURNS ERROR " ++ turns_error_text error ++ line_end
 
 abbrev pub place_error_text : PlaceError → List ℕ

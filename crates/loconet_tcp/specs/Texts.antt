@@ -13,7 +13,7 @@ reply_text (Some reply) = receive_text reply
 
 -- The lines that one client receives of an event. All clients receive the message, its sender too;
 -- then the sender receives SENT OK; then all receive the reply. All receive the report of a sensor.
--- That turns have passed, or a train was placed, is told to the client alone that requested it.
+-- That no turns follow, or a train was placed, is told to the client alone that requested it.
 abbrev pub text_for : (client : ℕ) → Outcome → List ℕ
 text_for i (Connected client) = if client == i then version_text else []
 text_for i (Rejected client reason) = if client == i then sent_error_text reason else []

@@ -1,7 +1,7 @@
 //! The lines sent to a client. Each ends with a carriage return and a line feed.
 ghost use Rattle.std.specs.Prelude.{◌≡◌, ◌+◌, ◌*◌, ◌<◌, ◌≤◌, ◌++◌, codes, length, Err};
 ghost use Rattle.arrayvec.specs.ArrayVec.{array_vec_len};
-ghost use Rattle.loconet_tcp.specs.ClientLines.{hex_word, hex_words, line_end, receive_text, sent_ok_text, reason_text, sent_error_text, place_error_text, place_text, turns_error_text, turns_text, node_text, nodes_ok_text, version_text, server_full_text};
+ghost use Rattle.loconet_tcp.specs.ClientLines.{hex_word, hex_words, line_end, receive_text, sent_ok_text, reason_text, sent_error_text, place_error_text, place_text, turns_error_text, turns_ok_text, turns_text, node_text, nodes_ok_text, version_text, server_full_text};
 
 use crate::request::{PlaceError, Reason, TurnsError};
 use arrayvec::ArrayVec;
@@ -45,16 +45,24 @@ pub fn push_sent_error(text: &mut Text, reason: Reason)
     push_all(text, b"\r\n");
 }
 
-/// Appends `TURNS OK`: the turns requested by the client have passed; or `TURNS ERROR` and the
-/// reason in plain words: none has. At most 43 bytes in all.
+/// Appends `TURNS OK`: the turns requested by the client have passed.
+pub fn push_turns_ok(text: &mut Text)
+    requires { array_vec_len text.old + 10 ≤ 800 }
+    ensures text { text.new.items ≡ text.old.items ++ turns_ok_text }
+    ensures len { array_vec_len text.new ≡ array_vec_len text.old + 10 }
+{
+    push_all(text, b"TURNS OK\r\n");
+}
+
+/// Appends `TURNS ERROR` and the reason in plain words, if no turns follow the request. At most 43
+/// bytes in all.
 pub fn push_turns(text: &mut Text, turns: &Result<u16, TurnsError>)
     requires { array_vec_len text.old + 43 ≤ 800 }
     ensures text { text.new.items ≡ text.old.items ++ turns_text turns.now }
     ensures most { array_vec_len text.new ≤ array_vec_len text.old + 43 }
 {
-    match turns {
-        Ok(_) => push_all(text, b"TURNS OK\r\n"),
-        Err(error) => push_turns_error(text, *error),
+    if let Err(error) = turns {
+        push_turns_error(text, *error);
     }
 }
 

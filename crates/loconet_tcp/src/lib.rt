@@ -29,7 +29,7 @@ mod request;
 
 pub use client_lines::{
     Text, push_node, push_nodes_ok, push_place, push_receive, push_sent_error, push_sent_ok,
-    push_server_full, push_turns, push_version,
+    push_server_full, push_turns, push_turns_ok, push_version,
 };
 pub use laws::{any_cut, received_is_sendable};
 pub use outcome::Outcome;

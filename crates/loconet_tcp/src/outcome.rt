@@ -40,7 +40,7 @@ pub enum Outcome {
         message: Msg,
     },
     /// A client requested this number of turns, which follow, or was refused; it alone receives
-    /// the answer.
+    /// the reason. That turns have passed is not of the bus, which does not count them.
     TurnsRequested {
         client: u8,
         turns: Result<u16, TurnsError>,

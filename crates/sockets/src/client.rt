@@ -7,7 +7,7 @@ ghost use Rattle.std.specs.Io.{ReadsAtMost, WritesAtMost};
 use crate::silence::{Action, Silence};
 use mio::net::TcpStream;
 use std::io;
-use std::io::{ErrorKind, Read, Write};
+use std::io::{BufReader, ErrorKind, Read, Write};
 use web::Page;
 
 /// The most reads at once of a page that sends no text but, for example, pings.
@@ -16,8 +16,8 @@ const MOST_TRIES: u8 = 4;
 /// A connected client.
 #[derive(Drop)]
 pub(crate) enum Client {
-    /// A program, by LocoNet over TCP.
-    Program(TcpStream),
+    /// A program, by LocoNet over TCP, with the bytes that were read ahead of it.
+    Program(BufReader<TcpStream>),
     /// A page, by the same text over a WebSocket.
     Page(PageClient),
 }
@@ -44,7 +44,7 @@ impl Client {
         ensures { WritesAtMost result bytes.now }
     {
         match self {
-            Client::Program(stream) => stream.write(bytes),
+            Client::Program(stream) => stream.get_mut().write(bytes),
             Client::Page(page_client) => page_client.write(bytes),
         }
     }

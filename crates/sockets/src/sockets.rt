@@ -14,17 +14,21 @@ use mio::unix::SourceFd;
 use mio::{Events, Interest, Poll, Registry, Token};
 use std::alloc::Global;
 use std::io;
-use std::io::{ErrorKind, Write};
+use std::io::{BufReader, ErrorKind, Write};
 use std::net::SocketAddr;
 use std::os::fd::RawFd;
 use std::time::Clock;
 use web::Page;
+
+/// The most bytes that are read ahead of a program.
+const READ_AHEAD: usize = 512;
 
 /// The ports of a server, and the streams of the accepted clients, by their index, 0 to 7.
 ///
 /// Network I/O is outside the proofs, so this transport keeps no log.
 #[derive(Drop)]
 pub struct Sockets {
+    alloc: Global,
     poll: Poll,
     events: Events,
     listener: TcpListener,
@@ -37,7 +41,8 @@ pub struct Sockets {
 }
 
 impl Sockets {
-    /// Creates the sockets for clients of this listener. All memory is allocated here.
+    /// Creates the sockets for clients of this listener. All memory is allocated here, but for 512
+    /// bytes for each program while it is connected.
     ///
     /// # Errors
     ///
@@ -46,6 +51,7 @@ impl Sockets {
         let mut listener = listener;
         register_listener(&mut listener, poll.registry(), MAX_CLIENTS)?;
         Ok(Sockets {
+            alloc,
             poll,
             events: Events::with_capacity(alloc, MAX_CLIENTS + MAX_EXCHANGES + 2)?,
             listener,
@@ -201,11 +207,11 @@ impl Sockets {
         }
     }
 
-    /// Accepts a pending program.
-    fn accept_program(&mut self, place: usize) -> Option<TcpStream> {
+    /// Accepts a pending program. If memory is out, it is disconnected.
+    fn accept_program(&mut self, place: usize) -> Option<BufReader<TcpStream>> {
         let (mut stream, _) = self.listener.accept().ok()?;
         self.prepare(&mut stream, place).ok()?;
-        Some(stream)
+        BufReader::with_capacity(self.alloc, READ_AHEAD, stream).ok()
     }
 
     /// Prepares a stream to be served at a client index.

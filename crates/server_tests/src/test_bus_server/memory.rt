@@ -26,7 +26,7 @@ pub(crate) enum Input<'a> {
     Nothing,
     /// A client is pending.
     Connects,
-    /// A client sends bytes. Those beyond the length of a read are lost.
+    /// A client sends bytes. The next input begins once all are read.
     Sends(u8, &'a [u8]),
     /// A client closes its connection.
     Closes(u8),
@@ -77,6 +77,9 @@ impl<R: Place> Transport for MemoryTransport<'_, R> {
 
     fn wait(&mut self, longest: Option<u32>) -> Result<(), ScriptEnded> {
         self.keep(Entry::Polled(longest));
+        if matches!(self.now, Input::Sends(_, [_, ..])) {
+            return Ok(());
+        }
         let Some(input) = self.script.get(self.step) else {
             return Err(ScriptEnded);
         };
@@ -106,8 +109,8 @@ impl<R: Place> Transport for MemoryTransport<'_, R> {
     fn read(&mut self, client: u8, buf: &mut [u8]) -> IoOutcome {
         match self.now {
             Input::Sends(from, text) if from == client && text.len() > 0 && buf.len() > 0 => {
-                self.now = Input::Nothing;
                 let count = text.len().min(buf.len());
+                self.now = Input::Sends(from, &text[count..]);
                 buf[..count].copy_from_slice(&text[..count]);
                 let copy = buf[..count]
                     .to_vec(self.rt.alloc())
@@ -272,6 +275,8 @@ impl<W: Transport, P: Observer> AfterRound<W, P> for NoPages {
     type Fault = Infallible;
 
     ghost failed = { λ _. false };
+
+    ghost shown = { λ _. None };
 
     fn after_round(
         &mut self,

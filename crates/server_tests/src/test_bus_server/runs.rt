@@ -87,8 +87,9 @@ const POWER_ON: &[u8] = b"RECEIVE 83 7C\r\nSENT OK\r\n";
 const HEARD: &[u8] = b"RECEIVE 83 7C\r\n";
 
 const CASES: &[Case] = &[
-    // Two clients connect, the first turns the power on, byte by byte, time elapses, and both close. A second runs in each round.
-    // 17 seconds are 2,933 idle turns of 5,796 microseconds, and 332 beyond.
+    // Two clients connect, the first turns the power on, byte by byte, time elapses, and both close. A second is due in every other
+    // round, and runs in two, 100 pieces in the first. 8 seconds are 1,380 idle turns of 5,796 microseconds, and 1,520 beyond. In
+    // the last round the rest of a turn runs, and 99 turns.
     Case {
         name: "two clients",
         setup: Setup {
@@ -111,29 +112,34 @@ const CASES: &[Case] = &[
                 Closes(0),
                 Closes(1),
             ],
-            readings: &[1_002_000; 17],
+            readings: &[1_002_000; 9],
             ..BARE
         },
         ended: Ended::Enough,
         received: &[POWER_ON, HEARD],
-        skipped: &[2_000; 17],
-        turns: 2_933,
+        skipped: &[2_000; 9],
+        turns: 1_380 + 1 + 99,
         messages: 1,
         ..QUIET
     },
     // Ten seconds in one reading, the rest of a turn, exactly a second, and one microsecond more. A second is 172 idle turns and
-    // 3,088 microseconds, so that 2,708 remain. The last second ends 380 into a turn.
+    // 3,088 microseconds, so that 2,708 remain. The last second ends 380 into a turn. A second runs in two rounds, with no wait
+    // between them.
     Case {
         name: "time jumps",
         setup: Setup {
+            script: &[Nothing; 7],
             readings: &[10_000_000, 2_708, 1_000_000, 1_000_001],
             ..BARE
         },
         longest: Some(&[
             Some(5_796),
+            Some(0),
             Some(2_708),
             Some(5_796),
+            Some(0),
             Some(2_708),
+            Some(0),
             Some(5_416),
         ]),
         skipped: &[9_000_000, 1],
@@ -393,7 +399,7 @@ fn runs_have_their_logs(rt: HostRuntime) {
 /// 5,120 lines of 11 bytes are 141 reads of 400 bytes.
 const LINES: u32 = 5_120;
 
-/// Three clients connect, and the first sends a text, 400 bytes in each round.
+/// Three clients connect, and the first sends a text, 400 bytes at a time.
 fn flood_script<'a, R: Place>(rt: &R, text: &'a [u8]) -> Vec<Input<'a>> {
     let mut script = Vec::new(rt.alloc());
     script.push(Connects).expect(rt, "memory");
@@ -416,7 +422,8 @@ fn check_flood_entries<R: Place>(rt: &R, entries: &[Entry]) {
 
 fn check_flood_observed<R: Place>(rt: &R, observed: &[Seen]) {
     assert!(rt; overflows(rt, observed).as_slice() == [2].as_slice());
-    // 26 bytes and 4,367 lines of 15 are 65,531 bytes: line 4,368 has no room. It is in read 121, as are those up to 4,400.
+    // 26 bytes and 4,367 lines of 15 are 65,531 bytes: line 4,368 has no room, and the queue is closed. While it was more than half
+    // full, one message was read in a round. Then the rest of the 400 bytes is read, as far as message 4,400.
     assert!(rt; messages_before_overflow(observed) == 4_400);
     assert!(rt; disconnects_by_overflow(observed, 2));
     assert!(rt; messages(observed) == u64::from(LINES));

@@ -6,8 +6,8 @@ use Rattle.bus_server.specs.Names.{names_of}
 use Rattle.bus_server.proofs.Answering.{as_many, line_by, no_line}
 use Rattle.bus_server.proofs.answers.Answers.line.Goals as goal
 
-pub returns-then-decoder-len : goal.returns-then-decoder-len
-returns-then-decoder-len c =
+pub returns-then-decoder-len-clause-line : goal.returns-then-decoder-len-clause-line
+returns-then-decoder-len-clause-line c =
     let named = c.args.self.now.nodes.items in
     let nodes = c.args.world.now.nodes in
     c.push_node.ensures.text
@@ -17,8 +17,8 @@ returns-then-decoder-len c =
     (omega (arith, ap (λ (line : List ℕ). length line) c.as_str.ensures.value, c.as_str.ensures.fits))
     c.node_line.ensures
 
-pub returns-else-decoder-len : goal.returns-else-decoder-len
-returns-else-decoder-len c =
+pub returns-else-decoder-len-clause-line : goal.returns-else-decoder-len-clause-line
+returns-else-decoder-len-clause-line c =
     let named = c.args.self.now.nodes.items in
     c.push_nodes_ok.ensures.text
     ∙ ap (λ (text : List ℕ). text ++ nodes_ok_text) c.new-text.ensures

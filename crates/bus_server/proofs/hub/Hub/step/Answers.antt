@@ -7,6 +7,7 @@ use Rattle.bus_server.specs.Queues.{is_within_capacity}
 use Rattle.bus_server.specs.Answers.{answers_after}
 use Rattle.bus_server.specs.Applied.{outcome_in}
 use Rattle.bus_server.specs.Counts.{disconnected_after}
+use Rattle.bus_server.specs.Due.{due_after}
 use Rattle.bus_server.specs.ClientQueues.{names_client, queues_after}
 use Rattle.arrayvec.specs.ArrayVec.{ArrayVec}
 use Rattle.bus_server.specs.declared.named_node.NamedNode.{NamedNode}
@@ -19,6 +20,9 @@ use Rattle.bus_server.proofs.hub.Hub.step.Goals as goal
 
 pub update-requires : goal.update-requires
 update-requires c = ap names_client c.step-outcome.ensures.outcome ∙ placed_by (bus_state c.args.self.now.bus) c.args.event c.requires
+
+pub update-requires-2 : goal.update-requires-2
+update-requires-2 c = ap names_client c.step-outcome.ensures.outcome ∙ placed_by (bus_state c.args.self.now.bus) c.args.event c.requires
 
 pub enqueue-requires : goal.enqueue-requires
 enqueue-requires c =
@@ -62,6 +66,8 @@ returns-clause-runs c =
       queues = c.enqueue.ensures ∙ ap (λ (outcome : Outcome). queues_after outcome old.queues) (told c);
       names = ap (λ (nodes : ArrayVec NamedNode). names_of nodes.items) c.update.ensures.nodes;
       answers = c.update.ensures.under_way ∙ ap (λ (outcome : Outcome). answers_after outcome old.answers.under_way) outcome;
+      turns_due = c.update-2.ensures.turns ∙ ap (λ (outcome : Outcome). due_after outcome old.pace old.track_due.turns) outcome;
+      time_due = c.update-2.ensures.micros;
       losses = refl;
       pace = refl;
       has_backlog = refl;

@@ -1,4 +1,4 @@
-use Rattle.std.proofs.Common.{◌<◌, ◌∷◌, [], length, sym, ◌∙◌, arith, refl}
+use Rattle.std.proofs.Common.{◌<◌, ◌∷◌, [], length, sym, ◌∙◌, arith}
 use Rattle.bus_server.specs.Progress.{snapshot, state_of}
 use Rattle.bus_server.specs.Rounds.{HasMoreClients, PreservesRound}
 use Rattle.bus_server.specs.TransportEvents.{Accepted}
@@ -19,7 +19,7 @@ returns-clause-seats g c =
     let client = c.args.client in
     let old = state_of c.args.self.now.hub in
     let new = state_of c.apply.new.self.hub in
-    let does = c.in_ok-apply.ensures.happened in
+    let does = c.apply.ensures.happened in
     let joined = only_joins client does.0 (with_backlog old) new does.2 in
     let place : client < length old.queues = omega (arith, c.args.self.now.hub.eight, c.requires.client) in
     let line : client < length old.bus.clients = omega (arith, c.invariant_holds.ensures.kept.client_count, c.requires.client) in
@@ -29,6 +29,6 @@ returns-clause-seats g c =
 
 pub returns-in_err-apply-clause-stops : goal.returns-in_err-apply-clause-stops
 returns-in_err-apply-clause-stops g c =
-    let begun = c.in_err-apply.ensures.stops in
+    let begun = c.apply.ensures.happened in
     whatever_fails c.from_residual.result
-    (stops_first (Accepted c.args.client) begun.0 (snapshot (g.W.Transport.log c.args.transport.now) (g.P.Observer.observed c.args.observer.now) c.args.self.now.hub) (snapshot (g.W.Transport.log c.accept.new.self) (g.P.Observer.observed c.apply.new.observer) c.apply.new.self.hub) c.if-not-accept.ensures begun.1 begun.2 refl)
+    (stops_first (Accepted c.args.client) begun.0 (snapshot (g.W.Transport.log c.args.transport.now) (g.P.Observer.observed c.args.observer.now) c.args.self.now.hub) (snapshot (g.W.Transport.log c.accept.new.self) (g.P.Observer.observed c.apply.new.observer) c.apply.new.self.hub) c.if-not-accept.ensures begun.1 begun.2)

@@ -1,5 +1,4 @@
 use Rattle.std.proofs.Common.{refl, ◌≡◌, ◌∷◌, [], false, sym, ◌∙◌, inl, inr}
-use Rattle.std.proofs.lemmas.Result.{on_ok_weaker, on_err_weaker}
 use Rattle.bus_server.specs.Progress.{snapshot, state_of}
 use Rattle.bus_server.specs.Rounds.{PreservesRound}
 use Rattle.bus_server.specs.Applied.{has_overflowed, observations_of}
@@ -18,25 +17,24 @@ returns-clause-served g c =
     let client = c.args.client in
     let old = state_of c.args.self.now.hub in
     let new = state_of c.apply.new.self.hub in
-    on_ok_weaker c.apply.result
-    (λ does. let remaining = only_leaves client does.0 old new does.2 in
+    let does = c.apply.ensures.happened in
+    let remaining = only_leaves client does.0 old new does.2 in
     goes_one (λ more all. PreservesRound more old all × (has_overflowed all client ≡ false)) (ServerClosed client) does.0 (snapshot (g.W.Transport.log c.args.transport.now) (g.P.Observer.observed c.args.observer.now) c.args.self.now.hub) (snapshot (g.W.Transport.log c.close.new.self) (g.P.Observer.observed c.apply.new.observer) c.apply.new.self.hub) c.close.ensures
     (grows_more (g.P.Observer.observed c.args.observer.now) (g.P.Observer.observed c.overflowed.new.self) (g.P.Observer.observed c.apply.new.observer) (Overflowed client ∷ []) (observations_of does.0) c.overflowed.ensures.observed does.1)
     (sym c.has_overflowed.ensures ∙ c.if-not-has_overflowed.false, does.2)
-    (left_keeps client remaining.0 (ServerClosed client ∷ []) old new refl remaining.1, left_is_not_late client remaining.0 old new remaining.1))
-    c.apply.ensures.happened
+    (left_keeps client remaining.0 (ServerClosed client ∷ []) old new refl remaining.1, left_is_not_late client remaining.0 old new remaining.1)
 
 pub returns-in_err-overflowed-clause-stops : goal.returns-in_err-overflowed-clause-stops
 returns-in_err-overflowed-clause-stops g c =
     whatever_fails c.from_residual.result
     (stops_first (ServerClosed c.args.client) [] (snapshot (g.W.Transport.log c.args.transport.now) (g.P.Observer.observed c.args.observer.now) c.args.self.now.hub) (snapshot (g.W.Transport.log c.close.new.self) (g.P.Observer.observed c.overflowed.new.self) c.args.self.now.hub) c.close.ensures c.overflowed.ensures.observed
-    (sym c.has_overflowed.ensures ∙ c.if-not-has_overflowed.false, inl (refl, refl)) refl)
+    (inr (sym c.has_overflowed.ensures ∙ c.if-not-has_overflowed.false, refl, refl)))
 
-pub returns-clause-stops : goal.returns-clause-stops
-returns-clause-stops g c =
+pub returns-in_err-apply-clause-stops : goal.returns-in_err-apply-clause-stops
+returns-in_err-apply-clause-stops g c =
     let client = c.args.client in
-    on_err_weaker c.apply.result
-    (λ begun. stops_first (ServerClosed client) begun.0 (snapshot (g.W.Transport.log c.args.transport.now) (g.P.Observer.observed c.args.observer.now) c.args.self.now.hub) (snapshot (g.W.Transport.log c.close.new.self) (g.P.Observer.observed c.apply.new.observer) c.apply.new.self.hub) c.close.ensures
+    let begun = c.apply.ensures.happened in
+    whatever_fails c.from_residual-in_err-apply.result
+    (stops_first (ServerClosed client) begun.0 (snapshot (g.W.Transport.log c.args.transport.now) (g.P.Observer.observed c.args.observer.now) c.args.self.now.hub) (snapshot (g.W.Transport.log c.close.new.self) (g.P.Observer.observed c.apply.new.observer) c.apply.new.self.hub) c.close.ensures
     (grows_more (g.P.Observer.observed c.args.observer.now) (g.P.Observer.observed c.overflowed.new.self) (g.P.Observer.observed c.apply.new.observer) (Overflowed client ∷ []) (observations_of begun.0) c.overflowed.ensures.observed begun.1)
-    (sym c.has_overflowed.ensures ∙ c.if-not-has_overflowed.false, inr begun.2) refl)
-    c.apply.ensures.stops
+    (inl (sym c.has_overflowed.ensures ∙ c.if-not-has_overflowed.false, begun.2)))

@@ -1,57 +1,71 @@
-use Rattle.std.proofs.Common.{◌≡◌, ◌<◌, ◌≤◌, [], ℕ, List, arith, length, map, take, refl, subst, sym}
-use Rattle.std.proofs.lemmas.List.{length-map, length-take}
-use Rattle.std.proofs.lemmas.Result.{on_ok_weaker, on_err_weaker}
-use Rattle.bus.specs.Log.{Extends}
-use Rattle.bus_server.specs.Progress.{snapshot}
-use Rattle.bus_server.specs.Rounds.{IsRead}
-use Rattle.bus_server.specs.TransportEvents.{PeerClosed, TransportEvent, ReadBlocked, Received}
-use Rattle.bus_server.proofs.Going.{goes_one, grows_none}
-use Rattle.bus_server.proofs.Keeping.{all_read, read_now}
-use Rattle.bus_server.proofs.Stopping.{stops_first}
+use Rattle.std.proofs.Common.{◌≡◌, ◌≤◌, ◌∷◌, ◌++◌, [], arith, inl, inr, length, length-append, refl, sym, ◌∙◌}
+use Rattle.bus_server.specs.Progress.{snapshot, state_of}
+use Rattle.bus_server.proofs.Going.{acts_more, grows_none, wire_more}
+use Rattle.bus_server.proofs.Rounding.{reads_on_apply, reads_on_more}
+use Rattle.bus_server.proofs.Stopping.{stops_behind, whatever_fails}
 use Rattle.bus_server.proofs.server.Server.receive.Goals as goal
 
-pub returns-in-Closed-clause-served : goal.returns-in-Closed-clause-served
-returns-in-Closed-clause-served g c =
-    on_ok_weaker c.apply.result
-    (λ does. goes_one (λ more _. IsRead c.args.client more) (PeerClosed c.args.client) does.0 (snapshot (g.W.Transport.log c.args.transport.now) (g.P.Observer.observed c.args.observer.now) c.args.self.now.hub) (snapshot (g.W.Transport.log c.read.new.self) (g.P.Observer.observed c.apply.new.observer) c.apply.new.self.hub) c.in-Closed.ensures.log does.1 does.2 (omega arith, omega arith, read_now c.args.client))
-    c.apply.ensures.happened
+pub returns-then-is_due_to-clause-served : goal.returns-then-is_due_to-clause-served
+returns-then-is_due_to-clause-served g c = (
+  [],
+  grows_none (g.W.Transport.log c.args.transport.now),
+  grows_none (g.P.Observer.observed c.args.observer.now),
+  inl (sym c.is_due_to.ensures ∙ c.if-is_due_to.true, refl, refl),
+)
 
-pub returns-in-WouldBlock-clause-served : goal.returns-in-WouldBlock-clause-served
-returns-in-WouldBlock-clause-served g c =
-    goes_one (λ more _. IsRead c.args.client more) (ReadBlocked c.args.client) [] (snapshot (g.W.Transport.log c.args.transport.now) (g.P.Observer.observed c.args.observer.now) c.args.self.now.hub) (snapshot (g.W.Transport.log c.read.new.self) (g.P.Observer.observed c.args.observer.now) c.args.self.now.hub) c.in-WouldBlock.ensures.log (grows_none (g.P.Observer.observed c.args.observer.now)) (refl, refl) (omega arith, omega arith, read_now c.args.client)
+pub loop-byte-init : goal.loop-byte-init
+loop-byte-init g c = record {
+  observes = c.requires.observes;
+  reported = c.requires.reported;
+  none_due = sym c.is_due_to.ensures ∙ c.if-is_due_to.false;
+  served = ([], refl, grows_none (g.W.Transport.log c.args.transport.now), grows_none (g.P.Observer.observed c.args.observer.now), refl);
+}
 
-pub returns-in-Bytes-clause-served : goal.returns-in-Bytes-clause-served
-returns-in-Bytes-clause-served g c =
-    let client = c.args.client in
-    let bytes : List ℕ = take c.in-Bytes.count c.read.new.buf in
-    let some : 0 < length bytes = omega (arith, length-take {A = ℕ} c.in-Bytes.count c.read.new.buf, c.in-Bytes.ensures.within.0, c.in-Bytes.ensures.within.1) in
-    let as_many : length (map (λ byte. Received client byte) bytes) ≡ length bytes = length-map bytes (λ byte. Received client byte) in
-    let few : length (map (λ byte. Received client byte) bytes) ≤ 400 = omega (arith, as_many, length-take {A = ℕ} c.in-Bytes.count c.read.new.buf, c.in-Bytes.ensures.within.1) in
-    let more_than_none : 0 < length (map (λ byte. Received client byte) bytes) = omega (arith, as_many, some) in
-    on_ok_weaker c.receive_all.result
-    (λ all. (
-      all.0,
-      subst (λ (more : List TransportEvent). Extends (g.W.Transport.log c.args.transport.now) (g.W.Transport.log c.read.new.self) more) (sym all.1) c.in-Bytes.ensures.log,
-      all.2,
-      all.3,
-      subst (λ (more : List TransportEvent). IsRead client more) (sym all.1) (more_than_none, few, all_read client bytes),
-    ))
-    c.receive_all.ensures.served
+pub loop-byte-preserved : goal.loop-byte-preserved
+loop-byte-preserved g c =
+    let log = g.W.Transport.log in
+    let observed = g.P.Observer.observed in
+    let first = c.loop-byte in
+    let so_far = first.invariant.served in
+    let one = rw c.if-not-branch.false at c.in_ok-receive_byte.ensures.served in
+    record {
+      observes = c.receive_byte.ensures.observes;
+      reported = c.in_ok-receive_byte.ensures.reported;
+      none_due = one.5.0;
+      served = (
+        so_far.0 ++ one.0 ∷ [],
+        omega (arith, length-append so_far.0 (one.0 ∷ []), so_far.1),
+        wire_more (log c.args.transport.now) (log first.transport) (log c.receive_byte.new.transport) so_far.0 (one.0 ∷ []) so_far.2 one.1,
+        acts_more (observed c.args.observer.now) (observed first.observer) (observed c.receive_byte.new.observer) so_far.0 (one.0 ∷ []) so_far.3 one.2,
+        reads_on_more c.args.client so_far.0 one.0 (state_of c.args.self.now.hub) (state_of first.self.hub) (state_of c.receive_byte.new.self.hub) so_far.4 one.3 one.4 one.5,
+      );
+    }
 
-pub returns-in-Closed-clause-stops : goal.returns-in-Closed-clause-stops
-returns-in-Closed-clause-stops g c =
-    on_err_weaker c.apply.result
-    (λ begun. stops_first (PeerClosed c.args.client) begun.0 (snapshot (g.W.Transport.log c.args.transport.now) (g.P.Observer.observed c.args.observer.now) c.args.self.now.hub) (snapshot (g.W.Transport.log c.read.new.self) (g.P.Observer.observed c.apply.new.observer) c.apply.new.self.hub) c.in-Closed.ensures.log begun.1 begun.2 refl)
-    c.apply.ensures.stops
+pub returns-then-not-branch-clause-served : goal.returns-then-not-branch-clause-served
+returns-then-not-branch-clause-served g c =
+    let log = g.W.Transport.log in
+    let observed = g.P.Observer.observed in
+    let first = c.loop-byte in
+    let so_far = first.invariant.served in
+    let one = rw c.if-not-branch.true at c.in_ok-receive_byte.ensures.served in
+    let few : length (so_far.0 ++ one.0 ∷ []) ≤ 400 = omega (arith, length-append so_far.0 (one.0 ∷ []), so_far.1, c.loop-byte-test.true) in (
+      so_far.0 ++ one.0 ∷ [],
+      wire_more (log c.args.transport.now) (log first.transport) (log c.receive_byte.new.transport) so_far.0 (one.0 ∷ []) so_far.2 one.1,
+      acts_more (observed c.args.observer.now) (observed first.observer) (observed c.receive_byte.new.observer) so_far.0 (one.0 ∷ []) so_far.3 one.2,
+      inr (inr (sym c.is_due_to.ensures ∙ c.if-is_due_to.false, so_far.0, one.0, state_of first.self.hub, refl, few, so_far.4, one.3, one.4, one.5)),
+    )
 
-pub returns-in-Bytes-clause-stops : goal.returns-in-Bytes-clause-stops
-returns-in-Bytes-clause-stops g c =
-    on_err_weaker c.receive_all.result
-    (λ all. (
-      all.0,
-      all.1,
-      subst (λ (more : List TransportEvent). Extends (g.W.Transport.log c.args.transport.now) (g.W.Transport.log c.read.new.self) more) (sym all.2) c.in-Bytes.ensures.log,
-      all.3,
-      all.4,
-    ))
-    c.receive_all.ensures.stops
+pub returns-clause-served : goal.returns-clause-served
+returns-clause-served g c =
+    let first = c.loop-byte in
+    let so_far = first.invariant.served in
+    let all : length so_far.0 ≡ 400 = omega (arith, so_far.1, first.auto._byte-end, c.loop-byte-test.false) in
+    (so_far.0, so_far.2, so_far.3, inr (inl (sym c.is_due_to.ensures ∙ c.if-is_due_to.false, so_far.4, all)))
+
+pub returns-in_err-receive_byte-clause-stops : goal.returns-in_err-receive_byte-clause-stops
+returns-in_err-receive_byte-clause-stops g c =
+    let first = c.loop-byte in
+    let so_far = first.invariant.served in
+    let applies = reads_on_apply c.args.client so_far.0 (state_of c.args.self.now.hub) (state_of first.self.hub) so_far.4 in
+    whatever_fails c.from_residual.result
+    (stops_behind so_far.0 (snapshot (g.W.Transport.log c.args.transport.now) (g.P.Observer.observed c.args.observer.now) c.args.self.now.hub) (snapshot (g.W.Transport.log first.transport) (g.P.Observer.observed first.observer) first.self.hub) (snapshot (g.W.Transport.log c.receive_byte.new.transport) (g.P.Observer.observed c.receive_byte.new.observer) c.receive_byte.new.self.hub) so_far.2 so_far.3 applies c.in_err-receive_byte.ensures.stops)

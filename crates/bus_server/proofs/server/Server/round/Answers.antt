@@ -3,7 +3,7 @@ use Rattle.std.proofs.lemmas.Result.{on_ok_weaker, on_err_weaker}
 use Rattle.bus_server.specs.Progress.{state_of, snapshot}
 use Rattle.bus_server.specs.Rounds.{ServesClients}
 use Rattle.bus_server.proofs.Going.{acts_more, grows_none, wire_more}
-use Rattle.bus_server.proofs.Rounding.{next_turn, turns_serve}
+use Rattle.bus_server.proofs.Rounding.{next_turn, reads_apply, turns_serve}
 use Rattle.bus_server.proofs.Stopping.{stops_behind, whatever_fails}
 use Rattle.bus_server.proofs.server.Server.round.Goals as goal
 
@@ -32,7 +32,7 @@ loop-client-preserved g c =
         acts_more (observed c.args.observer.now) (observed first.observer) (observed c.write_all.new.observer) so_far.0 (heard.0 ++ written.0) so_far.2
             (acts_more (observed first.observer) (observed c.receive.new.observer) (observed c.write_all.new.observer) heard.0 written.0 heard.2 written.2),
         next_turn first.client so_far.0 heard.0 written.0 (state_of c.args.self.now.hub) (state_of first.self.hub) (state_of c.receive.new.self.hub) (state_of c.write_all.new.self.hub)
-            so_far.3 heard.3 heard.4 written.3 written.4.0.unread written.4.1,
+            so_far.3 heard.3 written.3 written.4.0.unread written.4.1,
       );
     }
 
@@ -80,7 +80,7 @@ returns-in_err-write_all-clause-stops g c =
     let after = (snapshot (g.W.Transport.log c.write_all.new.transport) (g.P.Observer.observed c.write_all.new.observer) c.write_all.new.self.hub) in
     whatever_fails c.from_residual-in_err-write_all.result
     (stops_behind so_far.0 (snapshot (g.W.Transport.log c.args.transport.now) (g.P.Observer.observed c.args.observer.now) c.args.self.now.hub) before after so_far.1 so_far.2 applies
-    (stops_behind heard.0 before mid after heard.1 heard.2 heard.3 c.in_err-write_all.ensures.stops))
+    (stops_behind heard.0 before mid after heard.1 heard.2 (reads_apply first.client heard.0 (state_of first.self.hub) (state_of c.receive.new.self.hub) heard.3) c.in_err-write_all.ensures.stops))
 
 pub returns-clause-stops : goal.returns-clause-stops
 returns-clause-stops g c =

@@ -7,7 +7,7 @@ use Rattle.bus_server.specs.Stops.{IsStoppedRun, fails}
 use Rattle.bus_server.proofs.server.Server.run.Goals as goal
 
 pub loop-round-init : goal.loop-round-init
-loop-round-init g c = record { observes = c.requires.observes; reported = c.requires.reported; after_round = refl; rounds = ([], refl, runs_none c.args.most (run_snapshot (g.W.Transport.log c.args.transport.now) (g.C.TimeSource.readings c.args.clock.now) (g.P.Observer.observed c.args.observer.now) c.args.self.now.hub)) }
+loop-round-init g c = record { observes = c.requires.observes; reported = c.requires.reported; after_round = refl; rounds = ([], refl, runs_none c.args.most (run_snapshot (g.W.Transport.log c.args.transport.now) (g.C.TimeSource.readings c.args.clock.now) (g.P.Observer.observed c.args.observer.now) (g.A.AfterRound.shown c.args.after_round.now) c.args.self.now.hub)) }
 
 pub loop-round-preserved : goal.loop-round-preserved
 loop-round-preserved g c =
@@ -20,7 +20,7 @@ loop-round-preserved g c =
       rounds = (
         so_far.0 ++ one.0 ∷ [],
         omega (arith, length-append so_far.0 (one.0 ∷ []), so_far.1),
-        runs_then c.args.most so_far.0 (one.0 ∷ []) (run_snapshot (g.W.Transport.log c.args.transport.now) (g.C.TimeSource.readings c.args.clock.now) (g.P.Observer.observed c.args.observer.now) c.args.self.now.hub) (run_snapshot (g.W.Transport.log c.loop-round.transport) (g.C.TimeSource.readings c.loop-round.clock) (g.P.Observer.observed c.loop-round.observer) c.loop-round.self.hub) (run_snapshot (g.W.Transport.log c.run_round.new.transport) (g.C.TimeSource.readings c.run_round.new.clock) (g.P.Observer.observed c.run_round.new.observer) c.run_round.new.self.hub) so_far.2 one.1,
+        runs_then c.args.most so_far.0 (one.0 ∷ []) (run_snapshot (g.W.Transport.log c.args.transport.now) (g.C.TimeSource.readings c.args.clock.now) (g.P.Observer.observed c.args.observer.now) (g.A.AfterRound.shown c.args.after_round.now) c.args.self.now.hub) (run_snapshot (g.W.Transport.log c.loop-round.transport) (g.C.TimeSource.readings c.loop-round.clock) (g.P.Observer.observed c.loop-round.observer) (g.A.AfterRound.shown c.loop-round.after_round) c.loop-round.self.hub) (run_snapshot (g.W.Transport.log c.run_round.new.transport) (g.C.TimeSource.readings c.run_round.new.clock) (g.P.Observer.observed c.run_round.new.observer) (g.A.AfterRound.shown c.run_round.new.after_round) c.run_round.new.self.hub) so_far.2 one.1,
       );
     }
 
@@ -28,14 +28,14 @@ pub returns-then-self-most-clause-run : goal.returns-then-self-most-clause-run
 returns-then-self-most-clause-run g c =
     let laws : Laws = record { kept = c.events_are_the_layout.ensures.kept; more = c.events_are_the_layout.ensures.more; none = c.events_add_up.ensures.none } in
     let so_far = c.loop-round.invariant.rounds in
-    run_ends laws c.headline.ensures.in_time c.args.most so_far.0 (run_snapshot (g.W.Transport.log c.args.transport.now) (g.C.TimeSource.readings c.args.clock.now) (g.P.Observer.observed c.args.observer.now) c.args.self.now.hub) (run_snapshot (g.W.Transport.log c.loop-round.transport) (g.C.TimeSource.readings c.loop-round.clock) (g.P.Observer.observed c.loop-round.observer) c.loop-round.self.hub) c.invariant_holds.ensures.kept c.invariant_holds.ensures.desk so_far.2 (inl c.if-self-most.true)
+    run_ends laws c.headline.ensures.in_time c.args.most so_far.0 (run_snapshot (g.W.Transport.log c.args.transport.now) (g.C.TimeSource.readings c.args.clock.now) (g.P.Observer.observed c.args.observer.now) (g.A.AfterRound.shown c.args.after_round.now) c.args.self.now.hub) (run_snapshot (g.W.Transport.log c.loop-round.transport) (g.C.TimeSource.readings c.loop-round.clock) (g.P.Observer.observed c.loop-round.observer) (g.A.AfterRound.shown c.loop-round.after_round) c.loop-round.self.hub) c.invariant_holds.ensures.kept c.invariant_holds.ensures.desk so_far.2 (inl c.if-self-most.true)
 
 pub returns-clause-run : goal.returns-clause-run
 returns-clause-run g c =
     let laws : Laws = record { kept = c.events_are_the_layout.ensures.kept; more = c.events_are_the_layout.ensures.more; none = c.events_add_up.ensures.none } in
     let so_far = c.loop-round.invariant.rounds in
     let all : length so_far.0 ≡ 2 ^ 64 - 1 = omega (arith, so_far.1, c.loop-round.auto._round-end, c.loop-round-test.false) in
-    run_ends laws c.headline.ensures.in_time c.args.most so_far.0 (run_snapshot (g.W.Transport.log c.args.transport.now) (g.C.TimeSource.readings c.args.clock.now) (g.P.Observer.observed c.args.observer.now) c.args.self.now.hub) (run_snapshot (g.W.Transport.log c.loop-round.transport) (g.C.TimeSource.readings c.loop-round.clock) (g.P.Observer.observed c.loop-round.observer) c.loop-round.self.hub) c.invariant_holds.ensures.kept c.invariant_holds.ensures.desk so_far.2 (inr all)
+    run_ends laws c.headline.ensures.in_time c.args.most so_far.0 (run_snapshot (g.W.Transport.log c.args.transport.now) (g.C.TimeSource.readings c.args.clock.now) (g.P.Observer.observed c.args.observer.now) (g.A.AfterRound.shown c.args.after_round.now) c.args.self.now.hub) (run_snapshot (g.W.Transport.log c.loop-round.transport) (g.C.TimeSource.readings c.loop-round.clock) (g.P.Observer.observed c.loop-round.observer) (g.A.AfterRound.shown c.loop-round.after_round) c.loop-round.self.hub) c.invariant_holds.ensures.kept c.invariant_holds.ensures.desk so_far.2 (inr all)
 
 pub returns-in_err-run_round-clause-stopped : goal.returns-in_err-run_round-clause-stopped
 returns-in_err-run_round-clause-stopped g c =
@@ -43,11 +43,11 @@ returns-in_err-run_round-clause-stopped g c =
     let so_far = c.loop-round.invariant.rounds in
     let stop = c.in_err-run_round.field-0.0 in
     let one = c.in_err-run_round.ensures.stopped in
-    let start = (run_snapshot (g.W.Transport.log c.args.transport.now) (g.C.TimeSource.readings c.args.clock.now) (g.P.Observer.observed c.args.observer.now) c.args.self.now.hub) in
-    let mid = (run_snapshot (g.W.Transport.log c.loop-round.transport) (g.C.TimeSource.readings c.loop-round.clock) (g.P.Observer.observed c.loop-round.observer) c.loop-round.self.hub) in
-    let end = (run_snapshot (g.W.Transport.log c.run_round.new.transport) (g.C.TimeSource.readings c.run_round.new.clock) (g.P.Observer.observed c.run_round.new.observer) c.run_round.new.self.hub) in
+    let start = (run_snapshot (g.W.Transport.log c.args.transport.now) (g.C.TimeSource.readings c.args.clock.now) (g.P.Observer.observed c.args.observer.now) (g.A.AfterRound.shown c.args.after_round.now) c.args.self.now.hub) in
+    let mid = (run_snapshot (g.W.Transport.log c.loop-round.transport) (g.C.TimeSource.readings c.loop-round.clock) (g.P.Observer.observed c.loop-round.observer) (g.A.AfterRound.shown c.loop-round.after_round) c.loop-round.self.hub) in
+    let end = (run_snapshot (g.W.Transport.log c.run_round.new.transport) (g.C.TimeSource.readings c.run_round.new.clock) (g.P.Observer.observed c.run_round.new.observer) (g.A.AfterRound.shown c.run_round.new.after_round) c.run_round.new.self.hub) in
     passed_on (λ stop. IsStoppedRun c.args.most stop start end) c.from_residual.result stop c.from_residual.ensures.1
-    (run_stops laws c.headline.ensures.in_time c.args.most stop so_far.0 one.0 one.1 start mid end c.invariant_holds.ensures.kept c.invariant_holds.ensures.desk so_far.2 one.2)
+    (run_stops laws c.headline.ensures.in_time c.args.most stop so_far.0 one.0 start mid end c.invariant_holds.ensures.kept c.invariant_holds.ensures.desk so_far.2 one.1)
 
 pub returns-in_err-run_round-clause-after_round : goal.returns-in_err-run_round-clause-after_round
 returns-in_err-run_round-clause-after_round g c =

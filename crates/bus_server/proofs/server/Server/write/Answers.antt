@@ -2,15 +2,13 @@ use Rattle.std.proofs.Common.{[], ◌+◌, ◌∙◌, ap, refl, inr, map, subst,
 use Rattle.layout_core.specs.Nodes.{spec_of}
 use Rattle.bus.specs.declared.bus.Bus.{Bus}
 use Rattle.bus.specs.declared.event.Event.TheVariants.{Disconnects}
-use Rattle.std.proofs.lemmas.Result.{on_ok_weaker, on_err_weaker}
 use Rattle.bus_server.specs.Progress.{snapshot, state_of}
 use Rattle.bus_server.specs.Rounds.{IsWrittenTo}
-use Rattle.bus_server.specs.Applied.{RunsEventWithTurns, ServerState}
+use Rattle.bus_server.specs.Applied.{RunsEventWithReports, ServerState}
 use Rattle.bus_server.proofs.Going.{calm_nowhere, calm_then, grows_none}
 use Rattle.bus_server.proofs.Rounding.{HasPut, IsPiece, calm_weaker, in_a_row, more_pieces, put_then, wrote_later, wrote_one, wrote_to_none}
-use Rattle.bus_server.proofs.Stopping.{stops_behind, stops_first}
+use Rattle.bus_server.proofs.Stopping.{stops_behind, stops_first, whatever_fails}
 use Rattle.bus_server.specs.TransportEvents.{PeerClosed}
-use Rattle.bus_server.specs.Stops.{BeginsEvent}
 use Rattle.bus_server.proofs.server.Server.write.Goals as goal
 
 pub loop-piece-init : goal.loop-piece-init
@@ -46,10 +44,9 @@ returns-in-Closed-clause-served g c =
     let wrote = c.in-Closed.ensures.wrote in
     let before = snapshot (g.W.Transport.log first.transport) (g.P.Observer.observed first.observer) first.self.hub in
     let after = snapshot (g.W.Transport.log c.write.new.transport) (g.P.Observer.observed c.apply.new.observer) c.apply.new.self.hub in
-    on_ok_weaker c.apply.result
-    (λ does. put_then client first._piece (snapshot (g.W.Transport.log c.args.transport.now) (g.P.Observer.observed c.args.observer.now) c.args.self.now.hub) before after first.invariant.served
-    (wrote_to_none client does.0 before after wrote.0 does.1 (subst (λ (old : ServerState). RunsEventWithTurns (Disconnects client) does.0 old (state_of c.apply.new.self.hub)) wrote.1 does.2)))
-    c.apply.ensures.happened
+    let does = c.apply.ensures.happened in
+    put_then client first._piece (snapshot (g.W.Transport.log c.args.transport.now) (g.P.Observer.observed c.args.observer.now) c.args.self.now.hub) before after first.invariant.served
+    (wrote_to_none client does.0 before after wrote.0 does.1 (subst (λ (old : ServerState). RunsEventWithReports (Disconnects client) does.0 old (state_of c.apply.new.self.hub)) wrote.1 does.2))
 
 pub returns-clause-served : goal.returns-clause-served
 returns-clause-served g c =
@@ -58,15 +55,15 @@ returns-clause-served g c =
     (λ more put. inr (inr (in_a_row c.args.client first._piece more (state_of first.self.hub) (omega (arith, c.loop-piece-test.false)) put)))
     first.invariant.served
 
-pub returns-in-Closed-clause-stops : goal.returns-in-Closed-clause-stops
-returns-in-Closed-clause-stops g c =
+pub returns-in_err-apply-in-Closed-clause-stops : goal.returns-in_err-apply-in-Closed-clause-stops
+returns-in_err-apply-in-Closed-clause-stops g c =
     let first = c.loop-piece in
     let client = c.args.client in
     let wrote = c.in-Closed.ensures.wrote in
     let so_far = first.invariant.served in
     let before = snapshot (g.W.Transport.log first.transport) (g.P.Observer.observed first.observer) first.self.hub in
     let after = snapshot (g.W.Transport.log c.write.new.transport) (g.P.Observer.observed c.apply.new.observer) c.apply.new.self.hub in
-    on_err_weaker c.apply.result
-    (λ begun. stops_behind so_far.0 (snapshot (g.W.Transport.log c.args.transport.now) (g.P.Observer.observed c.args.observer.now) c.args.self.now.hub) before after so_far.1 so_far.2 so_far.3
-    (stops_first (PeerClosed client) begun.0 before after wrote.0 begun.1 (subst (λ (old : ServerState). BeginsEvent (Disconnects client) begun.0 old (state_of c.apply.new.self.hub)) wrote.1 begun.2) refl))
-    c.apply.ensures.stops
+    let begun = c.apply.ensures.happened in
+    whatever_fails c.from_residual.result
+    (stops_behind so_far.0 (snapshot (g.W.Transport.log c.args.transport.now) (g.P.Observer.observed c.args.observer.now) c.args.self.now.hub) before after so_far.1 so_far.2 so_far.3
+    (stops_first (PeerClosed client) begun.0 before after wrote.0 begun.1 (subst (λ (old : ServerState). RunsEventWithReports (Disconnects client) begun.0 old (state_of c.apply.new.self.hub)) wrote.1 begun.2)))

@@ -1,0 +1,32 @@
+-- A byte that completes no request changes no queue, and makes no turns due.
+use Rattle.std.proofs.Common.{◌≡◌, ℕ, List, [], Option, None, Some, refl, ap, ◌∙◌}
+use Rattle.loconet_tcp.specs.declared.outcome.Outcome.{Outcome}
+use Rattle.loconet_tcp.specs.declared.outcome.Outcome.TheVariants.{Nothing}
+use Rattle.loconet_tcp.specs.declared.request.Request.{Request}
+use Rattle.loconet_tcp.specs.declared.request.Request.TheVariants.{Invalid, Nodes, Place, Send, Turns}
+use Rattle.railway.specs.Railway.{RailwayState}
+use Rattle.bus.specs.declared.event.Event.TheVariants.{Receives}
+use Rattle.bus.specs.Bus.{BusState, client_of, outcome_of, outcome_of_request, request_at}
+use Rattle.bus_server.specs.Applied.{LoggedEvent, RunsEventWithReports, ServerState, outcome_in}
+use Rattle.bus_server.specs.ClientQueues.{queues_after}
+use Rattle.bus_server.specs.Due.{due_after}
+use Rattle.bus_server.specs.Placements.{answered}
+use Rattle.bus_server.specs.Sensors.{reports_due}
+use Rattle.bus_server.proofs.Keeping.{alone}
+
+nothing_of : (names : List (List ℕ)) (railway : Option RailwayState) (bus : BusState) (client : ℕ) (request : Option Request) → answered names railway (outcome_of_request bus client request) ≡ Nothing
+    → outcome_of_request bus client request ≡ Nothing
+nothing_of names railway bus client None h = refl
+nothing_of names railway bus client (Some (Invalid reason)) h = cc
+nothing_of names railway bus client (Some (Send message)) h = cc
+nothing_of names railway bus client (Some (Turns count)) h = cc
+nothing_of names railway bus client (Some Nodes) h = cc
+nothing_of names railway bus client (Some (Place placement)) h = cc
+
+pub nothing_received : (client byte : ℕ) (applied : List LoggedEvent) (old new : ServerState) → outcome_in old (Receives client byte) ≡ Nothing → RunsEventWithReports (Receives client byte) applied old new
+    → (new.queues ≡ old.queues) × (new.turns_due ≡ old.turns_due)
+nothing_received client byte applied old new none h =
+    let nothing : outcome_of old.bus (Receives client byte) ≡ Nothing = nothing_of old.names old.railway old.bus client (request_at (client_of old.bus client) byte) none in
+    let event = alone (Receives client byte) applied old new
+    (λ observed after runs. runs.unreported.1 ∙ ap (λ (outcome : Outcome). reports_due old.names outcome old.railway []) nothing) h.1 h.2 in
+    (event.1.queues ∙ ap (λ (outcome : Outcome). queues_after outcome old.queues) none, event.1.turns_due ∙ ap (λ (outcome : Outcome). due_after outcome old.pace old.turns_due) nothing)
