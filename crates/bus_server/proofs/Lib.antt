@@ -2,6 +2,7 @@ pub mod Accounts
 pub mod Answering
 pub mod Courses
 pub mod Going
+pub mod Hearing
 pub mod Keeping
 pub mod KeepingUp
 pub mod Knowing
@@ -10,6 +11,7 @@ pub mod Missing
 pub mod Naming
 pub mod Nothings
 pub mod Placing
+pub mod Repeating
 pub mod Rounding
 pub mod Sizes
 pub mod Stepping

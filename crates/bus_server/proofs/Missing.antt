@@ -36,9 +36,9 @@ record Heard (events : List LayoutEvent) (new : Losses) : Type 0 where
 turn_heard : (nodes missed : ℕ) (old new : Losses) → IsDraw nodes missed old new → old.lose ≡ 0 → Heard (turn_of missed) new
 turn_heard nodes missed old new h lose = record { all = and_from (missed == 0) true (eq-eqb missed 0 (h.none lose)) refl; share = h.share ∙ lose }
 
-elapsed_heard : (begins : Bool) (nodes missed : ℕ) (old new : Losses) → MatchBool begins (IsDraw nodes missed old new) (new ≡ old) → old.lose ≡ 0 → Heard (if begins then turn_of missed else []) new
+elapsed_heard : (begins : Bool) (nodes missed : ℕ) (old new : Losses) → MatchBool begins (IsDraw nodes missed old new) ((missed ≡ 0) × (new ≡ old)) → old.lose ≡ 0 → Heard (if begins then turn_of missed else []) new
 elapsed_heard true nodes missed old new h lose = turn_heard nodes missed old new h lose
-elapsed_heard false nodes missed old new h lose = record { all = refl; share = ap (λ (l : Losses). l.lose) h ∙ lose }
+elapsed_heard false nodes missed old new h lose = record { all = refl; share = ap (λ (l : Losses). l.lose) h.1 ∙ lose }
 
 event_heard : (event : Event) (bus : BusState) (nodes : ℕ) (old new : Losses) → IsDrawn event bus nodes old new → old.lose ≡ 0 → Heard (layout_event bus event) new
 event_heard (Connects client) bus nodes old new h lose = record { all = refl; share = ap (λ (l : Losses). l.lose) h ∙ lose }

@@ -64,9 +64,9 @@ initial_state nodes names railway pace losses = record {
   has_backlog = false;
 }
 
--- what the decoders miss of a turn is drawn as it begins; if none begins, nothing is drawn
+-- what the decoders miss of a turn is drawn as it begins; if none begins, nothing is drawn or missed
 abbrev pub IsDrawn : Event → BusState → (nodes : ℕ) → (old new : Losses) → Type 0
-IsDrawn (Elapses micros missed) bus nodes old new = MatchBool (nat_le bus.remaining micros) (IsDraw nodes missed old new) (new ≡ old)
+IsDrawn (Elapses micros missed) bus nodes old new = MatchBool (nat_le bus.remaining micros) (IsDraw nodes missed old new) ((missed ≡ 0) × (new ≡ old))
 IsDrawn (Turn missed) bus nodes old new = IsDraw nodes missed old new
 IsDrawn other bus nodes old new = new ≡ old
 

@@ -16,6 +16,7 @@ pub mod Placements
 pub mod Progress
 pub mod Queues
 pub mod Reading
+pub mod Repeats
 pub mod Rounds
 pub mod Runs
 pub mod Sensors

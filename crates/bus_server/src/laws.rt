@@ -2,6 +2,7 @@
 ghost use Rattle.bus_server.specs.Fronts.{FrontsAreWritten};
 ghost use Rattle.bus_server.specs.KeepUp.{StaysConnected};
 ghost use Rattle.bus_server.specs.Known.{BecomesKnown, StaysKnown};
+ghost use Rattle.bus_server.specs.Repeats.{RunsRepeat};
 ghost use Rattle.bus_server.specs.Runs.{NoneMisses, RoundsAreARun, TimeIsRead};
 
 /// Whatever rounds a run has had, also one that goes on: their events, in order, are what the bus ran, and the headline in time
@@ -43,6 +44,12 @@ pub fn clients_know()
     railway::laws::observers_know();
     railway::laws::railways_are_kept();
 }
+
+/// Runs repeat: if the same comes from outside to two servers that are alike, in the same order and with the same turns between, the
+/// outcomes are the same, and the servers are alike after it.
+pub fn runs_repeat()
+    ensures { RunsRepeat }
+{}
 
 /// If no share of the packets is to be lost, no decoder misses a turn.
 pub fn none_misses()
