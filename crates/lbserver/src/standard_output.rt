@@ -17,6 +17,9 @@ use std::time::Duration;
 /// The file descriptor of standard output.
 pub(crate) const STANDARD_OUTPUT: RawFd = 1;
 
+/// In how many parts a wait for standard output is.
+const WAIT_PARTS: u32 = 10;
+
 /// A writer of standard output's file descriptor, written only while that accepts bytes.
 ///
 /// A pipe or a terminal is registered for readiness. A file cannot be registered, and always
@@ -86,7 +89,8 @@ impl<O: Write> StandardOutput<O> {
         WriteError
     }
 
-    /// Returns whether standard output accepts bytes within `longest`.
+    /// Returns whether standard output accepts bytes within `longest`. Waits in parts, since a signal
+    /// ends the part in which it comes.
     fn is_writable(&mut self, longest: Duration) -> bool
         ensures writer { self.new.writer ≡ self.old.writer }
         ensures failed { self.new.failed ≡ self.old.failed }
@@ -94,6 +98,23 @@ impl<O: Write> StandardOutput<O> {
         if !self.is_pollable {
             return true;
         }
+        let part = longest / WAIT_PARTS;
+        for _part in 1..WAIT_PARTS {
+            if self.is_ready(part) {
+                return true;
+            }
+            if part.is_zero() {
+                return false;
+            }
+        }
+        self.is_ready(part)
+    }
+
+    /// Returns whether standard output is ready within `longest`, or before a signal.
+    fn is_ready(&mut self, longest: Duration) -> bool
+        ensures writer { self.new.writer ≡ self.old.writer }
+        ensures failed { self.new.failed ≡ self.old.failed }
+    {
         // Registering again reports a state that is ready already.
         let mut source = SourceFd(&STANDARD_OUTPUT);
         let _ = self
