@@ -182,6 +182,12 @@ impl fmt::Display for Section {
 impl fmt::Display for PlanTextFault {
     fn fmt<W: fmt::Write>(&self, f: &mut fmt::Formatter<W>) -> fmt::Result {
         let (section, why) = (self.section, self.why);
-        write!(f, "{section}: {why}")
+        match (section, why) {
+            // `block` is a key of the plan, and one of a train.
+            (Section::Train(_), Why::BadKey(Key::Block)) => {
+                write!(f, "{section}: block must be the name of a block")
+            }
+            _ => write!(f, "{section}: {why}"),
+        }
     }
 }
