@@ -15,8 +15,12 @@ ONE_LOCOMOTIVE = b'version = 1\n[[node]]\nname = "a"\nkind = "loco"\ncv1 = 3\ncv
 # Words, and parts of what is on standard error.
 USAGE = [
     (["--help"], ["Usage: station", "monitor", "station < session.script"]),
-    (["help"], []),
-    (["serve", "--help"], ["Usage: station serve", "--connections <C>", "127.0.0.1"]),
+    (["help"], ["Usage: station", "replay ", "monitor ", "serve ", "station < session.script"]),
+    (["replay", "--help"], ["Usage: station replay", "--lines <N>", "1 to 8 [default: 1]", "--roster <FILE>", "< session.script"]),
+    (["monitor", "--help"], ["Usage: station monitor <FILE>", "hexadecimal", ": station monitor "]),
+    (["serve", "--help"], ["Usage: station serve", "--port <P>", "127.0.0.1, 1 to 65535", "--roster <FILE>"]),
+    (["serve", "--help"], ["--turns <T>", "0 to 255 [default: 1]", "--reads <R>", "[default: 100000]"]),
+    (["serve", "--help"], ["--connections <C>", "1 to 1000 [default: 1]"]),
     (["serve"], ["Usage: station serve", "--port <P>", "required"]),
     (["replay", "--lines", "9"], ["'9'", "--lines <N>", "1..=8"]),
     ([b"monitor", b"caf\xe9.hex"], ["a word is not UTF-8", "Usage: station"]),
