@@ -1,6 +1,7 @@
 """The words of the command line: the help, and what is refused."""
 
 import re
+import resource
 import socket
 import tempfile
 
@@ -14,7 +15,7 @@ UNITS = {
     "roster": ("<FILE>", "", None),
     "turns": ("<T>", "turns after each message", None),
     "rate": ("<R>", "times as fast", None),
-    "clients": ("<C>", "clients", None),
+    "clients": ("<C>", "clients have disconnected, with 0 at once", None),
     "track": ("", "packets on the track", None),
     "quiet": ("", "nothing but the addresses", None),
     "page": ("<PORT>", "TCP port", None),
@@ -107,6 +108,45 @@ def statuses():
             (["--port", port, "--address", "192.0.2.1"], 4, f"lbserver: cannot listen on 192.0.2.1:{port}: the machine has no such address\n"),
         ):
             same(f"{words}", run(*words), (status, "", faults))
+
+
+# Options, words that they need, the beginning of their files, and how many bytes such a file may have.
+LIMITS = [
+    ("--roster", [], 'version = 1\n[[node]]\nname = "yard"\nkind = "accessory"\nmodule = 1\n', 65_536),
+    ("--plan", ["--roster", "examples/layout.toml"], "version = 1\n", 65_536),
+    ("--page-file", ["--page", "0"], "", 1_048_576),
+]
+
+
+def limits():
+    """files as long as they may be are read, and those with one byte more are too long"""
+    for option, words, text, most in LIMITS:
+        for length in (most, most + 1):
+            with tempfile.NamedTemporaryFile("w") as file:
+                file.write(text.ljust(length, "\n"))
+                file.flush()
+                status, wrote, faults = run("--port", "0", "--clients", "0", *words, option, file.name)
+                wanted = (0, True, "") if length == most else (2, False, f"lbserver: {file.name} is too long\n")
+                same(f"{option}: {length} bytes", (status, wrote.startswith("listening "), faults), wanted)
+
+
+# Bytes of memory, of which the program has first enough and then less in each run.
+ENOUGH_MEMORY, LESS_MEMORY = 16 << 20, 1 << 18
+
+
+def little_memory():
+    """a run that is out of memory has status 6, and prints nothing else"""
+    with tempfile.NamedTemporaryFile() as file:
+        file.write(1_048_576 * b"x")
+        file.flush()
+        words = ["--port", "0", "--clients", "0", "--page", "0", "--page-file", file.name]
+        for bytes_left in range(ENOUGH_MEMORY, 0, -LESS_MEMORY):
+            limited = {"preexec_fn": lambda: resource.setrlimit(resource.RLIMIT_AS, 2 * (bytes_left,))}
+            status, wrote, faults = run(*words, **limited)
+            if status != 0:
+                break
+        same("the first run that fails", (status, wrote, faults), (6, "", "lbserver: no memory\n"))
+        holds("the first run has enough", bytes_left < ENOUGH_MEMORY)
 
 
 # Nodes of rosters, by version, and the line on standard error after the name of the file.
