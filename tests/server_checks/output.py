@@ -1,10 +1,13 @@
 """A standard output that nobody reads, slot reads, and an output that is to be quiet."""
 
 import contextlib
+import fcntl
 import os
 import pty
 import re
+import struct
 import subprocess
+import termios
 import threading
 import time
 
@@ -22,6 +25,7 @@ from server_checks.common import (
     serve,
     slot_data,
     turns_of,
+    within,
 )
 from server_checks.queues import read_beside
 from serving import Client, Page, Server, message, message_hex
@@ -100,15 +104,7 @@ def file_output():
 
 def read_log(server, stream, client):
     """Reads what was printed to the stream, to a message that is sent once there is room again."""
-    lines = []
-
-    def read():
-        # A terminal ends with an error.
-        with contextlib.suppress(OSError):
-            lines.extend(line.decode("ascii").rstrip("\r\n") for line in iter(stream.readline, b""))
-
-    reader = threading.Thread(target=read, daemon=True)
-    reader.start()
+    lines = read_lines(stream)
     count = -1
     while len(lines) != count:
         count = len(lines)
@@ -118,12 +114,25 @@ def read_log(server, stream, client):
     return lines
 
 
+def read_lines(stream):
+    """Reads the lines of a stream beside what is done here, into the list that it returns."""
+    lines = []
+
+    def read():
+        # A terminal ends with an error.
+        with contextlib.suppress(OSError):
+            lines.extend(line.decode("ascii").rstrip("\r\n") for line in iter(stream.readline, b""))
+
+    threading.Thread(target=read, daemon=True).start()
+    return lines
+
+
 def check_log(lines, order):
     """The log has these lines in this order, but for those that it says it left out."""
     order = [*order, LAST]
     at = left_out = 0
     for line in lines:
-        found = re.fullmatch(r"log: (\d{1,3}(?:,\d{3})*) lines left out", line)
+        found = re.fullmatch(r"log: (\d{1,3}(?:,\d{3})*) lines? left out", line)
         if found:
             count = int(found[1].replace(",", ""))
             left_out += count
@@ -150,28 +159,84 @@ def long_output():
         holds("more than a megabyte", server.log.stat().st_size > 1 << 20)
 
 
-# Messages whose lines have some 80,000 bytes: more than a pipe holds, and less than a pipe and the queue of the log do.
-MESSAGES = 1750
+# Messages whose lines have some 80,000 bytes: more than a pipe holds, and less than a pipe and the queue of the log do; and
+# messages whose lines have some 46,000: more than a terminal holds, and less than the queue.
+MESSAGES, FEWER_MESSAGES = 1750, 1000
+
+
+def speeds(count):
+    """So many messages, and the lines that are printed for them."""
+    texts = [message_hex(0xA0, 1 + i // 128, i % 128) for i in range(count)]
+    return texts, [speed_line(text, 1 + i // 128, i % 128) for i, text in enumerate(texts)]
+
+
+def send_speeds(client, texts):
+    """Sends messages, and waits until they are all answered."""
+    client.write(send(*texts))
+    same("what it receives", [client.line() for _ in range(2 * len(texts))][-1], "SENT OK")
+
+
+def queued_lines():
+    """what is queued of the log is written once a pipe or a terminal is read, with nothing else to wake the server"""
+    words = ("--turns", "0")
+    for server, count in ((serve(*words, output=subprocess.PIPE), MESSAGES), (OnTerminal(*words), FEWER_MESSAGES)):
+        with server, Client(server) as client:
+            texts, wanted = speeds(count)
+            send_speeds(client, texts)
+            # The server waits, with lines in its queue.
+            time.sleep(0.2)
+            lines = read_lines(server.process.stdout or server.screen)
+            holds("the last line", server.until(lambda: lines[-1:] == wanted[-1:]))
+            same("printed", lines[:], ["client 1 joins", *wanted])
+
+
+# The capacity of the log's queue, and the bytes of a page, the least that a pipe holds.
+QUEUE, PIPE_PAGE = 65_536, 4_096
+
+
+def left_out_lines():
+    """one line that has no room is `1 line left out`, and two are `2 lines`"""
+    text, line = message_hex(0xA0, 1, 0x40), speed_line(message_hex(0xA0, 1, 0x40), 1, 0x40)
+    size = len(line) + 1
+    for count, last in ((1, "log: 1 line left out"), (2, "log: 2 lines left out")):
+        with serve("--turns", "0", output=subprocess.PIPE) as server, Client(server) as client:
+            # More than a pipe holds, and less than the queue and a page do.
+            first = (QUEUE + PIPE_PAGE) // size - 1
+            send_speeds(client, first * [text])
+            pipe = server.process.stdout
+            (held,) = struct.unpack("i", fcntl.ioctl(pipe, termios.FIONREAD, bytes(4)))
+            queued = len("client 1 joins\n") + first * size - held
+            fitting = (QUEUE - queued) // size
+            send_speeds(client, (fitting + count) * [text])
+            lines = read_lines(pipe)
+            holds(f"{last!r} is printed", server.until(lambda: lines[-1:] == [last]))
+            same("printed", lines[:], ["client 1 joins", *(first + fitting) * [line], last])
 
 
 def last_lines():
     """what is unread at its end is written for a second more, and a reader that comes later is not waited for"""
 
-    def read_after(seconds):
+    def end_before(seconds, least, most):
+        """Ends a server whose output is read after these seconds, or after its end, which comes in time."""
+        texts, wanted = speeds(MESSAGES)
         with serve("--turns", "0", "--clients", "1", output=subprocess.PIPE) as server:
             with Client(server) as client:
-                texts = [message_hex(0xA0, 1 + i // 128, i % 128) for i in range(MESSAGES)]
-                client.write(send(*texts))
-                same("what it receives", [client.line() for _ in range(2 * MESSAGES)][-1], "SENT OK")
-            time.sleep(seconds)
+                send_speeds(client, texts)
+            start = time.monotonic()
+            if seconds is None:
+                server.process.wait(20)
+            else:
+                time.sleep(seconds)
             printed = server.process.stdout.read().decode("ascii").splitlines()
             same("status", server.process.wait(20), 0)
-            wanted = [speed_line(text, 1 + i // 128, i % 128) for i, text in enumerate(texts)]
+            within("seconds to its end", least, time.monotonic() - start, most)
             return printed, ["client 1 joins", *wanted, "client 1 leaves"]
 
-    is_tried_again(lambda: same("printed", *read_after(0.3)))
-    printed, wanted = read_after(3)
-    holds("it does not wait for three seconds", len(printed) < len(wanted))
+    is_tried_again(lambda: same("printed", *end_before(0.3, 0.3, 0.9)))
+    printed, wanted = is_tried_again(lambda: end_before(None, 0.95, 1.8))
+    # The last line of a full pipe may be cut.
+    same("what is there without a reader", printed[:-1], wanted[: len(printed) - 1])
+    holds("it does not wait for longer", len(printed) < len(wanted))
 
 
 def closed_output():
