@@ -28,25 +28,14 @@ from server_checks.common import (
     stopped,
     within,
 )
+from server_checks.browsers import LONGEST_REQUEST, check_browsers, get, large_page, response_to
 from server_checks.losses import DECODERS
 from server_checks.railway import OVAL, drive
 from serving import TOP, Client, Page, client_frame, free_port, read_head, upgrade_request
 
 
-def response_to(server, request):
-    """The head and the body of what a request is answered, until the connection ends."""
-    with server.connect(port=server.page_port) as browser:
-        browser.sendall(request)
-        stream = browser.makefile("rb")
-        return read_head(stream), stream.read()
-
-
-def get(target, *fields):
-    return "\r\n".join([f"GET {target} HTTP/1.1", *fields, "", ""]).encode()
-
-
 def page_files():
-    """--page serves pages/throttle.html, and with --page-file that file, to the byte, also to one that reads slowly"""
+    """--page serves pages/throttle.html, and with --page-file that file, to the byte"""
     # A server of the Python package names the file, so this one has the option itself.
     port = free_port()
     with serve("--turns", "1", "--page", str(port)) as server:
@@ -59,10 +48,6 @@ def page_files():
                 check_page(server, data)
     with serve("--turns", "1") as server:
         same("without --page", server.printed(), [f"listening 127.0.0.1:{server.port}"])
-
-
-# Less than the five seconds after which a request that is not whole is answered.
-LONGEST_REQUEST = 4
 
 
 def many_browsers():
@@ -95,11 +80,6 @@ def check_page(server, data):
     wanted = [f"content-length: {len(data)}", "connection: close", "cache-control: no-store"]
     for line in [*wanted, "x-content-type-options: nosniff", "referrer-policy: no-referrer"]:
         holds(f"{line} in {lines}", line in lines)
-    with server.connect(port=server.page_port, room=4096) as browser:
-        browser.sendall(get("/", "Host: localhost"))
-        time.sleep(0.2)
-        found = browser.makefile("rb").read()
-        same("the page, read slowly", found.endswith(b"\r\n\r\n" + data), True)
 
 
 def names():
@@ -213,21 +193,41 @@ def pages_leave():
         same("printed", server.printed()[2:], 5 * ["client 1 joins", "client 1 leaves"])
 
 
+# Seconds from the first pages to the eighth.
+LATER = 6
+
+
 def silent_pages():
-    """a page that is silent for 20 seconds is pinged, and after 40 it has left unless it has answered"""
-    with serve("--turns", "1", page=True) as server:
+    """each of eight pages is pinged after 20 seconds of silence, and leaves after 40 without an answer; new ones then join"""
+    with large_page() as (file, data), contextlib.ExitStack() as stack:
+        server = stack.enter_context(serve("--turns", "1", "--page-file", file, page=True))
         start = time.monotonic()
-        with Page(server, seconds=50).accepted() as silent, Page(server, seconds=50).accepted() as other:
-            for page in (silent, other):
-                same("the ping", page.frame(), (Page.PING, True, b""))
-            holds("it is pinged after 20 seconds", 19 < time.monotonic() - start < 25)
-            other.stream.sendall(client_frame(Page.PONG, b""))
-            same("the end", silent.bytes.read(), b"")
-            holds("it has left after 40 seconds", 39 < time.monotonic() - start < 45)
-            other.stream.sendall(client_frame(Page.TEXT, b"SEND 83 7C"))
-            same("the other", other.line(), "RECEIVE 83 7C")
-            expected = ["client 1 joins", "client 2 joins", "client 1 leaves", "message 83 7C  track power on"]
-            same("printed", printed_after(server, expected[-1])[1:], expected)
+
+        def is_after(what, seconds):
+            within(f"{what}: seconds", seconds - 1, time.monotonic() - start, seconds + 5)
+
+        silent, *others = [stack.enter_context(Page(server, seconds=50)).accepted() for _ in range(7)]
+        time.sleep(LATER)
+        eighth = stack.enter_context(Page(server, seconds=50)).accepted()
+        for page in (silent, *others):
+            same("the ping", page.frame(), (Page.PING, True, b""))
+        is_after("the first are pinged", 20)
+        for page in others:
+            page.stream.sendall(client_frame(Page.PONG, b""))
+        same("the ping of the eighth", eighth.frame(), (Page.PING, True, b""))
+        is_after("the eighth is pinged", 20 + LATER)
+        eighth.stream.sendall(client_frame(Page.PONG, b""))
+        same("the end", silent.bytes.read(), b"")
+        is_after("it has left", 40)
+        # More than the 40 seconds after which a silent page leaves.
+        new = stack.enter_context(Page(server)).accepted()
+        new.stream.sendall(client_frame(Page.TEXT, b"SEND 83 7C"))
+        same("a new page", [new.frame()[2] for _ in range(2)], [b"RECEIVE 83 7C", b"SENT OK"])
+        for page in (*others, eighth):
+            same("another", page.line(), "RECEIVE 83 7C")
+        expected = [f"client {i} joins" for i in range(1, 9)] + ["client 1 leaves", "client 1 joins", "message 83 7C  track power on"]
+        same("printed", printed_after(server, expected[-1])[1:], expected)
+        is_tried_again(lambda: check_browsers(server, data))
 
 
 def many_decoders():

@@ -5,6 +5,7 @@ import re
 import subprocess
 import time
 
+from server_checks.browsers import REQUEST, large_page, slow_browser
 from server_checks.common import (
     CYCLE_SECONDS,
     CYCLE_TURNS,
@@ -203,14 +204,23 @@ def silent_browsers():
     is_tried_again(wait_for_place)
 
 
+def measure(server, seconds):
+    """How often the server wakes in these seconds, and how long processors work for it."""
+    time.sleep(0.2)
+    wakes, used = server.status("voluntary_ctxt_switches"), server.processor_seconds()
+    time.sleep(seconds)
+    return server.status("voluntary_ctxt_switches") - wakes, server.processor_seconds() - used
+
+
+def waits_for(whom, server, seconds):
+    """Nothing wakes the server in these seconds."""
+    wakes, used = measure(server, seconds)
+    within(f"wakes while it waits for {whom}", 0, wakes, 5)
+    within(f"processor seconds while it waits for {whom}", 0, used, 0.05)
+
+
 def idle():
     """it waits and does not spin: nothing wakes it with --turns, and in real time it wakes about once a turn"""
-
-    def measure(server, seconds):
-        time.sleep(0.2)
-        wakes, used = server.status("voluntary_ctxt_switches"), server.processor_seconds()
-        time.sleep(seconds)
-        return server.status("voluntary_ctxt_switches") - wakes, server.processor_seconds() - used
 
     def wait_for_clients():
         with serve(*LAYOUT, "--turns", "3", page=True) as server:
@@ -218,11 +228,8 @@ def idle():
                 client.write(100 * send(POWER_ON))
                 for _ in range(200):
                     client.line()
-                wakes, used = measure(server, 1)
-                within("wakes with --turns", 0, wakes, 5)
-                within("processor seconds with --turns", 0, used, 0.05)
-            wakes, _ = measure(server, 0.5)
-            within("wakes with --turns and no client", 0, wakes, 5)
+                waits_for("clients", server, 1)
+            waits_for("a client to connect", server, 0.5)
 
     def wait_for_turns():
         # Without power each turn lasts 5,796 microseconds.
@@ -233,3 +240,20 @@ def idle():
 
     is_tried_again(wait_for_clients)
     is_tried_again(wait_for_turns)
+
+
+def idle_browsers():
+    """it does not spin while browsers send no request, do not read their response, or do not close"""
+
+    def wait_for_browsers():
+        with large_page() as (file, _), serve("--turns", "1", "--page-file", file, page=True) as server:
+            with server.connect(port=server.page_port) as browser, slow_browser(server):
+                browser.sendall(REQUEST[:20])
+                waits_for("a request, and a reader of a response", server, 1)
+            with server.connect(port=server.page_port) as browser:
+                browser.sendall(REQUEST)
+                browser.makefile("rb").read()
+                # It may close within a second.
+                waits_for("the end of a connection", server, 0.4)
+
+    is_tried_again(wait_for_browsers)
