@@ -6,11 +6,14 @@ import socket
 import statistics
 import time
 
+from server_checks.browsers import LONGEST_REQUEST
+
 from server_checks.common import (
     LAYOUT,
     POWER_OFF,
     POWER_ON,
     SHUNTER,
+    SPEED_63,
     holds,
     is_tried_again,
     printed_after,
@@ -23,7 +26,7 @@ from server_checks.common import (
     stopped,
     within,
 )
-from serving import Client, Page, free_port, message_hex
+from serving import Client, Page, free_port, message_hex, upgrade_request
 
 
 def clients():
@@ -44,6 +47,26 @@ def clients():
             wanted = ["client 1 joins", "client 2 joins", "message 83 7C  track power on", "client 2 leaves"]
             wanted += ["message 82 7D  track power off", "client 1 leaves"]
             same("printed", server.printed()[2:], wanted)
+
+
+def last_states():
+    """--clients 1: what changes in the round in which that client leaves reaches a page and the log before the end"""
+    running = SHUNTER.format("step 63 of 128")
+    with serve(*LAYOUT, "--turns", "20", "--clients", "1", page=True) as server:
+        with Client(server) as first, Client(server) as driver, Page(server) as page:
+            driver.take(3)
+            driver.send(0x81)
+            page.lines_until("RECEIVE 81 7E")
+            with stopped(server, 0):
+                first.close()
+                driver.write(send(SPEED_63))
+            wanted = [*receive(SPEED_63), f"NODE {running}"]
+            same("a page", [page.line() for _ in wanted], wanted)
+            same("the end", page.bytes.read(), b"")
+            same("the driver", driver.lines_until("SENT OK"), [*receive(SPEED_63), "SENT OK"])
+        same("status", server.process.wait(20), 0)
+        wanted = ["client 1 leaves", f"message {SPEED_63}  slot 1: speed 63 of 126", running]
+        same("printed", server.printed()[-3:], wanted)
 
 
 def addresses():
@@ -149,21 +172,40 @@ def all_hear_the_same():
             same(f"client {number + 1} and client 1", found[number], found[0])
 
 
+# What a page without a place receives after its handshake: a text, and a close with the code 1001 (RFC 6455, section 7.4.1).
+NO_PLACE = b"\x81\x0eERROR no place\x88\x02\x03\xe9"
+
+
 def rejections():
-    """a ninth client and a ninth page are rejected with a line, and so are twelve of twenty that wait"""
+    """a ninth client and a ninth page are rejected with a line, and so are twelve of twenty that wait, and twenty pages"""
     with serve("--turns", "1", page=True) as server, contextlib.ExitStack() as stack:
         for _ in range(8):
             stack.enter_context(Client(server))
         with server.connect() as ninth:
             same("a ninth", ninth.makefile("rb").read(), b"ERROR no place\r\n")
         with Page(server) as ninth:
-            same("a ninth page", ninth.line(), "ERROR no place")
+            same("a ninth page", ninth.bytes.read(), NO_PLACE)
+        is_tried_again(lambda: reject_pages(server))
         same("printed", server.printed()[2:], [f"client {i} joins" for i in range(1, 9)])
     with serve("--turns", "1") as server, contextlib.ExitStack() as stack:
         with stopped(server, 0.1):
             streams = [stack.enter_context(server.connect()) for _ in range(20)]
         found = sorted(stream.recv(100) for stream in streams)
         same("twenty", found, 12 * [b"ERROR no place\r\n"] + 8 * [b"VERSION lbserver station\r\n"])
+
+
+def reject_pages(server):
+    """Twenty pages that wait are all rejected before the time of one request is over, with nothing else to wake the server."""
+    own = f"127.0.0.1:{server.page_port}"
+    with contextlib.ExitStack() as stack:
+        with stopped(server, 0):
+            pages = [stack.enter_context(server.connect(port=server.page_port)) for _ in range(20)]
+            for page in pages:
+                page.sendall(upgrade_request(own, f"http://{own}", Page.KEY))
+        start = time.monotonic()
+        for page in pages:
+            same("a page", page.makefile("rb").read().partition(b"\r\n\r\n")[2], NO_PLACE)
+        within("seconds", 0, time.monotonic() - start, LONGEST_REQUEST)
 
 
 def connections_end():
