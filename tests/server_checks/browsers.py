@@ -65,7 +65,10 @@ def read_slowly(server, data):
     with slow_browser(server) as browser:
         time.sleep(0.3)
         within("bytes that are written at once", 1, queued(browser, server.page_port)[0], len(data) // 2)
+        start = time.monotonic()
         same("the page, read slowly", browser.makefile("rb").read().endswith(b"\r\n\r\n" + data), True)
+        # The time of the exchange would wake the server after ten seconds.
+        within("seconds to read it", 0, time.monotonic() - start, LONGEST_REQUEST)
 
 
 def write_slowly(server, data):
