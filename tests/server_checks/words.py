@@ -94,13 +94,10 @@ def statuses():
     with open("/dev/full", "wb") as full:
         same("--help that cannot be written", run("--help", stdout=full), (4, "", "lbserver: output\n"))
     port = str(free_port())
-    with tempfile.NamedTemporaryFile() as long, serve("--turns", "1") as server:
-        long.write(b"x" * 1_048_577)
-        long.flush()
+    with serve("--turns", "1") as server:
         page = ["--port", port, "--page", str(free_port()), "--page-file"]
         for words, status, faults in (
             ([*page, "nowhere.html"], 2, "lbserver: cannot read nowhere.html: no such file\n"),
-            ([*page, long.name], 2, f"lbserver: {long.name} is too long\n"),
             (["--port", port, "--roster", "nowhere.toml"], 2, "lbserver: cannot read nowhere.toml: no such file\n"),
             (["--port", port, "--roster", "README.md"], 3, "lbserver: README.md, line 3: the text is not TOML, or not UTF-8\n"),
             (["--port", str(server.port)], 4, f"lbserver: cannot listen on 127.0.0.1:{server.port}: the port is in use\n"),
@@ -126,8 +123,8 @@ def limits():
                 file.write(text.ljust(length, "\n"))
                 file.flush()
                 status, wrote, faults = run("--port", "0", "--clients", "0", *words, option, file.name)
-                wanted = (0, True, "") if length == most else (2, False, f"lbserver: {file.name} is too long\n")
-                same(f"{option}: {length} bytes", (status, wrote.startswith("listening "), faults), wanted)
+                wanted = (0, "listening ", "") if length == most else (2, "", f"lbserver: {file.name} is too long\n")
+                same(f"{option}: {length} bytes", (status, wrote[:10], faults), wanted)
 
 
 # Bytes of memory, of which the program has first enough and then less in each run.
