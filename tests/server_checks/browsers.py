@@ -1,6 +1,7 @@
 """Browsers at their HTTP exchanges, by docs/PAGES.md: those that write and read slowly, and how long each exchange may take."""
 
 import contextlib
+import pathlib
 import socket
 import tempfile
 import time
@@ -69,6 +70,16 @@ def read_slowly(server, data):
         same("the page, read slowly", browser.makefile("rb").read().endswith(b"\r\n\r\n" + data), True)
         # The time of the exchange would wake the server after ten seconds.
         within("seconds to read it", 0, time.monotonic() - start, LONGEST_REQUEST)
+
+
+def response_ends(server, start):
+    """A response that a browser has not read since the start ends after ten seconds, with nothing else to wake the server."""
+    folder = pathlib.Path(f"/proc/{server.process.pid}/fd")
+    counts = []
+    for seconds in (9, 12):
+        time.sleep(max(0, seconds - (time.monotonic() - start)))
+        counts.append(len(list(folder.iterdir())))
+    same("connections that have ended", counts[0] - counts[1], 1)
 
 
 def write_slowly(server, data):

@@ -28,7 +28,7 @@ from server_checks.common import (
     stopped,
     within,
 )
-from server_checks.browsers import LONGEST_REQUEST, check_browsers, get, large_page, response_to
+from server_checks.browsers import LONGEST_REQUEST, check_browsers, get, large_page, response_ends, response_to, slow_browser
 from server_checks.losses import DECODERS
 from server_checks.railway import OVAL, drive
 from serving import TOP, Client, Page, client_frame, free_port, read_head, upgrade_request
@@ -206,9 +206,11 @@ def silent_pages():
         def is_after(what, seconds):
             within(f"{what}: seconds", seconds - 1, time.monotonic() - start, seconds + 5)
 
+        stack.enter_context(slow_browser(server))
         silent, *others = [stack.enter_context(Page(server, seconds=50)).accepted() for _ in range(7)]
         time.sleep(LATER)
         eighth = stack.enter_context(Page(server, seconds=50)).accepted()
+        response_ends(server, start)
         for page in (silent, *others):
             same("the ping", page.frame(), (Page.PING, True, b""))
         is_after("the first are pinged", 20)
