@@ -145,6 +145,53 @@ def nodes():
         same("without a roster", client.line(), "NODES OK")
 
 
+# A message without effect, by which clients see that all before it was read: OPC_BUSY.
+BUSY = "81 7E"
+
+
+def nodes_again():
+    """NODES: a second one before NODES OK begins the answer anew"""
+    wanted = [f"NODE node loco-{i} short 3 stop forward F 0000000000000" for i in range(64)] + ["NODES OK"]
+    with roster_of(64) as file, serve("--roster", file, "--turns", "1") as server, Client(server) as client:
+        # A round reads at most 400 bytes, and sends one line: the second is read some rounds after the first.
+        for lines, least, most in ((["NODES", *800 * [""], "NODES"], 1, 63), (["NODES", "NODES"], 0, 0)):
+            client.write([*lines, *send(BUSY)])
+            found = [line for line in client.lines_until("NODES OK") if line.startswith("NODE")]
+            same("the last answer", found[-65:], wanted)
+            within("lines of the first", least, len(found) - 65, most)
+            same("those lines", found[:-65], wanted[: len(found) - 65])
+            client.write(send(BUSY))
+            same("then", client.lines_until("SENT OK")[-2:], [*receive(BUSY), "SENT OK"])
+        with Client(server) as other, stopped(server, 0):
+            for asker in (client, other):
+                asker.write(["NODES"])
+            other.stream.shutdown(socket.SHUT_WR)
+        same("while another leaves", client.lines_until("NODES OK"), wanted)
+
+
+def nodes_are_left():
+    """NODES: a client that leaves within the answer leaves none of it to the next one"""
+
+    def leave():
+        with roster_of(64) as file, serve("--roster", file, "--turns", "255") as server, Client(server) as busy:
+            with Client(server) as client, stopped(server, 0):
+                # A round reads 33 messages: they last as long as the answer, a line a round.
+                busy.write(send(*33 * 64 * [POWER_ON]))
+                client.write(["NODES"])
+                client.stream.shutdown(socket.SHUT_WR)
+            printed_after(server, "client 2 leaves")
+            with Client(server) as client:
+                client.write(send(BUSY))
+                lines = client.lines_until("SENT OK")
+                same("what the next one receives", set(lines), {*receive(POWER_ON, BUSY), "SENT OK"})
+                log = printed_after(server, f"message {BUSY}  busy")
+            same("clients 2", log.count("client 2 joins"), 2)
+            between = log[log.index("client 2 leaves") : len(log) - log[::-1].index("client 2 joins")]
+            within("messages from one to the other", 0, between.count(f"message {POWER_ON}  track power on"), 33 * 50)
+
+    is_tried_again(leave)
+
+
 def all_hear_the_same():
     """two pages and two clients see the same messages in the same order"""
     with serve(*LAYOUT, page=True) as server, contextlib.ExitStack() as stack:
