@@ -72,7 +72,7 @@ def form_checks(kind):
             body = [*start, *fields]
             yield checked(body, check), words, True
             # With a fixed bit turned, and a byte more or less.
-            others = [*turned(body, fixed), *([[*body, 0], body[:-1]] if has_length else [])]
+            others = [*turned(body, fixed), *([[*body, 0], [*body, 0x80], body[:-1]] if has_length else [])]
             for other in others:
                 yield checked(other, check), words, False
 
