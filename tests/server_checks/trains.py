@@ -8,7 +8,7 @@ import contextlib
 import tempfile
 
 from server_checks.common import POWER_OFF, POWER_ON, holds, printed_after, receive, same, send, serve, within
-from server_checks.railway import report, reports_in
+from server_checks.railway import INTERROGATION, report, reports_in
 from serving import Client, message_hex
 
 # OPC_BUSY, which has no effect: the end of a step. OPC_IDLE: a pause.
@@ -106,9 +106,8 @@ def drive_all(client, rows):
 
 
 def plan_of_runs():
-    for i, (_, _, _, _, speed, length, front, facing, _) in enumerate(RUNS):
-        for k, name in enumerate(("before", "own", "after")):
-            yield block(f"{name}-{i}", 1600, 3 * i + k + 1)
+    for i in range(3 * len(RUNS)):
+        yield block(f"{('before', 'own', 'after')[i % 3]}-{i // 3}", 1600, i + 1)
     for i in range(len(RUNS)):
         yield joint(f"before-{i}.b", f"own-{i}.a") + joint(f"own-{i}.b", f"after-{i}.a")
     for i, (_, _, _, _, speed, length, front, facing, _) in enumerate(RUNS):
@@ -141,6 +140,11 @@ def distances():
             wanted += len(counts) * ["TURNS OK"] + reports
             last = turn
         same("reports", answers(client, asked), wanted)
+        # Each would go more than 2,000 mm, but for the buffer stop at the far end of the next block.
+        same("up to buffer stops", answers(client, ["TURNS 10000"]), ["TURNS OK"])
+        ends = {3 * i + 2 + side for i, (*_, (_, side, _)) in enumerate(RUNS)}
+        every = [report(sensor, sensor in ends) for sensor in range(1, 3 * len(RUNS) + 1)]
+        same("where they stand", reports_in(answers(client, send(INTERROGATION[0]))), every)
 
 
 # Names as long as they may be, of a block and of locomotives: 32 and 16 bytes.
@@ -257,6 +261,40 @@ STORIES = [
             ([f"PLACE {FIRST} main 100 a"], [f"block {WEST} free", f"block main occupied ({FIRST})", "block back free"]),
             (["TURNS 30"], [f"block {WEST} occupied ({FIRST})"]),
             (turned(1, False), [f"derailed {FIRST} at turnout 1"]),
+        ],
+    ),
+    (
+        "turnouts that lie against a train on their thrown branch",
+        [FORWARD],
+        [f"{FIRST} {WEST} 500 b", f"{SECOND} back 500 b", f"{THIRD} back 500 b"],
+        [
+            ([f"PLACE {FIRST} siding 500 b", "TURNS 86"], [f"block {WEST} free", f"block siding occupied ({FIRST})"]),
+            (["TURNS 1"], [f"derailed {FIRST} at turnout 2"]),
+            ([f"PLACE {FIRST} siding 500 a", "TURNS 86"], []),
+            (["TURNS 1"], [f"derailed {FIRST} at turnout 1"]),
+        ],
+    ),
+    (
+        "ends of blocks, to the picometre",
+        [FORWARD],
+        [f"{FIRST} main 551 b", f"{SECOND} siding 900 b", f"{THIRD} siding 500 b"],
+        [
+            # The front has 449 mm to go to the east, 77.5 turns, and 1,449 mm to the back, 250 turns; the rear leaves main after
+            # 649 mm, 111.98 turns.
+            (["TURNS 77"], []),
+            (["TURNS 1"], [f"block east occupied ({FIRST})"]),
+            (["TURNS 33"], []),
+            (["TURNS 1"], ["block main free"]),
+            (["TURNS 138"], []),
+            (["TURNS 1"], [f"block back occupied ({FIRST})"]),
+            # The rear has 1,449 mm to go to leave the east. Before, the front has 249 mm to the east, 42.96 turns, and 1,249 to
+            # the back, 215.5, and the rear leaves main after 449 mm.
+            ([f"PLACE {FIRST} main 751"], [f"block main occupied ({FIRST})", "block east free", "block back free"]),
+            (["TURNS 77"], [f"block east occupied ({FIRST})"]),
+            (["TURNS 138"], ["block main free"]),
+            (["TURNS 1"], [f"block back occupied ({FIRST})"]),
+            (["TURNS 33"], []),
+            (["TURNS 1"], ["block east free"]),
         ],
     ),
     (
@@ -388,7 +426,7 @@ def missed_pauses():
         # its turn, at 65,535 mm/s, and 1,700 mm in four of them.
         answers(client, send(PAUSE))
         reports, turns = [], 0
-        while motion() == "step":
+        while motion() == "step" and turns < 2000:
             reports += reports_in(answers(client, ["TURNS 4"]))
             turns += 4
         holds(f"turns in which it ran: {turns}", turns >= 40)
