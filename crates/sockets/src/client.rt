@@ -6,9 +6,13 @@ ghost use Rattle.std.specs.Io.{ReadsAtMost, WritesAtMost};
 
 use crate::silence::{Action, Silence};
 use mio::net::TcpStream;
+use std::alloc::Global;
 use std::io;
 use std::io::{BufReader, ErrorKind, Read, Write};
 use web::Page;
+
+/// The most bytes that are read ahead of a program.
+const READ_AHEAD: usize = 512;
 
 /// The most reads at once of a page that sends no text but, for example, pings.
 const MOST_TRIES: u8 = 4;
@@ -16,8 +20,8 @@ const MOST_TRIES: u8 = 4;
 /// A connected client.
 #[derive(Drop)]
 pub(crate) enum Client {
-    /// A program, by LocoNet over TCP, with the bytes that were read ahead of it.
-    Program(BufReader<TcpStream>),
+    /// A program, by LocoNet over TCP.
+    Program(ProgramClient),
     /// A page, by the same text over a WebSocket.
     Page(PageClient),
 }
@@ -34,7 +38,7 @@ impl Client {
         ensures { ReadsAtMost result room.new }
     {
         match self {
-            Client::Program(stream) => stream.read(room),
+            Client::Program(program) => program.read(room, has_backlog),
             Client::Page(page_client) => page_client.read(room, now, has_backlog),
         }
     }
@@ -44,8 +48,50 @@ impl Client {
         ensures { WritesAtMost result bytes.now }
     {
         match self {
-            Client::Program(stream) => stream.get_mut().write(bytes),
+            Client::Program(program) => program.stream.get_mut().write(bytes),
             Client::Page(page_client) => page_client.write(bytes),
+        }
+    }
+}
+
+/// A program connected to the bus.
+#[derive(Drop)]
+pub(crate) struct ProgramClient {
+    /// With the bytes that were read ahead.
+    stream: BufReader<TcpStream>,
+    /// It has ended its sending, and its next read is its end.
+    has_ended: bool,
+}
+
+impl ProgramClient {
+    /// Creates the client of a program.
+    ///
+    /// # Errors
+    ///
+    /// Out of memory. The stream is closed then.
+    pub(crate) fn new(alloc: Global, stream: TcpStream) -> io::Result<ProgramClient> {
+        Ok(ProgramClient {
+            stream: BufReader::with_capacity(alloc, READ_AHEAD, stream)?,
+            has_ended: false,
+        })
+    }
+
+    /// Reads from the program, as `Read` does. At the end of what it sends the read would block once,
+    /// and sets `has_backlog`: it receives its last answers before its connection is closed.
+    fn read(&mut self, room: &mut [u8], has_backlog: &mut bool) -> io::Result<usize>
+        ensures reads { ReadsAtMost result room.new }
+        ensures ended { self.old.has_ended ≡ true → result ≡ Ok 0 }
+    {
+        if self.has_ended {
+            return Ok(0);
+        }
+        match self.stream.read(room) {
+            Ok(0) => {
+                self.has_ended = true;
+                *has_backlog = true;
+                Err(io::Error::from(ErrorKind::WouldBlock))
+            }
+            received => received,
         }
     }
 }

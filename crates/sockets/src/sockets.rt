@@ -2,7 +2,7 @@
 ghost use Rattle.std.specs.Prelude.{◌≡◌, ◌<◌, None};
 ghost use Rattle.bus_server.specs.declared.transport.IoOutcome.TheVariants.{Closed};
 
-use crate::client::{Client, PageClient};
+use crate::client::{Client, PageClient, ProgramClient};
 use crate::http_connection::is_retryable;
 use crate::http_server::{HttpServer, MAX_EXCHANGES, page_reply};
 use crate::stopwatch::Stopwatch;
@@ -14,14 +14,11 @@ use mio::unix::SourceFd;
 use mio::{Events, Interest, Poll, Registry, Token};
 use std::alloc::Global;
 use std::io;
-use std::io::{BufReader, ErrorKind, Write};
+use std::io::{ErrorKind, Write};
 use std::net::SocketAddr;
 use std::os::fd::RawFd;
 use std::time::Clock;
 use web::Page;
-
-/// The most bytes that are read ahead of a program.
-const READ_AHEAD: usize = 512;
 
 /// The ports of a server, and the streams of the accepted clients, by their index, 0 to 7.
 ///
@@ -34,7 +31,7 @@ pub struct Sockets {
     listener: TcpListener,
     clients: [Option<Client>; MAX_CLIENTS],
     http: Option<HttpServer>,
-    /// A page has sent bytes, and may have sent more.
+    /// A page has sent bytes, and may have sent more, or a program has ended its sending.
     has_backlog: bool,
     /// The last reading of the clock, in microseconds since the start.
     now: u64,
@@ -137,10 +134,12 @@ impl Sockets {
         }
     }
 
-    /// Returns how long HTTP connections and pages can be left waiting, in microseconds.
+    /// Returns how long connections can be left waiting, in microseconds.
     fn time_left(&self, now: u64) -> Option<u64> {
+        if self.has_backlog {
+            return Some(0);
+        }
         match &self.http {
-            Some(_) if self.has_backlog => Some(0),
             Some(http) => sooner(http.time_left(now), self.pages_time_left(now)),
             None => None,
         }
@@ -208,10 +207,10 @@ impl Sockets {
     }
 
     /// Accepts a pending program. If memory is out, it is disconnected.
-    fn accept_program(&mut self, place: usize) -> Option<BufReader<TcpStream>> {
+    fn accept_program(&mut self, place: usize) -> Option<ProgramClient> {
         let (mut stream, _) = self.listener.accept().ok()?;
         self.prepare(&mut stream, place).ok()?;
-        BufReader::with_capacity(self.alloc, READ_AHEAD, stream).ok()
+        ProgramClient::new(self.alloc, stream).ok()
     }
 
     /// Prepares a stream to be served at a client index.
