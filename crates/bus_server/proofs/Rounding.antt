@@ -1,43 +1,27 @@
 -- A round, client by client.
-use Rattle.std.proofs.Common.{◌≡◌, ℕ, zero, suc, ◌+◌, ◌<◌, ◌≤◌, inl, inr, Bool, true, false, if◌then◌else◌, List, [], ◌∷◌, ◌++◌, length, map, take, Option, refl, ap, ap₂, sym, subst, ◌∙◌, arith, append_assoc, append-nil, eqb-true, replicate}
-use Rattle.std.specs.Prelude.{◌==◌}
+use Rattle.std.proofs.Common.{◌≡◌, ℕ, zero, suc, ◌+◌, ◌<◌, ◌≤◌, inl, inr, Bool, true, false, if◌then◌else◌, List, [], ◌∷◌, ◌++◌, length, map, take, Option, refl, ap, ap₂, sym, subst, ◌∙◌, arith, append_assoc, append-nil, eqb-true, ne_eqb, replicate}
+use Rattle.std.specs.Prelude.{◌==◌, nat_lt}
 use Rattle.std.specs.List.{list_all, list_any, slice_index_or}
-use Rattle.std.proofs.lemmas.Bool.{and_from, cases_eq}
+use Rattle.std.proofs.lemmas.Bool.{and_from, and_parts, cases_eq, eqb-false}
+use Rattle.std.proofs.lemmas.Bool.Decides.{nat_tests}
 use Rattle.std.proofs.lemmas.List.{length-append}
 use Rattle.std.proofs.lemmas.List.Folds.{list_all-append, list_any-append}
 use Rattle.bus.specs.declared.event.Event.TheVariants.{Disconnects}
 use Rattle.bus_server.specs.Observations.{Observation}
 use Rattle.bus.specs.Log.{Extends}
 use Rattle.bus_server.specs.Progress.{ProgressesWithoutInput, Snapshot, WritesFront}
-use Rattle.bus_server.specs.Rounds.{AllWrittenTo, HasMoreClients, Reads, ReadsOn, ServesClients, IsReadOn, IsRound, IsUnread, IsWrittenTo, is_read, is_reading, PreservesRound, AcceptsPending, WritesInARow, backlog_after, refusals, is_write}
+use Rattle.bus_server.specs.Rounds.{AllWrittenTo, HasMoreClients, Reads, ReadsOn, ServesClients, IsReadOn, IsRound, IsUnread, IsWrittenTo, is_read, is_reading, PreservesRound, AcceptsPending, WritesInARow, backlog_after, refusals, is_write, pieces_to, IsFair, Writes, WritesNone}
 use Rattle.bus_server.specs.Applied.{Handled, RunsEventWithReports, Applies, LoggedEvent, AppliesAll, ServerState, is_connected, has_overflowed, transport_events, observations_in, observations_of}
 use Rattle.bus_server.specs.declared.transport.IoOutcome.TheVariants.{WouldBlock}
-use Rattle.bus_server.specs.TransportEvents.{WriteBlocked, PeerClosed, NonePending, TransportEvent, Received, Written, Refused}
+use Rattle.bus_server.specs.TransportEvents.{Accepted, Polled, ReadBlocked, ServerClosed, WriteBlocked, PeerClosed, NonePending, TransportEvent, Received, Written, Refused}
 use Rattle.bus_server.proofs.Going.{Claim, calm_then, goes_one, log-append, same_on_wire, serves_more, observed-append}
 use Rattle.bus_server.proofs.Keeping.{heard_now, left_keeps, left_waits, only_leaves, put_keeps, keeps_refused, read_now, none_of_both, one_refused, turned_away_all, turned_passed, turned_shown, written_behind}
 
 -- The client that is written to.
 
-abbrev pub AllAndOne : (client : ℕ) → List TransportEvent → ServerState → Type 0
-AllAndOne client more all = AllWrittenTo client more all × IsWrittenTo client more all
-
-pub one_written : (client : ℕ) (first second : List TransportEvent) (mid new : ServerState) → PreservesRound second mid new → AllWrittenTo client first mid → IsWrittenTo client second new → AllAndOne client (first ++ second) new
-one_written client first second mid new kept all one = (
-  λ other within. (kept.written other first (all other within).0, kept.on_time other (all other within).1),
-  written_behind client first second new one,
-)
-
-pub one_on_time : (client : ℕ) (first second : List TransportEvent) (mid new : ServerState) → PreservesRound second mid new → AllAndOne client first mid → has_overflowed new client ≡ false → AllWrittenTo (client + 1) (first ++ second) new
-one_on_time client first second mid new kept done overflowed other within = elim (cases_eq other client) [
-  | inl same ↦ subst (λ (i : ℕ). IsWrittenTo i (first ++ second) new × (has_overflowed new i ≡ false)) (sym same) (kept.written client first done.1, overflowed)
-  | inr differs ↦
-      let before : other < client = omega (arith, within, differs) in
-      (kept.written other first (done.0 other before).0, kept.on_time other (done.0 other before).1)
-]
-
--- the last pieces, this many, were written to a client
+-- so many pieces were written to a client, and nothing else happened
 abbrev pub HasPut : (client count : ℕ) → List TransportEvent → ServerState → Type 0
-HasPut client count more all = (before row : List TransportEvent) × (more ≡ before ++ row) × (count ≤ length row) × (list_all (is_write client) row ≡ true)
+HasPut client count more all = (length more ≡ count) × (list_all (is_write client) more ≡ true)
 
 -- one piece was written to a client, and nothing else happened
 abbrev pub IsPiece : (client : ℕ) → List TransportEvent → ServerState → Type 0
@@ -51,51 +35,157 @@ wrote_one client bytes old new grows observed does =
     goes_one (λ more all. PreservesRound more old.state all × IsPiece client more all) (Written client bytes) [] old new grows observed does
     (put_keeps client bytes (Written client bytes ∷ []) old.state new.state refl does, (bytes, refl))
 
-pub wrote_later : (client : ℕ) (old new : Snapshot) → WritesFront client WouldBlock old.log new.log old.state new.state → Extends old.observed new.observed [] → ProgressesWithoutInput (IsWrittenTo client) old new
+-- How many pieces.
+
+pieces-append : (client : ℕ) (first second : List TransportEvent) → pieces_to client (first ++ second) ≡ pieces_to client first + pieces_to client second
+pieces-append client [] second = omega arith
+pieces-append client (log ∷ first) second = omega (arith, pieces-append client first second)
+
+one_most : (b : Bool) → (if b then 1 else 0) ≤ 1
+one_most true = omega arith
+one_most false = omega arith
+
+pieces_most : (client : ℕ) (more : List TransportEvent) → pieces_to client more ≤ length more
+pieces_most client [] = omega arith
+pieces_most client (log ∷ more) = omega (arith, one_most (is_write client log), pieces_most client more)
+
+no_both : {P : Type 0} (a : Bool) → a ≡ true → a ≡ false → P
+no_both true h k = cc
+no_both false h k = cc
+
+-- what is written to one is not to another
+not_to_other : (client other : ℕ) (log : TransportEvent) → is_write client log ≡ true → (other == client) ≡ false → is_write other log ≡ false
+not_to_other client other (Written i bytes) is differs = elim (cases_eq i other) [
+  | inl same ↦ no_both (other == client) (subst (λ (n : ℕ). (n == client) ≡ true) same is) differs
+  | inr apart ↦ ne_eqb i other apart
+]
+not_to_other client other (Polled longest) is differs = cc
+not_to_other client other (Accepted i) is differs = cc
+not_to_other client other (Received i byte) is differs = cc
+not_to_other client other (PeerClosed i) is differs = cc
+not_to_other client other (ServerClosed i) is differs = cc
+not_to_other client other (ReadBlocked i) is differs = cc
+not_to_other client other (WriteBlocked i) is differs = cc
+not_to_other client other NonePending is differs = cc
+not_to_other client other Refused is differs = cc
+
+none_to_other : (client other : ℕ) (more : List TransportEvent) → list_all (is_write client) more ≡ true → (other == client) ≡ false → pieces_to other more ≡ 0
+none_to_other client other [] are differs = refl
+none_to_other client other (log ∷ more) are differs =
+    let p = and_parts (is_write client log) (list_all (is_write client) more) are in
+    let bit : Bool → ℕ = λ b. if b then 1 else 0 in
+    let none : bit (is_write other log) ≡ 0 = ap bit (not_to_other client other log p.0 differs) in
+    omega (arith, none, none_to_other client other more p.1 differs)
+
+own_by : (own : Bool) (client other count : ℕ) (more : List TransportEvent) (all : ServerState) → (other == client) ≡ own → count ≤ 4 → HasPut client count more all → pieces_to other more ≤ (if own then 4 else 0)
+own_by true client other count more all is four put = omega (arith, pieces_most other more, put.0, four)
+own_by false client other count more all is four put = let none = none_to_other client other more put.1 is in omega (arith, none)
+
+-- four pieces at most were written to a client, and then none
+pub put_own : (client count : ℕ) (first second : List TransportEvent) (mid : ServerState) → count ≤ 4 → HasPut client count first mid → WritesNone second → (other : ℕ) → pieces_to other (first ++ second) ≤ (if other == client then 4 else 0)
+put_own client count first second mid four put none other =
+    let own = own_by (other == client) client other count first mid refl four put in
+    omega (arith, pieces-append other first second, own, none other)
+
+pub wrote_later : (client : ℕ) (old new : Snapshot) → WritesFront client WouldBlock old.log new.log old.state new.state → Extends old.observed new.observed []
+    → ProgressesWithoutInput (λ more all. IsWrittenTo client more all × WritesNone more) old new
 wrote_later client old new wrote observed = elim wrote.0 [
-  | inl nothing ↦ same_on_wire (IsWrittenTo client) [] [] old new refl refl nothing.0 observed refl wrote.1 refl (inl nothing.1)
+  | inl nothing ↦ same_on_wire (λ more all. IsWrittenTo client more all × WritesNone more) [] [] old new refl refl nothing.0 observed refl wrote.1 refl (inl nothing.1, λ other. refl)
   | inr full ↦
-      same_on_wire (IsWrittenTo client) (record { log = WriteBlocked client; applied = [] } ∷ []) (WriteBlocked client ∷ []) old new refl refl full observed
-      (old.state, (refl, refl), refl) wrote.1 refl (inr (inl (heard_now client)))
+      same_on_wire (λ more all. IsWrittenTo client more all × WritesNone more) (record { log = WriteBlocked client; applied = [] } ∷ []) (WriteBlocked client ∷ []) old new refl refl full observed
+      (old.state, (refl, refl), refl) wrote.1 refl (inr (inl (heard_now client)), λ other. refl)
 ]
 
-pub wrote_to_none : (client : ℕ) (applied : List LoggedEvent) (old new : Snapshot) → Extends old.log new.log (PeerClosed client ∷ []) → Extends old.observed new.observed (observations_of applied) → RunsEventWithReports (Disconnects client) applied old.state new.state
-    → ProgressesWithoutInput (IsWrittenTo client) old new
+pub wrote_to_none : (client : ℕ) (applied : List LoggedEvent) (old new : Snapshot) → Extends old.log new.log (PeerClosed client ∷ []) → Extends old.observed new.observed (observations_of applied)
+    → RunsEventWithReports (Disconnects client) applied old.state new.state → ProgressesWithoutInput (λ more all. IsWrittenTo client more all × WritesNone more) old new
 wrote_to_none client applied old new grows observed does =
     let remaining = only_leaves client applied old.state new.state does in
-    goes_one (λ more all. PreservesRound more old.state all × IsWrittenTo client more all) (PeerClosed client) applied old new grows observed does
-    (left_keeps client remaining.0 (PeerClosed client ∷ []) old.state new.state refl remaining.1, inl (left_waits client remaining.0 old.state new.state remaining.1))
+    goes_one (λ more all. PreservesRound more old.state all × (IsWrittenTo client more all × WritesNone more)) (PeerClosed client) applied old new grows observed does
+    (left_keeps client remaining.0 (PeerClosed client ∷ []) old.state new.state refl remaining.1, (inl (left_waits client remaining.0 old.state new.state remaining.1), λ other. refl))
 
 pub more_pieces : (client n : ℕ) (first second : List TransportEvent) (mid new : ServerState) → HasPut client n first mid → IsPiece client second new → HasPut client (n + 1) (first ++ second) new
 more_pieces client n first second mid new h k =
     let one = Written client k.0 ∷ [] in
-    let is_one : list_all (is_write client) one ≡ true = read_now client in (
-      h.0,
-      h.1 ++ one,
-      ap₂ (λ (a b : List TransportEvent). a ++ b) h.2 k.1 ∙ append_assoc h.0 h.1 one,
-      omega (arith, h.3, length-append h.1 one),
-      list_all-append (is_write client) h.1 one ∙ and_from (list_all (is_write client) h.1) (list_all (is_write client) one) h.4 is_one,
+    let is_one : list_all (is_write client) one ≡ true = read_now client in
+    let size : length second ≡ 1 = ap length k.1 in (
+      omega (arith, length-append first second, size, h.0),
+      ap (λ (all : List TransportEvent). list_all (is_write client) (first ++ all)) k.1 ∙ list_all-append (is_write client) first one
+          ∙ and_from (list_all (is_write client) first) (list_all (is_write client) one) h.1 is_one,
     )
 
 -- four pieces in a row were written
 pub in_a_row : (client n : ℕ) (more : List TransportEvent) (new : ServerState) → 4 ≤ n → HasPut client n more new → WritesInARow client 4 more
-in_a_row client n more new four h = (h.0, h.1, [], h.2 ∙ ap (λ (all : List TransportEvent). h.0 ++ all) (sym (append-nil h.1)), omega (arith, four, h.3), h.4)
+in_a_row client n more new four h = ([], more, [], sym (append-nil more), omega (arith, four, h.0), h.1)
+
+pub put_four : (client n : ℕ) (more : List TransportEvent) (new : ServerState) → n ≡ 4 → HasPut client n more new → Writes client more new
+put_four client n more new four put = (
+  inr (inr (in_a_row client n more new (omega (arith, four)) put)),
+  λ other. let own = own_by (other == client) client other n more new refl (omega (arith, four)) put in own,
+)
 
 pub calm_weaker : (P Q : Claim) (old new : Snapshot) → ((more : List TransportEvent) → P more new.state → Q more new.state) → ProgressesWithoutInput P old new → ProgressesWithoutInput Q old new
 calm_weaker P Q old new weaker goes = (goes.0, goes.1, goes.2, goes.3, (goes.4.0, weaker (transport_events goes.0) goes.4.1))
 
 -- after some pieces, a write to the client
-pub put_then : (client count : ℕ) (old mid new : Snapshot) → ProgressesWithoutInput (HasPut client count) old mid → ProgressesWithoutInput (IsWrittenTo client) mid new → ProgressesWithoutInput (IsWrittenTo client) old new
-put_then client count old mid new =
-    calm_then (HasPut client count) (IsWrittenTo client) (IsWrittenTo client) old mid new (λ these those kept before done. written_behind client these those new.state done)
+pub put_then : (client count : ℕ) (old mid new : Snapshot) → count ≤ 4 → ProgressesWithoutInput (HasPut client count) old mid → ProgressesWithoutInput (λ more all. IsWrittenTo client more all × WritesNone more) mid new
+    → ProgressesWithoutInput (Writes client) old new
+put_then client count old mid new four =
+    calm_then (HasPut client count) (λ more all. IsWrittenTo client more all × WritesNone more) (Writes client) old mid new
+    (λ these those kept before done. (written_behind client these those new.state done.0, put_own client count these those mid.state four before done.1))
+
+-- All clients below one were written to, four pieces at most to each.
+
+abbrev pub AllShared : (client : ℕ) → List TransportEvent → ServerState → Type 0
+AllShared client more all = AllWrittenTo client more all × ((other : ℕ) → pieces_to other more ≤ (if nat_lt other client then 4 else 0))
+
+-- and this one too
+abbrev pub AllAndOne : (client : ℕ) → List TransportEvent → ServerState → Type 0
+AllAndOne client more all = AllWrittenTo client more all × IsWrittenTo client more all × ((other : ℕ) → pieces_to other more ≤ (if nat_lt other (client + 1) then 4 else 0))
+
+share_more : (below own too : Bool) (m n : ℕ) → (own ≡ true → (below ≡ false) × (too ≡ true)) → (own ≡ false → too ≡ below) → m ≤ (if below then 4 else 0) → n ≤ (if own then 4 else 0) → m + n ≤ (if too then 4 else 0)
+share_more true true too m n is other h k = no_both true refl (is refl).0
+share_more false true too m n is other h k = let now = (is refl).1 in rw now (omega (arith, h, k))
+share_more true false too m n is other h k = let now = other refl in rw now (omega (arith, h, k))
+share_more false false too m n is other h k = let now = other refl in rw now (omega (arith, h, k))
+
+pub one_written : (client : ℕ) (first second : List TransportEvent) (mid new : ServerState) → PreservesRound second mid new → AllShared client first mid → Writes client second new → AllAndOne client (first ++ second) new
+one_written client first second mid new kept all one = (
+  λ other within. (kept.written other first (all.0 other within).0, kept.on_time other (all.0 other within).1),
+  written_behind client first second new one.0,
+  λ other.
+      let shared = share_more (nat_lt other client) (other == client) (nat_lt other (client + 1)) (pieces_to other first) (pieces_to other second)
+      (λ same. let is : other ≡ client = eqb-true other client same in (grind (arith, nat_tests, is), grind (arith, nat_tests, is)))
+      (λ differs. let apart = eqb-false other client differs in grind (arith, nat_tests, apart))
+      (all.1 other) (one.1 other) in
+      subst (λ (n : ℕ). n ≤ (if nat_lt other (client + 1) then 4 else 0)) (sym (pieces-append other first second)) shared,
+)
+
+pub one_on_time : (client : ℕ) (first second : List TransportEvent) (mid new : ServerState) → PreservesRound second mid new → AllAndOne client first mid → (has_overflowed new client ≡ false) × WritesNone second → AllShared (client + 1) (first ++ second) new
+one_on_time client first second mid new kept done overflowed = (
+  λ other within. elim (cases_eq other client) [
+    | inl same ↦ subst (λ (i : ℕ). IsWrittenTo i (first ++ second) new × (has_overflowed new i ≡ false)) (sym same) (kept.written client first done.1, overflowed.0)
+    | inr differs ↦
+        let before : other < client = omega (arith, within, differs) in
+        (kept.written other first (done.0 other before).0, kept.on_time other (done.0 other before).1)
+  ],
+  λ other. let same : pieces_to other (first ++ second) ≡ pieces_to other first = omega (arith, pieces-append other first second, overflowed.1 other) in
+      subst (λ (n : ℕ). n ≤ (if nat_lt other (client + 1) then 4 else 0)) (sym same) (done.2 other),
+)
+
+at_most_four : (b : Bool) (n : ℕ) → n ≤ (if b then 4 else 0) → n ≤ 4
+at_most_four true n h = h
+at_most_four false n h = omega (arith, h)
+
+pub all_fair : (client : ℕ) (more : List TransportEvent) (all : ServerState) → AllShared client more all → IsFair more
+all_fair client more all shared other = at_most_four (nat_lt other client) (pieces_to other more) (shared.1 other)
 
 -- The turns of a round.
 
 pub next_turn : (client : ℕ) (first heard written : List Handled) (old before mid new : ServerState) → ServesClients client first old before → Reads client heard before mid
-    → AppliesAll written mid new → IsUnread (transport_events written) → AllWrittenTo 8 (transport_events written) new → ServesClients (client + 1) (first ++ (heard ++ written)) old new
-next_turn client first heard written old before mid new had reads writes unread all =
+    → AppliesAll written mid new → IsUnread (transport_events written) → AllWrittenTo 8 (transport_events written) new → IsFair (transport_events written) → ServesClients (client + 1) (first ++ (heard ++ written)) old new
+next_turn client first heard written old before mid new had reads writes unread all fair =
     subst (λ (n : ℕ). ServesClients n (first ++ (heard ++ written)) old new) {x = suc client} {y = client + 1} (omega arith)
-    (first, heard ++ written, before, refl, had, (heard, written, mid, refl, reads, writes, unread, all))
+    (first, heard ++ written, before, refl, had, (heard, written, mid, refl, reads, writes, unread, all, fair))
 
 -- a read of one byte
 pub one_received : (client count : ℕ) (buf : List ℕ) (log log' : Option (List TransportEvent)) → (0 < count) × (count ≤ length buf) → length buf ≡ 1 → Extends log log' (map (λ byte. Received client byte) (take count buf))

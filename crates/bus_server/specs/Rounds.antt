@@ -1,5 +1,5 @@
 -- A round of a server: all clients are read and written to, and pending clients are accepted.
-use Rattle.std.specs.Prelude.{ℕ, zero, suc, ◌≡◌, ◌⊎◌, ◌<◌, ◌≤◌, ◌==◌, Bool, true, false, if◌then◌else◌, List, [], ◌∷◌, ◌++◌, length, replicate, None}
+use Rattle.std.specs.Prelude.{ℕ, zero, suc, ◌≡◌, ◌⊎◌, ◌+◌, ◌<◌, ◌≤◌, ◌==◌, Bool, true, false, if◌then◌else◌, List, [], ◌∷◌, ◌++◌, length, replicate, None}
 use Rattle.std.specs.List.{list_all, list_any, slice_index_or}
 use Rattle.bus_server.specs.Applied.{Handled, Applies, AppliesAll, ServerState, has_overflowed, has_turns_due, is_connected, is_crowded, transport_events, with_backlog}
 use Rattle.bus_server.specs.Queues.{queued}
@@ -39,6 +39,15 @@ IsWrittenTo client more state = HasEmptyQueue client state ⊎ (list_any (is_wri
 -- Pending clients are accepted or refused, until none is pending or eight were refused.
 abbrev pub AcceptsPending : List TransportEvent → Type 0
 AcceptsPending more = (before : List TransportEvent) × ((more ≡ before ++ NonePending ∷ []) ⊎ (more ≡ before ++ replicate 8 Refused))
+
+-- how many pieces are written to a client
+abbrev pub pieces_to : (client : ℕ) → List TransportEvent → ℕ
+pieces_to i [] = 0
+pieces_to i (log ∷ more) = (if is_write i log then 1 else 0) + pieces_to i more
+
+-- Four at most, to each: none is written to for long while others wait.
+abbrev pub IsFair : List TransportEvent → Type 0
+IsFair more = (client : ℕ) → pieces_to client more ≤ 4
 
 -- all are written to, and none stays whose queue has overflowed
 abbrev pub AllWrittenTo : (below : ℕ) → List TransportEvent → ServerState → Type 0
@@ -91,6 +100,7 @@ abbrev pub ServesClient : (client : ℕ) → List Handled → ServerState → Se
 ServesClient client handled old new =
     (heard written : List Handled) × (mid : ServerState) × (handled ≡ heard ++ written) × Reads client heard old mid
     × AppliesAll written mid new × IsUnread (transport_events written) × AllWrittenTo 8 (transport_events written) new
+    × IsFair (transport_events written)
 
 -- a number are served, one after another
 abbrev pub ServesClients : (count : ℕ) → List Handled → ServerState → ServerState → Type 0
@@ -102,6 +112,15 @@ abbrev pub IsRound : List Handled → ServerState → ServerState → Type 0
 IsRound handled old new = (turns last : List Handled) × (mid : ServerState) × (handled ≡ turns ++ last) × ServesClients 8 turns old mid × AppliesAll last mid new × IsUnread (transport_events last) × AcceptsPending (transport_events last)
 
 -- What the parts of a round promise one another.
+
+-- nothing is written
+abbrev pub WritesNone : List TransportEvent → Type 0
+WritesNone more = (client : ℕ) → pieces_to client more ≡ 0
+
+-- a client is written to, four pieces at most, and no other
+abbrev pub Writes : (client : ℕ) → List TransportEvent → ServerState → Type 0
+Writes client more state =
+    IsWrittenTo client more state × ((other : ℕ) → pieces_to other more ≤ (if other == client then 4 else 0))
 
 -- a number of pending clients are refused: eight, or fewer until none is pending
 abbrev pub refusals : (count : ℕ) → List TransportEvent

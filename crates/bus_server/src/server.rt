@@ -12,7 +12,7 @@ ghost use Rattle.bus_server.specs.Paces.{is_pace};
 ghost use Rattle.bus_server.specs.Reading.{IsReadNext, ReadsOne};
 ghost use Rattle.bus_server.specs.Steps.{ObservesReports};
 ghost use Rattle.bus_server.specs.Progress.{HasReported, ProgressesBy, Progresses, ProgressesWithoutInput, Snapshot, AcceptsAt, IsObserved, ObservesLayout, snapshot, state_of};
-ghost use Rattle.bus_server.specs.Rounds.{AllWrittenTo, IsRound, IsWrittenTo, AcceptsPending, Reads, refusals};
+ghost use Rattle.bus_server.specs.Rounds.{AllWrittenTo, IsFair, IsRound, AcceptsPending, Reads, Writes, WritesNone, refusals};
 ghost use Rattle.bus_server.specs.Stops.{Stops};
 
 use crate::hub::Hub;
@@ -208,7 +208,7 @@ impl Server {
         ensures observes { ObservesLayout (P.decoder_specs observer.new) self.new.hub }
         ensures reported { OnOk result (HasReported self.new.hub) }
         ensures served { OnOk result
-            (ProgressesWithoutInput (λ _ all. has_overflowed all client ≡ false)
+            (ProgressesWithoutInput (λ more all. (has_overflowed all client ≡ false) × WritesNone more)
             (snapshot (W.log transport.old) (P.observed observer.old) self.old.hub)
             (snapshot (W.log transport.new) (P.observed observer.new) self.new.hub)) }
         ensures stops { OnErr result
@@ -330,7 +330,7 @@ impl Server {
         ensures observes { ObservesLayout (P.decoder_specs observer.new) self.new.hub }
         ensures reported { OnOk result (HasReported self.new.hub) }
         ensures served { OnOk result
-            (ProgressesWithoutInput (AllWrittenTo 8)
+            (ProgressesWithoutInput (λ more all. AllWrittenTo 8 more all × IsFair more)
             (snapshot (W.log transport.old) (P.observed observer.old) self.old.hub)
             (snapshot (W.log transport.new) (P.observed observer.new) self.new.hub)) }
         ensures stops { OnErr result
@@ -357,7 +357,7 @@ impl Server {
         ensures observes { ObservesLayout (P.decoder_specs observer.new) self.new.hub }
         ensures reported { OnOk result (HasReported self.new.hub) }
         ensures served { OnOk result
-            (ProgressesWithoutInput (IsWrittenTo client)
+            (ProgressesWithoutInput (Writes client)
             (snapshot (W.log transport.old) (P.observed observer.old) self.old.hub)
             (snapshot (W.log transport.new) (P.observed observer.new) self.new.hub)) }
         ensures stops { OnErr result

@@ -32,7 +32,7 @@ loop-client-preserved g c =
         acts_more (observed c.args.observer.now) (observed first.observer) (observed c.write_all.new.observer) so_far.0 (heard.0 ++ written.0) so_far.2
             (acts_more (observed first.observer) (observed c.receive.new.observer) (observed c.write_all.new.observer) heard.0 written.0 heard.2 written.2),
         next_turn first.client so_far.0 heard.0 written.0 (state_of c.args.self.now.hub) (state_of first.self.hub) (state_of c.receive.new.self.hub) (state_of c.write_all.new.self.hub)
-            so_far.3 heard.3 written.3 written.4.0.unread written.4.1,
+            so_far.3 heard.3 written.3 written.4.0.unread written.4.1.0 written.4.1.1,
       );
     }
 

@@ -1,14 +1,14 @@
-use Rattle.std.proofs.Common.{◌+◌, false, ◌≡◌, arith}
+use Rattle.std.proofs.Common.{◌+◌, ℕ, false, subst, ◌≡◌, arith}
 use Rattle.bus_server.specs.Progress.{snapshot, state_of}
-use Rattle.bus_server.specs.Rounds.{AllWrittenTo, IsWrittenTo}
+use Rattle.bus_server.specs.Rounds.{AllWrittenTo, IsFair, Writes, WritesNone}
 use Rattle.bus_server.specs.Applied.{has_overflowed}
 use Rattle.bus_server.proofs.Going.{calm_nowhere, calm_then}
-use Rattle.bus_server.proofs.Rounding.{AllAndOne, one_on_time, one_written}
+use Rattle.bus_server.proofs.Rounding.{AllAndOne, AllShared, all_fair, calm_weaker, one_on_time, one_written}
 use Rattle.bus_server.proofs.Stopping.{stops_behind, whatever_fails}
 use Rattle.bus_server.proofs.server.Server.write_all.Goals as goal
 
 pub loop-client-init : goal.loop-client-init
-loop-client-init g c = record { observes = c.requires.observes; reported = c.requires.reported; served = calm_nowhere (AllWrittenTo 0) (snapshot (g.W.Transport.log c.args.transport.now) (g.P.Observer.observed c.args.observer.now) c.args.self.now.hub) (λ client within. absurd (omega (arith, within))) }
+loop-client-init g c = record { observes = c.requires.observes; reported = c.requires.reported; served = calm_nowhere (AllShared 0) (snapshot (g.W.Transport.log c.args.transport.now) (g.P.Observer.observed c.args.observer.now) c.args.self.now.hub) (λ client within. absurd (omega (arith, within)), λ other. omega arith) }
 
 pub loop-client-preserved : goal.loop-client-preserved
 loop-client-preserved g c =
@@ -20,9 +20,9 @@ loop-client-preserved g c =
       observes = c.disconnect.ensures.observes;
       reported = c.in_ok-disconnect.ensures.reported;
       served =
-          calm_then (AllAndOne first.client) (λ _ all. has_overflowed all first.client ≡ false) (AllWrittenTo (first.client + 1)) start after_round (snapshot (g.W.Transport.log c.disconnect.new.transport) (g.P.Observer.observed c.disconnect.new.observer) c.disconnect.new.self.hub)
+          calm_then (AllAndOne first.client) (λ more all. (has_overflowed all first.client ≡ false) × WritesNone more) (AllShared (first.client + 1)) start after_round (snapshot (g.W.Transport.log c.disconnect.new.transport) (g.P.Observer.observed c.disconnect.new.observer) c.disconnect.new.self.hub)
           (λ these those kept done overflowed. one_on_time first.client these those (state_of c.write.new.self.hub) (state_of c.disconnect.new.self.hub) kept done overflowed)
-          (calm_then (AllWrittenTo first.client) (IsWrittenTo first.client) (AllAndOne first.client) start before after_round
+          (calm_then (AllShared first.client) (Writes first.client) (AllAndOne first.client) start before after_round
           (λ these those kept all one. one_written first.client these those (state_of first.self.hub) (state_of c.write.new.self.hub) kept all one)
           first.invariant.served c.in_ok-write.ensures.served)
           c.in_ok-disconnect.ensures.served;
@@ -45,3 +45,11 @@ returns-in_err-disconnect-clause-stops g c =
     whatever_fails c.from_residual-in_err-disconnect.result
     (stops_behind so_far.0 (snapshot (g.W.Transport.log c.args.transport.now) (g.P.Observer.observed c.args.observer.now) c.args.self.now.hub) (snapshot (g.W.Transport.log first.transport) (g.P.Observer.observed first.observer) first.self.hub) after so_far.1 so_far.2 so_far.3
     (stops_behind wrote.0 (snapshot (g.W.Transport.log first.transport) (g.P.Observer.observed first.observer) first.self.hub) mid after wrote.1 wrote.2 wrote.3 c.in_err-disconnect.ensures.stops))
+
+pub returns-clause-served : goal.returns-clause-served
+returns-clause-served g c =
+    let first = c.loop-client in
+    let eight : first.client ≡ 8 = omega (arith, first.auto.client-end, c.loop-client-test.false) in
+    calm_weaker (AllShared first.client) (λ more all. AllWrittenTo 8 more all × IsFair more) (snapshot (g.W.Transport.log c.args.transport.now) (g.P.Observer.observed c.args.observer.now) c.args.self.now.hub) (snapshot (g.W.Transport.log first.transport) (g.P.Observer.observed first.observer) first.self.hub)
+    (λ more shared. (subst (λ (n : ℕ). AllWrittenTo n more (state_of first.self.hub)) eight shared.0, all_fair first.client more (state_of first.self.hub) shared))
+    first.invariant.served
