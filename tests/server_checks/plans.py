@@ -255,9 +255,9 @@ def largest_plan():
             placed = answers(client, [f"PLACE loco-{i} {RING[i]} 100 b" for i in range(0, 64, 2)])
             same("places", placed.count("PLACE OK"), 32)
             # Each front is at the end of its block. Each rear leaves it after 50 mm, 8.6 turns of 5.796 mm.
-            same("fronts", answers(client, ["TURNS 1"])[1:], [report(4033 + i, True) for i in range(1, 64, 2)])
-            same("none", answers(client, ["TURNS 7"])[1:], [])
-            same("rears", answers(client, ["TURNS 1"])[1:], [report(4033 + i, False) for i in range(0, 64, 2)])
+            same("fronts", answers(client, ["TURNS 1"])[:-1], [report(4033 + i, True) for i in range(1, 64, 2)])
+            same("none", answers(client, ["TURNS 7"])[:-1], [])
+            same("rears", answers(client, ["TURNS 1"])[:-1], [report(4033 + i, False) for i in range(0, 64, 2)])
             client.write(send(POWER_OFF))
             log = logged(server)
     same("fronts in the log", log[-4], [f"block {RING[i]} occupied (loco-{i - 1})" for i in range(1, 64, 2)])

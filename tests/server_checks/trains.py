@@ -137,7 +137,8 @@ def distances():
             # Nothing before the last of these turns.
             counts = [count for count in (turn - 1 - last, 1) if count]
             asked += [f"TURNS {count}" for count in counts]
-            wanted += len(counts) * ["TURNS OK"] + reports
+            # What sensors report comes before the answer.
+            wanted += [*(len(counts) - 1) * ["TURNS OK"], *reports, "TURNS OK"]
             last = turn
         same("reports", answers(client, asked), wanted)
         # Each would go more than 2,000 mm, but for the buffer stop at the far end of the next block.
