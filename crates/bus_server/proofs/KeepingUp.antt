@@ -646,16 +646,16 @@ next_most : (names : List (List ℕ)) (nodes : List Node) (count : Option ℕ) �
 next_most names nodes None = omega arith
 next_most names nodes (Some count) = lines_most names nodes count
 
-turns_answer_most : (passed : Bool) → length (if passed then turns_ok_text else []) ≤ 10
+turns_answer_most : (is_over : Bool) → length (if is_over then turns_ok_text else []) ≤ 10
 turns_answer_most true = omega arith
 turns_answer_most false = omega arith
 
 starts_within : (client : ℕ) (old : ServerState) → Within client 56960 old → Within client 57617 (round_start old)
 starts_within client old h =
     let line = next_line (node_lines old.names old.nodes) (slice_index_or old.answers client None) in
-    let due = due_to old.turns_due client in
+    let owed = due_to old.turns_due client in
     let answer : length (answer_to old client) ≤ 657 =
-    omega (arith, next_most old.names old.nodes (slice_index_or old.answers client None), turns_answer_most (have_passed due), length-append line (turns_answer due)) in
+    omega (arith, next_most old.names old.nodes (slice_index_or old.answers client None), turns_answer_most (have_passed owed), length-append line (turns_answer owed)) in
     texts_within client 56960 57617 (answer_to old) old (round_start old) refl refl h.3 (omega (arith, answer, h.1)) (omega arith) h
 
 rounds_keep : SameBlocks → (client most : ℕ) (rounds : List Round) (old new : ServerState) → client < 8 → RunsRounds most rounds old new → KeepsUp client (transport_log rounds) → Within client 56960 old

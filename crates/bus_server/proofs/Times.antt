@@ -40,19 +40,19 @@ took_more m n first second old mid new h k =
     }
 
 took_none : (old new : ServerState) → new ≡ old → Took 0 [] old new
-took_none old new same = let due : new.time_due ≡ old.time_due = ap (λ (s : ServerState). s.time_due) same in record { bus = ap (λ (s : ServerState). s.bus) same; time = omega (arith, due); pace = ap (λ (s : ServerState). s.pace) same }
+took_none old new same = let owed : new.time_due ≡ old.time_due = ap (λ (s : ServerState). s.time_due) same in record { bus = ap (λ (s : ServerState). s.bus) same; time = omega (arith, owed); pace = ap (λ (s : ServerState). s.pace) same }
 
 -- what events change of it
 record Went (events : List Event) (old new : ServerState) : Type 0 where
   bus : new.bus ≡ after_events old.bus events
-  due : new.time_due ≡ old.time_due
+  owed : new.time_due ≡ old.time_due
   pace : new.pace ≡ old.pace
 
 went : (applied : List LoggedEvent) (old new : ServerState) → RunsEvents applied old new → Went (events_of applied) old new
-went [] old new same = record { bus = ap (λ (s : ServerState). s.bus) same; due = ap (λ (s : ServerState). s.time_due) same; pace = ap (λ (s : ServerState). s.pace) same }
+went [] old new same = record { bus = ap (λ (s : ServerState). s.bus) same; owed = ap (λ (s : ServerState). s.time_due) same; pace = ap (λ (s : ServerState). s.pace) same }
 went (one ∷ more) old new h =
     let rest = went more h.0 new h.2 in
-    record { bus = rest.bus ∙ ap (λ (bus : BusState). after_events bus (events_of more)) h.1.bus; due = rest.due ∙ h.1.time_due; pace = rest.pace ∙ h.1.pace }
+    record { bus = rest.bus ∙ ap (λ (bus : BusState). after_events bus (events_of more)) h.1.bus; owed = rest.owed ∙ h.1.time_due; pace = rest.pace ∙ h.1.pace }
 
 took_same : (m n : ℕ) (events : List Event) (old new : ServerState) → m ≡ n → Took m events old new → Took n events old new
 took_same m n events old new same = subst (λ (k : ℕ). Took k events old new) same
@@ -73,10 +73,10 @@ brings_took : (event : Event) (applied : List LoggedEvent) (old new : ServerStat
 brings_took event applied old new takes h =
     let went = went applied old new h.2 in
     let none : micros_in old.bus (events_of applied) ≡ 0 = one_alone event (events_of applied) old.bus takes h.1 in
-    record { bus = went.bus; time = omega (arith, none, went.due); pace = went.pace }
+    record { bus = went.bus; time = omega (arith, none, went.owed); pace = went.pace }
 
 nothing_took : (applied : List LoggedEvent) (old new : ServerState) → applied ≡ [] → new.bus ≡ old.bus → new.time_due ≡ old.time_due → new.pace ≡ old.pace → Took 0 (events_of applied) old new
-nothing_took applied old new none bus due pace = subst (λ (all : List LoggedEvent). Took 0 (events_of all) old new) (sym none) (record { bus = bus; time = omega (arith, due); pace = pace })
+nothing_took applied old new none bus owed pace = subst (λ (all : List LoggedEvent). Took 0 (events_of all) old new) (sym none) (record { bus = bus; time = omega (arith, owed); pace = pace })
 
 same_took : (applied : List LoggedEvent) (old new : ServerState) → applied ≡ [] → new ≡ old → Took 0 (events_of applied) old new
 same_took applied old new none same = nothing_took applied old new none (ap (λ (s : ServerState). s.bus) same) (ap (λ (s : ServerState). s.time_due) same) (ap (λ (s : ServerState). s.pace) same)
@@ -113,17 +113,17 @@ acts_took (one_handled ∷ handled) old new h =
 read_once : (rate : ℕ) (readings : List ℕ) (micros : ℕ) → readings ≡ micros ∷ [] → track_time rate micros ≡ rate * time_read readings
 read_once rate readings micros same = ap (λ (n : ℕ). rate * n) (sym (ap time_read same ∙ let n = min micros longest_step in omega arith))
 
-due_read : (rate left : ℕ) (readings : List ℕ) (due : ℕ) → IsTimeDue rate left readings due → due ≡ left + rate * time_read readings
-due_read rate zero readings due h = let read = h.2 ∙ read_once rate readings h.0 h.1 in omega (arith, read)
-due_read rate (suc n) readings due h =
+due_read : (rate left : ℕ) (readings : List ℕ) (owed : ℕ) → IsTimeDue rate left readings owed → owed ≡ left + rate * time_read readings
+due_read rate zero readings owed h = let read = h.2 ∙ read_once rate readings h.0 h.1 in omega (arith, read)
+due_read rate (suc n) readings owed h =
     let none : rate * time_read readings ≡ 0 = ap (λ (all : List ℕ). rate * time_read all) h.0 ∙ mul-zero rate in
     omega (arith, none, h.1)
 
-elapsed_took : (due read : ℕ) (applied : List LoggedEvent) (old new : ServerState) → due ≡ old.time_due + read → RunsTime due applied old new → Took read (events_of applied) old new
-elapsed_took due read applied old new is h =
-    let went = went applied (with_time_due due old) h.2 (steps_run is_piece h.0 applied (with_time_due due old) h.2 h.3) in
-    let left : new.time_due ≡ due - h.1 = ap (λ (s : ServerState). s.time_due) h.6 in
-    let part : h.1 ≤ due = h.5.0 in
+elapsed_took : (owed read : ℕ) (applied : List LoggedEvent) (old new : ServerState) → owed ≡ old.time_due + read → RunsTime owed applied old new → Took read (events_of applied) old new
+elapsed_took owed read applied old new is h =
+    let went = went applied (with_time_due owed old) h.2 (steps_run is_piece h.0 applied (with_time_due owed old) h.2 h.3) in
+    let left : new.time_due ≡ owed - h.1 = ap (λ (s : ServerState). s.time_due) h.6 in
+    let part : h.1 ≤ owed = h.5.0 in
     record {
       bus = ap (λ (s : ServerState). s.bus) h.6 ∙ went.bus;
       time = omega (arith, h.4, left, part, is);

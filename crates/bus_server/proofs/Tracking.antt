@@ -166,15 +166,15 @@ turns_then below applied last old mid new so_far one =
 -- Time.
 
 -- the time that is due before changes no event
-due_ran : (due : ℕ) (applied : List LoggedEvent) (old new : ServerState) → RunsEvents applied (with_time_due due old) new → HasRun applied old new
-due_ran due applied old new h =
-    let moved = events_moved applied old.turns_due old.time_due old.has_backlog (with_time_due due old) new h in
+due_ran : (owed : ℕ) (applied : List LoggedEvent) (old new : ServerState) → RunsEvents applied (with_time_due owed old) new → HasRun applied old new
+due_ran owed applied old new h =
+    let moved = events_moved applied old.turns_due old.time_due old.has_backlog (with_time_due owed old) new h in
     (with_due moved.0 old.time_due old.has_backlog new, moved.1, refl)
 
-time_ran : (due : ℕ) (applied : List LoggedEvent) (old new : ServerState) → RunsTime due applied old new → HasRun applied old new
+time_ran : (owed : ℕ) (applied : List LoggedEvent) (old new : ServerState) → RunsTime owed applied old new → HasRun applied old new
 unfolding due_ran
-time_ran due applied old new h =
-    let ran = due_ran due applied old h.2 (steps_run is_piece h.0 applied (with_time_due due old) h.2 h.3) in
+time_ran owed applied old new h =
+    let ran = due_ran owed applied old h.2 (steps_run is_piece h.0 applied (with_time_due owed old) h.2 h.3) in
     (ran.0, ran.1, subst (λ (s : ServerState). s ≡ with_due s.turns_due s.time_due s.has_backlog ran.0) (sym h.6) refl)
 
 pub track_ran : (pace : Pace) (readings : List ℕ) (applied : List LoggedEvent) (old new : ServerState) → RunsTrack pace readings applied old new → HasRun applied old new

@@ -18,30 +18,30 @@ due_to turns client = slice_index_or turns client none_due
 
 -- Some are left, or the client that requested them is not told yet that they have passed.
 abbrev pub is_due : TurnsDue → Bool
-is_due due = nat_lt 0 due.left || due.is_requested
+is_due owed = nat_lt 0 owed.left || owed.is_requested
 
 -- those that a client requested have passed
 abbrev pub have_passed : TurnsDue → Bool
-have_passed due = (due.left == 0) && due.is_requested
+have_passed owed = (owed.left == 0) && owed.is_requested
 
 -- what it is told then, and what is due after that
 abbrev pub turns_answer : TurnsDue → List ℕ
-turns_answer due = if have_passed due then turns_ok_text else []
+turns_answer owed = if have_passed owed then turns_ok_text else []
 
 abbrev pub after_answer : TurnsDue → TurnsDue
-after_answer due = if have_passed due then none_due else due
+after_answer owed = if have_passed owed then none_due else owed
 
 -- a number of them have been run
 abbrev pub less : (count : ℕ) → TurnsDue → TurnsDue
-less count due = record due { left = due.left - count }
+less count owed = record owed { left = owed.left - count }
 
 -- no one is told when they have passed
 abbrev pub unrequested : TurnsDue → TurnsDue
-unrequested due = record due { is_requested = false }
+unrequested owed = record owed { is_requested = false }
 
 -- What is due to each client after an outcome. The turns of a client that disconnects are run all the same.
 abbrev pub due_after : Outcome → Pace → List TurnsDue → List TurnsDue
-due_after (Sent client message reply) (AfterMessages turns) due = slice_set due client (record { left = turns; is_requested = false })
-due_after (TurnsRequested client (Ok count)) pace due = slice_set due client (record { left = count; is_requested = true })
-due_after (Disconnected client) pace due = slice_set due client (unrequested (due_to due client))
-due_after other pace due = due
+due_after (Sent client message reply) (AfterMessages turns) owed = slice_set owed client (record { left = turns; is_requested = false })
+due_after (TurnsRequested client (Ok count)) pace owed = slice_set owed client (record { left = count; is_requested = true })
+due_after (Disconnected client) pace owed = slice_set owed client (unrequested (due_to owed client))
+due_after other pace owed = owed

@@ -43,9 +43,9 @@ StopsInTurns applied old new =
     × RunsTurns client before old mid × RunsSteps is_turn count last mid new × (count ≤ turns_left mid client) × (count ≤ 100)
 
 -- The observer failed in the time that is due: at what was skipped, or when a part had elapsed.
-abbrev pub StopsInTime : (due : ℕ) → List LoggedEvent → ServerState → ServerState → Type 0
-StopsInTime due applied old new =
-    (count : ℕ) × RunsSteps is_piece count applied (with_time_due due old) new × (micros_in old.bus (events_of applied) ≤ due)
+abbrev pub StopsInTime : (owed : ℕ) → List LoggedEvent → ServerState → ServerState → Type 0
+StopsInTime owed applied old new =
+    (count : ℕ) × RunsSteps is_piece count applied (with_time_due owed old) new × (micros_in old.bus (events_of applied) ≤ owed)
     × (count ≤ 100)
 
 -- After a round the clock could not be read, or the observer failed.
@@ -53,7 +53,7 @@ abbrev pub StopsOnTrack : {T C O A : Type 0} → Stop T C O A → Pace → (read
 StopsOnTrack (Clock fault) (RealTime rate) readings applied old new =
     (old.time_due ≡ 0) × (readings ≡ []) × (applied ≡ []) × (new ≡ old)
 StopsOnTrack (Observer fault) (RealTime rate) readings applied old new =
-    (due : ℕ) × IsTimeDue rate old.time_due readings due × StopsInTime due applied old new
+    (owed : ℕ) × IsTimeDue rate old.time_due readings owed × StopsInTime owed applied old new
 StopsOnTrack (Observer fault) (AfterMessages turns) readings applied old new = (readings ≡ []) × StopsInTurns applied old new
 StopsOnTrack stop pace readings applied old new = ⊥
 

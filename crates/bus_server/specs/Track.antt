@@ -31,9 +31,9 @@ RunsSteps is_step (suc n) applied old new =
     × (0 < n → is_crowded mid ≡ false) × RunsStep is_step last mid new
 
 -- so many steps of one round: all that was due, a hundred, or fewer and then a queue is more than half full
-abbrev pub IsShare : (count run due : ℕ) → ServerState → Type 0
-IsShare count run due new =
-    (run ≤ due) × (count ≤ 100) × ((run ≡ due) ⊎ (count ≡ 100) ⊎ ((0 < count) × (is_crowded new ≡ true)))
+abbrev pub IsShare : (count run owed : ℕ) → ServerState → Type 0
+IsShare count run owed new =
+    (run ≤ owed) × (count ≤ 100) × ((run ≡ owed) ⊎ (count ≡ 100) ⊎ ((0 < count) × (is_crowded new ≡ true)))
 
 -- turns of a client have been run, after which it may be read
 abbrev pub with_turns_run : (client count : ℕ) → ServerState → ServerState
@@ -62,19 +62,19 @@ abbrev pub with_time_due : (micros : ℕ) → ServerState → ServerState
 with_time_due micros state = record state { time_due = micros }
 
 -- The time that is due: what a round before has left of it; else the clock is read, and returns it.
-abbrev pub IsTimeDue : (rate left : ℕ) → (readings : List ℕ) → (due : ℕ) → Type 0
-IsTimeDue rate zero readings due = (micros : ℕ) × (readings ≡ micros ∷ []) × (due ≡ track_time rate micros)
-IsTimeDue rate (suc n) readings due = (readings ≡ []) × (due ≡ suc n)
+abbrev pub IsTimeDue : (rate left : ℕ) → (readings : List ℕ) → (owed : ℕ) → Type 0
+IsTimeDue rate zero readings owed = (micros : ℕ) × (readings ≡ micros ∷ []) × (owed ≡ track_time rate micros)
+IsTimeDue rate (suc n) readings owed = (readings ≡ []) × (owed ≡ suc n)
 
 -- Some of it elapses, and the rest is left.
-abbrev pub RunsTime : (due : ℕ) → List LoggedEvent → ServerState → ServerState → Type 0
-RunsTime due applied old new =
-    (count micros : ℕ) × (mid : ServerState) × RunsSteps is_piece count applied (with_time_due due old) mid
-    × (micros_in old.bus (events_of applied) ≡ micros) × IsShare count micros due mid × (new ≡ with_time_due (due - micros) mid)
+abbrev pub RunsTime : (owed : ℕ) → List LoggedEvent → ServerState → ServerState → Type 0
+RunsTime owed applied old new =
+    (count micros : ℕ) × (mid : ServerState) × RunsSteps is_piece count applied (with_time_due owed old) mid
+    × (micros_in old.bus (events_of applied) ≡ micros) × IsShare count micros owed mid × (new ≡ with_time_due (owed - micros) mid)
 
 -- What follows a round. If turns follow messages, some of those that are due to each client, and the clock is not read; else some
 -- of the time that is due.
 abbrev pub RunsTrack : Pace → (readings : List ℕ) → List LoggedEvent → ServerState → ServerState → Type 0
 RunsTrack (AfterMessages turns) readings applied old new = (readings ≡ []) × RunsTurns 8 applied old new
 RunsTrack (RealTime rate) readings applied old new =
-    (due : ℕ) × IsTimeDue rate old.time_due readings due × RunsTime due applied old new
+    (owed : ℕ) × IsTimeDue rate old.time_due readings owed × RunsTime owed applied old new

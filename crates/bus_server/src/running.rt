@@ -191,11 +191,11 @@ impl Server {
         ensures observes { ObservesLayout (P.decoder_specs observer.new) self.new.hub }
         ensures reported { HasReported self.new.hub }
         ensures takes { OnOk result
-            ((readings : List ℕ) × (due : ℕ)
+            ((readings : List ℕ) × (owed : ℕ)
             × Extends (C.readings clock.old) (C.readings clock.new) readings
             × Extends (P.observed observer.old) (P.observed observer.new) (flat_map skipped readings)
-            × IsTimeDue rate (state_of self.old.hub).time_due readings due
-            × (state_of self.new.hub ≡ with_time_due due (state_of self.old.hub))) }
+            × IsTimeDue rate (state_of self.old.hub).time_due readings owed
+            × (state_of self.new.hub ≡ with_time_due owed (state_of self.old.hub))) }
         ensures not_after_round { IfErr result
             (λ stop. (before : Bool) → fails stop before ≡ before) }
         ensures stopped { IfErr result

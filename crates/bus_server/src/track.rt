@@ -62,23 +62,23 @@ impl Server {
         Ok(())
     }
 
-    /// Runs turns, `due` or a hundred at most, and none but the first while a queue is more than half full. Returns how many.
-    fn run_up_to<P: Observer>(&mut self, due: u16, observer: &mut P) -> Result<u16, P::Fault>
-        requires some { 0 < due }
+    /// Runs turns, `owed` or a hundred at most, and none but the first while a queue is more than half full. Returns how many.
+    fn run_up_to<P: Observer>(&mut self, owed: u16, observer: &mut P) -> Result<u16, P::Fault>
+        requires some { 0 < owed }
         requires observes { ObservesLayout (P.decoder_specs observer.old) self.old.hub }
         requires reported { HasReported self.old.hub }
         ensures observes { ObservesLayout (P.decoder_specs observer.new) self.new.hub }
         ensures reported { OnOk result (HasReported self.new.hub) }
-        ensures happened { IfOk result (λ count. IsShare count count due (state_of self.new.hub)
+        ensures happened { IfOk result (λ count. IsShare count count owed (state_of self.new.hub)
             × IsObserved (λ applied.
             RunsSteps is_turn count applied (state_of self.old.hub) (state_of self.new.hub))
             (P.observed observer.old) (P.observed observer.new)) }
         ensures stops { OnErr result
-            (IsObserved (λ applied. (count : ℕ) × (count ≤ due) × (count ≤ 100)
+            (IsObserved (λ applied. (count : ℕ) × (count ≤ owed) × (count ≤ 100)
             × RunsSteps is_turn count applied (state_of self.old.hub) (state_of self.new.hub))
             (P.observed observer.old) (P.observed observer.new)) }
     {
-        let most = due.min(MAX_STEPS);
+        let most = owed.min(MAX_STEPS);
         for turn in 0..most {
             let outcome = self.hub.turn();
             self.observe(&outcome, observer)?;
@@ -109,26 +109,26 @@ impl Server {
         Ok(())
     }
 
-    /// Runs the track for `due` microseconds in pieces, a hundred at most, and none but the first while a queue is more than half
+    /// Runs the track for `owed` microseconds in pieces, a hundred at most, and none but the first while a queue is more than half
     /// full. No piece is longer than the turn under way, so that trains run as the decoders do. Returns how much is left.
-    fn run_pieces<P: Observer>(&mut self, due: u32, observer: &mut P) -> Result<u32, P::Fault>
+    fn run_pieces<P: Observer>(&mut self, owed: u32, observer: &mut P) -> Result<u32, P::Fault>
         requires observes { ObservesLayout (P.decoder_specs observer.old) self.old.hub }
         requires reported { HasReported self.old.hub }
         ensures observes { ObservesLayout (P.decoder_specs observer.new) self.new.hub }
         ensures reported { OnOk result (HasReported self.new.hub) }
         ensures happened { IfOk result (λ rest. IsObserved (λ applied. (count micros : ℕ)
-            × (micros + rest ≡ due)
+            × (micros + rest ≡ owed)
             × RunsSteps is_piece count applied (state_of self.old.hub) (state_of self.new.hub)
             × (micros_in (state_of self.old.hub).bus (events_of applied) ≡ micros)
-            × IsShare count micros due (state_of self.new.hub))
+            × IsShare count micros owed (state_of self.new.hub))
             (P.observed observer.old) (P.observed observer.new)) }
         ensures stops { OnErr result
             (IsObserved (λ applied. (count : ℕ)
             × RunsSteps is_piece count applied (state_of self.old.hub) (state_of self.new.hub)
-            × (micros_in (state_of self.old.hub).bus (events_of applied) ≤ due) × (count ≤ 100))
+            × (micros_in (state_of self.old.hub).bus (events_of applied) ≤ owed) × (count ≤ 100))
             (P.observed observer.old) (P.observed observer.new)) }
     {
-        let mut rest = due;
+        let mut rest = owed;
         for _piece in 0..MAX_STEPS {
             if rest == 0 {
                 return Ok(0);

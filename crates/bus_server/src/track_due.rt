@@ -144,7 +144,7 @@ impl TrackDue {
     fn is_any_turn(&self) -> bool
         ensures { result ≡ list_any is_due self.now.turns }
     {
-        self.turns.iter().any(|due| due.is_due())
+        self.turns.iter().any(|owed| owed.is_due())
     }
 
     /// Notes that so many turns of a client were run.
@@ -155,8 +155,8 @@ impl TrackDue {
             (less count (due_to self.old.turns client)) }
         ensures micros { self.new.micros ≡ self.old.micros }
     {
-        let due = self.turns[usize::from(client)];
-        self.set(client, due.left - count, due.is_requested);
+        let owed = self.turns[usize::from(client)];
+        self.set(client, owed.left - count, owed.is_requested);
     }
 
     /// Notes that each client whose turns have passed was told.
@@ -177,7 +177,7 @@ impl TrackDue {
         ensures micros { self.new.micros ≡ self.old.micros }
     {
         let index = usize::from(client);
-        let due = self.turns[index];
-        self.turns[index] = due.after_answer();
+        let owed = self.turns[index];
+        self.turns[index] = owed.after_answer();
     }
 }

@@ -100,18 +100,18 @@ impl<O: Write> StandardOutput<O> {
         }
         let part = longest / WAIT_PARTS;
         for _part in 1..WAIT_PARTS {
-            if self.is_ready(part) {
+            if self.accepts_bytes(part) {
                 return true;
             }
             if part.is_zero() {
                 return false;
             }
         }
-        self.is_ready(part)
+        self.accepts_bytes(part)
     }
 
     /// Returns whether standard output is ready within `longest`, or before a signal.
-    fn is_ready(&mut self, longest: Duration) -> bool
+    fn accepts_bytes(&mut self, longest: Duration) -> bool
         ensures writer { self.new.writer ≡ self.old.writer }
         ensures failed { self.new.failed ≡ self.old.failed }
     {

@@ -45,8 +45,8 @@ loop-piece-preserved g c =
 pub returns-then-rest-eq0-clause-happened : goal.returns-then-rest-eq0-clause-happened
 returns-then-rest-eq0-clause-happened g c =
     let so_far = c.loop-piece.invariant.happened in
-    let all : so_far.2.0 ≡ c.args.due = omega (arith, so_far.2.1, c.if-rest-eq0.true) in
-    let within : so_far.2.0 ≤ c.args.due = omega (arith, all) in
+    let all : so_far.2.0 ≡ c.args.owed = omega (arith, so_far.2.1, c.if-rest-eq0.true) in
+    let within : so_far.2.0 ≤ c.args.owed = omega (arith, all) in
     let few : c.loop-piece._piece ≤ 100 = omega (arith, c.loop-piece-test.true) in
     (so_far.0, so_far.1, (c.loop-piece._piece, so_far.2.0, omega (arith, all), so_far.2.2, so_far.2.3, (within, few, inl all)))
 
@@ -67,7 +67,7 @@ returns-then-is_crowded-clause-happened g c =
     (Elapses piece happens.0, some_piece piece some_time, (refl, reports.2), (state_of c.elapse-outcome.new.self, happens.1, reports.3)) in
     let elapsed : micros_in start.bus (events_of applied) ≡ so_far.2.0 + piece = micros_more piece happens.0 observed so_far.0 reports.0 start.bus so_far.2.0 so_far.2.3 reports.2 in
     let within : piece ≤ c.loop-piece.rest = omega (arith, c.min-piece.ensures, c.min.ensures) in
-    let part : so_far.2.0 + piece ≤ c.args.due = omega (arith, so_far.2.1, within) in
+    let part : so_far.2.0 + piece ≤ c.args.owed = omega (arith, so_far.2.1, within) in
     let few : c.loop-piece._piece + 1 ≤ 100 = omega (arith, c.loop-piece-test.true) in
     let some : 0 < c.loop-piece._piece + 1 = omega arith in
     let crowded : is_crowded (state_of c.observe.new.self.hub) ≡ true = sym c.is_crowded.ensures ∙ c.if-is_crowded.true in
@@ -77,7 +77,7 @@ pub returns-clause-happened : goal.returns-clause-happened
 returns-clause-happened g c =
     let so_far = c.loop-piece.invariant.happened in
     let hundred : c.loop-piece._piece ≡ 100 = omega (arith, c.loop-piece.auto._piece-end, c.loop-piece-test.false) in
-    let within : so_far.2.0 ≤ c.args.due = omega (arith, so_far.2.1) in
+    let within : so_far.2.0 ≤ c.args.owed = omega (arith, so_far.2.1) in
     let few : c.loop-piece._piece ≤ 100 = omega (arith, hundred) in
     (so_far.0, so_far.1, (c.loop-piece._piece, so_far.2.0, so_far.2.1, so_far.2.2, so_far.2.3, (within, few, inr (inl hundred))))
 
@@ -98,6 +98,6 @@ returns-in_err-observe-clause-stops g c =
     (Elapses piece happens.0, some_piece piece some_time, (refl, reports.2), (state_of c.elapse-outcome.new.self, happens.1, reports.3)) in
     let elapsed : micros_in start.bus (events_of applied) ≡ so_far.2.0 + piece = micros_more piece happens.0 observed so_far.0 reports.0 start.bus so_far.2.0 so_far.2.3 reports.2 in
     let within : piece ≤ c.loop-piece.rest = omega (arith, c.min-piece.ensures, c.min.ensures) in
-    let part : micros_in start.bus (events_of applied) ≤ c.args.due = omega (arith, elapsed, so_far.2.1, within) in
+    let part : micros_in start.bus (events_of applied) ≤ c.args.owed = omega (arith, elapsed, so_far.2.1, within) in
     let few : c.loop-piece._piece + 1 ≤ 100 = omega (arith, c.loop-piece-test.true) in
     whatever_fails c.from_residual.result (applied, shown, (c.loop-piece._piece + 1, steps, part, few))

@@ -11,6 +11,6 @@ invariant-loop-piece g l = record {
   observes : ObservesLayout (g.P.Observer.decoder_specs l.observer) l.self.hub;
   reported : HasReported l.self.hub;
   room : 0 < l._piece → is_crowded (state_of l.self.hub) ≡ false;
-  happened : IsObserved (λ applied. (micros : ℕ) × (micros + l.rest ≡ l.due) × RunsSteps is_piece l._piece applied (state_of l.fn.self.hub) (state_of l.self.hub)
+  happened : IsObserved (λ applied. (micros : ℕ) × (micros + l.rest ≡ l.owed) × RunsSteps is_piece l._piece applied (state_of l.fn.self.hub) (state_of l.self.hub)
       × (micros_in (state_of l.fn.self.hub).bus (events_of applied) ≡ micros)) (g.P.Observer.observed l.fn.observer) (g.P.Observer.observed l.observer);
 }

@@ -48,7 +48,7 @@ returns-then-is_crowded-clause-happened g c =
     let steps =
     steps_more is_turn c.loop-turn.turn so_far.0 (one ∷ reports.0) (state_of c.args.self.now.hub) (state_of c.loop-turn.self.hub) (state_of c.observe.new.self.hub) so_far.2 c.loop-turn.invariant.room
     (Turn missed, refl, (refl, reports.2), (state_of c.turn-outcome.new.self, c.turn-outcome.ensures.happens.1, reports.3)) in
-    let within : c.loop-turn.turn + 1 ≤ c.args.due = omega (arith, c.loop-turn-test.true, c.min-most.ensures) in
+    let within : c.loop-turn.turn + 1 ≤ c.args.owed = omega (arith, c.loop-turn-test.true, c.min-most.ensures) in
     let few : c.loop-turn.turn + 1 ≤ 100 = omega (arith, c.loop-turn-test.true, c.min-most.ensures) in
     let some : 0 < c.loop-turn.turn + 1 = omega arith in
     let crowded : is_crowded (state_of c.observe.new.self.hub) ≡ true = sym c.is_crowded.ensures ∙ c.if-is_crowded.true in
@@ -66,6 +66,6 @@ returns-in_err-observe-clause-stops g c =
     let steps =
     steps_more is_turn c.loop-turn.turn so_far.0 (one ∷ reports.0) (state_of c.args.self.now.hub) (state_of c.loop-turn.self.hub) (state_of c.observe.new.self.hub) so_far.2 c.loop-turn.invariant.room
     (Turn missed, refl, (refl, reports.2), (state_of c.turn-outcome.new.self, c.turn-outcome.ensures.happens.1, reports.3)) in
-    let within : c.loop-turn.turn + 1 ≤ c.args.due = omega (arith, c.loop-turn-test.true, c.min-most.ensures) in
+    let within : c.loop-turn.turn + 1 ≤ c.args.owed = omega (arith, c.loop-turn-test.true, c.min-most.ensures) in
     let few : c.loop-turn.turn + 1 ≤ 100 = omega (arith, c.loop-turn-test.true, c.min-most.ensures) in
     whatever_fails c.from_residual.result (applied, shown, (c.loop-turn.turn + 1, within, few, steps))
