@@ -5,7 +5,7 @@ use Rattle.station_core.specs.Moved.{after_turn, packet_of_turn}
 use Rattle.station_core.specs.Seen.{Seen}
 use Rattle.bus.specs.declared.event.Event.{Event}
 use Rattle.bus.specs.declared.event.Event.TheVariants.{Connects, Receives, Disconnects, Reports, Elapses, Turn}
-use Rattle.loconet_tcp.specs.declared.outcome.Outcome.TheVariants.{Nothing, TurnBegan}
+use Rattle.bus.specs.declared.outcome.Outcome.TheVariants.{Nothing, TurnBegan}
 use Rattle.bus.specs.Bus.{BusState, after_events, duration, outcomes_of, after_turn_boundary}
 use Rattle.bus.specs.Course.{is_time, durations_in, micros_in, turn_durations}
 use Rattle.bus.specs.Time.{IsTimeAccount}

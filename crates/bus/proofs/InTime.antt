@@ -17,7 +17,7 @@ use Rattle.layout_core.specs.Cycle.{IsCycleOf, RunsAsWanted}
 use Rattle.layout_core.specs.Events.{NoNoise, calls_in}
 use Rattle.bus.specs.declared.event.Event.{Event}
 use Rattle.bus.specs.declared.event.Event.TheVariants.{Connects, Receives, Disconnects, Reports, Elapses, Turn}
-use Rattle.loconet_tcp.specs.declared.outcome.Outcome.TheVariants.{Nothing, TurnBegan}
+use Rattle.bus.specs.declared.outcome.Outcome.TheVariants.{Nothing, TurnBegan}
 use Rattle.bus.specs.Bus.{AreEvents, BusState, after_event, after_events, request_at, client_of, is_event, duration, outcome_of_request, outcome_of, outcomes_of}
 use Rattle.bus.specs.Course.{durations_in, micros_in, turn_durations}
 use Rattle.bus.specs.Cycle.{IsTimedCycleOf, RunsInTime}

@@ -12,7 +12,7 @@ use Rattle.loconet_tcp.specs.Reading.{request_of_byte, requests_along, requests_
 use Rattle.station_core.specs.Moved.{packet_of_turn}
 use Rattle.bus.specs.declared.event.Event.{Event}
 use Rattle.bus.specs.declared.event.Event.TheVariants.{Connects, Receives, Disconnects, Reports, Elapses, Turn}
-use Rattle.loconet_tcp.specs.declared.outcome.Outcome.TheVariants.{Nothing, TurnBegan}
+use Rattle.bus.specs.declared.outcome.Outcome.TheVariants.{Nothing, TurnBegan}
 use Rattle.bus.specs.Bus.{AreEvents, BusState, after_event, request_at, client_of, is_event, pending_text_at, outcome_of_request, outcomes_of, after_turn_boundary}
 use Rattle.bus.specs.Own.{stays_connected_in, message_on, messages_on, own_requests, messages_to_send, text_from}
 

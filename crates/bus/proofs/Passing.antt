@@ -8,7 +8,7 @@ use Rattle.loconet_tcp.specs.declared.request.Request.TheVariants.{Send, Invalid
 use Rattle.station_core.specs.Moved.{packet_of_turn}
 use Rattle.bus.specs.declared.event.Event.{Event}
 use Rattle.bus.specs.declared.event.Event.TheVariants.{Connects, Receives, Disconnects, Reports, Elapses, Turn}
-use Rattle.loconet_tcp.specs.declared.outcome.Outcome.TheVariants.{Nothing, TurnBegan}
+use Rattle.bus.specs.declared.outcome.Outcome.TheVariants.{Nothing, TurnBegan}
 use Rattle.bus.specs.Below.{TurnsAreBounded}
 use Rattle.bus.specs.Bus.{AreEvents, BusState, after_event, after_events, request_at, client_of, is_event, duration, outcome_of_request, outcome_of, outcomes_of, after_turn_boundary}
 use Rattle.bus.specs.Course.{durations_in, micros_in, micros_of, turn_durations}

@@ -9,8 +9,8 @@ use Rattle.loconet_tcp.specs.declared.request.Request.TheVariants.{Send, Invalid
 use Rattle.station_core.specs.Moved.{packet_of_turn}
 use Rattle.bus.specs.declared.event.Event.{Event}
 use Rattle.bus.specs.declared.event.Event.TheVariants.{Connects, Receives, Disconnects, Reports, Elapses, Turn}
-use Rattle.loconet_tcp.specs.declared.outcome.Outcome.{Outcome}
-use Rattle.loconet_tcp.specs.declared.outcome.Outcome.TheVariants.{Nothing, TurnBegan}
+use Rattle.bus.specs.declared.outcome.Outcome.{Outcome}
+use Rattle.bus.specs.declared.outcome.Outcome.TheVariants.{Nothing, TurnBegan}
 use Rattle.bus.specs.Bus.{AreEvents, BusState, after_event, after_events, request_at, client_of, first_bus, is_event, pending_text_at, outcome_of_request, outcome_of, outcomes_of}
 use Rattle.bus.specs.Since.{is_connecting, is_disconnecting, is_nonempty, has_connected, changes_connection, since_connected, stays_connected}
 use Rattle.bus.proofs.Own.{place, same_clients}

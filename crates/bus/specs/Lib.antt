@@ -6,6 +6,7 @@ pub mod Layout
 pub mod Log
 pub mod State
 pub mod Cycle
+pub mod Outcome
 pub mod Own
 pub mod Since
 pub mod Time

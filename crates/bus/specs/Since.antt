@@ -1,9 +1,9 @@
 -- The text of each client since it connected, from the outcomes.
 use Rattle.std.specs.Prelude.{ℕ, Bool, true, false, ◌&&◌, ◌||◌, ◌==◌, if◌then◌else◌, not, List, [], ◌∷◌}
 use Rattle.std.specs.List.{flat_map, list_all}
-use Rattle.loconet_tcp.specs.declared.outcome.Outcome.{Outcome}
-use Rattle.loconet_tcp.specs.declared.outcome.Outcome.TheVariants.{Connected, Disconnected, Rejected, Sent, TurnsRequested, NodesRequested, PlaceRequested, Placed}
-use Rattle.loconet_tcp.specs.Texts.{messages_in, text_for}
+use Rattle.bus.specs.declared.outcome.Outcome.{Outcome}
+use Rattle.bus.specs.declared.outcome.Outcome.TheVariants.{Connected, Disconnected, Rejected, Sent, TurnsRequested, NodesRequested, PlaceRequested, Placed}
+use Rattle.bus.specs.Outcome.{messages_in, text_for}
 
 abbrev pub is_connecting : (client : ℕ) → Outcome → Bool
 is_connecting i (Connected client) = client == i

@@ -3,11 +3,12 @@ ghost use Rattle.std.specs.Prelude.{◌≡◌, ◌<◌, ◌≤◌, ◌+◌, [], 
 ghost use Rattle.bus.specs.Bus.{granted};
 
 use crate::event::Event;
+use crate::outcome::Outcome;
 use crate::sending::send;
 use crate::turning::{SHORTEST_TURN, duration, turn};
 use layout_core::{NodeList, World};
 use ln_ops::SensorReport;
-use loconet_tcp::{Outcome, Request, RequestReader, TurnsError};
+use loconet_tcp::{Request, RequestReader, TurnsError};
 use station_core::{MAX_LINES, StationFault};
 use std::alloc::Global;
 

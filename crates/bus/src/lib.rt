@@ -15,6 +15,7 @@ mod bus;
 mod course;
 mod event;
 pub mod laws;
+mod outcome;
 mod sending;
 mod turning;
 
@@ -25,5 +26,5 @@ pub use laws::{
     events_are_the_layout, headline, however_cut, own_lines, text_since_connecting, time_adds_up,
     turns_are_bounded, turns_of_the_time,
 };
-pub use loconet_tcp::Outcome;
+pub use outcome::Outcome;
 pub use turning::SHORTEST_TURN;

@@ -13,10 +13,10 @@ use Rattle.railway.specs.declared.train.TrainState.{TrainState}
 use Rattle.roster.specs.Entry.{Entry}
 use Rattle.show_text.specs.Lines.{track_text}
 use Rattle.describe.specs.Messages.{message_words}
-use Rattle.loconet_tcp.specs.declared.outcome.Outcome.{Outcome}
-use Rattle.loconet_tcp.specs.declared.outcome.Outcome.TheVariants.{Nothing, Connected, Disconnected, Rejected, Reported, Sent, TurnBegan, TurnsRequested, NodesRequested, PlaceRequested, Placed}
+use Rattle.bus.specs.declared.outcome.Outcome.{Outcome}
+use Rattle.bus.specs.declared.outcome.Outcome.TheVariants.{Nothing, Connected, Disconnected, Rejected, Reported, Sent, TurnBegan, TurnsRequested, NodesRequested, PlaceRequested, Placed}
 use Rattle.loconet_tcp.specs.ClientLines.{hex_words}
-use Rattle.loconet_tcp.specs.Texts.{messages_in}
+use Rattle.bus.specs.Outcome.{messages_in}
 
 -- The state of a printer: the turns, the clients that have disconnected, the state of each decoder
 -- when it was last printed, or at the start, and the trains at the last outcome, or at the start.

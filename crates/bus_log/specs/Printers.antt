@@ -3,7 +3,7 @@ use Rattle.std.specs.Prelude.{ℕ, List, ◌++◌, map, Option}
 use Rattle.layout_core.specs.declared.node.Node.{Node}
 use Rattle.layout_core.specs.declared.decoder_state.DecoderState.{DecoderState}
 use Rattle.layout_core.specs.DecoderStates.{decoder_state_of}
-use Rattle.loconet_tcp.specs.declared.outcome.Outcome.{Outcome}
+use Rattle.bus.specs.declared.outcome.Outcome.{Outcome}
 use Rattle.railway.specs.Railway.{RailwayState}
 use Rattle.bus_log.specs.declared.printer.Printer.{Printer}
 use Rattle.bus_log.specs.Decoders.{entries_of}

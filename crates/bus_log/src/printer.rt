@@ -55,7 +55,7 @@ impl<'a> Printer<'a> {
     ghost use Rattle.bus_log.specs.Printers.{observed_lines, outcome_lines, printer_state, decoder_states_of};
     ghost use Rattle.bus_log.specs.RailwayLines.{railway_lines};
     ghost use Rattle.bus_log.specs.Lines.{initial_printer_state, line_at, printer_state_after};
-    ghost use Rattle.loconet_tcp.specs.declared.outcome.Outcome.TheVariants.{TurnBegan};
+    ghost use Rattle.bus.specs.declared.outcome.Outcome.TheVariants.{TurnBegan};
 
     /// Creates a printer for a layout with the decoders of this roster, or none, and for the
     /// railway beside it, if there is one.

@@ -6,9 +6,9 @@ use Rattle.std.proofs.lemmas.Bool.{cases_eq}
 use Rattle.std.proofs.lemmas.List.{get_or-set_other}
 use Rattle.bus.specs.declared.event.Event.{Event}
 use Rattle.bus_server.specs.Observations.{Observation}
-use Rattle.loconet_tcp.specs.declared.outcome.Outcome.{Outcome}
-use Rattle.loconet_tcp.specs.declared.outcome.Outcome.TheVariants.{Nothing, Connected, Disconnected, Rejected, Reported, Sent, TurnBegan, TurnsRequested, NodesRequested, PlaceRequested, Placed}
-use Rattle.loconet_tcp.specs.Texts.{text_for}
+use Rattle.bus.specs.declared.outcome.Outcome.{Outcome}
+use Rattle.bus.specs.declared.outcome.Outcome.TheVariants.{Nothing, Connected, Disconnected, Rejected, Reported, Sent, TurnBegan, TurnsRequested, NodesRequested, PlaceRequested, Placed}
+use Rattle.bus.specs.Outcome.{text_for}
 use Rattle.bus_server.specs.Queues.{enqueued}
 use Rattle.bus_server.specs.TransportEvents.{Polled, ServerClosed, Accepted, WriteBlocked, PeerClosed, NonePending, TransportEvent, Written, ReadBlocked, Received, Refused}
 use Rattle.bus_server.specs.Fronts.{Account, IsFront, account_handled, account_applied, account_written, account_run, account_observed, account_after_outcome, account_answered}

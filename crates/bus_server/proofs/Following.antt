@@ -5,8 +5,8 @@ use Rattle.std.specs.List.{flat_map, list_all, list_any}
 use Rattle.std.proofs.lemmas.Bool.{and_parts, cases_eq}
 use Rattle.std.proofs.lemmas.Bool.Decides.{nat_tests}
 use Rattle.std.proofs.lemmas.List.{get_or-set_same, get_or-set_other, length-set}
-use Rattle.loconet_tcp.specs.declared.outcome.Outcome.{Outcome}
-use Rattle.loconet_tcp.specs.declared.outcome.Outcome.TheVariants.{Connected, Disconnected, NodesRequested, Nothing, Placed, PlaceRequested, Rejected, Reported, Sent, TurnBegan, TurnsRequested}
+use Rattle.bus.specs.declared.outcome.Outcome.{Outcome}
+use Rattle.bus.specs.declared.outcome.Outcome.TheVariants.{Connected, Disconnected, NodesRequested, Nothing, Placed, PlaceRequested, Rejected, Reported, Sent, TurnBegan, TurnsRequested}
 use Rattle.layout_core.specs.declared.node.Node.{Node}
 use Rattle.railway.specs.Railway.{RailwayState}
 use Rattle.bus.specs.declared.event.Event.{Event}

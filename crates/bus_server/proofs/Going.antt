@@ -13,7 +13,7 @@ use Rattle.bus.specs.Course.{is_time, micros_in}
 use Rattle.bus_server.specs.Observations.{Observed, Observation}
 use Rattle.layout_core.specs.declared.world.World.{World}
 use Rattle.railway.specs.Railway.{RailwayState}
-use Rattle.loconet_tcp.specs.declared.outcome.Outcome.{Outcome}
+use Rattle.bus.specs.declared.outcome.Outcome.{Outcome}
 use Rattle.bus.specs.Log.{Extends}
 use Rattle.bus_server.specs.declared.losses.Losses.{Losses}
 use Rattle.bus_server.specs.Progress.{Progresses, ProgressesWithoutInput, Snapshot}

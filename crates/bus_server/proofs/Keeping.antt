@@ -7,11 +7,11 @@ use Rattle.std.proofs.lemmas.List.{get_or-set_same, get_or-set_other}
 use Rattle.std.proofs.lemmas.List.Folds.{list_any-append}
 use Rattle.bus.specs.declared.event.Event.{Event}
 use Rattle.bus.specs.declared.event.Event.TheVariants.{Connects, Receives, Disconnects, Reports, Elapses, Turn}
-use Rattle.loconet_tcp.specs.declared.outcome.Outcome.{Outcome}
-use Rattle.loconet_tcp.specs.declared.outcome.Outcome.TheVariants.{Connected}
+use Rattle.bus.specs.declared.outcome.Outcome.{Outcome}
+use Rattle.bus.specs.declared.outcome.Outcome.TheVariants.{Connected}
 use Rattle.bus_server.specs.Observations.{Observation}
 use Rattle.bus.specs.Bus.{BusState}
-use Rattle.loconet_tcp.specs.Texts.{text_for}
+use Rattle.bus.specs.Outcome.{text_for}
 use Rattle.loconet_tcp.specs.ClientLines.{version_text}
 use Rattle.bus_server.specs.Rounds.{HasMoreClients, IsWrittenTo, PreservesRound, HasEmptyQueue, IsUnread, WritesInARow, backlog_after, is_reading, is_write_blocked}
 use Rattle.bus_server.specs.Applied.{Handled, RunsEventWithReports, Applies, LoggedEvent, RunsEvent, RunsEvents, IsWithReports, AppliesAll, ServerState, events_of, is_connected, has_overflowed, transport_events, observations_in, with_backlog}

@@ -12,9 +12,9 @@ use Rattle.layout_core.specs.DecoderStates.{decoder_line, decoder_state_of}
 use Rattle.layout_core.specs.Nodes.{spec_of}
 use Rattle.railway.specs.Railway.{RailwayState}
 use Rattle.loconet_tcp.specs.ClientLines.{line_end, node_text, nodes_ok_text, turns_ok_text, version_text}
-use Rattle.loconet_tcp.specs.Texts.{text_for}
-use Rattle.loconet_tcp.specs.declared.outcome.Outcome.{Outcome}
-use Rattle.loconet_tcp.specs.declared.outcome.Outcome.TheVariants.{Connected, Nothing, Placed, Rejected, Reported, Sent, TurnBegan, TurnsRequested}
+use Rattle.bus.specs.Outcome.{text_for}
+use Rattle.bus.specs.declared.outcome.Outcome.{Outcome}
+use Rattle.bus.specs.declared.outcome.Outcome.TheVariants.{Connected, Nothing, Placed, Rejected, Reported, Sent, TurnBegan, TurnsRequested}
 use Rattle.loconet_tcp.specs.declared.request.Request.{Request}
 use Rattle.loconet_tcp.specs.declared.request.Request.TheVariants.{Invalid, Nodes, Place, Send, Turns}
 use Rattle.bus.specs.Bus.{BusState, after_event, client_of, granted, pending_text_at, reply_to, request_at}

@@ -13,9 +13,9 @@ use Rattle.ln_ops.specs.Sensor.{is_interrogation, is_sensor, report_bytes, repor
 use Rattle.ln_ops.specs.declared.reply.Reply.{Reply}
 use Rattle.ln_ops.specs.declared.reply.Reply.TheVariants.{LongAck, SlotData}
 use Rattle.station_core.specs.Moved.{answer_to_message, packet_of_turn}
-use Rattle.loconet_tcp.specs.Texts.{messages_in}
-use Rattle.loconet_tcp.specs.declared.outcome.Outcome.{Outcome}
-use Rattle.loconet_tcp.specs.declared.outcome.Outcome.TheVariants.{Nothing, Reported, Sent, TurnBegan}
+use Rattle.bus.specs.Outcome.{messages_in}
+use Rattle.bus.specs.declared.outcome.Outcome.{Outcome}
+use Rattle.bus.specs.declared.outcome.Outcome.TheVariants.{Nothing, Reported, Sent, TurnBegan}
 use Rattle.loconet_tcp.specs.declared.request.Request.{Request}
 use Rattle.loconet_tcp.specs.declared.request.Request.TheVariants.{Invalid, Nodes, Place, Send, Turns}
 use Rattle.railway.specs.declared.block.Block.{Block}

@@ -10,10 +10,10 @@ use Rattle.loconet_tcp.specs.declared.request.Request.TheVariants.{Send, Invalid
 use Rattle.station_core.specs.Moved.{packet_of_turn}
 use Rattle.bus.specs.declared.event.Event.{Event}
 use Rattle.bus.specs.declared.event.Event.TheVariants.{Connects, Receives, Disconnects, Reports, Elapses, Turn}
-use Rattle.loconet_tcp.specs.declared.outcome.Outcome.{Outcome}
-use Rattle.loconet_tcp.specs.declared.outcome.Outcome.TheVariants.{Nothing, Connected, Disconnected, Rejected, Reported, Sent, TurnBegan, TurnsRequested, NodesRequested, PlaceRequested, Placed}
+use Rattle.bus.specs.declared.outcome.Outcome.{Outcome}
+use Rattle.bus.specs.declared.outcome.Outcome.TheVariants.{Nothing, Connected, Disconnected, Rejected, Reported, Sent, TurnBegan, TurnsRequested, NodesRequested, PlaceRequested, Placed}
 use Rattle.bus.specs.Bus.{BusState, request_at, client_of, is_event, outcome_of_request, outcome_of}
-use Rattle.loconet_tcp.specs.Texts.{text_for}
+use Rattle.bus.specs.Outcome.{text_for}
 use Rattle.railway.specs.Railway.{RailwayState}
 use Rattle.bus_server.specs.Placements.{answered}
 use Rattle.bus_server.specs.Queues.{is_within_capacity, enqueued, queued}

@@ -23,9 +23,9 @@ use Rattle.railway.specs.Reports.{change_of, changes, changes_from, full_from, i
 use Rattle.loconet_tcp.specs.ClientLines.{hex_words, line_end, place_text, receive_text, sent_error_text, sent_ok_text, turns_text}
 use Rattle.loconet_tcp.specs.Requests.{bytes_of, is_nodes, is_place, is_send, is_turns, parse_place, parse_send, request_of, turns_of}
 use Rattle.loconet_tcp.specs.Text.{is_end}
-use Rattle.loconet_tcp.specs.Texts.{reply_text, text_for}
-use Rattle.loconet_tcp.specs.declared.outcome.Outcome.{Outcome}
-use Rattle.loconet_tcp.specs.declared.outcome.Outcome.TheVariants.{PlaceRequested}
+use Rattle.bus.specs.Outcome.{reply_text, text_for}
+use Rattle.bus.specs.declared.outcome.Outcome.{Outcome}
+use Rattle.bus.specs.declared.outcome.Outcome.TheVariants.{PlaceRequested}
 use Rattle.loconet_tcp.specs.declared.request.Reason.{Reason}
 use Rattle.loconet_tcp.specs.declared.request.Reason.TheVariants.{NoMessage, NotHex, TooLong, WrongCheck}
 use Rattle.loconet_tcp.specs.declared.request.PlaceError.{PlaceError}

@@ -6,8 +6,8 @@ use Rattle.layout_core.specs.declared.node.Node.{Node}
 use Rattle.layout_core.specs.Nodes.{spec_of}
 use Rattle.layout_core.specs.DecoderStates.{decoder_line, decoder_state_of}
 use Rattle.loconet_tcp.specs.ClientLines.{node_text, nodes_ok_text}
-use Rattle.loconet_tcp.specs.declared.outcome.Outcome.{Outcome}
-use Rattle.loconet_tcp.specs.declared.outcome.Outcome.TheVariants.{Disconnected, NodesRequested}
+use Rattle.bus.specs.declared.outcome.Outcome.{Outcome}
+use Rattle.bus.specs.declared.outcome.Outcome.TheVariants.{Disconnected, NodesRequested}
 
 -- the line of a decoder as it stands now, which has at most 640 bytes
 abbrev pub line_of : (name : List ℕ) → Node → List ℕ

@@ -15,7 +15,7 @@ use Rattle.bus_server.specs.Due.{after_answer, due_after, due_to, follow_message
 use Rattle.bus_server.specs.Paces.{clock_time, follows_messages}
 use Rattle.bus.specs.declared.event.Event.{Event}
 use Rattle.bus.specs.declared.event.Event.TheVariants.{Receives, Connects, Disconnects, Elapses, Turn}
-use Rattle.loconet_tcp.specs.declared.outcome.Outcome.{Outcome}
+use Rattle.bus.specs.declared.outcome.Outcome.{Outcome}
 use Rattle.bus.specs.Bus.{BusState, after_event, client_of, first_bus, is_event, outcome_of}
 use Rattle.bus.specs.Layout.{layout_event}
 use Rattle.bus_server.specs.Observations.{Observed, Observation, Overflowed}

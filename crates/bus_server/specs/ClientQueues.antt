@@ -1,9 +1,9 @@
 -- The queues of the clients of a bus, and what an outcome adds to them.
 use Rattle.std.specs.Prelude.{ℕ, ◌+◌, Bool, true, nat_lt, List, [], ◌∷◌, Option, Some, None, slice_set}
 use Rattle.bus_server.specs.Queues.{enqueued}
-use Rattle.loconet_tcp.specs.declared.outcome.Outcome.{Outcome}
-use Rattle.loconet_tcp.specs.declared.outcome.Outcome.TheVariants.{Nothing, Connected, Disconnected, Rejected, Reported, Sent, TurnBegan, TurnsRequested, NodesRequested, PlaceRequested, Placed}
-use Rattle.loconet_tcp.specs.Texts.{text_for}
+use Rattle.bus.specs.declared.outcome.Outcome.{Outcome}
+use Rattle.bus.specs.declared.outcome.Outcome.TheVariants.{Nothing, Connected, Disconnected, Rejected, Reported, Sent, TurnBegan, TurnsRequested, NodesRequested, PlaceRequested, Placed}
+use Rattle.bus.specs.Outcome.{text_for}
 
 -- the queue of each client; None where it is closed
 abbrev pub SendQueues : Type 0

@@ -1,7 +1,7 @@
 -- How many clients have disconnected.
 use Rattle.std.specs.Prelude.{ℕ, ◌+◌, ◌-◌, ◌^◌, min}
-use Rattle.loconet_tcp.specs.declared.outcome.Outcome.{Outcome}
-use Rattle.loconet_tcp.specs.declared.outcome.Outcome.TheVariants.{Disconnected}
+use Rattle.bus.specs.declared.outcome.Outcome.{Outcome}
+use Rattle.bus.specs.declared.outcome.Outcome.TheVariants.{Disconnected}
 
 -- one more after each that disconnects, as far as 64 bits count
 abbrev pub disconnected_after : Outcome → ℕ → ℕ

@@ -2,8 +2,8 @@
 use Rattle.std.specs.Prelude.{ℕ, ◌-◌, ◌==◌, ◌&&◌, ◌||◌, nat_lt, Bool, true, false, if◌then◌else◌, List, [], slice_set, Ok}
 use Rattle.std.specs.List.{list_any, slice_index_or}
 use Rattle.loconet_tcp.specs.ClientLines.{turns_ok_text}
-use Rattle.loconet_tcp.specs.declared.outcome.Outcome.{Outcome}
-use Rattle.loconet_tcp.specs.declared.outcome.Outcome.TheVariants.{Disconnected, Sent, TurnsRequested}
+use Rattle.bus.specs.declared.outcome.Outcome.{Outcome}
+use Rattle.bus.specs.declared.outcome.Outcome.TheVariants.{Disconnected, Sent, TurnsRequested}
 use Rattle.bus_server.specs.declared.pace.Pace.{Pace}
 use Rattle.bus_server.specs.declared.pace.Pace.TheVariants.{AfterMessages}
 use Rattle.bus_server.specs.declared.track_due.Cause.{Cause}

@@ -2,9 +2,9 @@
 use Rattle.std.specs.Prelude.{ℕ, ◌≡◌, ◌==◌, Bool, false, if◌then◌else◌, List, [], ◌∷◌, ◌++◌, Some, None}
 use Rattle.std.specs.List.{slice_index_or}
 use Rattle.bus_server.specs.Observations.{Observation, Observed}
-use Rattle.loconet_tcp.specs.declared.outcome.Outcome.{Outcome}
-use Rattle.loconet_tcp.specs.declared.outcome.Outcome.TheVariants.{Connected}
-use Rattle.loconet_tcp.specs.Texts.{text_for}
+use Rattle.bus.specs.declared.outcome.Outcome.{Outcome}
+use Rattle.bus.specs.declared.outcome.Outcome.TheVariants.{Connected}
+use Rattle.bus.specs.Outcome.{text_for}
 use Rattle.bus_server.specs.Runs.{RunsRounds, Round}
 use Rattle.bus_server.specs.Applied.{Handled, LoggedEvent, ServerState}
 use Rattle.bus_server.specs.TransportEvents.{TransportEvent, Written}

@@ -7,8 +7,8 @@ use Rattle.ln_ops.specs.declared.sensor.SensorReport.{SensorReport}
 use Rattle.railway.specs.Blocks.{default_block}
 use Rattle.railway.specs.Railway.{RailwayState, is_railway}
 use Rattle.railway.specs.Reports.{is_occupied, level_after}
-use Rattle.loconet_tcp.specs.Texts.{messages_in}
-use Rattle.loconet_tcp.specs.declared.outcome.Outcome.TheVariants.{Sent}
+use Rattle.bus.specs.Outcome.{messages_in}
+use Rattle.bus.specs.declared.outcome.Outcome.TheVariants.{Sent}
 use Rattle.bus.specs.declared.event.Event.TheVariants.{Receives}
 use Rattle.bus.specs.Bus.{outcome_of}
 use Rattle.bus_server.specs.Observations.{Observation, Observed}

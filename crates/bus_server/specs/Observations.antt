@@ -1,7 +1,7 @@
 -- The observations of an observer of a server.
 use Rattle.std.specs.Prelude.{ℕ, List, Option}
 use Rattle.layout_core.specs.declared.node.Node.{Node}
-use Rattle.loconet_tcp.specs.declared.outcome.Outcome.{Outcome}
+use Rattle.bus.specs.declared.outcome.Outcome.{Outcome}
 use Rattle.railway.specs.Railway.{RailwayState}
 
 pub data Observation : Type 0 where

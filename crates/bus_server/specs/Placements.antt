@@ -13,8 +13,8 @@ use Rattle.railway.specs.Course.{Happening}
 use Rattle.railway.specs.Course.Happening.{Places}
 use Rattle.railway.specs.Railway.{RailwayState, place_fault}
 use Rattle.railway.specs.Trains.{default_state}
-use Rattle.loconet_tcp.specs.declared.outcome.Outcome.{Outcome}
-use Rattle.loconet_tcp.specs.declared.outcome.Outcome.TheVariants.{PlaceRequested, Placed}
+use Rattle.bus.specs.declared.outcome.Outcome.{Outcome}
+use Rattle.bus.specs.declared.outcome.Outcome.TheVariants.{PlaceRequested, Placed}
 use Rattle.loconet_tcp.specs.declared.request.Facing.{Facing}
 use Rattle.loconet_tcp.specs.declared.request.Facing.TheVariants.{A, B}
 use Rattle.loconet_tcp.specs.declared.request.PlaceError.{PlaceError}

@@ -2,7 +2,7 @@
 use Rattle.std.specs.Prelude.{ℕ, ◌≡◌, ◌-◌, ◌++◌, ◌||◌, Bool, true, false, if◌then◌else◌, nat_lt, replicate, List, [], ◌∷◌}
 use Rattle.bus.specs.declared.event.Event.{Event}
 use Rattle.bus.specs.declared.event.Event.TheVariants.{Connects, Elapses, Receives, Turn}
-use Rattle.loconet_tcp.specs.declared.outcome.Outcome.TheVariants.{Sent}
+use Rattle.bus.specs.declared.outcome.Outcome.TheVariants.{Sent}
 use Rattle.bus_server.specs.declared.pace.Pace.TheVariants.{AfterMessages}
 use Rattle.bus_server.specs.Applied.{LoggedEvent, ServerState, events_of, has_turns_to_follow, observations_of}
 use Rattle.bus_server.specs.Due.{none_due}

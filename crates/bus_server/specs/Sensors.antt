@@ -5,8 +5,8 @@ use Rattle.refresh_ring.specs.declared.pick.Power.TheVariants.{Off}
 use Rattle.layout_core.specs.declared.node.Node.{Node}
 use Rattle.ln_ops.specs.Sensor.{is_interrogation}
 use Rattle.ln_ops.specs.declared.sensor.SensorReport.{SensorReport}
-use Rattle.loconet_tcp.specs.declared.outcome.Outcome.{Outcome}
-use Rattle.loconet_tcp.specs.declared.outcome.Outcome.TheVariants.{PlaceRequested, Sent}
+use Rattle.bus.specs.declared.outcome.Outcome.{Outcome}
+use Rattle.bus.specs.declared.outcome.Outcome.TheVariants.{PlaceRequested, Sent}
 use Rattle.railway.specs.Course.{after, reports_of}
 use Rattle.railway.specs.Railway.{RailwayState, elapsed, reports_in}
 use Rattle.railway.specs.Reports.{full}

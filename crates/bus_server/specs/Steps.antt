@@ -3,7 +3,7 @@ use Rattle.std.specs.Prelude.{ℕ, ◌≡◌, true, List, ◌∷◌, Option}
 use Rattle.std.specs.List.{list_all}
 use Rattle.layout_core.specs.World.{HaveHeard}
 use Rattle.bus.specs.declared.event.Event.{Event}
-use Rattle.loconet_tcp.specs.declared.outcome.Outcome.{Outcome}
+use Rattle.bus.specs.declared.outcome.Outcome.{Outcome}
 use Rattle.bus.specs.Bus.{after_event, is_event, outcome_of}
 use Rattle.bus.specs.Layout.{layout_event}
 use Rattle.bus.specs.Log.{Extends}

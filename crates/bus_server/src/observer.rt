@@ -5,8 +5,8 @@ ghost use Rattle.layout_core.specs.Nodes.{spec_of};
 ghost use Rattle.bus.specs.Log.{Extends};
 ghost use Rattle.bus_server.specs.Observations.{Observed, Observation, Skipped, Overflowed};
 
+use bus::Outcome;
 use layout_core::World;
-use loconet_tcp::Outcome;
 use railway::Railway;
 
 /// Observes what happens on a bus, as it happens.

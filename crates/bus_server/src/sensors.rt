@@ -2,16 +2,17 @@
 ghost use Rattle.std.specs.Prelude.{◌≡◌, ℕ, [], IfSome, IsTrue, drop, if◌then◌else◌, slice_get, true};
 ghost use Rattle.std.specs.List.{list_all};
 ghost use Rattle.railway.specs.Reports.{is_report};
-ghost use Rattle.loconet_tcp.specs.declared.outcome.Outcome.TheVariants.{PlaceRequested};
+ghost use Rattle.bus.specs.declared.outcome.Outcome.TheVariants.{PlaceRequested};
 ghost use Rattle.bus_server.specs.Names.{names_of};
 ghost use Rattle.bus_server.specs.Placements.{answered, place_answer};
 ghost use Rattle.bus_server.specs.Sensors.{asks_sensors, full_report, powered_time, railway_elapsed, railway_placed, reports_due, reports_elapsed};
 
 use crate::named_node::NamedNodes;
 use crate::placement::place;
+use bus::Outcome;
 use layout_core::World;
 use ln_ops::{SensorReport, is_interrogation};
-use loconet_tcp::{Outcome, PlaceError, Placement};
+use loconet_tcp::{PlaceError, Placement};
 use railway::{Railway, Reports};
 use station_core::Power;
 

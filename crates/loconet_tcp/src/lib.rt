@@ -1,8 +1,7 @@
 //! LocoNet over TCP, in lines of ASCII text.
 //!
 //! A [`RequestReader`] takes a client's text byte by byte and returns each [`Request`] that a line
-//! makes. An [`Outcome`] is the result of an event on a bus; [`Outcome::push_text_for`] appends the
-//! lines that one client receives of it.
+//! makes. [`push_receive`] and its like append the lines that clients receive.
 //!
 //! ```ignore
 //! for byte in received {
@@ -22,7 +21,6 @@
 
 mod client_lines;
 pub mod laws;
-mod outcome;
 mod parsing;
 mod reader;
 mod request;
@@ -32,7 +30,6 @@ pub use client_lines::{
     push_server_full, push_turns, push_turns_ok, push_version,
 };
 pub use laws::{any_cut, received_is_sendable};
-pub use outcome::Outcome;
 pub use parsing::{Bytes, LONGEST_KEPT, LONGEST_LINE, bytes_of, leading_bytes};
 pub use reader::RequestReader;
 pub use request::{Facing, LONGEST_WORD, PlaceError, Placement, Reason, Request, TurnsError, Word};

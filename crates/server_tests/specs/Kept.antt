@@ -1,7 +1,7 @@
 -- What the logs of a run hold, as contracts see it.
 use Rattle.std.specs.Prelude.{List, [], ◌∷◌, None, map, option_map}
 use Rattle.bus_server.specs.Observations.{Observation, Observed, Overflowed, Skipped}
-use Rattle.loconet_tcp.specs.declared.outcome.Outcome.TheVariants as outcome
+use Rattle.bus.specs.declared.outcome.Outcome.TheVariants as outcome
 use Rattle.bus_server.specs.TransportEvents.{Polled, TransportEvent, Accepted, Received, PeerClosed, Written, ServerClosed, ReadBlocked, WriteBlocked, NonePending, Refused}
 use Rattle.server_tests.specs.declared.test_bus_server.kept.Entry.{Entry}
 use Rattle.server_tests.specs.declared.test_bus_server.kept.Entry.TheVariants as entry

@@ -1,5 +1,5 @@
 use Rattle.std.proofs.Common.{◌≡◌, ◌++◌, take, drop, length}
-use Rattle.loconet_tcp.specs.Texts.{text_for}
+use Rattle.bus.specs.Outcome.{text_for}
 use Rattle.bus_server.specs.ClientQueues.{enqueued_all, enqueued_from}
 use Rattle.bus_server.proofs.hub.enqueue_all.Given as goal
 

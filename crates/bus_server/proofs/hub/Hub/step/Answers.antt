@@ -1,6 +1,6 @@
 use Rattle.std.proofs.Common.{◌≡◌, ◌∙◌, ap, length, refl, sym}
 use Rattle.std.specs.List.{list_all}
-use Rattle.loconet_tcp.specs.declared.outcome.Outcome.{Outcome}
+use Rattle.bus.specs.declared.outcome.Outcome.{Outcome}
 use Rattle.bus.specs.State.{bus_state}
 use Rattle.bus_server.specs.Observations.{Observed}
 use Rattle.bus_server.specs.Queues.{is_within_capacity}

@@ -1,14 +1,14 @@
 //! The outcome of an event on a bus, and its text for each client.
 ghost use Rattle.std.specs.Prelude.{◌≡◌, ◌+◌, ◌≤◌, ◌++◌};
 ghost use Rattle.arrayvec.specs.ArrayVec.{array_vec_len};
-ghost use Rattle.loconet_tcp.specs.Texts.{text_for};
+ghost use Rattle.bus.specs.Outcome.{text_for};
 
-use crate::client_lines::{
-    Text, push_place, push_receive, push_sent_error, push_sent_ok, push_turns, push_version,
-};
-use crate::request::{PlaceError, Placement, Reason, TurnsError};
 use dcc_packet::Packet;
 use ln_frame::Msg;
+use loconet_tcp::{
+    PlaceError, Placement, Reason, Text, TurnsError, push_place, push_receive, push_sent_error,
+    push_sent_ok, push_turns, push_version,
+};
 
 /// The outcome of an event on a bus. Clients are numbered from 0 to 7.
 #[derive(Drop)]

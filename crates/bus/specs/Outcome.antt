@@ -3,8 +3,8 @@
 use Rattle.std.specs.Prelude.{ℕ, ◌==◌, if◌then◌else◌, List, [], ◌∷◌, ◌++◌, Option, Some, None}
 use Rattle.std.specs.Option.{option_to_list}
 use Rattle.loconet_tcp.specs.ClientLines.{place_text, receive_text, sent_error_text, sent_ok_text, turns_text, version_text}
-use Rattle.loconet_tcp.specs.declared.outcome.Outcome.{Outcome}
-use Rattle.loconet_tcp.specs.declared.outcome.Outcome.TheVariants.{Connected, Placed, Rejected, Reported, Sent, TurnsRequested}
+use Rattle.bus.specs.declared.outcome.Outcome.{Outcome}
+use Rattle.bus.specs.declared.outcome.Outcome.TheVariants.{Connected, Placed, Rejected, Reported, Sent, TurnsRequested}
 
 -- a reply was seen on LocoNet, if there is one
 abbrev pub reply_text : Option (List ℕ) → List ℕ
