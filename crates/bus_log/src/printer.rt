@@ -8,7 +8,7 @@ ghost use Rattle.layout_core.specs.Nodes.{spec_of};
 ghost use Rattle.layout_core.specs.DecoderStates.{decoder_line, decoder_state_of};
 ghost use Rattle.roster.specs.Entry.{Entry, spec_of as entry_spec};
 ghost use Rattle.bus_log.specs.Decoders.{entries_of, names_of, specs_of};
-ghost use Rattle.bus_server.specs.Names.{names_of as named_names, specs_of as named_specs};
+ghost use Rattle.bus_server.specs.NamedNodes.{names_of as named_names, specs_of as named_specs};
 ghost use Rattle.bus_log.specs.LogQueues.{after_lines};
 ghost use Rattle.bus_log.specs.RailwayLines.{trains_of};
 ghost use Rattle.bus_log.specs.Lines.{changed_lines, client_line, is_slot_read, lines_unless, node_message, overflow_line, saturating_successor, packet_lines, sent_line, skipped_line};

@@ -9,13 +9,13 @@ use Rattle.bus_server.specs.Observations.{Observation}
 use Rattle.bus.specs.declared.outcome.Outcome.{Outcome}
 use Rattle.bus.specs.declared.outcome.Outcome.TheVariants.{Nothing, Connected, Disconnected, Rejected, Reported, Sent, TurnBegan, TurnsRequested, NodesRequested, PlaceRequested, Placed}
 use Rattle.bus.specs.Outcome.{text_for}
-use Rattle.bus_server.specs.Queues.{enqueued}
+use Rattle.bus_server.specs.SendQueue.{enqueued}
 use Rattle.bus_server.specs.TransportEvents.{Polled, ServerClosed, Accepted, WriteBlocked, PeerClosed, NonePending, TransportEvent, Written, ReadBlocked, Received, Refused}
 use Rattle.bus_server.specs.Fronts.{Account, IsFront, account_handled, account_applied, account_written, account_run, account_observed, account_after_outcome, account_answered}
-use Rattle.bus_server.specs.ClientQueues.{SendQueues, enqueued_all, queues_after}
+use Rattle.bus_server.specs.SendQueues.{SendQueues, enqueued_all, queues_after}
 use Rattle.bus_server.specs.declared.pace.Pace.{Pace}
-use Rattle.bus_server.specs.Runs.{RunsRounds, Round}
-use Rattle.bus_server.specs.Applied.{Handled, Applies, LoggedEvent, RunsEvent, RunsEvents, AppliesAll, ServerState, answer_to, outcome_in, round_start, with_backlog}
+use Rattle.bus_server.specs.Running.{RunsRounds, Round}
+use Rattle.bus_server.specs.ServerState.{Handled, Applies, LoggedEvent, RunsEvent, RunsEvents, AppliesAll, ServerState, answer_to, outcome_in, round_start, with_backlog}
 use Rattle.bus_server.proofs.Keeping.{enqueued_there, none_set, set_at, told_there}
 use Rattle.bus_server.specs.Track.{RunsTrack}
 use Rattle.bus_server.proofs.Rounding.{round_serves}

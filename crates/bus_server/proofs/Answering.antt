@@ -9,7 +9,7 @@ use Rattle.layout_core.specs.DecoderStates.{decoder_line, decoder_state_of}
 use Rattle.loconet_tcp.specs.ClientLines.{node_text}
 use Rattle.bus_server.specs.declared.named_node.NamedNode.{NamedNode}
 use Rattle.bus_server.specs.Answers.{node_lines}
-use Rattle.bus_server.specs.Names.{names_of, specs_of}
+use Rattle.bus_server.specs.NamedNodes.{names_of, specs_of}
 
 line_there : (names : List (List ℕ)) (nodes : List Node) (i : ℕ) (name : List ℕ) (spec : NodeSpec) (node : Node) (none : List ℕ) → length names ≡ length nodes → i < length names
     → slice_index_or (node_lines names nodes) i none

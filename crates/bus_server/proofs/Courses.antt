@@ -13,8 +13,8 @@ use Rattle.bus.specs.Invariant.{IsInvariant}
 use Rattle.bus.specs.Layout.{layout_event, layout_events}
 use Rattle.bus_server.specs.declared.pace.Pace.{Pace}
 use Rattle.bus_server.specs.Observations.{Observation}
-use Rattle.bus_server.specs.Runs.{AreDrawn, RunsRounds, IsEventRun, Round, logged_in}
-use Rattle.bus_server.specs.Applied.{Handled, Applies, LoggedEvent, RunsEvent, RunsEvents, AppliesAll, ServerState, events_of, with_backlog, round_start}
+use Rattle.bus_server.specs.Running.{AreDrawn, RunsRounds, IsEventRun, Round, logged_in}
+use Rattle.bus_server.specs.ServerState.{Handled, Applies, LoggedEvent, RunsEvent, RunsEvents, AppliesAll, ServerState, events_of, with_backlog, round_start}
 use Rattle.bus_server.specs.TransportEvents.{Polled, ServerClosed, Accepted, WriteBlocked, PeerClosed, NonePending, TransportEvent, Written, ReadBlocked, Received, Refused}
 use Rattle.bus_server.specs.declared.losses.Losses.{Losses}
 use Rattle.bus_server.specs.Track.{RunsTrack}

@@ -17,13 +17,13 @@ use Rattle.bus_server.specs.declared.pace.Pace.TheVariants.{AfterMessages}
 use Rattle.bus_server.specs.declared.track_due.Cause.{Cause}
 use Rattle.bus_server.specs.declared.track_due.Cause.TheVariants.{Departed, Message, Request}
 use Rattle.bus_server.specs.declared.track_due.TurnsDue.{TurnsDue}
-use Rattle.bus_server.specs.Applied.{Applies, AppliesAll, Handled, IsWithReports, LoggedEvent, RunsEvent, RunsEvents, ServerState, events_of, round_start, with_backlog}
-use Rattle.bus_server.specs.ClientQueues.{names_client}
-use Rattle.bus_server.specs.Due.{after_answer, departed, due_after, due_to, follow_message, is_due, is_message, is_request, less, none_due}
+use Rattle.bus_server.specs.ServerState.{Applies, AppliesAll, Handled, IsWithReports, LoggedEvent, RunsEvent, RunsEvents, ServerState, events_of, round_start, with_backlog}
+use Rattle.bus_server.specs.SendQueues.{names_client}
+use Rattle.bus_server.specs.TrackDue.{after_answer, departed, due_after, due_to, follow_message, is_due, is_message, is_request, less, none_due}
 use Rattle.bus_server.specs.Observations.{Observation, Observed}
-use Rattle.bus_server.specs.Placements.{answered}
+use Rattle.bus_server.specs.Placement.{answered}
 use Rattle.bus_server.specs.Repeats.{BeginsInTurns, TurnsFollow, is_from_client, is_sent, left_after}
-use Rattle.bus_server.specs.Runs.{Round, RunsRounds, logged_in}
+use Rattle.bus_server.specs.Running.{Round, RunsRounds, logged_in}
 use Rattle.bus_server.specs.Sensors.{is_report}
 use Rattle.bus_server.specs.Track.{RunsSteps, RunsTrack, RunsTurns, RunsTurnsOf, is_turn, with_turns_run}
 use Rattle.bus_server.specs.TransportEvents.{Accepted, NonePending, PeerClosed, Polled, ReadBlocked, Received, Refused, ServerClosed, TransportEvent, WriteBlocked, Written}

@@ -16,13 +16,13 @@ use Rattle.railway.specs.Railway.{RailwayState}
 use Rattle.bus.specs.declared.outcome.Outcome.{Outcome}
 use Rattle.bus.specs.Log.{Extends}
 use Rattle.bus_server.specs.declared.losses.Losses.{Losses}
-use Rattle.bus_server.specs.Progress.{Progresses, ProgressesWithoutInput, Snapshot}
+use Rattle.bus_server.specs.Snapshots.{Progresses, ProgressesWithoutInput, Snapshot}
 use Rattle.bus_server.specs.Rounds.{IsUnread, PreservesRound}
-use Rattle.bus_server.specs.Applied.{Handled, Applies, LoggedEvent, RunsEvent, RunsEvents, IsDrawn, AppliesAll, ServerState, events_of, overflow_notice, transport_events, observations_in, observations_of}
-use Rattle.bus_server.specs.Queues.{queued}
-use Rattle.bus_server.specs.Shown.{Shown}
+use Rattle.bus_server.specs.ServerState.{Handled, Applies, LoggedEvent, RunsEvent, RunsEvents, IsDrawn, AppliesAll, ServerState, events_of, overflow_notice, transport_events, observations_in, observations_of}
+use Rattle.bus_server.specs.SendQueue.{queued}
+use Rattle.bus_server.specs.AfterRound.{Shown}
 use Rattle.bus_server.specs.Sensors.{is_report}
-use Rattle.bus_server.specs.Steps.{ObservesReports}
+use Rattle.bus_server.specs.Hub.{ObservesReports}
 use Rattle.bus_server.specs.TransportEvents.{TransportEvent}
 use Rattle.bus_server.proofs.Keeping.{keeps_more, keeps_same}
 

@@ -13,7 +13,7 @@ use Rattle.layout_core.specs.Heard.Sound.{Single, Whole}
 use Rattle.layout_core.specs.Hearing.{HeardHalves, HearsPacket}
 use Rattle.layout_core.specs.World.{HaveHeard}
 use Rattle.bus_server.specs.declared.losses.Losses.{Losses}
-use Rattle.bus_server.specs.Draws.{IsDraw}
+use Rattle.bus_server.specs.Losses.{IsDraw}
 
 halves_same : (halves : List ℕ) (old a b : Node) → HeardHalves halves old a → HeardHalves halves old b → a ≡ b
 halves_same halves (Loco old) (Loco a) (Loco b) h k = cc

@@ -14,10 +14,10 @@ use Rattle.bus.specs.Bus.{BusState}
 use Rattle.bus.specs.Outcome.{text_for}
 use Rattle.loconet_tcp.specs.ClientLines.{version_text}
 use Rattle.bus_server.specs.Rounds.{HasMoreClients, IsWrittenTo, PreservesRound, HasEmptyQueue, IsUnread, WritesInARow, backlog_after, is_reading, is_write_blocked}
-use Rattle.bus_server.specs.Applied.{Handled, RunsEventWithReports, Applies, LoggedEvent, RunsEvent, RunsEvents, IsWithReports, AppliesAll, ServerState, events_of, is_connected, has_overflowed, transport_events, observations_in, with_backlog}
+use Rattle.bus_server.specs.ServerState.{Handled, RunsEventWithReports, Applies, LoggedEvent, RunsEvent, RunsEvents, IsWithReports, AppliesAll, ServerState, events_of, is_connected, has_overflowed, transport_events, observations_in, with_backlog}
 use Rattle.bus_server.specs.Sensors.{is_report}
-use Rattle.bus_server.specs.Queues.{is_within_capacity, enqueued, queued}
-use Rattle.bus_server.specs.ClientQueues.{SendQueues, enqueued_all, enqueued_from}
+use Rattle.bus_server.specs.SendQueue.{is_within_capacity, enqueued, queued}
+use Rattle.bus_server.specs.SendQueues.{SendQueues, enqueued_all, enqueued_from}
 use Rattle.bus_server.specs.TransportEvents.{Accepted, TransportEvent, Written, Refused}
 
 -- What was done is done of a longer list.

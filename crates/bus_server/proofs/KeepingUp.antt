@@ -22,17 +22,17 @@ use Rattle.bus.specs.Course.{is_time}
 use Rattle.bus.specs.declared.event.Event.{Event}
 use Rattle.bus.specs.declared.event.Event.TheVariants.{Connects, Disconnects, Elapses, Receives, Reports, Turn}
 use Rattle.bus_server.specs.Answers.{next_line, node_lines}
-use Rattle.bus_server.specs.Applied.{answer_to, Applies, AppliesAll, Handled, IsWithReports, LoggedEvent, RunsEvent, RunsEventWithReports, RunsEvents, ServerState, events_of, has_overflowed, is_connected, is_crowded, outcome_in, transport_events, with_backlog, round_start}
-use Rattle.bus_server.specs.ClientQueues.{SendQueues, enqueued_all, enqueued_from, queues_after}
-use Rattle.bus_server.specs.Due.{due_to, have_passed, turns_answer}
+use Rattle.bus_server.specs.ServerState.{answer_to, Applies, AppliesAll, Handled, IsWithReports, LoggedEvent, RunsEvent, RunsEventWithReports, RunsEvents, ServerState, events_of, has_overflowed, is_connected, is_crowded, outcome_in, transport_events, with_backlog, round_start}
+use Rattle.bus_server.specs.SendQueues.{SendQueues, enqueued_all, enqueued_from, queues_after}
+use Rattle.bus_server.specs.TrackDue.{due_to, have_passed, turns_answer}
 use Rattle.bus_server.specs.KeepUp.{IsAtRest, IsUpToDate, KeepsUp, is_blocked, is_closed}
 use Rattle.bus_server.specs.Observations.{Observation}
-use Rattle.bus_server.specs.Placements.{answered, place_answer}
-use Rattle.bus_server.specs.Queues.{enqueued, is_more_than_half, queued}
+use Rattle.bus_server.specs.Placement.{answered, place_answer}
+use Rattle.bus_server.specs.SendQueue.{enqueued, is_more_than_half, queued}
 use Rattle.bus_server.specs.Rounds.{IsReadOn, IsRound, IsUnread, Reads, ReadsOn, ServesClient, ServesClients, is_read, is_reading, is_write_blocked}
 use Rattle.bus_server.specs.declared.pace.Pace.{Pace}
 use Rattle.bus_server.specs.declared.pace.Pace.TheVariants.{AfterMessages, RealTime}
-use Rattle.bus_server.specs.Runs.{Round, RunsRounds, transport_log}
+use Rattle.bus_server.specs.Running.{Round, RunsRounds, transport_log}
 use Rattle.bus_server.specs.Sensors.{is_report}
 use Rattle.bus_server.specs.Track.{RunsStep, RunsSteps, RunsTrack, RunsTurns, RunsTurnsOf, is_piece, is_turn, with_time_due, with_turns_run}
 use Rattle.bus_server.specs.TransportEvents.{Accepted, NonePending, PeerClosed, Polled, ReadBlocked, Received, Refused, ServerClosed, TransportEvent, WriteBlocked, Written}

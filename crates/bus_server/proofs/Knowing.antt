@@ -28,11 +28,11 @@ use Rattle.bus.specs.declared.event.Event.{Event}
 use Rattle.bus.specs.declared.event.Event.TheVariants.{Connects, Receives, Disconnects, Reports, Elapses, Turn}
 use Rattle.bus.specs.Bus.{BusState, client_of, outcome_of, outcome_of_request, request_at}
 use Rattle.bus_server.specs.Observations.{Observation, Observed}
-use Rattle.bus_server.specs.Applied.{Applies, AppliesAll, Handled, LoggedEvent, RunsEvent, RunsEvents, ServerState, outcome_in, with_backlog, round_start}
+use Rattle.bus_server.specs.ServerState.{Applies, AppliesAll, Handled, LoggedEvent, RunsEvent, RunsEvents, ServerState, outcome_in, with_backlog, round_start}
 use Rattle.bus_server.specs.Known.{ClaimNothing, IsKnown, IsSensorOf, is_no_claim, level_by, messages_of, received_in, reports_read}
 use Rattle.bus_server.specs.declared.pace.Pace.{Pace}
-use Rattle.bus_server.specs.Runs.{Round, RunsRounds, logged_in}
-use Rattle.bus_server.specs.Placements.{answered, places}
+use Rattle.bus_server.specs.Running.{Round, RunsRounds, logged_in}
+use Rattle.bus_server.specs.Placement.{answered, places}
 use Rattle.bus_server.specs.Sensors.{asks_sensors, full_report, railway_elapsed, railway_placed, reports_due, reports_elapsed, running_time}
 use Rattle.bus_server.specs.TransportEvents.{Accepted, NonePending, PeerClosed, Polled, ReadBlocked, Received, Refused, ServerClosed, TransportEvent, WriteBlocked, Written}
 use Rattle.bus_server.specs.Track.{RunsTrack}

@@ -8,7 +8,7 @@ use Rattle.std.proofs.lemmas.Bool.{cases_eq}
 use Rattle.std.proofs.lemmas.Bool.Decides.{nat_tests}
 use Rattle.std.proofs.lemmas.Nat.Bits.{bit_at-zero, bit_at_or, bit_at-pow_same, bit_at-pow_other, bit_at-lt}
 use Rattle.rand_pcg.specs.Lcg.{Lcg}
-use Rattle.bus_server.specs.Drawn.{generator_after, next_generator, word_at, word_of}
+use Rattle.bus_server.specs.Generator.{generator_after, next_generator, word_at, word_of}
 
 -- bit k of those that pass, below n
 abbrev pub mark_of : (ℕ → Bool) → ℕ → ℕ → ℕ

@@ -12,9 +12,9 @@ use Rattle.bus.specs.declared.event.Event.TheVariants.{Connects, Receives, Disco
 use Rattle.bus.specs.Bus.{BusState, after_event, client_of, request_at}
 use Rattle.bus.specs.Layout.{bytes_on, layout_event, layout_events, request_events, turn_of}
 use Rattle.bus_server.specs.declared.losses.Losses.{Losses}
-use Rattle.bus_server.specs.Applied.{IsDrawn}
-use Rattle.bus_server.specs.Draws.{IsDraw}
-use Rattle.bus_server.specs.Runs.{AreDrawn, is_missed_by_none}
+use Rattle.bus_server.specs.ServerState.{IsDrawn}
+use Rattle.bus_server.specs.Losses.{IsDraw}
+use Rattle.bus_server.specs.Running.{AreDrawn, is_missed_by_none}
 
 bytes_heard : (line : ℕ) (bytes : List ℕ) → list_all is_missed_by_none (bytes_on line bytes) ≡ true
 bytes_heard line [] = refl

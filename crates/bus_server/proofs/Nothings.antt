@@ -7,10 +7,10 @@ use Rattle.loconet_tcp.specs.declared.request.Request.TheVariants.{Invalid, Node
 use Rattle.railway.specs.Railway.{RailwayState}
 use Rattle.bus.specs.declared.event.Event.TheVariants.{Receives}
 use Rattle.bus.specs.Bus.{BusState, client_of, outcome_of, outcome_of_request, request_at}
-use Rattle.bus_server.specs.Applied.{LoggedEvent, RunsEventWithReports, ServerState, outcome_in}
-use Rattle.bus_server.specs.ClientQueues.{queues_after}
-use Rattle.bus_server.specs.Due.{due_after}
-use Rattle.bus_server.specs.Placements.{answered}
+use Rattle.bus_server.specs.ServerState.{LoggedEvent, RunsEventWithReports, ServerState, outcome_in}
+use Rattle.bus_server.specs.SendQueues.{queues_after}
+use Rattle.bus_server.specs.TrackDue.{due_after}
+use Rattle.bus_server.specs.Placement.{answered}
 use Rattle.bus_server.specs.Sensors.{reports_due}
 use Rattle.bus_server.proofs.Keeping.{alone}
 

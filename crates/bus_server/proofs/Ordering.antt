@@ -4,10 +4,10 @@ use Rattle.std.specs.Prelude.{◌||◌, nat_lt}
 use Rattle.ln_ops.specs.declared.sensor.SensorReport.{SensorReport}
 use Rattle.bus.specs.declared.event.Event.{Event}
 use Rattle.bus.specs.declared.event.Event.TheVariants.{Connects, Disconnects, Elapses, Receives, Reports, Turn}
-use Rattle.bus_server.specs.Applied.{LoggedEvent, ServerState, events_of, observations_of}
+use Rattle.bus_server.specs.ServerState.{LoggedEvent, ServerState, events_of, observations_of}
 use Rattle.bus_server.specs.Observations.{Observation}
 use Rattle.bus_server.specs.Repeats.{BeginsInTurns, InOrder, IsAlike, IsSettled, follows, in_order, inputs_of, left_after, unmissed}
-use Rattle.bus_server.specs.Runs.{Round, RunsRounds, logged_in}
+use Rattle.bus_server.specs.Running.{Round, RunsRounds, logged_in}
 use Rattle.bus_server.specs.Sensors.{IsDue, is_report, reports_after}
 use Rattle.bus_server.proofs.Following.{begins, left_at_end, rounds_lead, settled}
 use Rattle.bus_server.proofs.Repeating.{Core, Course, alike_core, core, head_same, input_same, no_cons, no_report, none_due, report_same, rounds_course, runs_repeat, tail_same}

@@ -15,9 +15,9 @@ use Rattle.bus.specs.declared.outcome.Outcome.TheVariants.{Nothing, Connected, D
 use Rattle.bus.specs.Bus.{BusState, request_at, client_of, is_event, outcome_of_request, outcome_of}
 use Rattle.bus.specs.Outcome.{text_for}
 use Rattle.railway.specs.Railway.{RailwayState}
-use Rattle.bus_server.specs.Placements.{answered}
-use Rattle.bus_server.specs.Queues.{is_within_capacity, enqueued, queued}
-use Rattle.bus_server.specs.ClientQueues.{SendQueues, names_client, enqueued_all, enqueued_from, queues_after}
+use Rattle.bus_server.specs.Placement.{answered}
+use Rattle.bus_server.specs.SendQueue.{is_within_capacity, enqueued, queued}
+use Rattle.bus_server.specs.SendQueues.{SendQueues, names_client, enqueued_all, enqueued_from, queues_after}
 use Rattle.bus_server.proofs.Keeping.{room_set}
 
 asked_placed : (bus : BusState) (client : ℕ) (request : Option Request) → is_event (Connects client) ≡ true → names_client (outcome_of_request bus client request) ≡ true

@@ -11,12 +11,12 @@ use Rattle.bus.specs.declared.event.Event.TheVariants.{Connects, Disconnects, El
 use Rattle.bus.specs.Bus.{BusState, after_event, outcome_of}
 use Rattle.bus.specs.Layout.{layout_event}
 use Rattle.bus_server.specs.declared.losses.Losses.{Losses}
-use Rattle.bus_server.specs.Draws.{IsDraw}
-use Rattle.bus_server.specs.Applied.{Applies, AppliesAll, Handled, IsDrawn, LoggedEvent, RunsEvent, RunsEvents, ServerState, events_of, observations_of, round_start, with_backlog}
+use Rattle.bus_server.specs.Losses.{IsDraw}
+use Rattle.bus_server.specs.ServerState.{Applies, AppliesAll, Handled, IsDrawn, LoggedEvent, RunsEvent, RunsEvents, ServerState, events_of, observations_of, round_start, with_backlog}
 use Rattle.bus_server.specs.Observations.{Observation, Observed}
-use Rattle.bus_server.specs.Placements.{answered}
+use Rattle.bus_server.specs.Placement.{answered}
 use Rattle.bus_server.specs.Repeats.{IsAlike, inputs_of, unmissed}
-use Rattle.bus_server.specs.Runs.{Round, RunsRounds, logged_in}
+use Rattle.bus_server.specs.Running.{Round, RunsRounds, logged_in}
 use Rattle.bus_server.specs.Sensors.{IsDue, is_report, railway_after, reports_after}
 use Rattle.bus_server.specs.TransportEvents.{Accepted, NonePending, PeerClosed, Polled, ReadBlocked, Received, Refused, ServerClosed, TransportEvent, WriteBlocked, Written}
 use Rattle.bus_server.proofs.Hearing.{drawn_same, heard_same, missed_same}

@@ -9,9 +9,9 @@ use Rattle.std.proofs.lemmas.List.Folds.{list_all-append, list_any-append}
 use Rattle.bus.specs.declared.event.Event.TheVariants.{Disconnects}
 use Rattle.bus_server.specs.Observations.{Observation}
 use Rattle.bus.specs.Log.{Extends}
-use Rattle.bus_server.specs.Progress.{ProgressesWithoutInput, Snapshot, WritesFront}
+use Rattle.bus_server.specs.Snapshots.{ProgressesWithoutInput, Snapshot, WritesFront}
 use Rattle.bus_server.specs.Rounds.{Accepts, AllWrittenTo, HasMoreClients, Reads, ReadsOn, ServesClients, IsReadOn, IsRound, IsUnread, IsWrittenTo, is_read, is_reading, PreservesRound, AcceptsPending, WritesInARow, backlog_after, refusals, is_write, pieces_to, IsFair, Writes, WritesNone}
-use Rattle.bus_server.specs.Applied.{Handled, RunsEventWithReports, Applies, LoggedEvent, AppliesAll, ServerState, is_connected, has_overflowed, transport_events, observations_in, observations_of}
+use Rattle.bus_server.specs.ServerState.{Handled, RunsEventWithReports, Applies, LoggedEvent, AppliesAll, ServerState, is_connected, has_overflowed, transport_events, observations_in, observations_of}
 use Rattle.bus_server.specs.declared.transport.IoOutcome.TheVariants.{WouldBlock}
 use Rattle.bus_server.specs.TransportEvents.{Accepted, Polled, ReadBlocked, ServerClosed, WriteBlocked, PeerClosed, NonePending, TransportEvent, Received, Written, Refused}
 use Rattle.bus_server.proofs.Going.{Claim, calm_then, goes_one, log-append, same_on_wire, serves_more, observed-append}

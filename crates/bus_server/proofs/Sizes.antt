@@ -39,8 +39,8 @@ use Rattle.bus.specs.declared.event.Event.{Event}
 use Rattle.bus.specs.declared.event.Event.TheVariants.{Connects, Disconnects, Elapses, Receives, Reports, Turn}
 use Rattle.bus.specs.Bus.{BusState, client_of, granted, outcome_of_request, reply_to, request_at}
 use Rattle.bus_server.specs.Observations.{Observation}
-use Rattle.bus_server.specs.Applied.{RunsEvent, ServerState}
-use Rattle.bus_server.specs.Placements.{answered, place_answer, places}
+use Rattle.bus_server.specs.ServerState.{RunsEvent, ServerState}
+use Rattle.bus_server.specs.Placement.{answered, place_answer, places}
 use Rattle.bus_server.specs.Sensors.{full_report, is_report, railway_after, railway_elapsed, railway_placed, reports_after, reports_due, reports_elapsed, running_time}
 
 -- What is sent is a whole message, of at most 127 bytes.

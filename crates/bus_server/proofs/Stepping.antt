@@ -12,11 +12,11 @@ use Rattle.bus.specs.Bus.{outcome_of}
 use Rattle.bus.specs.Course.{is_time}
 use Rattle.bus_server.specs.Observations.{Observation, Observed}
 use Rattle.bus_server.specs.declared.losses.Losses.{Losses}
-use Rattle.bus_server.specs.Applied.{IsDrawn, RunsEvent, ServerState, outcome_in}
-use Rattle.bus_server.specs.ClientQueues.{queues_after}
-use Rattle.bus_server.specs.Placements.{answered}
+use Rattle.bus_server.specs.ServerState.{IsDrawn, RunsEvent, ServerState, outcome_in}
+use Rattle.bus_server.specs.SendQueues.{queues_after}
+use Rattle.bus_server.specs.Placement.{answered}
 use Rattle.bus_server.specs.Sensors.{IsDue, IsWithinTurn, railway_after, railway_elapsed, railway_placed, reports_after, reports_due, reports_elapsed, running_time}
-use Rattle.bus_server.specs.Steps.{RunsOnBus, with_trains_run}
+use Rattle.bus_server.specs.Hub.{RunsOnBus, with_trains_run}
 
 -- the bus runs an event once what decoders miss is drawn and trains have run
 runs : (event : Event) (observed : Observation) (losses : Losses) (railway : Option RailwayState) (unreported : List SensorReport) (old new : ServerState)

@@ -7,14 +7,14 @@ use Rattle.station_core.specs.Powered.{HasDesk}
 use Rattle.bus.specs.Invariant.{IsInvariant}
 use Rattle.bus.specs.Log.{Extends}
 use Rattle.bus_server.specs.Observations.{Observation}
-use Rattle.bus_server.specs.Shown.{Shown}
+use Rattle.bus_server.specs.AfterRound.{Shown}
 use Rattle.bus_server.specs.declared.running.Stop.{Stop}
 use Rattle.bus_server.specs.declared.running.Stop.TheVariants.{Transport, Clock, Observer, AfterRound}
-use Rattle.bus_server.specs.Applied.{AppliesAll, Handled, LoggedEvent, ServerState, events_of, observations_in, observations_of, overflow_notice, transport_events, round_start}
-use Rattle.bus_server.specs.Progress.{Snapshot}
+use Rattle.bus_server.specs.ServerState.{AppliesAll, Handled, LoggedEvent, ServerState, events_of, observations_in, observations_of, overflow_notice, transport_events, round_start}
+use Rattle.bus_server.specs.Snapshots.{Snapshot}
 use Rattle.bus_server.specs.Rounds.{IsRound}
-use Rattle.bus_server.specs.Runs.{HasGrown, IsEventRun, Round, RunSnapshot, RunsLogged, StartsRound, logged_in, skipped}
-use Rattle.bus_server.specs.Stops.{Begins, IsStoppedRun, Stops, StopsAt, StopsElapsing, StopsIn, StopsLogged, StopsOnTrack, after_round_failed, fails}
+use Rattle.bus_server.specs.Running.{HasGrown, IsEventRun, Round, RunSnapshot, RunsLogged, StartsRound, logged_in, skipped}
+use Rattle.bus_server.specs.StoppedRuns.{Begins, IsStoppedRun, Stops, StopsAt, StopsElapsing, StopsIn, StopsLogged, StopsOnTrack, after_round_failed, fails}
 use Rattle.bus_server.specs.TransportEvents.{Accepted, NonePending, PeerClosed, Polled, ReadBlocked, Received, Refused, ServerClosed, TransportEvent, WriteBlocked, Written}
 use Rattle.bus_server.proofs.Courses.{Laws, act_course, acts_course, course_more, course_polled, cut_course, nothing_done, ran_course, rounds_course, time_course}
 use Rattle.bus_server.proofs.Going.{acts_more, serves_more, wire_more}

@@ -9,9 +9,9 @@ use Rattle.bus.specs.Bus.{BusState, after_event, after_events}
 use Rattle.bus.specs.Course.{micros_in, micros_of}
 use Rattle.bus_server.specs.declared.pace.Pace.{Pace}
 use Rattle.bus_server.specs.declared.pace.Pace.TheVariants.{RealTime}
-use Rattle.bus_server.specs.Paces.{longest_step, track_time}
-use Rattle.bus_server.specs.Runs.{RunsRounds, Round, logged_in, readings_of, time_read}
-use Rattle.bus_server.specs.Applied.{Handled, RunsEventWithReports, Applies, LoggedEvent, RunsEvents, IsWithReports, AppliesAll, ServerState, events_of, with_backlog, round_start}
+use Rattle.bus_server.specs.Pace.{longest_step, track_time}
+use Rattle.bus_server.specs.Running.{RunsRounds, Round, logged_in, readings_of, time_read}
+use Rattle.bus_server.specs.ServerState.{Handled, RunsEventWithReports, Applies, LoggedEvent, RunsEvents, IsWithReports, AppliesAll, ServerState, events_of, with_backlog, round_start}
 use Rattle.bus_server.specs.Track.{IsTimeDue, RunsTime, RunsTrack, is_piece, with_time_due}
 use Rattle.bus_server.specs.TransportEvents.{Polled, ServerClosed, Accepted, WriteBlocked, PeerClosed, NonePending, TransportEvent, Written, ReadBlocked, Received, Refused}
 use Rattle.bus_server.proofs.Courses.{after-append}

@@ -13,10 +13,10 @@ use Rattle.bus_server.specs.Sensors.{is_report}
 use Rattle.bus_server.specs.declared.pace.Pace.{Pace}
 use Rattle.bus_server.specs.declared.pace.Pace.TheVariants.{AfterMessages, RealTime}
 use Rattle.bus_server.specs.declared.track_due.TurnsDue.{TurnsDue}
-use Rattle.bus_server.specs.Applied.{IsWithReports, LoggedEvent, RunsEvent, RunsEvents, ServerState, events_of, is_crowded}
-use Rattle.bus_server.specs.Due.{due_after}
+use Rattle.bus_server.specs.ServerState.{IsWithReports, LoggedEvent, RunsEvent, RunsEvents, ServerState, events_of, is_crowded}
+use Rattle.bus_server.specs.TrackDue.{due_after}
 use Rattle.bus_server.specs.Observations.{Observation}
-use Rattle.bus_server.specs.Stops.{StopsOnTrack}
+use Rattle.bus_server.specs.StoppedRuns.{StopsOnTrack}
 use Rattle.bus_server.specs.Track.{IsTimeDue, RunsStep, RunsSteps, RunsTime, RunsTrack, RunsTurns, RunsTurnsOf, is_piece, is_turn, with_time_due}
 use Rattle.bus_server.specs.declared.running.Stop.{Stop}
 use Rattle.bus_server.specs.declared.running.Stop.TheVariants.{Transport, Clock, Observer, AfterRound}

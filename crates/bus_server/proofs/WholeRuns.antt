@@ -11,8 +11,8 @@ use Rattle.bus.specs.Bus.{AreEvents, BusState}
 use Rattle.bus.specs.Invariant.{IsInvariant}
 use Rattle.bus.specs.Layout.{layout_events}
 use Rattle.bus.specs.Cycle.{RunsInTime}
-use Rattle.bus_server.specs.Runs.{HasGrown, IsEventRun, RunsRounds, IsRun, Round, RunsLogged, RunSnapshot, logged_in, skipped}
-use Rattle.bus_server.specs.Applied.{ServerState, events_of, transport_events, observations_in, observations_of}
+use Rattle.bus_server.specs.Running.{HasGrown, IsEventRun, RunsRounds, IsRun, Round, RunsLogged, RunSnapshot, logged_in, skipped}
+use Rattle.bus_server.specs.ServerState.{ServerState, events_of, transport_events, observations_in, observations_of}
 use Rattle.bus_server.specs.TransportEvents.{Polled}
 use Rattle.bus_server.proofs.Courses.{Laws, rounds_course}
 use Rattle.bus_server.proofs.Going.{grows_more, grows_none}

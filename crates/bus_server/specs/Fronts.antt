@@ -5,8 +5,8 @@ use Rattle.bus_server.specs.Observations.{Observation, Observed}
 use Rattle.bus.specs.declared.outcome.Outcome.{Outcome}
 use Rattle.bus.specs.declared.outcome.Outcome.TheVariants.{Connected}
 use Rattle.bus.specs.Outcome.{text_for}
-use Rattle.bus_server.specs.Runs.{RunsRounds, Round}
-use Rattle.bus_server.specs.Applied.{Handled, LoggedEvent, ServerState}
+use Rattle.bus_server.specs.Running.{RunsRounds, Round}
+use Rattle.bus_server.specs.ServerState.{Handled, LoggedEvent, ServerState}
 use Rattle.bus_server.specs.TransportEvents.{TransportEvent, Written}
 
 -- the text of a client since it connected, and what of it was written

@@ -1,9 +1,9 @@
 -- A client that keeps up is not disconnected by the server.
 use Rattle.std.specs.Prelude.{ℕ, ◌≡◌, ◌<◌, ◌≤◌, ◌==◌, Bool, false, IfSome, List, [], length}
 use Rattle.std.specs.List.{list_any}
-use Rattle.bus_server.specs.Applied.{ServerState, has_overflowed}
+use Rattle.bus_server.specs.ServerState.{ServerState, has_overflowed}
 use Rattle.bus_server.specs.Rounds.{HasEmptyQueue, WritesInARow}
-use Rattle.bus_server.specs.Runs.{Round, RunsRounds, transport_log}
+use Rattle.bus_server.specs.Running.{Round, RunsRounds, transport_log}
 use Rattle.bus_server.specs.TransportEvents.{ServerClosed, TransportEvent, WriteBlocked}
 
 -- a write to a client would block

@@ -12,8 +12,8 @@ use Rattle.bus.specs.declared.outcome.Outcome.TheVariants.{Sent}
 use Rattle.bus.specs.declared.event.Event.TheVariants.{Receives}
 use Rattle.bus.specs.Bus.{outcome_of}
 use Rattle.bus_server.specs.Observations.{Observation, Observed}
-use Rattle.bus_server.specs.Applied.{LoggedEvent, RunsEvent, ServerState}
-use Rattle.bus_server.specs.Runs.{Round, RunsRounds, logged_in}
+use Rattle.bus_server.specs.ServerState.{LoggedEvent, RunsEvent, ServerState}
+use Rattle.bus_server.specs.Running.{Round, RunsRounds, logged_in}
 use Rattle.bus_server.specs.Sensors.{asks_sensors}
 
 -- the messages that clients receive of an observation: each sent, its reply, and each report

@@ -1,8 +1,8 @@
 -- The parts in which a client is read.
 use Rattle.std.specs.Prelude.{ℕ, ◌≡◌, Bool, true, false, [], ◌∷◌}
 use Rattle.bus.specs.Log.{Extends}
-use Rattle.bus_server.specs.Applied.{Applies, Handled, ServerState, observations_in}
-use Rattle.bus_server.specs.Progress.{Snapshot}
+use Rattle.bus_server.specs.ServerState.{Applies, Handled, ServerState, observations_in}
+use Rattle.bus_server.specs.Snapshots.{Snapshot}
 use Rattle.bus_server.specs.Rounds.{IsReadLater, IsReadOn, is_read}
 use Rattle.bus_server.specs.TransportEvents.{TransportEvent}
 

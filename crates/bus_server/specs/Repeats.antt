@@ -4,10 +4,10 @@ use Rattle.bus.specs.declared.event.Event.{Event}
 use Rattle.bus.specs.declared.event.Event.TheVariants.{Connects, Elapses, Receives, Turn}
 use Rattle.bus.specs.declared.outcome.Outcome.TheVariants.{Sent}
 use Rattle.bus_server.specs.declared.pace.Pace.TheVariants.{AfterMessages}
-use Rattle.bus_server.specs.Applied.{LoggedEvent, ServerState, events_of, has_turns_to_follow, observations_of}
-use Rattle.bus_server.specs.Due.{none_due}
+use Rattle.bus_server.specs.ServerState.{LoggedEvent, ServerState, events_of, has_turns_to_follow, observations_of}
+use Rattle.bus_server.specs.TrackDue.{none_due}
 use Rattle.bus_server.specs.Observations.{Observation, Observed}
-use Rattle.bus_server.specs.Runs.{Round, RunsRounds, logged_in}
+use Rattle.bus_server.specs.Running.{Round, RunsRounds, logged_in}
 use Rattle.bus_server.specs.Sensors.{is_report}
 
 -- an event, but for what decoders miss of it

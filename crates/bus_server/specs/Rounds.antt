@@ -1,8 +1,8 @@
 -- A round of a server: all clients are read and written to, and pending clients are accepted.
 use Rattle.std.specs.Prelude.{ℕ, zero, suc, ◌≡◌, ◌⊎◌, ◌+◌, ◌<◌, ◌≤◌, ◌==◌, Bool, true, false, if◌then◌else◌, List, [], ◌∷◌, ◌++◌, length, replicate, None}
 use Rattle.std.specs.List.{list_all, list_any, slice_index_or}
-use Rattle.bus_server.specs.Applied.{Handled, Applies, AppliesAll, ServerState, has_overflowed, has_turns_to_follow, is_connected, is_crowded, transport_events, waits, with_backlog}
-use Rattle.bus_server.specs.Queues.{queued}
+use Rattle.bus_server.specs.ServerState.{Handled, Applies, AppliesAll, ServerState, has_overflowed, has_turns_to_follow, is_connected, is_crowded, transport_events, waits, with_backlog}
+use Rattle.bus_server.specs.SendQueue.{queued}
 use Rattle.bus_server.specs.TransportEvents.{Accepted, WriteBlocked, PeerClosed, NonePending, TransportEvent, Written, ReadBlocked, Received, Refused}
 
 -- a client is read: bytes, nothing, or its end

@@ -13,7 +13,7 @@ use Rattle.railway.specs.Reports.{full}
 use Rattle.bus.specs.declared.event.Event.{Event}
 use Rattle.bus.specs.declared.event.Event.TheVariants.{Connects, Receives, Disconnects, Reports, Elapses, Turn}
 use Rattle.bus.specs.Bus.{BusState, outcome_of}
-use Rattle.bus_server.specs.Placements.{places}
+use Rattle.bus_server.specs.Placement.{places}
 
 -- how long trains run in a time: without power they stand
 abbrev pub powered_time : Power → (micros : ℕ) → ℕ

@@ -5,9 +5,9 @@ use Rattle.bus.specs.declared.event.Event.TheVariants.{Elapses, Turn}
 use Rattle.bus.specs.Course.{micros_in}
 use Rattle.bus_server.specs.declared.pace.Pace.{Pace}
 use Rattle.bus_server.specs.declared.pace.Pace.TheVariants.{AfterMessages, RealTime}
-use Rattle.bus_server.specs.Applied.{IsWithReports, LoggedEvent, RunsEvents, ServerState, events_of, is_crowded, with_backlog}
-use Rattle.bus_server.specs.Due.{due_to, less}
-use Rattle.bus_server.specs.Paces.{track_time}
+use Rattle.bus_server.specs.ServerState.{IsWithReports, LoggedEvent, RunsEvents, ServerState, events_of, is_crowded, with_backlog}
+use Rattle.bus_server.specs.TrackDue.{due_to, less}
+use Rattle.bus_server.specs.Pace.{track_time}
 
 abbrev pub is_turn : Event → Bool
 is_turn (Turn missed) = true

@@ -3,7 +3,7 @@ ghost use Rattle.std.specs.Prelude.{◌≡◌, ◌∷◌, [], Bool, List, Option
 ghost use Rattle.input_text.specs.Write.{failed_after};
 ghost use Rattle.layout_core.specs.Nodes.{spec_of};
 ghost use Rattle.bus.specs.Log.{Extends};
-ghost use Rattle.bus_server.specs.Shown.{Shown};
+ghost use Rattle.bus_server.specs.AfterRound.{Shown};
 
 use crate::observer::Observer;
 use crate::transport::Transport;

@@ -8,9 +8,10 @@ ghost use Rattle.layout_core.specs.DecoderStates.{decoder_line, decoder_state_of
 ghost use Rattle.layout_core.specs.Nodes.{spec_of};
 ghost use Rattle.loconet_tcp.specs.ClientLines.{nodes_ok_text};
 ghost use Rattle.bus_server.specs.Answers.{after_line, answers_after, next_line, node_lines};
-ghost use Rattle.bus_server.specs.ClientQueues.{names_client};
-ghost use Rattle.bus_server.specs.Names.{names_of, specs_of};
+ghost use Rattle.bus_server.specs.SendQueues.{names_client};
+ghost use Rattle.bus_server.specs.NamedNodes.{names_of, specs_of};
 
+use crate::CLIENTS;
 use crate::named_node::NamedNodes;
 use bus::{MAX_CLIENTS, Outcome};
 use decoder_node::{NodeList, NodeSpec};
@@ -81,7 +82,7 @@ impl Answers {
             ≡ map (after_line (length (names_of self.old.nodes.items))) self.old.under_way }
         ensures nodes { self.new.nodes ≡ self.old.nodes }
     {
-        for client in 0..8u8 {
+        for client in 0..CLIENTS {
             self.advance_one(client);
         }
     }

@@ -1,15 +1,16 @@
 //! The bus, with a railway beside it and a send queue for each client.
 ghost use Rattle.std.specs.Prelude.{◌≡◌, ◌<◌, ◌≤◌, ◌&&◌, ◌∷◌, [], ◌++◌, Bool, IfNone, IfOk, IfSome, IsTrue, OnSome, is_some, length, not, slice_index_or, slice_set, drop, take, map, option_copied, None, Some, true};
 ghost use Rattle.std.specs.List.{list_all};
-ghost use Rattle.bus_server.specs.Queues.{is_within_capacity, queued};
+ghost use Rattle.bus_server.specs.SendQueue.{is_within_capacity, queued};
 ghost use Rattle.layout_core.specs.Nodes.{spec_of};
 ghost use Rattle.bus_server.specs.Answers.{next_line, node_lines};
-ghost use Rattle.bus_server.specs.ClientQueues.{names_client, enqueued_all, enqueued_from, queues_after};
-ghost use Rattle.bus_server.specs.Counts.{disconnected_after};
-ghost use Rattle.bus_server.specs.Due.{due_to, turns_answer};
-ghost use Rattle.bus_server.specs.Names.{names_of, specs_of};
-ghost use Rattle.bus_server.specs.Paces.{is_pace};
+ghost use Rattle.bus_server.specs.ServerState.{disconnected_after};
+ghost use Rattle.bus_server.specs.SendQueues.{names_client, enqueued_all, enqueued_from, queues_after};
+ghost use Rattle.bus_server.specs.TrackDue.{due_to, turns_answer};
+ghost use Rattle.bus_server.specs.NamedNodes.{names_of, specs_of};
+ghost use Rattle.bus_server.specs.Pace.{is_pace};
 
+use crate::CLIENTS;
 use crate::answers::{Answers, specs};
 use crate::losses::Losses;
 use crate::named_node::NamedNodes;
@@ -49,15 +50,15 @@ pub(crate) struct Hub {
 impl Hub {
     ghost use Rattle.std.specs.Prelude.{ℕ};
     ghost use Rattle.layout_core.specs.Nodes.{node_of};
-    ghost use Rattle.bus_server.specs.Draws.{IsDraw};
+    ghost use Rattle.bus_server.specs.Losses.{IsDraw};
     ghost use Rattle.bus.specs.Bus.{client_of, is_event};
     ghost use Rattle.bus.specs.State.{bus_state};
     ghost use Rattle.bus_server.specs.Observations.{Observed};
     ghost use Rattle.bus.specs.declared.event.Event.TheVariants.{Elapses, Reports, Turn};
     ghost use Rattle.bus_server.specs.Rounds.{backlog_after};
-    ghost use Rattle.bus_server.specs.Progress.{HasReported, WritesFront, state_of};
-    ghost use Rattle.bus_server.specs.Steps.{RunsOnBus, with_trains_run};
-    ghost use Rattle.bus_server.specs.Applied.{RunsEvent, IsDrawn, initial_state, has_overflowed, is_crowded, outcome_in, round_start};
+    ghost use Rattle.bus_server.specs.Snapshots.{HasReported, WritesFront, state_of};
+    ghost use Rattle.bus_server.specs.Hub.{RunsOnBus, with_trains_run};
+    ghost use Rattle.bus_server.specs.ServerState.{RunsEvent, IsDrawn, initial_state, has_overflowed, is_crowded, outcome_in, round_start};
 
     /// A new layout with these decoders, a railway beside it or none, and no clients. It takes all
     /// its memory here.
@@ -338,7 +339,7 @@ fn enqueue(queues: &mut SendQueues, outcome: &Outcome)
 fn enqueue_all(queues: &mut SendQueues, outcome: &Outcome)
     ensures { queues.new ≡ enqueued_all outcome.now queues.old }
 {
-    for place in 0..8u8 {
+    for place in 0..CLIENTS {
         let mut text = Text::new();
         outcome.push_text_for(place, &mut text);
         queues[usize::from(place)].enqueue(text.as_slice());
@@ -355,7 +356,7 @@ fn enqueue_lines(queues: &mut SendQueues, answers: &Answers, track_due: &TrackDu
         (slice_index_or answers.now.under_way client None)
         ++ turns_answer (due_to track_due.now.turns client)) queues.old }
 {
-    for client in 0..8u8 {
+    for client in 0..CLIENTS {
         let text = answer_to(client, answers, track_due, world);
         queues[usize::from(client)].enqueue(text.as_slice());
     }

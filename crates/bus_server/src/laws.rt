@@ -3,7 +3,7 @@ ghost use Rattle.bus_server.specs.Fronts.{FrontsAreWritten};
 ghost use Rattle.bus_server.specs.KeepUp.{StaysConnected};
 ghost use Rattle.bus_server.specs.Known.{BecomesKnown, StaysKnown};
 ghost use Rattle.bus_server.specs.Repeats.{OrderDecides, RunsRepeat, TurnsFollowMessages};
-ghost use Rattle.bus_server.specs.Runs.{NoneMisses, RoundsAreARun, TimeIsRead};
+ghost use Rattle.bus_server.specs.Running.{NoneMisses, RoundsAreARun, TimeIsRead};
 
 /// Whatever rounds a run has had, also one that goes on: their events, in order, are what the bus ran, and the headline in time
 /// holds of them.

@@ -40,3 +40,6 @@ pub use running::Stop;
 pub use server::Server;
 pub use time_source::TimeSource;
 pub use transport::{IoOutcome, Transport};
+
+/// The most clients, as they are numbered.
+const CLIENTS: u8 = MAX_CLIENTS as u8;

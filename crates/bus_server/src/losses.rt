@@ -1,7 +1,7 @@
 //! The packets that decoders miss.
 ghost use Rattle.std.specs.Prelude.{◌≡◌, ℕ, ◌≤◌, ◌==◌, ◌&&◌, nat_lt, if◌then◌else◌};
 ghost use Rattle.std.specs.Int.{bit_at};
-ghost use Rattle.bus_server.specs.Drawn.{first_generator, generator_after, is_missed, next_generator, word_at, word_of};
+ghost use Rattle.bus_server.specs.Generator.{first_generator, generator_after, is_missed, next_generator, word_at, word_of};
 
 use rand_core::SeedableRng;
 use rand_core::utils::NextWord;
@@ -16,10 +16,10 @@ pub struct Losses {
 }
 
 impl Losses {
-    ghost use Rattle.bus_server.specs.Draws.{IsDraw, IsSeeded};
+    ghost use Rattle.bus_server.specs.Losses.{IsDraw, IsSeeded};
 
     /// Losses of `lose` of 100 packets, 0 to 99, drawn from a seed.
-    #[tactic(auto, unfolding(crate::specs::Drawn::first_generator))]
+    #[tactic(auto, unfolding(crate::specs::Generator::first_generator))]
     pub fn new(lose: u8, seed: u64) -> Losses
         ensures { IsSeeded lose seed result }
     {
@@ -50,7 +50,7 @@ impl Losses {
 
     /// Draws whether one decoder misses a turn.
     // 2 ^ 32 words are no multiple of 100, which makes a difference of one in 40 million.
-    #[tactic(auto, unfolding(crate::specs::Drawn::word_of, crate::specs::Drawn::next_generator))]
+    #[tactic(auto, unfolding(crate::specs::Generator::word_of, crate::specs::Generator::next_generator))]
     fn misses(&mut self) -> bool
         ensures drawn { result ≡ is_missed self.old.lose (word_of self.old.generator) }
         ensures share { self.new.lose ≡ self.old.lose }

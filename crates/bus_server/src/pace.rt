@@ -11,7 +11,7 @@ pub enum Pace {
 }
 
 impl Pace {
-    ghost use Rattle.bus_server.specs.Paces.{follows_messages};
+    ghost use Rattle.bus_server.specs.Pace.{follows_messages};
 
     /// Returns whether turns follow messages.
     pub(crate) fn follows_messages(self) -> bool

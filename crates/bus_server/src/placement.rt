@@ -7,8 +7,8 @@ ghost use Rattle.railway.specs.Course.Happening.{Places};
 ghost use Rattle.railway.specs.Railway.{place_fault};
 ghost use Rattle.railway.specs.Reports.{is_report};
 ghost use Rattle.railway.specs.Trains.{default_state};
-ghost use Rattle.bus_server.specs.Names.{names_of};
-ghost use Rattle.bus_server.specs.Placements.{block_named, end_or, error_of, is_name, place_answer, places, position_of, train_named, unless_fault};
+ghost use Rattle.bus_server.specs.NamedNodes.{names_of};
+ghost use Rattle.bus_server.specs.Placement.{block_named, end_or, error_of, is_name, place_answer, places, position_of, train_named, unless_fault};
 
 use crate::named_node::NamedNodes;
 use loconet_tcp::{Facing, PlaceError, Placement};

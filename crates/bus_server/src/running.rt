@@ -3,10 +3,10 @@ ghost use Rattle.std.specs.Prelude.{◌≡◌, ◌<◌, ◌∷◌, [], ◌++◌,
 ghost use Rattle.std.specs.List.{flat_map};
 ghost use Rattle.bus_server.specs.declared.pace.Pace.TheVariants.{RealTime};
 ghost use Rattle.bus.specs.Log.{Extends};
-ghost use Rattle.bus_server.specs.Progress.{HasReported, ObservesLayout, state_of};
-ghost use Rattle.bus_server.specs.Applied.{LoggedEvent, longest_wait, observations_of};
-ghost use Rattle.bus_server.specs.Paces.{track_time};
-ghost use Rattle.bus_server.specs.Runs.{IsRun, Round, RunsLogged, skipped, run_snapshot};
+ghost use Rattle.bus_server.specs.Snapshots.{HasReported, ObservesLayout, state_of};
+ghost use Rattle.bus_server.specs.ServerState.{LoggedEvent, longest_wait, observations_of};
+ghost use Rattle.bus_server.specs.Pace.{track_time};
+ghost use Rattle.bus_server.specs.Running.{IsRun, Round, RunsLogged, skipped, run_snapshot};
 ghost use Rattle.bus_server.specs.Track.{IsTimeDue, RunsTrack, with_time_due};
 
 use crate::after_round::AfterRound;
@@ -33,7 +33,7 @@ pub enum Stop<T, C, O, A> {
 }
 
 impl Server {
-    ghost use Rattle.bus_server.specs.Stops.{IsStoppedRun, after_round_failed, fails, StopsLogged, StopsOnTrack};
+    ghost use Rattle.bus_server.specs.StoppedRuns.{IsStoppedRun, after_round_failed, fails, StopsLogged, StopsOnTrack};
 
     /// Serves until `most` clients have disconnected since the server was new, or for 2 ^ 64 - 1 rounds.
     ///

@@ -1,6 +1,6 @@
 //! The text that is queued for a client.
 ghost use Rattle.std.specs.Prelude.{◌≡◌, ◌<◌, ◌≤◌, IfOk, Some, None, [], true, drop, is_some, length, take};
-ghost use Rattle.bus_server.specs.Queues.{enqueued, is_more_than_half, queued};
+ghost use Rattle.bus_server.specs.SendQueue.{enqueued, is_more_than_half, queued};
 
 use circular_buffer::HeapCircularBuffer;
 use std::alloc::{AllocError, Global};

@@ -3,8 +3,8 @@ ghost use Rattle.std.specs.Prelude.{◌≡◌, ℕ, [], IfSome, IsTrue, drop, if
 ghost use Rattle.std.specs.List.{list_all};
 ghost use Rattle.railway.specs.Reports.{is_report};
 ghost use Rattle.bus.specs.declared.outcome.Outcome.TheVariants.{PlaceRequested};
-ghost use Rattle.bus_server.specs.Names.{names_of};
-ghost use Rattle.bus_server.specs.Placements.{answered, place_answer};
+ghost use Rattle.bus_server.specs.NamedNodes.{names_of};
+ghost use Rattle.bus_server.specs.Placement.{answered, place_answer};
 ghost use Rattle.bus_server.specs.Sensors.{asks_sensors, full_report, powered_time, railway_elapsed, railway_placed, reports_due, reports_elapsed};
 
 use crate::named_node::NamedNodes;

@@ -6,15 +6,16 @@ ghost use Rattle.bus.specs.Bus.{is_event};
 ghost use Rattle.bus.specs.Course.{is_time};
 ghost use Rattle.bus.specs.State.{bus_state};
 ghost use Rattle.bus_server.specs.TransportEvents.{Received};
-ghost use Rattle.bus_server.specs.Applied.{Applies, RunsEventWithReports, has_overflowed, has_turns_to_follow, initial_state, is_accepted, outcome_in, waits};
-ghost use Rattle.bus_server.specs.Names.{names_of, specs_of};
-ghost use Rattle.bus_server.specs.Paces.{is_pace};
+ghost use Rattle.bus_server.specs.ServerState.{Applies, RunsEventWithReports, has_overflowed, has_turns_to_follow, initial_state, is_accepted, outcome_in, waits};
+ghost use Rattle.bus_server.specs.NamedNodes.{names_of, specs_of};
+ghost use Rattle.bus_server.specs.Pace.{is_pace};
 ghost use Rattle.bus_server.specs.Reading.{IsReadNext, ReadsOne};
-ghost use Rattle.bus_server.specs.Steps.{ObservesReports};
-ghost use Rattle.bus_server.specs.Progress.{HasReported, ProgressesBy, Progresses, ProgressesWithoutInput, Snapshot, AcceptsAt, IsObserved, ObservesLayout, snapshot, state_of};
+ghost use Rattle.bus_server.specs.Hub.{ObservesReports};
+ghost use Rattle.bus_server.specs.Snapshots.{HasReported, ProgressesBy, Progresses, ProgressesWithoutInput, Snapshot, AcceptsAt, IsObserved, ObservesLayout, snapshot, state_of};
 ghost use Rattle.bus_server.specs.Rounds.{AllWrittenTo, IsFair, IsRound, AcceptsPending, Reads, Writes, WritesNone, refusals};
-ghost use Rattle.bus_server.specs.Stops.{Stops};
+ghost use Rattle.bus_server.specs.StoppedRuns.{Stops};
 
+use crate::CLIENTS;
 use crate::hub::Hub;
 use crate::losses::Losses;
 use crate::named_node::NamedNodes;
@@ -126,7 +127,7 @@ impl Server {
             (Stops (snapshot (W.log transport.old) (P.observed observer.old) self.old.hub)
             (snapshot (W.log transport.new) (P.observed observer.new) self.new.hub)) }
     {
-        for client in 0..8u8 {
+        for client in 0..CLIENTS {
             self.receive(client, transport, observer)?;
             self.write_all(transport, observer)?;
         }
@@ -156,7 +157,7 @@ impl Server {
             (Stops (snapshot (W.log transport.old) (P.observed observer.old) self.old.hub)
             (snapshot (W.log transport.new) (P.observed observer.new) self.new.hub)) }
     {
-        for client in 0..8u8 {
+        for client in 0..CLIENTS {
             if !self.accept_at(client, transport, observer)? {
                 return Ok(());
             }
@@ -200,8 +201,8 @@ impl Server {
         Ok(true)
     }
 
-    /// Disconnects a client whose queue has overflowed.
-    fn disconnect<W: Transport, P: Observer>(
+    /// Closes the connection of a client whose queue has overflowed.
+    fn close_overflowed<W: Transport, P: Observer>(
         &mut self,
         client: u8,
         transport: &mut W,
@@ -342,9 +343,9 @@ impl Server {
             (Stops (snapshot (W.log transport.old) (P.observed observer.old) self.old.hub)
             (snapshot (W.log transport.new) (P.observed observer.new) self.new.hub)) }
     {
-        for client in 0..8u8 {
+        for client in 0..CLIENTS {
             self.write(client, transport, observer)?;
-            self.disconnect(client, transport, observer)?;
+            self.close_overflowed(client, transport, observer)?;
         }
         Ok(())
     }
@@ -428,7 +429,7 @@ impl Server {
 fn reject_pending<W: Transport>(transport: &mut W) -> u8
     ensures { Extends (W.log transport.old) (W.log transport.new) (refusals result) }
 {
-    for refused in 0..8u8 {
+    for refused in 0..CLIENTS {
         if !transport.reject() {
             return refused;
         }

@@ -1,11 +1,12 @@
 //! The track, which runs after each round: turns that are due, or time.
 ghost use Rattle.std.specs.Prelude.{◌≡◌, ◌<◌, ◌≤◌, ◌+◌, ◌-◌, IfOk, ℕ, List, OnErr, OnOk};
 ghost use Rattle.bus.specs.Course.{micros_in};
-ghost use Rattle.bus_server.specs.Applied.{LoggedEvent, events_of};
-ghost use Rattle.bus_server.specs.Progress.{HasReported, IsObserved, ObservesLayout, state_of};
-ghost use Rattle.bus_server.specs.Stops.{StopsInTime, StopsInTurns};
+ghost use Rattle.bus_server.specs.ServerState.{LoggedEvent, events_of};
+ghost use Rattle.bus_server.specs.Snapshots.{HasReported, IsObserved, ObservesLayout, state_of};
+ghost use Rattle.bus_server.specs.StoppedRuns.{StopsInTime, StopsInTurns};
 ghost use Rattle.bus_server.specs.Track.{IsShare, RunsSteps, RunsTime, RunsTurns, RunsTurnsOf, is_piece, is_turn, turns_left, with_time_due};
 
+use crate::CLIENTS;
 use crate::observer::Observer;
 use crate::server::Server;
 use bus::SHORTEST_TURN;
@@ -29,7 +30,7 @@ impl Server {
             (IsObserved (λ applied. StopsInTurns applied (state_of self.old.hub) (state_of self.new.hub))
             (P.observed observer.old) (P.observed observer.new)) }
     {
-        for client in 0..8u8 {
+        for client in 0..CLIENTS {
             self.run_turns_of(client, observer)?;
         }
         Ok(())

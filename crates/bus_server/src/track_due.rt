@@ -1,9 +1,10 @@
 //! The turns that are due, and the time: what the track is still to run.
 ghost use Rattle.std.specs.Prelude.{◌≡◌, ◌<◌, ◌≤◌, IsTrue, length, map, nat_lt, replicate, slice_set, ◌||◌};
 ghost use Rattle.std.specs.List.{list_any};
-ghost use Rattle.bus_server.specs.ClientQueues.{names_client};
-ghost use Rattle.bus_server.specs.Due.{after_answer, after_departure, due_after, due_to, follow_message, have_passed, is_due, is_message, is_request, less, must_wait, none_due};
+ghost use Rattle.bus_server.specs.SendQueues.{names_client};
+ghost use Rattle.bus_server.specs.TrackDue.{after_answer, after_departure, due_after, due_to, follow_message, have_passed, is_due, is_message, is_request, less, must_wait, none_due};
 
+use crate::CLIENTS;
 use crate::pace::Pace;
 use bus::{MAX_CLIENTS, Outcome};
 
@@ -214,7 +215,7 @@ impl TrackDue {
         ensures turns { self.new.turns ≡ map after_answer self.old.turns }
         ensures micros { self.new.micros ≡ self.old.micros }
     {
-        for client in 0..8u8 {
+        for client in 0..CLIENTS {
             self.advance_one(client);
         }
     }

@@ -9,11 +9,11 @@ use Rattle.command_line.specs.ServerLine.{IsNumberIfGiven}
 use Rattle.railway.specs.Railway.{RailwayState}
 use Rattle.roster.specs.Entry.{Entry}
 use Rattle.bus_log.specs.Decoders.{entries_of, names_of, specs_of}
-use Rattle.bus_server.specs.Applied.{initial_state}
+use Rattle.bus_server.specs.ServerState.{initial_state}
 use Rattle.bus_server.specs.declared.pace.Pace.{Pace}
-use Rattle.bus_server.specs.Draws.{IsSeeded}
-use Rattle.bus_server.specs.Paces.{is_pace}
-use Rattle.bus_server.specs.Runs.{IsRun}
+use Rattle.bus_server.specs.Losses.{IsSeeded}
+use Rattle.bus_server.specs.Pace.{is_pace}
+use Rattle.bus_server.specs.Running.{IsRun}
 use Rattle.lbserver.specs.Execution.{ServesOrder, clients_of, entries_in, pace_of, unlogged}
 
 pub same_order : (a b : ServerOrder) (entries : List Entry) (railway : Option RailwayState) → pace_of a.turns a.rate ≡ pace_of b.turns b.rate → a.lose ≡ b.lose → a.seed ≡ b.seed → a.clients ≡ b.clients → ServesOrder a entries railway → ServesOrder b entries railway

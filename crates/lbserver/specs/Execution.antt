@@ -9,14 +9,14 @@ use Rattle.console.specs.Files.{IsRosterOf}
 use Rattle.roster.specs.Entry.{Entry}
 use Rattle.bus_log.specs.Decoders.{names_of, specs_of}
 use Rattle.bus_server.specs.declared.losses.Losses.{Losses}
-use Rattle.bus_server.specs.Applied.{ServerState, initial_state}
+use Rattle.bus_server.specs.ServerState.{ServerState, initial_state}
 use Rattle.bus_server.specs.declared.pace.Pace.{Pace}
 use Rattle.bus_server.specs.declared.pace.Pace.TheVariants.{AfterMessages, RealTime}
-use Rattle.bus_server.specs.Draws.{IsSeeded}
-use Rattle.bus_server.specs.Paces.{is_pace}
+use Rattle.bus_server.specs.Losses.{IsSeeded}
+use Rattle.bus_server.specs.Pace.{is_pace}
 use Rattle.railway.specs.Railway.{RailwayState}
 use Rattle.railway_plan.specs.Railways.{IsRailwayIn}
-use Rattle.bus_server.specs.Runs.{IsRun, RunSnapshot}
+use Rattle.bus_server.specs.Running.{IsRun, RunSnapshot}
 use Rattle.lbserver.specs.declared.fault.ServerFault.{ServerFault}
 use Rattle.lbserver.specs.declared.fault.ServerFault.TheVariants.{Output}
 

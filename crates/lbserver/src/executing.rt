@@ -2,7 +2,7 @@
 ghost use Rattle.std.specs.Prelude.{◌≡◌, ◌≤◌, OnOk, false, map, true};
 ghost use Rattle.bus_log.specs.Decoders.{entries_of, specs_of};
 ghost use Rattle.bus_log.specs.Verbosities.{verbosity_of};
-ghost use Rattle.bus_server.specs.Progress.{HasReported, ObservesLayout, state_of};
+ghost use Rattle.bus_server.specs.Snapshots.{HasReported, ObservesLayout, state_of};
 ghost use Rattle.command_line.specs.declared.words.ServerOrder.{ServerOrder as OrderValue};
 ghost use Rattle.console.specs.Files.{IsRosterOf};
 ghost use Rattle.lbserver.specs.Execution.{HasPace, IsNewServer, RunsWords, ServesOrder, ServesPlan, clients_of, ended_by_output, entries_in, pace_of};

@@ -1,6 +1,6 @@
 //! A run with a script, and what its logs hold.
 ghost use Rattle.std.specs.Prelude.{◌≡◌, IsTrue};
-ghost use Rattle.bus_server.specs.Paces.{is_pace};
+ghost use Rattle.bus_server.specs.Pace.{is_pace};
 
 use super::kept::{Entry, Seen};
 use super::memory::Input::Nothing;

@@ -3,7 +3,7 @@ use Rattle.std.proofs.lemmas.List.{get_or-map, length-map, map-append}
 use Rattle.decoder_node.specs.declared.node.NodeSpec.{NodeSpec}
 use Rattle.roster.specs.Entry.{Entry, name_of, spec_of as entry_spec}
 use Rattle.bus_server.specs.declared.named_node.NamedNode.{NamedNode}
-use Rattle.bus_server.specs.Names.{names_of as named_names, specs_of as named_specs}
+use Rattle.bus_server.specs.NamedNodes.{names_of as named_names, specs_of as named_specs}
 use Rattle.bus_log.proofs.Changed.{taken_more}
 use Rattle.bus_log.proofs.printer.named.Goals as goal
 

@@ -1,6 +1,6 @@
 use Rattle.std.proofs.Common.{◌≡◌, ◌++◌, take, drop, length}
 use Rattle.bus.specs.Outcome.{text_for}
-use Rattle.bus_server.specs.ClientQueues.{enqueued_all, enqueued_from}
+use Rattle.bus_server.specs.SendQueues.{enqueued_all, enqueued_from}
 use Rattle.bus_server.proofs.hub.enqueue_all.Given as goal
 
 -- the clients before this index have their text queued, and the others not yet

@@ -1,9 +1,9 @@
 use Rattle.std.proofs.Common.{◌≡◌, ℕ, List, None, ◌++◌, take, drop, length}
 use Rattle.std.specs.List.{slice_index_or}
 use Rattle.bus_server.specs.Answers.{next_line, node_lines}
-use Rattle.bus_server.specs.ClientQueues.{enqueued_from}
-use Rattle.bus_server.specs.Due.{due_to, turns_answer}
-use Rattle.bus_server.specs.Names.{names_of}
+use Rattle.bus_server.specs.SendQueues.{enqueued_from}
+use Rattle.bus_server.specs.TrackDue.{due_to, turns_answer}
+use Rattle.bus_server.specs.NamedNodes.{names_of}
 use Rattle.bus_server.proofs.hub.enqueue_lines.Given as goal
 
 -- the clients before this index have their line queued, and the others not yet

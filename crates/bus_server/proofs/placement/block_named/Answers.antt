@@ -1,6 +1,6 @@
 use Rattle.std.proofs.Common.{ℕ, ◌≡◌, ◌≤◌, Option, ap, length, subst, sym, ◌∙◌}
 use Rattle.std.specs.Prelude.{unwrap_or}
-use Rattle.bus_server.specs.Placements.{block_named}
+use Rattle.bus_server.specs.Placement.{block_named}
 use Rattle.bus_server.proofs.Naming.{first_or_length, first_within}
 use Rattle.bus_server.proofs.placement.block_named.Goals as goal
 

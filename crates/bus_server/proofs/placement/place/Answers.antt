@@ -3,8 +3,8 @@ use Rattle.railway.specs.declared.train.Position.{Position}
 use Rattle.railway.specs.declared.train.TrainState.{TrainState}
 use Rattle.railway.specs.Course.{reports_of}
 use Rattle.railway.specs.Course.Happening.{Places}
-use Rattle.bus_server.specs.Names.{names_of}
-use Rattle.bus_server.specs.Placements.{position_of, train_named, train_of}
+use Rattle.bus_server.specs.NamedNodes.{names_of}
+use Rattle.bus_server.specs.Placement.{position_of, train_named, train_of}
 use Rattle.bus_server.proofs.placement.place.Goals as goal
 
 pub returns-clause-reports : goal.returns-clause-reports

@@ -1,6 +1,6 @@
 use Rattle.std.proofs.Common.{ℕ, subst}
-use Rattle.bus_server.specs.Progress.{state_of}
-use Rattle.bus_server.specs.Runs.{IsRun}
+use Rattle.bus_server.specs.Snapshots.{state_of}
+use Rattle.bus_server.specs.Running.{IsRun}
 use Rattle.lbserver.specs.Execution.{unlogged}
 use Rattle.lbserver.proofs.executing.serve.Goals as goal
 

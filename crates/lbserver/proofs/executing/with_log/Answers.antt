@@ -1,6 +1,6 @@
 use Rattle.std.proofs.Common.{OnOk, subst}
 use Rattle.bus_log.specs.Decoders.{entries_of}
-use Rattle.bus_server.specs.Progress.{state_of}
+use Rattle.bus_server.specs.Snapshots.{state_of}
 use Rattle.lbserver.specs.Execution.{ServesOrder}
 use Rattle.lbserver.proofs.executing.with_log.Goals as goal
 

@@ -2,7 +2,7 @@ use Rattle.std.proofs.Common.{ap}
 use Rattle.std.proofs.lemmas.Result.{on_ok_weaker}
 use Rattle.command_line.specs.declared.words.ServerOrder.{ServerOrder}
 use Rattle.bus_log.specs.Decoders.{entries_of}
-use Rattle.bus_server.specs.Progress.{state_of}
+use Rattle.bus_server.specs.Snapshots.{state_of}
 use Rattle.lbserver.specs.Execution.{pace_of}
 use Rattle.lbserver.proofs.Orders.{same_order}
 use Rattle.lbserver.proofs.executing.with_page.Goals.{in-Some+in_ok-bind_page, in_default}

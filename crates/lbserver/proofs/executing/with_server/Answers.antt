@@ -1,6 +1,6 @@
 use Rattle.std.proofs.Common.{OnOk, ap, subst}
 use Rattle.bus_log.specs.Decoders.{entries_of}
-use Rattle.bus_server.specs.Applied.{ServerState}
+use Rattle.bus_server.specs.ServerState.{ServerState}
 use Rattle.lbserver.specs.Execution.{ServesOrder}
 use Rattle.lbserver.proofs.executing.with_server.Goals as goal
 

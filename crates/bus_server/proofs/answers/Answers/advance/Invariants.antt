@@ -1,6 +1,6 @@
 use Rattle.std.proofs.Common.{◌≡◌, ◌++◌, take, drop, length, map}
 use Rattle.bus_server.specs.Answers.{after_line}
-use Rattle.bus_server.specs.Names.{names_of}
+use Rattle.bus_server.specs.NamedNodes.{names_of}
 use Rattle.bus_server.proofs.answers.Answers.advance.Given as goal
 
 -- the clients before this index have received their line, and the others not yet

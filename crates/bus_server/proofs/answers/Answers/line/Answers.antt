@@ -2,7 +2,7 @@ use Rattle.std.proofs.Common.{ℕ, List, ◌++◌, length, ap, ap₂, sym, ◌�
 use Rattle.std.proofs.lemmas.List.{length-map}
 use Rattle.loconet_tcp.specs.ClientLines.{node_text, nodes_ok_text}
 use Rattle.bus_server.specs.declared.named_node.NamedNode.{NamedNode}
-use Rattle.bus_server.specs.Names.{names_of}
+use Rattle.bus_server.specs.NamedNodes.{names_of}
 use Rattle.bus_server.proofs.Answering.{as_many, line_by, no_line}
 use Rattle.bus_server.proofs.answers.Answers.line.Goals as goal
 

@@ -1,7 +1,7 @@
 use Rattle.std.proofs.Common.{ℕ, ap, ◌∙◌}
 use Rattle.bus_server.specs.Observations.{Observed}
-use Rattle.bus_server.specs.Progress.{state_of}
-use Rattle.bus_server.specs.Steps.{with_trains_run}
+use Rattle.bus_server.specs.Snapshots.{state_of}
+use Rattle.bus_server.specs.Hub.{with_trains_run}
 use Rattle.bus_server.proofs.Stepping.{elapse_runs}
 use Rattle.bus_server.proofs.hub.Hub.elapse.Goals as goal
 

@@ -5,7 +5,7 @@ use Rattle.railway.specs.Railway.{RailwayState}
 use Rattle.refresh_ring.specs.declared.pick.Power.{Power}
 use Rattle.station_core.specs.Seen.{Seen}
 use Rattle.bus.specs.State.{bus_state}
-use Rattle.bus_server.specs.Progress.{state_of}
+use Rattle.bus_server.specs.Snapshots.{state_of}
 use Rattle.bus_server.specs.Sensors.{powered_time, railway_elapsed, reports_elapsed, running_time}
 use Rattle.bus_server.proofs.hub.Hub.run_trains.Goals as goal
 

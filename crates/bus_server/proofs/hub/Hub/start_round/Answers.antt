@@ -3,9 +3,9 @@ use Rattle.std.specs.List.{list_all, slice_index_or}
 use Rattle.arrayvec.specs.ArrayVec.{ArrayVec}
 use Rattle.bus_server.specs.declared.named_node.NamedNode.{NamedNode}
 use Rattle.bus_server.specs.Answers.{next_line, node_lines}
-use Rattle.bus_server.specs.Names.{names_of, specs_of}
-use Rattle.bus_server.specs.Due.{due_to, turns_answer}
-use Rattle.bus_server.specs.Queues.{is_within_capacity}
+use Rattle.bus_server.specs.NamedNodes.{names_of, specs_of}
+use Rattle.bus_server.specs.TrackDue.{due_to, turns_answer}
+use Rattle.bus_server.specs.SendQueue.{is_within_capacity}
 use Rattle.bus_server.proofs.Placing.{length-enqueued, within_capacity-all}
 use Rattle.bus_server.proofs.hub.Hub.start_round.Goals as goal
 

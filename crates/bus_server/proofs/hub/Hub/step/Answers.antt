@@ -3,17 +3,16 @@ use Rattle.std.specs.List.{list_all}
 use Rattle.bus.specs.declared.outcome.Outcome.{Outcome}
 use Rattle.bus.specs.State.{bus_state}
 use Rattle.bus_server.specs.Observations.{Observed}
-use Rattle.bus_server.specs.Queues.{is_within_capacity}
+use Rattle.bus_server.specs.SendQueue.{is_within_capacity}
 use Rattle.bus_server.specs.Answers.{answers_after}
-use Rattle.bus_server.specs.Applied.{outcome_in}
-use Rattle.bus_server.specs.Counts.{disconnected_after}
-use Rattle.bus_server.specs.Due.{due_after}
-use Rattle.bus_server.specs.ClientQueues.{names_client, queues_after}
+use Rattle.bus_server.specs.ServerState.{disconnected_after, outcome_in}
+use Rattle.bus_server.specs.TrackDue.{due_after}
+use Rattle.bus_server.specs.SendQueues.{names_client, queues_after}
 use Rattle.arrayvec.specs.ArrayVec.{ArrayVec}
 use Rattle.bus_server.specs.declared.named_node.NamedNode.{NamedNode}
-use Rattle.bus_server.specs.Names.{names_of, specs_of}
-use Rattle.bus_server.specs.Placements.{answered}
-use Rattle.bus_server.specs.Progress.{state_of}
+use Rattle.bus_server.specs.NamedNodes.{names_of, specs_of}
+use Rattle.bus_server.specs.Placement.{answered}
+use Rattle.bus_server.specs.Snapshots.{state_of}
 use Rattle.bus_server.specs.Sensors.{railway_placed, reports_due}
 use Rattle.bus_server.proofs.Placing.{length-after, names-answered, placed_by, within_capacity-after}
 use Rattle.bus_server.proofs.hub.Hub.step.Goals as goal

@@ -1,7 +1,7 @@
 use Rattle.std.proofs.Common.{◌∙◌, ap}
 use Rattle.bus_server.specs.Observations.{Observed}
-use Rattle.bus_server.specs.Applied.{ServerState}
-use Rattle.bus_server.specs.Progress.{state_of}
+use Rattle.bus_server.specs.ServerState.{ServerState}
+use Rattle.bus_server.specs.Snapshots.{state_of}
 use Rattle.bus_server.proofs.Stepping.{turn_runs}
 use Rattle.bus_server.proofs.hub.Hub.turn.Goals as goal
 

@@ -1,8 +1,8 @@
 use Rattle.std.proofs.Common.{ℕ, List, Option, None, Some, ap, drop, length, refl, take, ◌∙◌}
 use Rattle.std.specs.List.{slice_index_or}
-use Rattle.bus_server.specs.Progress.{state_of}
-use Rattle.bus_server.specs.Queues.{is_within_capacity, queued}
-use Rattle.bus_server.specs.ClientQueues.{SendQueues}
+use Rattle.bus_server.specs.Snapshots.{state_of}
+use Rattle.bus_server.specs.SendQueue.{is_within_capacity, queued}
+use Rattle.bus_server.specs.SendQueues.{SendQueues}
 use Rattle.std.specs.List.{list_all}
 use Rattle.std.proofs.lemmas.List.{length-set}
 use Rattle.bus_server.proofs.Keeping.{room_at, room_set}

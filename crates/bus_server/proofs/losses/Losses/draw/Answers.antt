@@ -1,6 +1,6 @@
 use Rattle.std.proofs.Common.{◌≡◌, ℕ, ◌<◌, ◌^◌, Bool, ap, ap₂, sym, ◌∙◌, arith, bit_or, rules}
 use Rattle.std.specs.Int.{bit_at}
-use Rattle.bus_server.specs.Drawn.{is_missed, word_at}
+use Rattle.bus_server.specs.Generator.{is_missed, word_at}
 use Rattle.bus_server.proofs.Missed.{first_word, next_word, none_marked, none_more, one_marked, one_shifted, word_here}
 use Rattle.bus_server.proofs.losses.Losses.draw.Goals.{then-misses, else-misses}
 use Rattle.bus_server.proofs.losses.Losses.draw.Goals as goal

@@ -1,7 +1,7 @@
 use Rattle.std.proofs.Common.{◌≡◌, ℕ}
 use Rattle.std.specs.Prelude.{if◌then◌else◌, ◌&&◌, nat_lt}
 use Rattle.std.specs.Int.{bit_at}
-use Rattle.bus_server.specs.Drawn.{generator_after, is_missed, word_at}
+use Rattle.bus_server.specs.Generator.{generator_after, is_missed, word_at}
 use Rattle.bus_server.proofs.losses.Losses.draw.Given as goal
 
 abbrev pub invariant-loop-node : goal.invariant-loop-node

@@ -1,9 +1,9 @@
 use Rattle.std.proofs.Common.{◌<◌, ◌∷◌, [], length, refl, sym, ◌∙◌, arith}
-use Rattle.bus_server.specs.Progress.{snapshot, state_of}
+use Rattle.bus_server.specs.Snapshots.{snapshot, state_of}
 use Rattle.bus_server.specs.Rounds.{HasMoreClients, PreservesRound}
 use Rattle.bus_server.specs.TransportEvents.{Accepted}
 use Rattle.bus_server.proofs.Going.{calm_nowhere, goes_one}
-use Rattle.bus_server.specs.Applied.{with_backlog}
+use Rattle.bus_server.specs.ServerState.{with_backlog}
 use Rattle.bus_server.proofs.Keeping.{keeps_backlog, more_backlog, joined_keeps, joined_places, only_joins}
 use Rattle.bus_server.proofs.Stopping.{stops_first, whatever_fails}
 use Rattle.bus_server.proofs.server.Server.accept_at.Goals as goal

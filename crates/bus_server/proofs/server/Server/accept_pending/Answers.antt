@@ -1,10 +1,10 @@
 use Rattle.std.proofs.Common.{◌<◌, ◌≡◌, ◌+◌, ℕ, List, true, ap, arith, ◌∙◌}
 use Rattle.std.specs.List.{list_any}
 use Rattle.bus_server.specs.declared.track_due.TurnsDue.{TurnsDue}
-use Rattle.bus_server.specs.Due.{follow_message}
-use Rattle.bus_server.specs.Progress.{snapshot, state_of}
+use Rattle.bus_server.specs.TrackDue.{follow_message}
+use Rattle.bus_server.specs.Snapshots.{snapshot, state_of}
 use Rattle.bus_server.specs.Rounds.{HasMoreClients, AcceptsPending}
-use Rattle.bus_server.specs.Applied.{is_connected}
+use Rattle.bus_server.specs.ServerState.{is_connected}
 use Rattle.bus_server.proofs.Going.{calm_nowhere, calm_then, grows_none}
 use Rattle.bus_server.proofs.Rounding.{AreTaken, lets_in_behind, more_taken, nobody_waits, turns_others_away}
 use Rattle.bus_server.proofs.Stopping.{stops_behind, whatever_fails}

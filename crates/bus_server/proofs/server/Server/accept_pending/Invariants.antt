@@ -1,6 +1,6 @@
 use Rattle.std.proofs.Common.{◌≡◌, false}
-use Rattle.bus_server.specs.Applied.{has_turns_to_follow}
-use Rattle.bus_server.specs.Progress.{ProgressesWithoutInput, ObservesLayout, snapshot, HasReported, state_of}
+use Rattle.bus_server.specs.ServerState.{has_turns_to_follow}
+use Rattle.bus_server.specs.Snapshots.{ProgressesWithoutInput, ObservesLayout, snapshot, HasReported, state_of}
 use Rattle.bus_server.proofs.Rounding.{AreTaken}
 use Rattle.bus_server.proofs.server.Server.accept_pending.Given as goal
 

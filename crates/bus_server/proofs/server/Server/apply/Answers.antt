@@ -1,7 +1,7 @@
 use Rattle.std.proofs.Common.{◌∷◌, refl}
 use Rattle.bus_server.specs.Observations.{Observed, Observation}
-use Rattle.bus_server.specs.Progress.{state_of}
-use Rattle.bus_server.specs.Applied.{LoggedEvent}
+use Rattle.bus_server.specs.Snapshots.{state_of}
+use Rattle.bus_server.specs.ServerState.{LoggedEvent}
 use Rattle.bus_server.proofs.Stepping.{client_runs}
 use Rattle.bus_server.proofs.server.Server.apply.Goals as goal
 

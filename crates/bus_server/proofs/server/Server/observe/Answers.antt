@@ -1,5 +1,5 @@
 use Rattle.std.proofs.Common.{rules}
-use Rattle.bus_server.specs.Progress.{state_of}
+use Rattle.bus_server.specs.Snapshots.{state_of}
 use Rattle.std.specs.Prelude.{option_copied}
 use Rattle.bus_server.proofs.Going.{observes_first, observes_more, seen_layout}
 use Rattle.bus_server.proofs.server.Server.observe.Goals as goal

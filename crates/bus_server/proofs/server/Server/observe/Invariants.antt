@@ -1,6 +1,6 @@
 use Rattle.std.proofs.Common.{length}
-use Rattle.bus_server.specs.Progress.{ObservesLayout, state_of}
-use Rattle.bus_server.specs.Steps.{ObservesReports}
+use Rattle.bus_server.specs.Snapshots.{ObservesLayout, state_of}
+use Rattle.bus_server.specs.Hub.{ObservesReports}
 use Rattle.bus_server.proofs.server.Server.observe.Given as goal
 
 abbrev pub invariant-loop-report : goal.invariant-loop-report

@@ -1,5 +1,5 @@
 use Rattle.std.proofs.Common.{◌≡◌, ◌≤◌, ◌∷◌, ◌++◌, [], arith, inl, inr, length, length-append, refl, sym, ◌∙◌}
-use Rattle.bus_server.specs.Progress.{snapshot, state_of}
+use Rattle.bus_server.specs.Snapshots.{snapshot, state_of}
 use Rattle.bus_server.proofs.Going.{acts_more, grows_none, wire_more}
 use Rattle.bus_server.proofs.Rounding.{reads_on_apply, reads_on_more}
 use Rattle.bus_server.proofs.Stopping.{stops_behind, whatever_fails}

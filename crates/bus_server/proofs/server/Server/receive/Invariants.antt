@@ -1,7 +1,7 @@
 use Rattle.std.proofs.Common.{◌≡◌, false, length, List}
 use Rattle.bus.specs.Log.{Extends}
-use Rattle.bus_server.specs.Applied.{Handled, observations_in, transport_events, waits}
-use Rattle.bus_server.specs.Progress.{ObservesLayout, HasReported, state_of}
+use Rattle.bus_server.specs.ServerState.{Handled, observations_in, transport_events, waits}
+use Rattle.bus_server.specs.Snapshots.{ObservesLayout, HasReported, state_of}
 use Rattle.bus_server.specs.Rounds.{ReadsOn}
 use Rattle.bus_server.proofs.server.Server.receive.Given as goal
 

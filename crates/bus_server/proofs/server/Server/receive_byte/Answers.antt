@@ -2,8 +2,8 @@ use Rattle.std.proofs.Common.{[], List, arith, refl, inl, sym, subst, append-nil
 use Rattle.std.proofs.lemmas.Result.{IfOk-weaker, on_err_weaker}
 use Rattle.bus.specs.Log.{Extends}
 use Rattle.bus_server.specs.Observations.{Observation}
-use Rattle.bus_server.specs.Applied.{observations_of}
-use Rattle.bus_server.specs.Progress.{snapshot}
+use Rattle.bus_server.specs.ServerState.{observations_of}
+use Rattle.bus_server.specs.Snapshots.{snapshot}
 use Rattle.bus_server.specs.TransportEvents.{PeerClosed, ReadBlocked, Received}
 use Rattle.bus_server.proofs.Going.{grows_none}
 use Rattle.bus_server.proofs.Keeping.{is_of}

@@ -1,7 +1,7 @@
 use Rattle.std.proofs.Common.{ap, inr, sym, ◌∙◌}
-use Rattle.bus_server.specs.Applied.{with_backlog}
-use Rattle.bus_server.specs.Due.{must_wait}
-use Rattle.bus_server.specs.Progress.{state_of}
+use Rattle.bus_server.specs.ServerState.{with_backlog}
+use Rattle.bus_server.specs.TrackDue.{must_wait}
+use Rattle.bus_server.specs.Snapshots.{state_of}
 use Rattle.bus_server.proofs.Nothings.{nothing_received}
 use Rattle.bus_server.proofs.server.Server.receive_one.Goals as goal
 

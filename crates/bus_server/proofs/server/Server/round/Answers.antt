@@ -1,8 +1,8 @@
 use Rattle.std.proofs.Common.{◌≡◌, ◌++◌, List, [], ℕ, append-nil, arith, inl, inr, refl, subst, sym, ◌∙◌}
 use Rattle.bus.specs.Log.{Extends}
-use Rattle.bus_server.specs.Applied.{Handled, observations_in, transport_events}
+use Rattle.bus_server.specs.ServerState.{Handled, observations_in, transport_events}
 use Rattle.std.proofs.lemmas.Result.{on_ok_weaker, on_err_weaker}
-use Rattle.bus_server.specs.Progress.{state_of, snapshot}
+use Rattle.bus_server.specs.Snapshots.{state_of, snapshot}
 use Rattle.bus_server.specs.Rounds.{ServesClients}
 use Rattle.bus_server.proofs.Going.{acts_more, grows_none, wire_more}
 use Rattle.bus_server.proofs.Rounding.{next_turn, reads_apply, turns_serve}

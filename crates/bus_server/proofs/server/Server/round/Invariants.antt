@@ -1,4 +1,4 @@
-use Rattle.bus_server.specs.Progress.{ProgressesBy, ObservesLayout, snapshot, HasReported}
+use Rattle.bus_server.specs.Snapshots.{ProgressesBy, ObservesLayout, snapshot, HasReported}
 use Rattle.bus_server.specs.Rounds.{ServesClients}
 use Rattle.bus_server.proofs.server.Server.round.Given as goal
 

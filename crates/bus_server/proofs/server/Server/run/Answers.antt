@@ -1,9 +1,9 @@
 use Rattle.std.proofs.Common.{Bool, ap, ◌∙◌, ◌≡◌, ◌-◌, ◌^◌, [], ◌∷◌, ◌++◌, arith, inl, inr, length, length-append, refl}
-use Rattle.bus_server.specs.Runs.{run_snapshot}
+use Rattle.bus_server.specs.Running.{run_snapshot}
 use Rattle.bus_server.proofs.Courses.{Laws}
 use Rattle.bus_server.proofs.WholeRuns.{run_ends, runs_none, runs_then}
 use Rattle.bus_server.proofs.Stopping.{failed_on, passed_on, run_stops}
-use Rattle.bus_server.specs.Stops.{IsStoppedRun, fails}
+use Rattle.bus_server.specs.StoppedRuns.{IsStoppedRun, fails}
 use Rattle.bus_server.proofs.server.Server.run.Goals as goal
 
 pub loop-round-init : goal.loop-round-init

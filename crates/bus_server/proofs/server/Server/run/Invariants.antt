@@ -1,6 +1,6 @@
 use Rattle.std.proofs.Common.{◌≡◌, List, length}
-use Rattle.bus_server.specs.Progress.{ObservesLayout, HasReported}
-use Rattle.bus_server.specs.Runs.{Round, RunsLogged, run_snapshot}
+use Rattle.bus_server.specs.Snapshots.{ObservesLayout, HasReported}
+use Rattle.bus_server.specs.Running.{Round, RunsLogged, run_snapshot}
 use Rattle.bus_server.proofs.server.Server.run.Given as goal
 
 abbrev pub invariant-loop-round : goal.invariant-loop-round

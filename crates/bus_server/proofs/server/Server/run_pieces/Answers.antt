@@ -2,8 +2,8 @@ use Rattle.std.proofs.Common.{◌≡◌, ◌<◌, ◌≤◌, ◌+◌, ◌∷◌,
 use Rattle.bus.specs.declared.event.Event.TheVariants.{Elapses}
 use Rattle.bus.specs.Course.{micros_in}
 use Rattle.bus_server.specs.Observations.{Observed, Observation}
-use Rattle.bus_server.specs.Progress.{state_of}
-use Rattle.bus_server.specs.Applied.{LoggedEvent, events_of, is_crowded}
+use Rattle.bus_server.specs.Snapshots.{state_of}
+use Rattle.bus_server.specs.ServerState.{LoggedEvent, events_of, is_crowded}
 use Rattle.bus_server.specs.Track.{is_piece}
 use Rattle.bus_server.proofs.Going.{grows_none, shown_more}
 use Rattle.bus_server.proofs.Stopping.{whatever_fails}

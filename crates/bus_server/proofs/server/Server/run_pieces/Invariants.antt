@@ -1,7 +1,7 @@
 use Rattle.std.proofs.Common.{◌≡◌, ◌<◌, ◌+◌, ℕ, false}
 use Rattle.bus.specs.Course.{micros_in}
-use Rattle.bus_server.specs.Applied.{events_of, is_crowded}
-use Rattle.bus_server.specs.Progress.{IsObserved, ObservesLayout, state_of, HasReported}
+use Rattle.bus_server.specs.ServerState.{events_of, is_crowded}
+use Rattle.bus_server.specs.Snapshots.{IsObserved, ObservesLayout, state_of, HasReported}
 use Rattle.bus_server.specs.Track.{RunsSteps, is_piece}
 use Rattle.bus_server.proofs.server.Server.run_pieces.Given as goal
 

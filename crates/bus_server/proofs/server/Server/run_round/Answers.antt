@@ -2,15 +2,15 @@ use Rattle.std.proofs.Common.{ℕ, List, [], ◌∷◌, Option, ◌++◌, append
 use Rattle.std.specs.Prelude.{option_copied}
 use Rattle.std.specs.List.{flat_map}
 use Rattle.bus.specs.Log.{Extends}
-use Rattle.bus_server.specs.Progress.{state_of}
-use Rattle.bus_server.specs.Runs.{Round, skipped, run_snapshot, shown}
-use Rattle.bus_server.specs.Applied.{ServerState, answer_to, longest_wait, transport_events, observations_in, observations_of}
+use Rattle.bus_server.specs.Snapshots.{state_of}
+use Rattle.bus_server.specs.Running.{Round, skipped, run_snapshot, shown}
+use Rattle.bus_server.specs.ServerState.{ServerState, answer_to, longest_wait, transport_events, observations_in, observations_of}
 use Rattle.bus_server.specs.TransportEvents.{Polled, TransportEvent}
 use Rattle.bus_server.proofs.Going.{grows_more, grows_none, shown_of}
 use Rattle.bus_server.proofs.Stopping.{failed_on, one_grown, passed_on, stops_on_track}
 use Rattle.bus_server.specs.Observations.{Observation}
 use Rattle.bus_server.specs.Rounds.{IsRound}
-use Rattle.bus_server.specs.Stops.{StopsIn, StopsLogged}
+use Rattle.bus_server.specs.StoppedRuns.{StopsIn, StopsLogged}
 use Rattle.bus_server.proofs.server.Server.run_round.Goals as goal
 
 pub returns-in-Ok-clause-round : goal.returns-in-Ok-clause-round

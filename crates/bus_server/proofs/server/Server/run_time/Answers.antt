@@ -1,5 +1,5 @@
 use Rattle.std.proofs.Common.{◌≡◌, ◌-◌, ℕ, ap, arith}
-use Rattle.bus_server.specs.Progress.{state_of}
+use Rattle.bus_server.specs.Snapshots.{state_of}
 use Rattle.bus_server.specs.Track.{with_time_due}
 use Rattle.bus_server.proofs.server.Server.run_time.Goals as goal
 

@@ -2,10 +2,10 @@ use Rattle.std.proofs.Common.{[], refl, subst, sym}
 use Rattle.std.specs.List.{flat_map}
 use Rattle.bus_server.specs.declared.pace.Pace.{Pace}
 use Rattle.bus_server.specs.declared.running.Stop.TheVariants.{Observer}
-use Rattle.bus_server.specs.Applied.{ServerState, observations_of}
-use Rattle.bus_server.specs.Progress.{state_of}
-use Rattle.bus_server.specs.Runs.{skipped}
-use Rattle.bus_server.specs.Stops.{StopsInTime, StopsOnTrack}
+use Rattle.bus_server.specs.ServerState.{ServerState, observations_of}
+use Rattle.bus_server.specs.Snapshots.{state_of}
+use Rattle.bus_server.specs.Running.{skipped}
+use Rattle.bus_server.specs.StoppedRuns.{StopsInTime, StopsOnTrack}
 use Rattle.bus_server.specs.Track.{RunsTime, RunsTrack}
 use Rattle.bus_server.proofs.Going.{grows_more, grows_none}
 use Rattle.bus_server.proofs.server.Server.run_track.Goals as goal

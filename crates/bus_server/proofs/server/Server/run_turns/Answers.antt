@@ -1,5 +1,5 @@
 use Rattle.std.proofs.Common.{◌≡◌, ◌<◌, ◌++◌, [], ℕ, arith, refl, subst}
-use Rattle.bus_server.specs.Progress.{IsObserved, state_of}
+use Rattle.bus_server.specs.Snapshots.{IsObserved, state_of}
 use Rattle.bus_server.specs.Track.{RunsTurns}
 use Rattle.bus_server.proofs.Going.{grows_none, shown_more}
 use Rattle.bus_server.proofs.Stopping.{whatever_fails}

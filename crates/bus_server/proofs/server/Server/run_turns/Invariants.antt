@@ -1,4 +1,4 @@
-use Rattle.bus_server.specs.Progress.{IsObserved, ObservesLayout, state_of, HasReported}
+use Rattle.bus_server.specs.Snapshots.{IsObserved, ObservesLayout, state_of, HasReported}
 use Rattle.bus_server.specs.Track.{RunsTurns}
 use Rattle.bus_server.proofs.server.Server.run_turns.Given as goal
 

@@ -1,8 +1,8 @@
 use Rattle.std.proofs.Common.{◌≡◌, ◌<◌, ◌≤◌, ℕ, [], List, ap, ap₂, arith, inl, inr, refl, subst, sym, ◌∙◌}
 use Rattle.bus_server.specs.declared.track_due.TurnsDue.{TurnsDue}
-use Rattle.bus_server.specs.Applied.{with_backlog}
-use Rattle.bus_server.specs.Due.{due_to}
-use Rattle.bus_server.specs.Progress.{state_of}
+use Rattle.bus_server.specs.ServerState.{with_backlog}
+use Rattle.bus_server.specs.TrackDue.{due_to}
+use Rattle.bus_server.specs.Snapshots.{state_of}
 use Rattle.bus_server.specs.Track.{IsShare, turns_left}
 use Rattle.bus_server.proofs.Going.{grows_none}
 use Rattle.bus_server.proofs.Stopping.{whatever_fails}

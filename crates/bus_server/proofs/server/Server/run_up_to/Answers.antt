@@ -1,8 +1,8 @@
 use Rattle.std.proofs.Common.{◌≡◌, ◌<◌, ◌≤◌, ◌+◌, ◌∷◌, ◌++◌, [], arith, inr, refl, sym, ◌∙◌, true}
 use Rattle.bus.specs.declared.event.Event.TheVariants.{Turn}
 use Rattle.bus_server.specs.Observations.{Observed, Observation}
-use Rattle.bus_server.specs.Progress.{state_of}
-use Rattle.bus_server.specs.Applied.{LoggedEvent, is_crowded}
+use Rattle.bus_server.specs.Snapshots.{state_of}
+use Rattle.bus_server.specs.ServerState.{LoggedEvent, is_crowded}
 use Rattle.bus_server.specs.Track.{is_turn}
 use Rattle.bus_server.proofs.Going.{grows_none, shown_more}
 use Rattle.bus_server.proofs.Stopping.{whatever_fails}

@@ -1,6 +1,6 @@
 use Rattle.std.proofs.Common.{◌≡◌, ◌<◌, false}
-use Rattle.bus_server.specs.Applied.{is_crowded}
-use Rattle.bus_server.specs.Progress.{IsObserved, ObservesLayout, state_of, HasReported}
+use Rattle.bus_server.specs.ServerState.{is_crowded}
+use Rattle.bus_server.specs.Snapshots.{IsObserved, ObservesLayout, state_of, HasReported}
 use Rattle.bus_server.specs.Track.{RunsSteps, is_turn}
 use Rattle.bus_server.proofs.server.Server.run_up_to.Given as goal
 

@@ -2,9 +2,9 @@ use Rattle.std.proofs.Common.{◌+◌, ◌∙◌, ap, refl, map, subst, arith}
 use Rattle.layout_core.specs.Nodes.{spec_of}
 use Rattle.bus.specs.declared.bus.Bus.{Bus}
 use Rattle.bus.specs.declared.event.Event.TheVariants.{Disconnects}
-use Rattle.bus_server.specs.Progress.{snapshot, state_of}
+use Rattle.bus_server.specs.Snapshots.{snapshot, state_of}
 use Rattle.bus_server.specs.Rounds.{Writes}
-use Rattle.bus_server.specs.Applied.{RunsEventWithReports, ServerState}
+use Rattle.bus_server.specs.ServerState.{RunsEventWithReports, ServerState}
 use Rattle.bus_server.proofs.Going.{calm_nowhere, calm_then, grows_none}
 use Rattle.bus_server.proofs.Rounding.{HasPut, IsPiece, calm_weaker, more_pieces, put_four, put_then, wrote_later, wrote_one, wrote_to_none}
 use Rattle.bus_server.proofs.Stopping.{stops_behind, stops_first, whatever_fails}

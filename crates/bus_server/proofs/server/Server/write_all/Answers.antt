@@ -1,7 +1,7 @@
 use Rattle.std.proofs.Common.{◌+◌, ℕ, false, subst, ◌≡◌, arith}
-use Rattle.bus_server.specs.Progress.{snapshot, state_of}
+use Rattle.bus_server.specs.Snapshots.{snapshot, state_of}
 use Rattle.bus_server.specs.Rounds.{AllWrittenTo, IsFair, Writes, WritesNone}
-use Rattle.bus_server.specs.Applied.{has_overflowed}
+use Rattle.bus_server.specs.ServerState.{has_overflowed}
 use Rattle.bus_server.proofs.Going.{calm_nowhere, calm_then}
 use Rattle.bus_server.proofs.Rounding.{AllAndOne, AllShared, all_fair, calm_weaker, one_on_time, one_written}
 use Rattle.bus_server.proofs.Stopping.{stops_behind, whatever_fails}
@@ -17,15 +17,15 @@ loop-client-preserved g c =
     let before = snapshot (g.W.Transport.log first.transport) (g.P.Observer.observed first.observer) first.self.hub in
     let after_round = snapshot (g.W.Transport.log c.write.new.transport) (g.P.Observer.observed c.write.new.observer) c.write.new.self.hub in
     record {
-      observes = c.disconnect.ensures.observes;
-      reported = c.in_ok-disconnect.ensures.reported;
+      observes = c.close_overflowed.ensures.observes;
+      reported = c.in_ok-close_overflowed.ensures.reported;
       served =
-          calm_then (AllAndOne first.client) (λ more all. (has_overflowed all first.client ≡ false) × WritesNone more) (AllShared (first.client + 1)) start after_round (snapshot (g.W.Transport.log c.disconnect.new.transport) (g.P.Observer.observed c.disconnect.new.observer) c.disconnect.new.self.hub)
-          (λ these those kept done overflowed. one_on_time first.client these those (state_of c.write.new.self.hub) (state_of c.disconnect.new.self.hub) kept done overflowed)
+          calm_then (AllAndOne first.client) (λ more all. (has_overflowed all first.client ≡ false) × WritesNone more) (AllShared (first.client + 1)) start after_round (snapshot (g.W.Transport.log c.close_overflowed.new.transport) (g.P.Observer.observed c.close_overflowed.new.observer) c.close_overflowed.new.self.hub)
+          (λ these those kept done overflowed. one_on_time first.client these those (state_of c.write.new.self.hub) (state_of c.close_overflowed.new.self.hub) kept done overflowed)
           (calm_then (AllShared first.client) (Writes first.client) (AllAndOne first.client) start before after_round
           (λ these those kept all one. one_written first.client these those (state_of first.self.hub) (state_of c.write.new.self.hub) kept all one)
           first.invariant.served c.in_ok-write.ensures.served)
-          c.in_ok-disconnect.ensures.served;
+          c.in_ok-close_overflowed.ensures.served;
     }
 
 pub returns-in_err-write-clause-stops : goal.returns-in_err-write-clause-stops
@@ -35,16 +35,16 @@ returns-in_err-write-clause-stops g c =
     whatever_fails c.from_residual.result
     (stops_behind so_far.0 (snapshot (g.W.Transport.log c.args.transport.now) (g.P.Observer.observed c.args.observer.now) c.args.self.now.hub) (snapshot (g.W.Transport.log first.transport) (g.P.Observer.observed first.observer) first.self.hub) (snapshot (g.W.Transport.log c.write.new.transport) (g.P.Observer.observed c.write.new.observer) c.write.new.self.hub) so_far.1 so_far.2 so_far.3 c.in_err-write.ensures.stops)
 
-pub returns-in_err-disconnect-clause-stops : goal.returns-in_err-disconnect-clause-stops
-returns-in_err-disconnect-clause-stops g c =
+pub returns-in_err-close_overflowed-clause-stops : goal.returns-in_err-close_overflowed-clause-stops
+returns-in_err-close_overflowed-clause-stops g c =
     let first = c.loop-client in
     let so_far = first.invariant.served in
     let wrote = c.in_ok-write.ensures.served in
     let mid = (snapshot (g.W.Transport.log c.write.new.transport) (g.P.Observer.observed c.write.new.observer) c.write.new.self.hub) in
-    let after = (snapshot (g.W.Transport.log c.disconnect.new.transport) (g.P.Observer.observed c.disconnect.new.observer) c.disconnect.new.self.hub) in
-    whatever_fails c.from_residual-in_err-disconnect.result
+    let after = (snapshot (g.W.Transport.log c.close_overflowed.new.transport) (g.P.Observer.observed c.close_overflowed.new.observer) c.close_overflowed.new.self.hub) in
+    whatever_fails c.from_residual-in_err-close_overflowed.result
     (stops_behind so_far.0 (snapshot (g.W.Transport.log c.args.transport.now) (g.P.Observer.observed c.args.observer.now) c.args.self.now.hub) (snapshot (g.W.Transport.log first.transport) (g.P.Observer.observed first.observer) first.self.hub) after so_far.1 so_far.2 so_far.3
-    (stops_behind wrote.0 (snapshot (g.W.Transport.log first.transport) (g.P.Observer.observed first.observer) first.self.hub) mid after wrote.1 wrote.2 wrote.3 c.in_err-disconnect.ensures.stops))
+    (stops_behind wrote.0 (snapshot (g.W.Transport.log first.transport) (g.P.Observer.observed first.observer) first.self.hub) mid after wrote.1 wrote.2 wrote.3 c.in_err-close_overflowed.ensures.stops))
 
 pub returns-clause-served : goal.returns-clause-served
 returns-clause-served g c =

@@ -1,4 +1,4 @@
-use Rattle.bus_server.specs.Progress.{ProgressesWithoutInput, ObservesLayout, snapshot, HasReported}
+use Rattle.bus_server.specs.Snapshots.{ProgressesWithoutInput, ObservesLayout, snapshot, HasReported}
 use Rattle.bus_server.proofs.Rounding.{AllShared}
 use Rattle.bus_server.proofs.server.Server.write_all.Given as goal
 

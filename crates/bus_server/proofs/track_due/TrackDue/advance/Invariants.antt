@@ -1,5 +1,5 @@
 use Rattle.std.proofs.Common.{◌≡◌, ◌++◌, take, drop, length, map}
-use Rattle.bus_server.specs.Due.{after_answer}
+use Rattle.bus_server.specs.TrackDue.{after_answer}
 use Rattle.bus_server.proofs.track_due.TrackDue.advance.Given as goal
 
 -- the clients before this index were told, and the others not yet

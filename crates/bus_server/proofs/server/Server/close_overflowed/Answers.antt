@@ -1,13 +1,13 @@
 use Rattle.std.proofs.Common.{refl, ◌≡◌, ◌∷◌, [], false, sym, ◌∙◌, inl, inr}
-use Rattle.bus_server.specs.Progress.{snapshot, state_of}
+use Rattle.bus_server.specs.Snapshots.{snapshot, state_of}
 use Rattle.bus_server.specs.Rounds.{PreservesRound, WritesNone}
-use Rattle.bus_server.specs.Applied.{has_overflowed, observations_of}
+use Rattle.bus_server.specs.ServerState.{has_overflowed, observations_of}
 use Rattle.bus_server.specs.Observations.{Overflowed}
 use Rattle.bus_server.specs.TransportEvents.{ServerClosed}
 use Rattle.bus_server.proofs.Going.{calm_nowhere, goes_one, grows_more}
 use Rattle.bus_server.proofs.Keeping.{left_is_not_late, left_keeps, only_leaves}
 use Rattle.bus_server.proofs.Stopping.{stops_first, whatever_fails}
-use Rattle.bus_server.proofs.server.Server.disconnect.Goals as goal
+use Rattle.bus_server.proofs.server.Server.close_overflowed.Goals as goal
 
 pub returns-then-not-has_overflowed-clause-served : goal.returns-then-not-has_overflowed-clause-served
 returns-then-not-has_overflowed-clause-served g c = calm_nowhere (λ more new. (has_overflowed new c.args.client ≡ false) × WritesNone more) (snapshot (g.W.Transport.log c.args.transport.now) (g.P.Observer.observed c.args.observer.now) c.args.self.now.hub) (sym c.has_overflowed.ensures ∙ c.if-not-has_overflowed.true, λ other. refl)

@@ -6,9 +6,9 @@ use Rattle.decoder_node.specs.declared.node.NodeSpec.{NodeSpec}
 use Rattle.layout_core.specs.Nodes.{spec_of}
 use Rattle.bus.specs.Log.{Extends}
 use Rattle.bus_server.specs.declared.hub.Hub.{Hub}
-use Rattle.bus_server.specs.Names.{names_of}
+use Rattle.bus_server.specs.NamedNodes.{names_of}
 use Rattle.bus_server.specs.Rounds.{HasMoreClients, PreservesRound, HasEmptyQueue}
-use Rattle.bus_server.specs.Applied.{Handled, Applies, LoggedEvent, AppliesAll, ServerState, transport_events, observations_in, observations_of}
+use Rattle.bus_server.specs.ServerState.{Handled, Applies, LoggedEvent, AppliesAll, ServerState, transport_events, observations_in, observations_of}
 use Rattle.bus_server.specs.declared.transport.IoOutcome.{IoOutcome}
 use Rattle.bus_server.specs.declared.transport.IoOutcome.TheVariants.{Bytes, Closed, WouldBlock}
 use Rattle.bus_server.specs.TransportEvents.{WriteBlocked, PeerClosed, NonePending, TransportEvent, Written}

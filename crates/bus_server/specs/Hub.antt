@@ -9,10 +9,9 @@ use Rattle.bus.specs.Layout.{layout_event}
 use Rattle.bus.specs.Log.{Extends}
 use Rattle.bus_server.specs.Observations.{Observation, Observed}
 use Rattle.bus_server.specs.Answers.{answers_after}
-use Rattle.bus_server.specs.Applied.{LoggedEvent, RunsEvents, ServerState, events_of, observations_of, outcome_in}
-use Rattle.bus_server.specs.ClientQueues.{queues_after}
-use Rattle.bus_server.specs.Counts.{disconnected_after}
-use Rattle.bus_server.specs.Due.{due_after}
+use Rattle.bus_server.specs.ServerState.{LoggedEvent, RunsEvents, ServerState, disconnected_after, events_of, observations_of, outcome_in}
+use Rattle.bus_server.specs.SendQueues.{queues_after}
+use Rattle.bus_server.specs.TrackDue.{due_after}
 use Rattle.bus_server.specs.Sensors.{is_report, railway_elapsed, railway_placed, reports_due, reports_elapsed, running_time}
 
 -- Trains have run for a time, as the decoders do, if the track has power, and what sensors report of

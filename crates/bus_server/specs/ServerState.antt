@@ -1,5 +1,5 @@
 -- The effect of transport events, and of time, on a server.
-use Rattle.std.specs.Prelude.{ℕ, ◌≡◌, ◌<◌, Bool, true, false, if◌then◌else◌, ◌&&◌, nat_le, nat_lt, not, is_some, length, ◌||◌, List, [], ◌∷◌, ◌++◌, map, replicate, MatchBool, Option, Some, None, slice_set}
+use Rattle.std.specs.Prelude.{ℕ, ◌≡◌, ◌<◌, ◌+◌, ◌-◌, ◌^◌, Bool, true, false, if◌then◌else◌, ◌&&◌, nat_le, nat_lt, not, is_some, length, min, ◌||◌, List, [], ◌∷◌, ◌++◌, map, replicate, MatchBool, Option, Some, None, slice_set}
 use Rattle.decoder_node.specs.declared.node.NodeSpec.{NodeSpec}
 use Rattle.std.specs.List.{flat_map, list_all, list_any, slice_index_or}
 use Rattle.layout_core.specs.declared.node.Node.{Node}
@@ -8,23 +8,23 @@ use Rattle.layout_core.specs.World.{HaveHeard}
 use Rattle.ln_ops.specs.declared.sensor.SensorReport.{SensorReport}
 use Rattle.railway.specs.Railway.{RailwayState}
 use Rattle.bus_server.specs.declared.losses.Losses.{Losses}
-use Rattle.bus_server.specs.Draws.{IsDraw}
+use Rattle.bus_server.specs.Losses.{IsDraw}
 use Rattle.bus_server.specs.declared.pace.Pace.{Pace}
 use Rattle.bus_server.specs.declared.track_due.TurnsDue.{TurnsDue}
-use Rattle.bus_server.specs.Due.{after_answer, due_after, due_to, follow_message, is_due, must_wait, none_due, turns_answer}
-use Rattle.bus_server.specs.Paces.{clock_time, follows_messages}
+use Rattle.bus_server.specs.TrackDue.{after_answer, due_after, due_to, follow_message, is_due, must_wait, none_due, turns_answer}
+use Rattle.bus_server.specs.Pace.{clock_time, follows_messages}
 use Rattle.bus.specs.declared.event.Event.{Event}
 use Rattle.bus.specs.declared.event.Event.TheVariants.{Receives, Connects, Disconnects, Elapses, Turn}
 use Rattle.bus.specs.declared.outcome.Outcome.{Outcome}
+use Rattle.bus.specs.declared.outcome.Outcome.TheVariants.{Disconnected}
 use Rattle.bus.specs.Bus.{BusState, after_event, client_of, first_bus, is_event, outcome_of}
 use Rattle.bus.specs.Layout.{layout_event}
 use Rattle.bus_server.specs.Observations.{Observed, Observation, Overflowed}
 use Rattle.bus_server.specs.Answers.{Answers, after_line, answers_after, next_line, node_lines}
-use Rattle.bus_server.specs.Counts.{disconnected_after}
-use Rattle.bus_server.specs.Placements.{answered}
+use Rattle.bus_server.specs.Placement.{answered}
 use Rattle.bus_server.specs.Sensors.{IsDue, IsWithinTurn, is_report, railway_after, reports_after}
-use Rattle.bus_server.specs.Queues.{is_more_than_half}
-use Rattle.bus_server.specs.ClientQueues.{SendQueues, enqueued_from, queues_after}
+use Rattle.bus_server.specs.SendQueue.{is_more_than_half}
+use Rattle.bus_server.specs.SendQueues.{SendQueues, enqueued_from, queues_after}
 use Rattle.bus_server.specs.TransportEvents.{Polled, ServerClosed, Accepted, PeerClosed, TransportEvent, Written, Received, Refused}
 
 -- A server: its bus, the decoders and their names, the railway beside them (or None) and what its
@@ -63,6 +63,11 @@ initial_state nodes names railway pace losses = record {
   disconnected = 0;
   has_backlog = false;
 }
+
+-- how many clients have disconnected: one more after each, as far as 64 bits count
+abbrev pub disconnected_after : Outcome → ℕ → ℕ
+disconnected_after (Disconnected client) disconnected = min (disconnected + 1) (2 ^ 64 - 1)
+disconnected_after other disconnected = disconnected
 
 -- what the decoders miss of a turn is drawn as it begins; if none begins, nothing is drawn or missed
 abbrev pub IsDrawn : Event → BusState → (nodes : ℕ) → (old new : Losses) → Type 0

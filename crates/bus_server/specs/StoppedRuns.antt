@@ -7,10 +7,10 @@ use Rattle.bus_server.specs.declared.running.Stop.{Stop}
 use Rattle.bus_server.specs.declared.running.Stop.TheVariants.{Transport, Clock, Observer, AfterRound}
 use Rattle.bus_server.specs.declared.pace.Pace.{Pace}
 use Rattle.bus_server.specs.declared.pace.Pace.TheVariants.{AfterMessages, RealTime}
-use Rattle.bus_server.specs.Applied.{Applies, AppliesAll, Handled, LoggedEvent, ServerState, events_of, has_overflowed, longest_wait, observations_in, round_start, transport_events}
-use Rattle.bus_server.specs.Progress.{Snapshot}
+use Rattle.bus_server.specs.ServerState.{Applies, AppliesAll, Handled, LoggedEvent, ServerState, events_of, has_overflowed, longest_wait, observations_in, round_start, transport_events}
+use Rattle.bus_server.specs.Snapshots.{Snapshot}
 use Rattle.bus_server.specs.Rounds.{IsRound}
-use Rattle.bus_server.specs.Runs.{HasGrown, IsEventRun, Round, RunsRounds, RunSnapshot, StartsRound, logged_in, shown}
+use Rattle.bus_server.specs.Running.{HasGrown, IsEventRun, Round, RunsRounds, RunSnapshot, StartsRound, logged_in, shown}
 use Rattle.bus_server.specs.Track.{IsTimeDue, RunsSteps, RunsTrack, RunsTurns, is_piece, is_turn, turns_left, with_time_due}
 use Rattle.bus_server.specs.TransportEvents.{Accepted, PeerClosed, Received, ServerClosed, TransportEvent}
 

@@ -16,12 +16,12 @@ use Rattle.bus.specs.Cycle.{RunsInTime}
 use Rattle.bus_server.specs.declared.hub.Hub.{Hub}
 use Rattle.bus_server.specs.declared.losses.Losses.{Losses}
 use Rattle.bus_server.specs.declared.pace.Pace.TheVariants.{RealTime}
-use Rattle.bus_server.specs.Paces.{longest_step}
-use Rattle.bus_server.specs.Progress.{state_of}
+use Rattle.bus_server.specs.Pace.{longest_step}
+use Rattle.bus_server.specs.Snapshots.{state_of}
 use Rattle.bus_server.specs.Rounds.{IsRound}
-use Rattle.bus_server.specs.Shown.{Shown}
+use Rattle.bus_server.specs.AfterRound.{Shown}
 use Rattle.bus_server.specs.Track.{RunsTrack}
-use Rattle.bus_server.specs.Applied.{Handled, IsDrawn, longest_wait, LoggedEvent, ServerState, events_of, transport_events, observations_in, observations_of, answer_to, round_start}
+use Rattle.bus_server.specs.ServerState.{Handled, IsDrawn, longest_wait, LoggedEvent, ServerState, events_of, transport_events, observations_in, observations_of, answer_to, round_start}
 use Rattle.bus_server.specs.TransportEvents.{Polled, TransportEvent}
 
 abbrev pub shown : ServerState → Shown

@@ -2,7 +2,7 @@
 use Rattle.std.specs.Prelude.{ℕ, ◌≡◌, ◌==◌, ◌&&◌, nat_lt, if◌then◌else◌}
 use Rattle.std.specs.Int.{bit_at}
 use Rattle.bus_server.specs.declared.losses.Losses.{Losses}
-use Rattle.bus_server.specs.Drawn.{first_generator, generator_after, is_missed, word_at}
+use Rattle.bus_server.specs.Generator.{first_generator, generator_after, is_missed, word_at}
 
 -- new losses: each decoder misses this share of 100 packets, drawn by the generator of this seed
 pub record IsSeeded (lose seed : ℕ) (losses : Losses) : Type 0 where

@@ -1,6 +1,6 @@
 -- The queues of the clients of a bus, and what an outcome adds to them.
 use Rattle.std.specs.Prelude.{ℕ, ◌+◌, Bool, true, nat_lt, List, [], ◌∷◌, Option, Some, None, slice_set}
-use Rattle.bus_server.specs.Queues.{enqueued}
+use Rattle.bus_server.specs.SendQueue.{enqueued}
 use Rattle.bus.specs.declared.outcome.Outcome.{Outcome}
 use Rattle.bus.specs.declared.outcome.Outcome.TheVariants.{Nothing, Connected, Disconnected, Rejected, Reported, Sent, TurnBegan, TurnsRequested, NodesRequested, PlaceRequested, Placed}
 use Rattle.bus.specs.Outcome.{text_for}
