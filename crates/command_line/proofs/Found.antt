@@ -3,7 +3,7 @@ use Rattle.std.specs.Prelude.{◌≡◌, ℕ, List, refl, option_map, MatchOptio
 use Rattle.clap.specs.declared.parser.matches.Found.{Found}
 use Rattle.clap.specs.Words.{ReadsOne, Text, all_of, first_of, first_value, matched_of, raw_values, rows_of}
 use Rattle.clap.proofs.WalkLemmas.{first_value-rows, raw_values-rows}
-use Rattle.command_line.specs.Order.{HasNone}
+use Rattle.command_line.specs.Values.{HasNone}
 
 pub first_in_rows : (found : Found) (id : Text) → first_value found id ≡ first_of id (rows_of found)
 first_in_rows = first_value-rows

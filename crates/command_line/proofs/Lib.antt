@@ -1,5 +1,3 @@
 pub mod Found
-pub mod Simple
-pub mod Defaults
 pub mod Faults
-pub mod Flags
+pub mod Tables

@@ -1,11 +1,21 @@
--- The command line, as clap reads it.
-use Rattle.std.specs.Prelude.{◌≡◌, ℕ, List, [], ◌∷◌, codes, Some, true, false, pos, Result, IfOk}
+-- A command line, as clap reads it.
+use Rattle.std.specs.Prelude.{◌≡◌, ◌==◌, ℕ, Bool, List, [], ◌∷◌, Some, true, false, length, map, not, pos, Result, IfOk}
+use Rattle.std.specs.List.{fold}
 use Rattle.clap.specs.Words.{App, Rule, Text, app_of, found_of, matches_of, new_app, new_rule, rows_of, subcommand_of, subcommand_rows_of, with_rule, with_subcommand}
 use Rattle.clap.specs.declared.builder.command.Command.{Command}
 use Rattle.clap.specs.declared.builder.Command.TheViews.{out-Command as fields_of}
-use Rattle.clap.specs.declared.builder.ArgAction.TheVariants.{Set}
+use Rattle.clap.specs.declared.builder.ArgAction.TheVariants.{Append, Set, SetTrue}
 use Rattle.clap.specs.declared.builder.value_parser.ValueParser.TheVariants as vp
 use Rattle.clap.specs.declared.parser.matches.ArgMatches.{ArgMatches}
+use Rattle.command_line.specs.declared.table.Argument.{Argument}
+use Rattle.command_line.specs.declared.table.CommandText.{CommandText}
+use Rattle.command_line.specs.declared.table.Kind.{Kind}
+use Rattle.command_line.specs.declared.table.Kind.TheVariants.{Flag, Single, Repeated, Number, Positional}
+use Rattle.command_line.specs.declared.table.Need.{Need}
+use Rattle.command_line.specs.declared.table.Need.TheVariants.{Optional, Required, Default}
+use Rattle.command_line.specs.declared.table.ProgramText.{ProgramText}
+
+-- The arguments.
 
 -- a value at its position
 abbrev pub value : Text → Rule
@@ -15,9 +25,17 @@ value id = record (new_rule id) { value_names = 1; action = Some Set }
 abbrev pub option : Text → Rule
 option id = record (value id) { long = Some id }
 
+-- `--id VALUE`, which may be repeated
+abbrev pub repeated : Text → Rule
+repeated id = record (option id) { action = Some Append }
+
 -- `--id N`, a number in a range
 abbrev pub number : Text → ℕ → ℕ → Rule
 number id least most = record (option id) { parser = Some (vp.Signed (pos least) (pos most)) }
+
+-- `--id`, a flag without a value
+abbrev pub flag : Text → Rule
+flag id = record (new_rule id) { long = Some id; action = Some SetTrue }
 
 -- the default of an option
 abbrev pub or_else : Rule → Text → Rule
@@ -26,28 +44,41 @@ or_else rule text = record rule { defaults = text ∷ [] }
 abbrev pub needed : Rule → Rule
 needed rule = record rule { required = true }
 
--- The options.
+-- The commands.
 
-unfoldable pub roster_rule : Rule
-roster_rule = option (codes "roster")
+abbrev pub with_rules : App → List Rule → App
+with_rules app rules = fold with_rule app rules
 
-unfoldable pub lines_rule : Rule
-lines_rule = or_else (number (codes "lines") 1 8) (codes "1")
+-- the program of this name, with a version, whose arguments do not include the name
+abbrev pub named_app : (name : Text) → (needs_subcommand : Bool) → App
+named_app name needs_subcommand = record (new_app name) { top = record (new_app name).top { no_binary_name = true; has_version = true; subcommand_required = needs_subcommand } }
 
-unfoldable pub file_rule : Rule
-file_rule = needed (value (codes "file"))
+-- The commands of a table.
 
-unfoldable pub port_rule : Rule
-port_rule = needed (number (codes "port") 1 65535)
+abbrev pub kind_rule : Text → Kind → Rule
+kind_rule id Flag = flag id
+kind_rule id Single = option id
+kind_rule id Repeated = repeated id
+kind_rule id (Number least most) = number id least most
+kind_rule id Positional = value id
 
-unfoldable pub turns_rule : Rule
-turns_rule = or_else (number (codes "turns") 0 255) (codes "1")
+abbrev pub needed_as : Need → Rule → Rule
+needed_as Optional rule = rule
+needed_as Required rule = needed rule
+needed_as (Default text) rule = or_else rule text.now
 
-unfoldable pub reads_rule : Rule
-reads_rule = or_else (number (codes "reads") 1 4294967295) (codes "100000")
+abbrev pub rule_in : Argument → Rule
+rule_in argument = needed_as argument.need (kind_rule argument.id.now argument.kind)
 
-unfoldable pub connections_rule : Rule
-connections_rule = or_else (number (codes "connections") 1 1000) (codes "1")
+abbrev pub command_app : CommandText → App
+command_app command = with_rules (new_app command.name.now) (map rule_in command.arguments.now)
+
+abbrev pub with_command : App → CommandText → App
+with_command app command = with_subcommand app (command_app command).top
+
+abbrev pub program_app : ProgramText → App
+program_app text =
+    fold with_command (with_rules (named_app text.command.name.now (not (length text.subcommands.now == 0))) (map rule_in text.command.arguments.now)) text.subcommands.now
 
 -- The fact about a command being built: none if memory ran out.
 
@@ -60,28 +91,3 @@ HasNoGlobals draft = IfOk draft (λ c. (fields_of c).has_globals ≡ false)
 -- clap's matches of the arguments: those of the command and of its subcommand
 abbrev pub HasRows : App → List Text → ArgMatches → Type 0
 HasRows app words m = (rows_of (found_of m) ≡ matches_of app words) × (subcommand_rows_of m ≡ subcommand_of app words)
-
--- The commands.
-
-unfoldable pub replay_app : App
-replay_app = with_rule (with_rule (new_app (codes "replay")) lines_rule) roster_rule
-
-unfoldable pub monitor_app : App
-monitor_app = with_rule (new_app (codes "monitor")) file_rule
-
-unfoldable pub served_app : App
-served_app = with_rule (with_rule (new_app (codes "serve")) port_rule) roster_rule
-
-unfoldable pub serve_app : App
-serve_app = with_rule (with_rule (with_rule served_app turns_rule) reads_rule) connections_rule
-
--- the program of this name, with a version, whose arguments do not include the name
-unfoldable pub named_app : (name : Text) → App
-named_app name = record (new_app name) { top = record (new_app name).top { no_binary_name = true; has_version = true } }
-
--- the program's arguments do not include its name, and a command is required
-unfoldable pub bare_app : App
-bare_app = record (new_app (codes "station")) { top = record (new_app (codes "station")).top { no_binary_name = true; has_version = true; subcommand_required = true } }
-
-unfoldable pub station_app : App
-station_app = with_subcommand (with_subcommand (with_subcommand bare_app replay_app.top) monitor_app.top) serve_app.top

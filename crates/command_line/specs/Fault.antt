@@ -1,16 +1,13 @@
 -- Why arguments are not an order, and the exit status of that.
-use Rattle.std.specs.Prelude.{ℕ, ◌≡◌, ◌≢◌, ◌⊎◌, List, [], ◌∷◌}
+use Rattle.std.specs.Prelude.{ℕ, ◌≡◌, ◌≢◌, ◌⊎◌}
 use Rattle.clap.specs.Kinds.{Kinds, IsAmong}
 use Rattle.clap.specs.Values.{kind_of}
-use Rattle.clap.specs.Words.{Text, fault_of}
 use Rattle.clap.specs.declared.error.Error.{Error}
 use Rattle.clap.specs.declared.error.kind.ErrorKind.{ErrorKind}
 use Rattle.clap.specs.declared.error.kind.ErrorKind.TheVariants.{OutOfMemory, ValueValidation}
-use Rattle.command_line.specs.declared.orders.OrderFault.{OrderFault}
-use Rattle.command_line.specs.declared.orders.OrderFault.TheVariants.{Usage, NoMemory}
-use Rattle.command_line.specs.CommandLine.{station_app}
-use Rattle.command_line.specs.Order.{HasNone, IsOrderOf}
-use Rattle.command_line.specs.ServerLine.{IsServerOrderOf, server_app}
+use Rattle.command_line.specs.declared.fault.OrderFault.{OrderFault}
+use Rattle.command_line.specs.declared.fault.OrderFault.TheVariants.{Usage, NoMemory}
+use Rattle.command_line.specs.Values.{HasNone}
 
 -- usage, memory: as the statuses of other faults
 abbrev pub status_of : OrderFault → ℕ
@@ -31,24 +28,11 @@ abbrev pub IsUnmatched : {A : Type 0} → (A → Type 0) → OrderFault → Type
 IsUnmatched Is (Usage error) = HasNone Is × (kind_of error ≡ ValueValidation)
 IsUnmatched Is NoMemory = Unit {0}
 
--- the errors for which clap rejects the arguments; an empty list is not passed to it
-abbrev pub refusals : List Text → Kinds
-refusals [] = []
-refusals (word ∷ words) = fault_of station_app (word ∷ words)
-
 -- nothing if out of memory; otherwise clap rejects the arguments for one of these errors
 abbrev pub IsRejectedBy : Kinds → OrderFault → Type 0
 IsRejectedBy kinds (Usage error) = IsAmong (kind_of error) kinds
 IsRejectedBy kinds NoMemory = Unit {0}
 
--- nothing if out of memory; otherwise clap rejects the arguments for one of these errors, or no
--- order corresponds to its matches
+-- clap rejects the arguments for one of these errors, or no order corresponds to its matches
 abbrev pub IsFaultOf : {A : Type 0} → Kinds → (A → Type 0) → OrderFault → Type 0
-IsFaultOf kinds Is (Usage error) = IsAmong (kind_of error) kinds ⊎ (HasNone Is × (kind_of error ≡ ValueValidation))
-IsFaultOf kinds Is NoMemory = Unit {0}
-
-abbrev pub IsOrderFault : List Text → OrderFault → Type 0
-IsOrderFault words fault = IsFaultOf (refusals words) (IsOrderOf words) fault
-
-abbrev pub IsServerFault : List Text → OrderFault → Type 0
-IsServerFault words fault = IsFaultOf (fault_of server_app words) (IsServerOrderOf words) fault
+IsFaultOf kinds Is fault = IsRejectedBy kinds fault ⊎ IsUnmatched Is fault

@@ -1,15 +1,11 @@
 -- Arguments that ask for help or the version.
-use Rattle.std.specs.Prelude.{◌≡◌, ◌⊎◌, List, Bool, true, false}
+use Rattle.std.specs.Prelude.{◌≡◌, ◌⊎◌, Bool, true, false}
 use Rattle.clap.specs.Kinds.{Kinds, IsAmong}
 use Rattle.clap.specs.Values.{kind_of}
-use Rattle.clap.specs.Words.{Text, fault_of}
 use Rattle.clap.specs.declared.error.kind.ErrorKind.{ErrorKind}
 use Rattle.clap.specs.declared.error.kind.ErrorKind.TheVariants.{DisplayHelp, DisplayVersion}
-use Rattle.command_line.specs.declared.orders.OrderFault.{OrderFault}
-use Rattle.command_line.specs.declared.orders.OrderFault.TheVariants.{Usage, NoMemory}
-use Rattle.command_line.specs.declared.filter_text.FilterText.{FilterText}
-use Rattle.command_line.specs.FilterLine.{filter_app}
-use Rattle.command_line.specs.ServerLine.{server_app}
+use Rattle.command_line.specs.declared.fault.OrderFault.{OrderFault}
+use Rattle.command_line.specs.declared.fault.OrderFault.TheVariants.{Usage, NoMemory}
 
 abbrev pub is_request_kind : ErrorKind → Bool
 is_request_kind DisplayHelp = true
@@ -28,10 +24,3 @@ AsksForText kinds = IsAmong DisplayHelp kinds ⊎ IsAmong DisplayVersion kinds
 -- if the fault is a requested text, clap answers the arguments with one
 abbrev pub IsRequestedBy : Kinds → OrderFault → Type 0
 IsRequestedBy kinds fault = is_request fault ≡ true → AsksForText kinds
-
--- the arguments of `lbserver`, and of a filter
-abbrev pub AsksServer : List Text → Type 0
-AsksServer words = AsksForText (fault_of server_app words)
-
-abbrev pub AsksFilter : FilterText → List Text → Type 0
-AsksFilter text words = AsksForText (fault_of (filter_app text) words)

@@ -1,10 +1,10 @@
 //! The arguments of a program, as texts.
 ghost use Rattle.std.specs.Prelude.{◌≡◌, ◌≢◌, IfErr, IfOk, map, string_bytes};
 ghost use Rattle.std.specs.IoError.{error_kind};
-ghost use Rattle.command_line.specs.declared.orders.OrderFault.TheVariants.{NoMemory};
+ghost use Rattle.command_line.specs.declared.fault.OrderFault.TheVariants.{NoMemory};
 ghost use Rattle.command_line.specs.Arguments.{IsArgumentFault};
 
-use crate::orders::OrderFault;
+use crate::fault::OrderFault;
 use std::alloc::{AllocError, Global};
 use std::env::{Args, Env};
 use std::io::ErrorKind;

@@ -1,39 +1,27 @@
-//! Command lines: reading the arguments of the programs, and parsing them with `clap`.
+//! Command lines: reading the arguments of a program, and parsing them with `clap`.
 //!
-//! [`order`] parses the arguments of `station` into an [`Order`], [`server_order`] those of
-//! `lbserver` into a [`ServerOrder`], and [`filter_order`] those of a program that reads one file
-//! into a [`FilterOrder`]. The text of an [`OrderFault`] is shown to the user: on standard output
-//! if it is a requested text, otherwise on standard error, by [`OrderFault::report`].
-//! [`read_words`] returns the arguments.
-//!
-//! ```ignore
-//! match order(alloc, &arguments) {
-//!     Ok(Order::Monitor { file }) => { /* run it */ }
-//!     Ok(_) => { /* an order that needs a layout */ }
-//!     Err(fault) => status = fault.report("station", &mut faults),
-//! }
-//! ```
+//! A [`ProgramText`] says what the command line of a program may hold. [`matches_of`] parses
+//! arguments by it, and [`text`], [`repeated`], [`number`], [`address`], [`flag`] and [`file_name`]
+//! return the values that they give. The text of an [`OrderFault`] is shown to the user: on standard output if it is a requested
+//! text, otherwise on standard error, by [`OrderFault::report`]. [`read_words`] returns the
+//! arguments. The orders of each program are in a crate below it.
 #![tactic(auto)]
 
 mod arguments;
-mod command;
-mod filter;
-mod filter_command;
-mod filter_text;
+mod building;
+mod fault;
 mod opening;
-mod orders;
+mod parsing;
 mod requests;
-mod server;
-mod server_command;
+mod table;
+mod values;
 mod version;
-mod words;
 
 pub use arguments::{read_words, texts};
-pub use filter::{filter_order, not_utf8_filter_text};
-pub use filter_text::{FilterFlag, FilterOrder, FilterText};
+pub use fault::OrderFault;
 pub use input_text::FileName;
 pub use opening::{open_error_words, open_file};
-pub use orders::{OrderFault, no_text, order};
-pub use server::{not_utf8_server_text, server_order};
+pub use parsing::{matches_of, not_utf8, out_of_range, wrong_value};
+pub use table::{Argument, CommandText, Kind, Need, ProgramText, ROSTER};
+pub use values::{address, file_name, flag, number, repeated, text};
 pub use version::VERSION;
-pub use words::{Order, ServerOrder};

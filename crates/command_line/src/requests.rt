@@ -2,7 +2,7 @@
 ghost use Rattle.std.specs.Prelude.{◌≡◌, IfOk, None, Ok, false, is_some};
 ghost use Rattle.command_line.specs.Requests.{is_request};
 
-use crate::orders::OrderFault;
+use crate::fault::OrderFault;
 use clap::error::ErrorKind;
 use std::alloc::{AllocError, Global};
 

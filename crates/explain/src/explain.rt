@@ -3,8 +3,7 @@ ghost use Rattle.explain.specs.Conversion.{ExplainsOrConverts};
 
 use crate::conversion::convert;
 use crate::streams::execute;
-use command_line::{FilterFlag, FilterText};
-use filter::Filter;
+use filter::{Filter, FilterFlag, FilterText};
 use input_text::{Input, Output};
 use std::alloc::Global;
 use std::io::Write;

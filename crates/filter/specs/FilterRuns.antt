@@ -2,10 +2,9 @@
 use Rattle.std.specs.Prelude.{ℕ, ◌≡◌, ◌≢◌, ◌⊎◌, Bool, List, [], Option, Some, None}
 use Rattle.std.specs.Io.KnownBytes.{Appends}
 use Rattle.clap.specs.Words.{Text, fault_of}
-use Rattle.command_line.specs.declared.filter_text.FilterOrder.{FilterOrder}
-use Rattle.command_line.specs.declared.filter_text.FilterText.{FilterText}
-use Rattle.command_line.specs.FilterLine.{IsFilterOrder, filter_app}
-use Rattle.command_line.specs.Requests.{AsksFilter}
+use Rattle.filter.specs.declared.text.FilterOrder.{FilterOrder}
+use Rattle.filter.specs.declared.text.FilterText.{FilterText}
+use Rattle.filter.specs.FilterLine.{AsksFilter, IsFilterOrder, filter_app}
 
 -- the effect of a filter on its input and its output
 abbrev pub Effect : Type 1

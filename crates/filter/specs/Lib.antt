@@ -1,3 +1,4 @@
 pub mod FilterFault
+pub mod FilterLine
 pub mod FilterRuns
 pub mod Terminal

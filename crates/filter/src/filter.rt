@@ -1,7 +1,7 @@
 //! The interface of a filter.
 ghost use Rattle.std.specs.Prelude.{◌≡◌, ◌==◌, ◌≤◌, ℕ, Bool, List, Option, false};
 
-use command_line::FilterText;
+use crate::text::FilterText;
 use input_text::{Input, Output};
 use std::alloc::Global;
 use std::io::Write;

@@ -13,11 +13,16 @@
 
 mod announced;
 mod filter;
+mod orders;
 mod report;
 mod running;
 mod standard;
+mod table;
 mod terminal;
+mod text;
 
 pub use filter::Filter;
+pub use orders::filter_order;
 pub use running::execute_words;
 pub use standard::run_filter;
+pub use text::{FilterFlag, FilterOrder, FilterText};

@@ -2,14 +2,16 @@
 ghost use Rattle.std.specs.Prelude.{ℕ, ◌≡◌, ◌==◌, ◌≤◌, List, Some, OnOk, true, false, map};
 ghost use Rattle.std.specs.Io.KnownBytes.{Appends};
 ghost use Rattle.clap.specs.Words.{Text};
-ghost use Rattle.command_line.specs.FilterLine.{file_in};
-ghost use Rattle.command_line.specs.Requests.{AsksFilter, is_request};
+ghost use Rattle.command_line.specs.Requests.{is_request};
+ghost use Rattle.filter.specs.FilterLine.{AsksFilter, file_in};
 ghost use Rattle.filter.specs.FilterRuns.{Rejects, RunsOn, RunsOnFile, RunsWords};
 ghost use Rattle.input_text.specs.Write.{failed_after};
 
 use crate::filter::Filter;
+use crate::orders::filter_order;
 use crate::report::StartFault;
-use command_line::{FileName, FilterOrder, FilterText, OrderFault, filter_order, open_file};
+use crate::text::{FilterOrder, FilterText};
+use command_line::{FileName, OrderFault, open_file};
 use input_text::{Broken, Input, Output, put_all};
 use std::alloc::Global;
 use std::io::Write;

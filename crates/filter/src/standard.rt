@@ -2,9 +2,11 @@
 
 use crate::announced::Announced;
 use crate::filter::Filter;
+use crate::orders::not_utf8_text;
 use crate::running::execute_words;
 use crate::terminal::is_terminal;
-use command_line::{FilterText, OrderFault, not_utf8_filter_text, read_words, texts};
+use crate::text::FilterText;
+use command_line::{OrderFault, read_words, texts};
 use input_text::{TrackedReader, TrackedWriter};
 use std::io;
 use std::process::ExitCode;
@@ -27,7 +29,7 @@ fn run_words<F: Filter>(
     text: FilterText<'_>,
     rt: &HostRuntime,
 ) -> Result<u8, OrderFault> {
-    let words = read_words(rt.alloc(), rt, |alloc| not_utf8_filter_text(alloc, text))?;
+    let words = read_words(rt.alloc(), rt, |alloc| not_utf8_text(alloc, text))?;
     let texts = texts(rt.alloc(), words.as_slice())?;
     let standard = Announced::new(rt.reader(), rt.stderr(), text.name, is_terminal(rt));
     Ok(execute_words(

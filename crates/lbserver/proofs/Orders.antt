@@ -4,8 +4,8 @@ use Rattle.std.specs.Prelude.{IsTrue, nat_le}
 use Rattle.std.specs.Borrow.{Bor}
 use Rattle.std.specs.Option.{option_copied}
 use Rattle.std.proofs.lemmas.Bool.{and_from}
-use Rattle.command_line.specs.declared.words.ServerOrder.{ServerOrder}
-use Rattle.command_line.specs.ServerLine.{IsNumberIfGiven}
+use Rattle.server_orders.specs.declared.words.ServerOrder.{ServerOrder}
+use Rattle.server_orders.specs.ServerLine.{IsNumberIfGiven}
 use Rattle.railway.specs.Railway.{RailwayState}
 use Rattle.roster.specs.Entry.{Entry}
 use Rattle.bus_log.specs.Decoders.{entries_of, names_of, specs_of}

@@ -2,9 +2,8 @@
 -- text that they ask for.
 use Rattle.std.specs.Prelude.{ℕ, ◌≡◌, ◌⊎◌, ◌-◌, ◌^◌, Bool, IsTrue, true, false, List, [], Option, Some, None, Result, Ok, Err}
 use Rattle.std.specs.Io.KnownBytes.{Appends}
-use Rattle.command_line.specs.declared.words.ServerOrder.{ServerOrder}
-use Rattle.command_line.specs.ServerLine.{IsServerOrderOf}
-use Rattle.command_line.specs.Requests.{AsksServer}
+use Rattle.server_orders.specs.declared.words.ServerOrder.{ServerOrder}
+use Rattle.server_orders.specs.ServerLine.{AsksServer, IsServerOrderOf}
 use Rattle.console.specs.Files.{IsRosterOf}
 use Rattle.roster.specs.Entry.{Entry}
 use Rattle.bus_log.specs.Decoders.{names_of, specs_of}

@@ -3,9 +3,9 @@ ghost use Rattle.std.specs.Prelude.{◌≡◌, ◌≤◌, OnOk, false, map, true
 ghost use Rattle.bus_log.specs.Decoders.{entries_of, specs_of};
 ghost use Rattle.bus_log.specs.Verbosities.{verbosity_of};
 ghost use Rattle.bus_server.specs.Snapshots.{HasReported, ObservesLayout, state_of};
-ghost use Rattle.command_line.specs.declared.words.ServerOrder.{ServerOrder as OrderValue};
 ghost use Rattle.console.specs.Files.{IsRosterOf};
 ghost use Rattle.lbserver.specs.Execution.{HasPace, IsNewServer, RunsWords, ServesOrder, ServesPlan, clients_of, ended_by_output, entries_in, pace_of};
+ghost use Rattle.server_orders.specs.declared.words.ServerOrder.{ServerOrder as OrderValue};
 
 use crate::answering::answer;
 use crate::clients::Clients;
@@ -17,10 +17,11 @@ use crate::roster_file::read_roster;
 use crate::standard_output::StandardOutput;
 use bus_log::{LogQueue, Printer, Verbosity, decoders, print_listening, write_queued};
 use bus_server::{Losses, Pace, Server, Stop};
-use command_line::{FileName, ServerOrder, server_order};
+use command_line::FileName;
 use console::RunFault;
 use railway::Railway;
 use roster::Roster;
+use server_orders::{ServerOrder, server_order};
 use sockets::{Sockets, Stopwatch, Ticking};
 use std::io::Write;
 use std::mem;

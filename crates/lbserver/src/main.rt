@@ -13,9 +13,10 @@ mod roster_line;
 mod standard_output;
 mod terminal_writer;
 
-use command_line::{not_utf8_server_text, read_words, texts};
+use command_line::{read_words, texts};
 use executing::execute;
 use fault::ServerFault;
+use server_orders::not_utf8_server_text;
 use standard_output::StandardOutput;
 use std::io;
 use std::process::ExitCode;

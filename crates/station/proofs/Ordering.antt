@@ -2,9 +2,10 @@
 use Rattle.std.proofs.Common.{◌≡◌, ℕ, Bool, false, List, Option, inl, inr}
 use Rattle.clap.specs.Values.{kind_of}
 use Rattle.clap.specs.Words.{Text}
-use Rattle.command_line.specs.declared.orders.OrderFault.{OrderFault}
-use Rattle.command_line.specs.declared.orders.OrderFault.TheVariants.{Usage, NoMemory}
-use Rattle.command_line.specs.Fault.{IsOrderFault, status_of}
+use Rattle.command_line.specs.declared.fault.OrderFault.{OrderFault}
+use Rattle.command_line.specs.declared.fault.OrderFault.TheVariants.{Usage, NoMemory}
+use Rattle.command_line.specs.Fault.{status_of}
+use Rattle.station_orders.specs.Fault.{IsOrderFault}
 use Rattle.station.specs.Ends.{EndsAs}
 
 pub no_order : (words : List Text) (old_input new_input : Option (List ℕ)) (failed write_failed : Bool) (fault : OrderFault) (status : ℕ) → status ≡ status_of fault → write_failed ≡ false

@@ -3,10 +3,11 @@ use Rattle.std.specs.Prelude.{ℕ, ◌≡◌, ◌⊎◌, Bool, true, false, List
 use Rattle.clap.specs.Kinds.{IsAmong}
 use Rattle.clap.specs.Words.{Text}
 use Rattle.clap.specs.declared.error.kind.ErrorKind.{ErrorKind}
-use Rattle.command_line.specs.declared.words.Order.{Order}
-use Rattle.command_line.specs.declared.words.Order.TheVariants.{Replay, Monitor, Serve}
-use Rattle.command_line.specs.Fault.{refusals}
-use Rattle.command_line.specs.Order.{HasNone, IsOrderOf}
+use Rattle.station_orders.specs.declared.words.Order.{Order}
+use Rattle.station_orders.specs.declared.words.Order.TheVariants.{Replay, Monitor, Serve}
+use Rattle.command_line.specs.Values.{HasNone}
+use Rattle.station_orders.specs.Fault.{refusals}
+use Rattle.station_orders.specs.Order.{IsOrderOf}
 use Rattle.console.specs.declared.fault.RunFault.{RunFault}
 use Rattle.console.specs.declared.fault.RunFault.TheVariants.{Lines, NoMemory, Output, UnreadableInput}
 use Rattle.console.specs.Fault.{is_unwritten, of_script, status_of}

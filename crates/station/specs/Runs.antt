@@ -8,11 +8,11 @@ use Rattle.layout_core.specs.declared.world.World.{World}
 use Rattle.layout_core.specs.Nodes.{node_of}
 use Rattle.roster.specs.Entry.{Entry}
 use Rattle.station_core.specs.Seen.{first_seen}
-use Rattle.command_line.specs.declared.words.Order.{Order}
-use Rattle.command_line.specs.declared.words.Order.TheVariants.{Replay, Monitor, Serve}
+use Rattle.station_orders.specs.declared.words.Order.{Order}
+use Rattle.station_orders.specs.declared.words.Order.TheVariants.{Replay, Monitor, Serve}
 use Rattle.station.specs.Connections.{HasServed, listening_text}
 use Rattle.station.specs.Layout.{entries_in, specs_in}
-use Rattle.command_line.specs.Order.{IsOrderOf}
+use Rattle.station_orders.specs.Order.{IsOrderOf}
 use Rattle.station.specs.Scripts.{ReplaysInput}
 
 -- a new layout: a new station with this number of lines, and the decoders of the roster, each in

@@ -7,14 +7,16 @@ mod layout;
 mod listening;
 mod replay;
 
-pub use command_line::{FileName, Order, OrderFault, order};
-use command_line::{no_text, read_words, texts};
+pub use command_line::{FileName, OrderFault};
+use command_line::{read_words, texts};
 use console::STATION;
 pub use console::{RunFault, report};
 pub use executing::execute;
 use input_text::{TrackedReader, TrackedWriter};
 pub use layout::new_world;
 pub use listening::{serve_connection, serve_on};
+use station_orders::no_text;
+pub use station_orders::{Order, order};
 use std::io;
 use std::process::ExitCode;
 

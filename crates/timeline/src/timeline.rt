@@ -7,7 +7,7 @@ use crate::drawing::{bottom_of, turns_in, write_picture};
 use crate::event::Event;
 use crate::reading::event_in;
 use crate::rows::rows_of;
-use command_line::FilterText;
+use filter::FilterText;
 use input_text::{Output, put_all};
 use std::alloc::Global;
 use trace::{BadLine, DrawFault, Drawing};

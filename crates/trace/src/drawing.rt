@@ -5,7 +5,7 @@ ghost use Rattle.trace.specs.Fault.{is_unwritten};
 ghost use Rattle.trace.specs.declared.fault.DrawFault.TheVariants.{NoMemory, Output};
 
 use crate::fault::DrawFault;
-use command_line::FilterText;
+use filter::FilterText;
 use input_text::Output;
 use std::alloc::Global;
 

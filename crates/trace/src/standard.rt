@@ -3,8 +3,7 @@ ghost use Rattle.trace.specs.Drawn.{DrawsInput};
 
 use crate::drawing::Drawing;
 use crate::run::execute;
-use command_line::FilterText;
-use filter::{Filter, run_filter};
+use filter::{Filter, FilterText, run_filter};
 use input_text::{Input, Output};
 use std::alloc::Global;
 use std::io::Write;

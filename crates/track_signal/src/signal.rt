@@ -4,8 +4,8 @@ ghost use Rattle.trace.specs.Traffic.{Parses};
 ghost use Rattle.track_signal.specs.Dump.{dump_of};
 
 use crate::drawing::draw_packets;
-use command_line::FilterText;
 use dcc_packet::Packet;
+use filter::FilterText;
 use input_text::Output;
 use std::alloc::Global;
 use trace::{BadLine, DrawFault, Drawing, packet_in};

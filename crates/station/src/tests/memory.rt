@@ -5,13 +5,14 @@
 //! `rt test`, and not `rt try`.
 
 use crate::{OrderFault, execute, order};
-use command_line::{no_text, read_words};
+use command_line::read_words;
 use decoder_node::NodeList;
 use input_text::{TrackedReader, TrackedWriter};
 use layout_core::World;
 use refresh_ring::{BitRing, Schedule};
 use show_text::{Command, HexWhy, read_hex, read_script};
 use station_core::{Station, StationFault};
+use station_orders::no_text;
 use std::alloc::Global;
 use std::net::TcpListener;
 use std::test::Fail;

@@ -1,6 +1,6 @@
 use Rattle.std.proofs.Common.{ap}
 use Rattle.std.proofs.lemmas.Result.{on_ok_weaker}
-use Rattle.command_line.specs.declared.words.ServerOrder.{ServerOrder}
+use Rattle.server_orders.specs.declared.words.ServerOrder.{ServerOrder}
 use Rattle.bus_log.specs.Decoders.{entries_of}
 use Rattle.bus_server.specs.Snapshots.{state_of}
 use Rattle.lbserver.specs.Execution.{pace_of}

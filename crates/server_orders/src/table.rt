@@ -1,0 +1,139 @@
+//! What the command line of `lbserver` may hold.
+
+use command_line::{Argument, CommandText, Kind, Need, ProgramText, ROSTER};
+
+/// The program.
+pub(crate) const LBSERVER: ProgramText<'static, 'static> = ProgramText {
+    command: CommandText {
+        name: "lbserver",
+        about: "A LocoNet command station for clients of LocoNet over TCP, up to eight at once",
+        details: "Example: lbserver --roster layout.toml --port 1234 --track",
+        arguments: &[
+            ADDRESS, PORT, ROSTER, PLAN, TURNS, RATE, CLIENTS, TRACK, QUIET, PAGE, PAGE_FILE, HOST,
+            LOSE, SEED,
+        ],
+    },
+    subcommands: &[],
+};
+
+const ADDRESS: Argument<'static> = Argument {
+    id: "address",
+    kind: Kind::Single,
+    value_name: "A",
+    need: Need::Default("127.0.0.1"),
+    help: "The IPv4 address to listen on: anybody who can reach it can drive",
+};
+
+const PORT: Argument<'static> = Argument {
+    id: "port",
+    kind: Kind::Number {
+        least: 0,
+        most: 65_535,
+    },
+    value_name: "P",
+    need: Need::Default("1234"),
+    help: "The TCP port, 0 to 65535; with 0 a free one, which the line `listening` names",
+};
+
+const PLAN: Argument<'static> = Argument {
+    id: "plan",
+    kind: Kind::Single,
+    value_name: "FILE",
+    need: Need::Optional,
+    help: "The track plan, on which the trains of the roster run and sensors report; without it no train moves",
+};
+
+const TURNS: Argument<'static> = Argument {
+    id: "turns",
+    kind: Kind::Number {
+        least: 0,
+        most: 255,
+    },
+    value_name: "T",
+    need: Need::Optional,
+    help: "Track turns after each message, 0 to 255; without it the track runs in real time",
+};
+
+const RATE: Argument<'static> = Argument {
+    id: "rate",
+    kind: Kind::Number {
+        least: 1,
+        most: 100,
+    },
+    value_name: "R",
+    need: Need::Optional,
+    help: "How many times as fast time passes, for track and trains, 1 to 100, without --turns; 1 without it",
+};
+
+const CLIENTS: Argument<'static> = Argument {
+    id: "clients",
+    kind: Kind::Number {
+        least: 0,
+        most: u32::MAX,
+    },
+    value_name: "C",
+    need: Need::Optional,
+    help: "Ends once this many clients have disconnected, with 0 at once; without it there is no end",
+};
+
+const TRACK: Argument<'static> = Argument {
+    id: "track",
+    kind: Kind::Flag,
+    value_name: "",
+    need: Need::Optional,
+    help: "Prints the packets on the track",
+};
+
+const QUIET: Argument<'static> = Argument {
+    id: "quiet",
+    kind: Kind::Flag,
+    value_name: "",
+    need: Need::Optional,
+    help: "Prints nothing but the addresses, with --track too",
+};
+
+const PAGE: Argument<'static> = Argument {
+    id: "page",
+    kind: Kind::Number {
+        least: 0,
+        most: 65_535,
+    },
+    value_name: "PORT",
+    need: Need::Optional,
+    help: "The TCP port of a page for browsers, to drive and to watch, 0 to 65535, 0 for a free one; without it there is none",
+};
+
+const PAGE_FILE: Argument<'static> = Argument {
+    id: "page-file",
+    kind: Kind::Single,
+    value_name: "FILE",
+    need: Need::Optional,
+    help: "The file that the page is; pages/throttle.html without it",
+};
+
+const HOST: Argument<'static> = Argument {
+    id: "host",
+    kind: Kind::Repeated,
+    value_name: "NAME",
+    need: Need::Optional,
+    help: "A name by which browsers reach the page, besides localhost and IP addresses; may be repeated",
+};
+
+const LOSE: Argument<'static> = Argument {
+    id: "lose",
+    kind: Kind::Number { least: 0, most: 99 },
+    value_name: "N",
+    need: Need::Default("0"),
+    help: "How many of 100 packets each decoder misses, 0 to 99",
+};
+
+const SEED: Argument<'static> = Argument {
+    id: "seed",
+    kind: Kind::Number {
+        least: 0,
+        most: u32::MAX,
+    },
+    value_name: "S",
+    need: Need::Default("0"),
+    help: "What the draw of the missed packets begins with, 0 to 4294967295",
+};
