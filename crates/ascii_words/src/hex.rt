@@ -2,13 +2,16 @@
 ghost use Rattle.std.specs.Prelude.{◌≡◌, ◌<◌};
 ghost use Rattle.ascii_words.specs.Words.{digit_of, both, hex_char, pair_of};
 
+/// The digits of the numbers below 16.
+const HEX_DIGITS: [u8; 16] = *b"0123456789ABCDEF";
+
 /// The hexadecimal digit of a number below 16, in upper case.
 pub fn hex_char(n: u8) -> u8
     requires { n < 16 }
     ensures digit { result ≡ hex_char n }
     ensures ascii { result < 128 }
 {
-    if n < 10 { b'0' + n } else { b'A' + (n - 10) }
+    HEX_DIGITS[n as usize]
 }
 
 /// Returns the byte written by a word of two hexadecimal digits, the high digit first. Digits may
