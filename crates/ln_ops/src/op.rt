@@ -167,9 +167,6 @@ fn read_four(opcode: u8, first: u8, second: u8) -> Op
     ensures op { result ≡ four_of opcode first second }
     ensures data { IsOfData result }
 {
-    let number = switch_number(first, second);
-    let closed = is_closed(second);
-    let on = is_on(second);
     match opcode {
         OPC_LOCO_SPD => Op::Speed {
             slot: first,
@@ -183,8 +180,8 @@ fn read_four(opcode: u8, first: u8, second: u8) -> Op
             slot: first,
             snd: second,
         },
-        OPC_SW_REQ => Op::SwReq { number, closed, on },
-        OPC_SW_ACK => Op::SwAck { number, closed, on },
+        OPC_SW_REQ => read_sw_req(first, second),
+        OPC_SW_ACK => read_sw_ack(first, second),
         OPC_LONG_ACK => Op::LongAck {
             opc: first,
             ack: second,
@@ -203,6 +200,32 @@ fn read_four(opcode: u8, first: u8, second: u8) -> Op
             low: second,
         },
         _ => Op::Other,
+    }
+}
+
+// The request of OPC_SW_REQ. A separate function, so that no other message reads these bits.
+fn read_sw_req(sw1: u8, sw2: u8) -> Op
+    requires { sw1 < 128 }
+    ensures op { result ≡ Op.SwReq (switch_number sw1 sw2) (is_closed sw2) (is_on sw2) }
+    ensures data { IsOfData result }
+{
+    Op::SwReq {
+        number: switch_number(sw1, sw2),
+        closed: is_closed(sw2),
+        on: is_on(sw2),
+    }
+}
+
+// The request of OPC_SW_ACK.
+fn read_sw_ack(sw1: u8, sw2: u8) -> Op
+    requires { sw1 < 128 }
+    ensures op { result ≡ Op.SwAck (switch_number sw1 sw2) (is_closed sw2) (is_on sw2) }
+    ensures data { IsOfData result }
+{
+    Op::SwAck {
+        number: switch_number(sw1, sw2),
+        closed: is_closed(sw2),
+        on: is_on(sw2),
     }
 }
 
