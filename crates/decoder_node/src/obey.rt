@@ -21,7 +21,7 @@ impl Obeys<Running> for CvSet {
     fn obey(&self, running: &mut Running, instr: &Option<Instr>) {
         if let Some(instr) = instr {
             if concerns(self, instr) {
-                *running = after_instr(self, *running, *instr);
+                obey_own(self, running, *instr);
             }
         }
     }
@@ -44,8 +44,16 @@ fn concerns(cv: &CvSet, instr: &Instr) -> bool
     }
 }
 
-/// How it runs after an instruction that is for it.
+/// Obeys an instruction that is for the decoder. A separate call, since most are for another one.
 #[inline(never)]
+fn obey_own(cv: &CvSet, running: &mut Running, instr: Instr)
+    requires { concerns cv.now instr ≡ true }
+    ensures { running.new ≡ obeyed cv.now running.old instr }
+{
+    *running = after_instr(cv, *running, instr);
+}
+
+/// How it runs after an instruction that is for it.
 fn after_instr(cv: &CvSet, running: Running, instr: Instr) -> Running
     requires { concerns cv.now instr ≡ true }
     ensures { result ≡ obeyed cv.now running instr }
