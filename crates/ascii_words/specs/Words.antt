@@ -1,12 +1,17 @@
 -- The words of a text, and the bytes that they write. The tab as a blank and digits of either case
 -- are rules of this project.
 use Rattle.std.specs.Prelude.{ℕ, Bool, true, false, ◌&&◌, ◌||◌, ◌==◌, ◌+◌, ◌*◌, ◌-◌, if◌then◌else◌, nat_le, nat_lt, List, [], ◌∷◌, filter, Option, Some, None}
-use Rattle.std.specs.Char.{is_ascii_digit}
+use Rattle.std.specs.Char.{is_ascii_alphanumeric, is_ascii_digit}
 use Rattle.std.specs.List.{slice_split}
+use Rattle.std.specs.Str.{byte}
 
 -- a space or a tab
 abbrev pub is_blank : ℕ → Bool
 is_blank b = b == 32 || b == 9
+
+-- an ASCII letter, a digit, `-` or `_`
+abbrev pub is_name_byte : ℕ → Bool
+is_name_byte b = is_ascii_alphanumeric b || b == byte "-" || b == byte "_"
 
 -- an empty piece is not a word
 abbrev pub is_word : List ℕ → Bool

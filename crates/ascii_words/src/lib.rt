@@ -1,4 +1,4 @@
-//! ASCII text: the words of a line, the line feed that ends it, and decimal and hexadecimal
+//! ASCII text: the words of a line, the line feed that ends it, names, and decimal and hexadecimal
 //! numbers.
 //!
 //! [`Digits`] holds a number in decimal digits. A caller splits a line into words by [`cut_piece`],
@@ -14,8 +14,10 @@
 
 mod digits;
 mod hex;
+mod names;
 mod pieces;
 
 pub use digits::{Digits, decimal};
 pub use hex::{hex_byte, hex_char, hex_pair};
+pub use names::are_name_bytes;
 pub use pieces::{cut_piece, is_blank, line_feed_at};

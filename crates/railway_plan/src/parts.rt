@@ -1,8 +1,7 @@
 //! The tables of a plan's text.
 ghost use Rattle.std.specs.Prelude.{◌≡◌, ◌≤◌, Ok, Err, MatchResult, length, map};
-ghost use Rattle.std.specs.List.{list_all};
 ghost use Rattle.toml.specs.View.{items_view, table_view, view};
-ghost use Rattle.roster.specs.Entry.{is_name_byte, name_of};
+ghost use Rattle.roster.specs.Entry.{name_of};
 ghost use Rattle.railway_plan.specs.Format.{block_at, block_in, decoder_at, end_at, end_of, facing_at, is_block_name, joint_in, joint_of, name_in, part_of, table_of, train_in, turnout_in};
 ghost use Rattle.railway_plan.specs.Entries.{block_entry, names_of};
 
@@ -11,6 +10,7 @@ use crate::fault::Why;
 use crate::key::Key;
 use crate::names::{block_end, block_index, decoder_index};
 use crate::table::{number_at, point, sensor, text_at, value_at};
+use ascii_words::are_name_bytes;
 use railway::{Block, BlockEnd, End, Joint, LONGEST_NAME, Name, Position, Train, Turnout};
 use roster::{Roster, knows_only};
 use toml::{Table, Value};
@@ -64,18 +64,6 @@ fn is_block_name(name: &str) -> bool
     ensures { result ≡ is_block_name name.now }
 {
     matches!(name.len(), 1..=LONGEST_NAME) && are_name_bytes(name.as_bytes())
-}
-
-fn are_name_bytes(bytes: &[u8]) -> bool
-    ensures { result ≡ list_all is_name_byte bytes.now }
-{
-    bytes.iter().all(|byte| is_name_byte(*byte))
-}
-
-fn is_name_byte(byte: u8) -> bool
-    ensures { result ≡ is_name_byte byte }
-{
-    byte.is_ascii_alphanumeric() || byte == b'-' || byte == b'_'
 }
 
 /// Returns the joint that a table says, between ends of these blocks.

@@ -1,8 +1,8 @@
 -- The entries of a roster.
-use Rattle.std.specs.Prelude.{ℕ, ◌≤◌, ◌==◌, ◌||◌, ◌&&◌, nat_le, Bool, not, IsTrue, List, All, length, map}
-use Rattle.std.specs.Char.{is_ascii_alphanumeric}
+use Rattle.std.specs.Prelude.{ℕ, ◌≤◌, ◌&&◌, nat_le, Bool, not, IsTrue, List, All, length, map}
 use Rattle.std.specs.List.{IsDistinct, list_all, list_any}
-use Rattle.std.specs.Str.{byte, bytes_eq}
+use Rattle.std.specs.Str.{bytes_eq}
+use Rattle.ascii_words.specs.Words.{is_name_byte}
 use Rattle.decoder_node.specs.declared.node.NodeSpec.{NodeSpec}
 
 -- the name of a decoder, and what it is
@@ -15,10 +15,6 @@ name_of entry = entry.name
 
 abbrev pub spec_of : Entry → NodeSpec
 spec_of entry = entry.spec
-
--- an ASCII letter, a digit, `-` or `_`
-abbrev pub is_name_byte : ℕ → Bool
-is_name_byte b = is_ascii_alphanumeric b || b == byte "-" || b == byte "_"
 
 -- a name: 1 to 16 of these
 abbrev pub is_name : List ℕ → Bool

@@ -1,8 +1,7 @@
 //! The entries of a roster.
 ghost use Rattle.std.specs.Prelude.{◌≡◌, IfOk, IsTrue, MatchResult, Ok, Err};
-ghost use Rattle.std.specs.List.{list_all};
 ghost use Rattle.toml.specs.View.{view};
-ghost use Rattle.roster.specs.Entry.{is_free, is_name, is_name_byte, is_taken};
+ghost use Rattle.roster.specs.Entry.{is_free, is_name, is_taken};
 ghost use Rattle.roster.specs.Format.{entry_of, entry_with, name_after};
 
 use crate::described::Described;
@@ -10,6 +9,7 @@ use crate::fault::Why;
 use crate::table::text_at;
 use crate::version::Version;
 use arrayvec::ArrayString;
+use ascii_words::are_name_bytes;
 use decoder_node::NodeSpec;
 use std::marker::Model;
 use toml::Value;
@@ -97,18 +97,6 @@ fn is_name(name: &str) -> bool
     ensures { result ≡ is_name name.now }
 {
     matches!(name.len(), 1..=LONGEST_NAME) && are_name_bytes(name.as_bytes())
-}
-
-fn are_name_bytes(bytes: &[u8]) -> bool
-    ensures { result ≡ list_all is_name_byte bytes.now }
-{
-    bytes.iter().all(|byte| is_name_byte(*byte))
-}
-
-fn is_name_byte(byte: u8) -> bool
-    ensures { result ≡ is_name_byte byte }
-{
-    byte.is_ascii_alphanumeric() || byte == b'-' || byte == b'_'
 }
 
 fn is_taken(entries: &[Entry], name: &str) -> bool

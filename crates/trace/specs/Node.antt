@@ -1,6 +1,5 @@
 -- The state of the decoder of a line (own), word by word. A word ends at the next space.
 use Rattle.std.specs.Prelude.{ℕ, ◌+◌, ◌==◌, ◌||◌, ◌&&◌, nat_le, nat_eq, not, Bool, true, false, if◌then◌else◌, List, [], ◌∷◌, Option, Some, None, codes, length, take, drop}
-use Rattle.std.specs.Char.{is_ascii_alphanumeric}
 use Rattle.std.specs.List.{list_all, position_or_len, slice_index, starts_with}
 use Rattle.std.specs.Str.{byte, bytes_eq}
 use Rattle.dcc_packet.specs.Address.{is_legal}
@@ -11,6 +10,7 @@ use Rattle.dcc_packet.specs.declared.steps.Steps.{Steps}
 use Rattle.dcc_packet.specs.declared.steps.Steps.TheVariants.{S14, S28, S128}
 use Rattle.dcc_packet.specs.declared.steps.Motion.{Motion}
 use Rattle.dcc_packet.specs.declared.steps.Motion.TheVariants.{Stop, Emergency, Step}
+use Rattle.ascii_words.specs.Words.{is_name_byte}
 use Rattle.show_text.specs.Words.{decimal_of}
 use Rattle.trace.specs.declared.reported_state.ReportedState.{ReportedState}
 use Rattle.trace.specs.declared.reported_state.ReportedState.TheVariants.{Loco, Accessory}
@@ -28,10 +28,6 @@ word_of text = take (position_or_len (λ b. b == 32) text) text
 unfoldable pub rest_after : List ℕ → List ℕ
 rest_after text = drop (position_or_len (λ b. b == 32) text + 1) text
 
--- an ASCII letter, a digit, `-` or `_`
-abbrev pub is_name_byte : ℕ → Bool
-is_name_byte b = is_ascii_alphanumeric b || b == byte "-" || b == byte "_"
-
 -- a name: 1 to 16 of these
 abbrev pub is_name : List ℕ → Bool
 is_name name = nat_le 1 (length name) && nat_le (length name) 16 && list_all is_name_byte name
@@ -46,11 +42,11 @@ abbrev pub number_of : List ℕ → Option ℕ
 number_of word = if is_plain word then decimal_of word else None
 
 -- `count` digits, each 0 or 1
-abbrev pub is_digit : ℕ → Bool
-is_digit b = b == 48 || b == 49
+abbrev pub is_bit : ℕ → Bool
+is_bit b = b == 48 || b == 49
 
 abbrev pub switches_of : ℕ → List ℕ → Option (List ℕ)
-switches_of count text = if (length text == count) && list_all is_digit text then Some text else None
+switches_of count text = if (length text == count) && list_all is_bit text then Some text else None
 
 -- the address after `short` or `long`
 abbrev pub short_of : Option ℕ → Option Address

@@ -3,10 +3,11 @@ ghost use Rattle.std.specs.Prelude.{◌≡◌, ◌≤◌, ◌==◌, Some, None, 
 ghost use Rattle.std.specs.Str.{bytes_eq};
 ghost use Rattle.std.specs.List.{list_all};
 ghost use Rattle.dcc_packet.specs.Module.{is_module};
-ghost use Rattle.trace.specs.Node.{address_of, rest_after, direction_of, is_digit, is_name, is_name_byte, is_plain, long_of, number_of, short_of, steps_of, switches_of, word_of};
+ghost use Rattle.trace.specs.Node.{address_of, rest_after, direction_of, is_bit, is_name, is_plain, long_of, number_of, short_of, steps_of, switches_of, word_of};
 
 use crate::reported_state::{Name, Switches};
 use arrayvec::ArrayVec;
+use ascii_words::are_name_bytes;
 use dcc_packet::{Address, Module, Steps};
 use show_text::decimal;
 
@@ -62,16 +63,16 @@ pub(crate) fn number(word: &[u8]) -> Option<u32>
     if is_plain(word) { decimal(word) } else { None }
 }
 
-fn is_digit(byte: u8) -> bool
-    ensures { result ≡ is_digit byte }
+fn is_bit(byte: u8) -> bool
+    ensures { result ≡ is_bit byte }
 {
     byte == b'0' || byte == b'1'
 }
 
-fn are_digits(text: &[u8]) -> bool
-    ensures { result ≡ list_all is_digit text.now }
+fn are_bits(text: &[u8]) -> bool
+    ensures { result ≡ list_all is_bit text.now }
 {
-    text.iter().all(|byte| is_digit(*byte))
+    text.iter().all(|byte| is_bit(*byte))
 }
 
 /// Returns the switches of a word of `count` digits, at most 13.
@@ -79,7 +80,7 @@ pub(crate) fn switches(count: usize, text: &[u8]) -> Option<Switches>
     requires { count ≤ 13 }
     ensures { result ≡ switches_of count text.now }
 {
-    if text.len() != count || !are_digits(text) {
+    if text.len() != count || !are_bits(text) {
         return None;
     }
     let mut digits = ArrayVec::new();
@@ -87,18 +88,6 @@ pub(crate) fn switches(count: usize, text: &[u8]) -> Option<Switches>
         digits.push(*digit);
     }
     Some(Switches { digits })
-}
-
-fn is_name_byte(byte: u8) -> bool
-    ensures { result ≡ is_name_byte byte }
-{
-    byte.is_ascii_alphanumeric() || byte == b'-' || byte == b'_'
-}
-
-fn are_name_bytes(bytes: &[u8]) -> bool
-    ensures { result ≡ list_all is_name_byte bytes.now }
-{
-    bytes.iter().all(|byte| is_name_byte(*byte))
 }
 
 /// Returns the name of a word.
