@@ -1,7 +1,6 @@
 //! The decoders of a layout.
 ghost use Rattle.std.specs.Prelude.{◌≡◌, ◌==◌, ℕ, ◌<◌, ◌≤◌, List, length, map};
 ghost use Rattle.std.specs.List.{slice_index_or};
-ghost use Rattle.dcc_packet.specs.Reading.{instruction_of};
 ghost use Rattle.layout_core.specs.declared.node.Node.{Node as NodeValue};
 ghost use Rattle.layout_core.specs.Nodes.{node_of, spec_of, running_of, outputs_of, is_missed};
 ghost use Rattle.layout_core.specs.Hearing.{AfterPacket};
@@ -9,7 +8,7 @@ ghost use Rattle.layout_core.specs.World.{OneHears};
 
 use crate::node::Node;
 use arrayvec::ArrayVec;
-use dcc_packet::{Instr, Packet, read};
+use dcc_packet::{Packet, read};
 use decoder_node::{MAX_NODES, NodeList, Running};
 use std::marker::Model;
 
@@ -46,6 +45,7 @@ impl Nodes {
     /// last node are ignored.
     ///
     /// The packet is parsed once for all nodes, and not at all if there is none.
+    #[inline(always)]
     pub fn hear(&mut self, packet: &Packet, missed: u64)
         ensures count { length self.new ≡ length self.old }
         ensures specs { map spec_of self.new ≡ map spec_of self.old }
@@ -56,7 +56,7 @@ impl Nodes {
         if self.is_empty() {
             return;
         }
-        hear_each(self.nodes.as_mut_slice(), packet, &read(packet), missed);
+        hear_each(self.nodes.as_mut_slice(), packet, missed);
     }
 
     /// Passes a half-bit of `half` microseconds that belongs to no packet to node i only.
@@ -100,19 +100,20 @@ impl Nodes {
     }
 }
 
-/// Passes the packet, which spells this instruction or none, to each of these nodes whose bit is
-/// not set.
-fn hear_each(nodes: &mut [Node], packet: &Packet, instr: &Option<Instr>, missed: u64)
-    requires fits { length nodes.old ≤ 64 }
-    requires read { instr.now ≡ instruction_of packet.now }
+/// Parses the packet, and passes it to each of these nodes whose bit is not set. A separate call,
+/// so that a turn without decoders saves no registers for it.
+#[inline(never)]
+fn hear_each(nodes: &mut [Node], packet: &Packet, missed: u64)
+    requires { length nodes.old ≤ 64 }
     ensures specs { map spec_of nodes.new ≡ map spec_of nodes.old }
     ensures each { (i : ℕ) (none : NodeValue) → i < length nodes.old
         → AfterPacket (is_missed missed i) packet.now (slice_index_or nodes.old i none)
         (slice_index_or nodes.new i none) }
 {
+    let instr = read(packet);
     for (i, node) in nodes.iter_mut().enumerate() {
         if !is_missed(missed, i) {
-            node.hear(packet, instr);
+            node.hear(packet, &instr);
         }
     }
 }

@@ -98,7 +98,8 @@ impl World {
 
     /// Runs one event: the station handles it, and each decoder that does not miss the packet hears
     /// it. Noise is heard by one decoder only.
-    #[inline]
+    // Always inlined, with the effect of each event: most callers know its kind, and copy no answer.
+    #[inline(always)]
     pub fn step(&mut self, event: Event) -> Step
         requires { IsTrue (is_event (length self.old.station.lines) (length self.old.nodes) event) }
         ensures station { self.new.station ≡ after_event self.old.station event }
@@ -144,7 +145,7 @@ impl World {
     }
 
     // A byte changes no decoder.
-    #[inline]
+    #[inline(always)]
     fn byte(&mut self, line: u8, byte: u8) -> Step
         requires { line < length self.old.station.lines }
         ensures station { self.new.station ≡ after_event self.old.station (Event.Byte line byte) }
@@ -161,7 +162,7 @@ impl World {
     }
 
     // A packet is heard by the decoders that do not miss it.
-    #[inline(never)]
+    #[inline(always)]
     fn turn(&mut self, missed: u64) -> Step
         ensures station { self.new.station ≡ after_event self.old.station (Event.Turn missed) }
         ensures answer { result ≡ answer_to self.old.station (Event.Turn missed) }

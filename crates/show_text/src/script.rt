@@ -199,6 +199,8 @@ fn fault_at(why: Why, line: u64) -> ScriptFault
 /// words and lines that begin with `#` are ignored. The first fault is reported: a text longer than
 /// [`LONGEST_TEXT`], then each word from left to right, where a missing word is reported at the end
 /// of its line.
+// A separate call, so that its loops keep their values in registers.
+#[inline(never)]
 pub fn read_script(
     alloc: Global,
     text: &[u8],

@@ -66,6 +66,8 @@ pub(crate) fn replay<I: Input, O: Output>(
 }
 
 /// Runs the commands one after another, and prints the output of each. Turns are numbered from 1.
+// A separate call, so that its loop keeps its values in registers.
+#[inline(never)]
 fn play<O: Sink>(
     world: &mut World,
     roster: Option<&Roster>,
@@ -133,6 +135,8 @@ fn play_command<O: Sink>(
 
 /// Runs and prints `count` turns, of which the first has the number `turn`. Returns the number of
 /// the turn after them.
+// A separate call, as `play`.
+#[inline(never)]
 fn play_turns<O: Sink>(
     world: &mut World,
     count: u32,

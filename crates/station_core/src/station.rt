@@ -169,7 +169,8 @@ impl Station {
 
     /// Receives a byte on a line, and returns the reply on that line if the byte completes a
     /// message that has one.
-    #[inline(never)]
+    // Always inlined: most bytes complete no message, and then no reply is copied.
+    #[inline(always)]
     pub fn byte(&mut self, line: u8, byte: u8) -> Option<Reply>
         requires { line < length self.old.lines }
         ensures reply { result ≡ answer_to_byte self.old line byte }
@@ -198,6 +199,7 @@ impl Station {
     }
 
     /// Returns the packet to send now, or `None` exactly while the power is off.
+    #[inline(never)]
     pub fn turn(&mut self) -> Option<Packet>
         ensures packet { result ≡ packet_of_turn self.old }
         ensures state { self.new ≡ after_turn self.old }
