@@ -1,9 +1,6 @@
 pub mod Changed
 pub mod EachLine
-pub mod Items
 pub mod Logging
-pub mod RailwayNames
-pub mod Sending
 pub mod Staying
 pub mod Taking
 pub mod Writing

@@ -5,11 +5,12 @@ use Rattle.std.proofs.lemmas.Bool.{and_parts, cases_lt}
 use Rattle.railway.specs.declared.block.Block.{Block}
 use Rattle.railway.specs.declared.conflict.Conflict.{Conflict}
 use Rattle.railway.specs.declared.train.TrainState.{TrainState}
+use Rattle.railway.specs.Blocks.{block_name}
 use Rattle.railway.specs.Conflicts.{first_in}
 use Rattle.railway.specs.Places.{is_derailed}
 use Rattle.railway.specs.Turnouts.{same_bool}
 use Rattle.roster.specs.Entry.{Entry}
-use Rattle.bus_log.specs.RailwayLines.{AllStay, are_in, block_lines, block_name, change_lines, conflict_line, conflict_lines, derailed_at, derailed_lines, derailing_lines, is_in, meeting_lines, moved_lines, pair_lines, stays, train_name}
+use Rattle.bus_log.specs.RailwayLines.{AllStay, are_in, block_lines, change_lines, conflict_line, conflict_lines, derailed_at, derailed_lines, derailing_lines, is_in, meeting_lines, moved_lines, pair_lines, stays, train_name}
 use Rattle.bus_log.proofs.EachLine.{each_empty}
 
 same : (a b : Bool) → same_bool a b ≡ true → a ≡ b

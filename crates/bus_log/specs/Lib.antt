@@ -1,11 +1,6 @@
-pub mod Decoders
 pub mod Lines
 pub mod Listening
 pub mod LogQueues
-pub mod PageItems
-pub mod PlanMessages
 pub mod Printers
 pub mod RailwayLines
-pub mod SentStates
-pub mod TrainPlaces
 pub mod Verbosities

@@ -3,9 +3,8 @@ use Rattle.std.specs.Prelude.{ℕ, ◌+◌, Bool, true, false, ◌&&◌, not, if
 use Rattle.std.specs.Fmt.{decimal}
 use Rattle.std.specs.Str.{bytes_eq}
 use Rattle.dcc_packet.specs.Sent.{idle_bytes}
-use Rattle.layout_core.specs.declared.node.Node.{Node}
 use Rattle.layout_core.specs.declared.decoder_state.DecoderState.{DecoderState}
-use Rattle.layout_core.specs.DecoderStates.{decoder_line, same_decoder_state, decoder_state_of}
+use Rattle.layout_core.specs.DecoderStates.{decoder_line, same_decoder_state}
 use Rattle.ln_ops.specs.Message.{op_of}
 use Rattle.ln_ops.specs.declared.op.Op.{Op}
 use Rattle.ln_ops.specs.declared.op.Op.TheVariants.{SlotRead, SlotData}
@@ -18,17 +17,16 @@ use Rattle.bus.specs.declared.outcome.Outcome.TheVariants.{Nothing, Connected, D
 use Rattle.loconet_tcp.specs.ClientLines.{hex_words}
 use Rattle.bus.specs.Outcome.{messages_in}
 
--- The state of a printer: the turns, the clients that have disconnected, the state of each decoder
--- when it was last printed, or at the start, and the trains at the last outcome, or at the start.
+-- The state of a printer: the turns, the state of each decoder when it was last printed, or at the
+-- start, and the trains at the last outcome, or at the start.
 pub record PrinterState : Type 0 where
   pub turns : ℕ
-  pub disconnected : ℕ
   pub decoder_states : List DecoderState
   pub trains : List TrainState
 
 -- at the start
 abbrev pub initial_printer_state : (decoder_states : List DecoderState) → List TrainState → PrinterState
-initial_printer_state decoder_states trains = record { turns = 0; disconnected = 0; decoder_states = decoder_states; trains = trains }
+initial_printer_state decoder_states trains = record { turns = 0; decoder_states = decoder_states; trains = trains }
 
 -- One more. A count stays at 2 ^ 64 - 1: that many turns last three thousand million years.
 abbrev pub saturating_successor : ℕ → ℕ
@@ -36,7 +34,6 @@ saturating_successor count = if nat_lt count 0xFFFFFFFFFFFFFFFF then count + 1 e
 
 -- the printer's state after an outcome, with the decoders in these states, and these trains
 abbrev pub printer_state_after : PrinterState → Outcome → (decoder_states : List DecoderState) → List TrainState → PrinterState
-printer_state_after before (Disconnected client) decoder_states trains = record before { disconnected = saturating_successor before.disconnected; trains = trains }
 printer_state_after before (TurnBegan packet) decoder_states trains = record before { turns = saturating_successor before.turns; decoder_states = decoder_states; trains = trains }
 printer_state_after before other decoder_states trains = record before { trains = trains }
 
@@ -48,14 +45,6 @@ client_line client does = codes "client " ++ decimal (client + 1) ++ does
 abbrev pub packet_lines : (track : Bool) → (turn : ℕ) → Option (List ℕ) → List (List ℕ)
 packet_lines track turn None = []
 packet_lines track turn (Some packet) = if track && not (bytes_eq packet idle_bytes) then track_text turn packet ∷ [] else []
-
--- the line of a decoder, under the name of its entry
-abbrev pub line_at : Entry → Node → List ℕ
-line_at entry node = decoder_line entry.name entry.spec (decoder_state_of node)
-
--- the message to a page about a decoder in this state
-abbrev pub node_message : Entry → DecoderState → List ℕ
-node_message entry decoder_state = codes "NODE " ++ decoder_line entry.name entry.spec decoder_state
 
 -- each decoder whose state has changed, in the roster's order
 abbrev pub changed_lines : List Entry → (before decoder_states : List DecoderState) → List (List ℕ)

@@ -6,13 +6,13 @@ use Rattle.layout_core.specs.DecoderStates.{decoder_state_of}
 use Rattle.bus.specs.declared.outcome.Outcome.{Outcome}
 use Rattle.railway.specs.Railway.{RailwayState}
 use Rattle.bus_log.specs.declared.printer.Printer.{Printer}
-use Rattle.bus_log.specs.Decoders.{entries_of}
+use Rattle.roster.specs.Decoders.{entries_of}
 use Rattle.bus_log.specs.Lines.{PrinterState, lines_of}
 use Rattle.bus_log.specs.RailwayLines.{railway_lines}
 use Rattle.bus_log.specs.Verbosities.{prints_packets}
 
 abbrev pub printer_state : Printer → PrinterState
-printer_state printer = record { turns = printer.turns; disconnected = printer.disconnected; decoder_states = printer.decoder_states.items; trains = printer.trains.items }
+printer_state printer = record { turns = printer.turns; decoder_states = printer.decoder_states.items; trains = printer.trains.items }
 
 -- the states of the decoders of a layout
 abbrev pub decoder_states_of : List Node → List DecoderState

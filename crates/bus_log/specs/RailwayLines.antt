@@ -5,11 +5,13 @@ use Rattle.std.specs.Fmt.{decimal}
 use Rattle.railway.specs.declared.block.Block.{Block}
 use Rattle.railway.specs.declared.conflict.Conflict.{Conflict}
 use Rattle.railway.specs.declared.train.TrainState.{TrainState}
+use Rattle.railway.specs.Blocks.{block_name}
 use Rattle.railway.specs.Conflicts.{first_in}
 use Rattle.railway.specs.Places.{is_derailed}
 use Rattle.railway.specs.Railway.{RailwayState}
 use Rattle.railway.specs.Reports.{occupies}
 use Rattle.railway.specs.Turnouts.{same_bool}
+use Rattle.roster.specs.Decoders.{decoder_name}
 use Rattle.roster.specs.Entry.{Entry}
 
 -- the trains of a railway, if there is one
@@ -17,18 +19,10 @@ abbrev pub trains_of : Option RailwayState → List TrainState
 trains_of None = []
 trains_of (Some railway) = railway.trains
 
--- a decoder, a train and a block, by name
-abbrev pub decoder_name : Option Entry → List ℕ
-decoder_name None = []
-decoder_name (Some entry) = entry.name
-
+-- the name of a train, which is that of its decoder
 abbrev pub train_name : List Entry → Option TrainState → List ℕ
 train_name entries None = []
 train_name entries (Some train) = decoder_name (slice_get entries train.decoder)
-
-abbrev pub block_name : Option Block → List ℕ
-block_name None = []
-block_name (Some block) = block.name.bytes
 
 -- a part of the train is in the block
 abbrev pub is_in : (block : ℕ) → Option TrainState → Bool

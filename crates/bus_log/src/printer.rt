@@ -1,21 +1,18 @@
 //! Printing the outcomes of a bus.
-ghost use Rattle.std.specs.Prelude.{◌≡◌, ◌<◌, ◌/◌, None, List, [], ◌∷◌, if◌then◌else◌, length, map, option_copied};
+ghost use Rattle.std.specs.Prelude.{◌≡◌, ◌/◌, None, List, [], ◌∷◌, if◌then◌else◌, length, map, option_copied};
 ghost use Rattle.std.specs.Option.{option_to_list};
 ghost use Rattle.dcc_packet.specs.Sent.{idle_bytes};
-ghost use Rattle.std.specs.List.{slice_index_or};
-ghost use Rattle.layout_core.specs.declared.node.Node.{Node as NodeValue};
 ghost use Rattle.layout_core.specs.Nodes.{spec_of};
-ghost use Rattle.layout_core.specs.DecoderStates.{decoder_line, decoder_state_of};
-ghost use Rattle.roster.specs.Entry.{Entry, spec_of as entry_spec};
-ghost use Rattle.bus_log.specs.Decoders.{entries_of, names_of, specs_of};
+ghost use Rattle.layout_core.specs.DecoderStates.{decoder_state_of};
+ghost use Rattle.roster.specs.Decoders.{entries_of, names_of, specs_of};
+ghost use Rattle.roster.specs.Entry.{spec_of as entry_spec};
 ghost use Rattle.bus_server.specs.NamedNodes.{names_of as named_names, specs_of as named_specs};
 ghost use Rattle.bus_log.specs.LogQueues.{after_lines};
 ghost use Rattle.bus_log.specs.RailwayLines.{trains_of};
-ghost use Rattle.bus_log.specs.Lines.{changed_lines, client_line, is_slot_read, lines_unless, node_message, overflow_line, saturating_successor, packet_lines, sent_line, skipped_line};
+ghost use Rattle.bus_log.specs.Lines.{changed_lines, client_line, is_slot_read, lines_unless, overflow_line, saturating_successor, packet_lines, sent_line, skipped_line};
 
 use crate::log_queue::LogQueue;
 use crate::messages::print_message;
-use crate::plan_messages::PageMessage;
 use crate::railway_lines::{Trains, keep_trains, print_railway, trains_of};
 use crate::verbosity::Verbosity;
 use arrayvec::ArrayVec;
@@ -28,7 +25,7 @@ use ln_frame::Msg;
 use ln_ops::{Op, read};
 use railway::Railway;
 use roster::Roster;
-use show_text::{Line, track_line};
+use show_text::track_line;
 use std::convert::Infallible;
 
 /// The states of the decoders, in the order of their roster.
@@ -44,8 +41,6 @@ pub struct Printer<'a> {
     pub(crate) decoder_states: DecoderStates,
     /// The turns since the start.
     pub(crate) turns: u64,
-    /// The number of clients that have disconnected.
-    pub(crate) disconnected: u64,
     /// The trains at the last outcome, or at the start.
     pub(crate) trains: Trains,
     ghost as_many: { length decoder_states.items ≡ length (entries_of roster) },
@@ -54,7 +49,7 @@ pub struct Printer<'a> {
 impl<'a> Printer<'a> {
     ghost use Rattle.bus_log.specs.Printers.{observed_lines, outcome_lines, printer_state, decoder_states_of};
     ghost use Rattle.bus_log.specs.RailwayLines.{railway_lines};
-    ghost use Rattle.bus_log.specs.Lines.{initial_printer_state, line_at, printer_state_after};
+    ghost use Rattle.bus_log.specs.Lines.{initial_printer_state, printer_state_after};
     ghost use Rattle.bus.specs.declared.outcome.Outcome.TheVariants.{TurnBegan};
 
     /// Creates a printer for a layout with the decoders of this roster, or none, and for the
@@ -82,16 +77,8 @@ impl<'a> Printer<'a> {
             verbosity,
             decoder_states: decoder_states(world),
             turns: 0,
-            disconnected: 0,
             trains: trains_of(railway),
         }
-    }
-
-    /// Returns the number of clients that have disconnected, at most 2^64 - 1.
-    pub fn disconnected(&self) -> u64
-        ensures { result ≡ self.now.disconnected }
-    {
-        self.disconnected
     }
 
     /// The log.
@@ -101,37 +88,11 @@ impl<'a> Printer<'a> {
         &self.log
     }
 
-    /// Returns the line of the state of a decoder, by its index in the roster.
-    pub fn line(&self, decoder: usize, world: &World) -> Line
-        requires decoders { map spec_of world.now.nodes ≡ specs_of (entries_of self.now.roster) }
-        requires decoder { decoder < length world.now.nodes }
-        ensures { (entry : Entry) → (node : NodeValue)
-            → result.bytes
-            ≡ line_at (slice_index_or (entries_of self.now.roster) decoder entry)
-            (slice_index_or world.now.nodes decoder node) }
+    /// The roster of the decoders, if there is one.
+    pub fn roster(&self) -> Option<&'a Roster>
+        ensures { result ≡ self.now.roster }
     {
-        let Some(roster) = self.roster else {
-            // Without a roster there are no decoders.
-            return Line::new();
-        };
-        let specs = roster.nodes();
-        world
-            .decoder_state(decoder)
-            .line(roster.name(decoder), &specs.as_slice()[decoder])
-    }
-
-    /// Returns the message to a page about a decoder: `NODE` and its line.
-    pub fn message(&self, decoder: usize, world: &World) -> PageMessage
-        requires decoders { map spec_of world.now.nodes ≡ specs_of (entries_of self.now.roster) }
-        requires decoder { decoder < length world.now.nodes }
-        ensures { (entry : Entry) → (node : NodeValue) → result.bytes
-            ≡ node_message (slice_index_or (entries_of self.now.roster) decoder entry)
-            (decoder_state_of (slice_index_or world.now.nodes decoder node)) }
-    {
-        let mut message = PageMessage::new();
-        message.push_str("NODE ");
-        message.push_str(self.line(decoder, world).as_str());
-        message
+        self.roster
     }
 
     /// Prints an outcome.
@@ -202,8 +163,7 @@ impl<'a> Printer<'a> {
         print_railway(&mut self.log, self.roster, self.trains.as_slice(), railway);
     }
 
-    /// Counts a disconnected client or a turn, and keeps the states of the decoders after a turn,
-    /// and the trains.
+    /// Counts a turn, and keeps the states of the decoders after it, and the trains.
     fn update(&mut self, outcome: &Outcome, world: &World, railway: Option<&Railway>)
         requires { map spec_of world.now.nodes ≡ specs_of (entries_of self.old.roster) }
         ensures log { self.new.log ≡ self.old.log }
@@ -213,13 +173,9 @@ impl<'a> Printer<'a> {
         ensures roster { self.new.roster ≡ self.old.roster }
         ensures verbosity { self.new.verbosity ≡ self.old.verbosity }
     {
-        match outcome {
-            Outcome::Disconnected { .. } => self.disconnected = self.disconnected.saturating_add(1),
-            Outcome::TurnBegan { .. } => {
-                self.turns = self.turns.saturating_add(1);
-                self.decoder_states = decoder_states(world);
-            }
-            _ => {}
+        if let Outcome::TurnBegan { .. } = outcome {
+            self.turns = self.turns.saturating_add(1);
+            self.decoder_states = decoder_states(world);
         }
         keep_trains(&mut self.trains, railway);
     }

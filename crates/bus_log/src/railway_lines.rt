@@ -1,14 +1,15 @@
 //! The lines of the blocks and the trains of a railway.
 ghost use Rattle.std.specs.Prelude.{◌≡◌, ◌≤◌, ◌<◌, ◌+◌, ◌-◌, ◌∷◌, [], length, option_copied, slice_get, true};
+ghost use Rattle.railway.specs.Blocks.{block_name};
 ghost use Rattle.railway.specs.Conflicts.{first_in};
-ghost use Rattle.bus_log.specs.Decoders.{entries_of};
+ghost use Rattle.roster.specs.Decoders.{entries_of};
 ghost use Rattle.bus_log.specs.LogQueues.{after_lines};
-ghost use Rattle.bus_log.specs.RailwayLines.{AllStay, are_in, block_lines, block_name, change_lines, conflict_line, conflict_lines, decoder_name, derailed_at, derailed_line, derailed_lines, free_line, is_in, is_new, lines_of_each, meeting_lines, moved_lines, occupied_line, pair_lines, railway_lines, stays, train_name, trains_of};
+ghost use Rattle.bus_log.specs.RailwayLines.{AllStay, are_in, block_lines, change_lines, conflict_line, conflict_lines, derailed_at, derailed_line, derailed_lines, free_line, is_in, is_new, lines_of_each, meeting_lines, moved_lines, occupied_line, pair_lines, railway_lines, stays, train_name, trains_of};
 
 use crate::log_queue::LogQueue;
 use arrayvec::ArrayVec;
-use railway::{Block, Conflict, MAX_TRAINS, Railway, TrainState};
-use roster::Roster;
+use railway::{Block, Conflict, MAX_TRAINS, Railway, TrainState, block_name};
+use roster::{Roster, decoder_name};
 use show_text::Line;
 
 /// The trains of a railway, in the order of the plan.
@@ -310,17 +311,6 @@ fn derailed_at(trains: &[TrainState], i: usize) -> Option<u16>
     }
 }
 
-/// Returns the name of a block.
-pub(crate) fn block_name<'a>(blocks: &'a [Block], i: usize) -> &'a str
-    ensures name { result.now ≡ block_name (slice_get blocks.now i) }
-    ensures most { length result.now ≤ 32 }
-{
-    match blocks.get(i) {
-        Some(block) => block.name.as_str(),
-        None => "",
-    }
-}
-
 /// Returns the name of a train, which is that of its decoder.
 fn train_name<'a>(roster: Option<&'a Roster>, trains: &[TrainState], i: usize) -> &'a str
     ensures name { result.now
@@ -331,25 +321,6 @@ fn train_name<'a>(roster: Option<&'a Roster>, trains: &[TrainState], i: usize) -
         Some(train) => decoder_name(roster, usize::from(train.decoder)),
         None => "",
     }
-}
-
-/// Returns the name of a decoder of a roster.
-pub(crate) fn decoder_name<'a>(roster: Option<&'a Roster>, i: usize) -> &'a str
-    ensures name { result.now ≡ decoder_name (slice_get (entries_of roster.entry) i) }
-    ensures most { length result.now ≤ 16 }
-{
-    match roster {
-        Some(roster) => entry_name(roster, i),
-        None => "",
-    }
-}
-
-#[tactic(auto, using(crate::proofs::RailwayNames::name_found, crate::proofs::RailwayNames::name_lost))]
-fn entry_name(roster: &Roster, i: usize) -> &str
-    ensures name { result.now ≡ decoder_name (slice_get roster.now i) }
-    ensures most { length result.now ≤ 16 }
-{
-    if i < roster.len() { roster.name(i) } else { "" }
 }
 
 fn occupied_line(block: &str, train: &str) -> Line

@@ -9,7 +9,6 @@ pub mod Losses
 pub mod NamedNodes
 pub mod Observations
 pub mod Pace
-pub mod PageEvents
 pub mod Placement
 pub mod Reading
 pub mod Repeats

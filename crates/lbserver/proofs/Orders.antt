@@ -8,7 +8,7 @@ use Rattle.server_orders.specs.declared.words.ServerOrder.{ServerOrder}
 use Rattle.server_orders.specs.ServerLine.{IsNumberIfGiven}
 use Rattle.railway.specs.Railway.{RailwayState}
 use Rattle.roster.specs.Entry.{Entry}
-use Rattle.bus_log.specs.Decoders.{entries_of, names_of, specs_of}
+use Rattle.roster.specs.Decoders.{entries_of, names_of, specs_of}
 use Rattle.bus_server.specs.ServerState.{initial_state}
 use Rattle.bus_server.specs.declared.pace.Pace.{Pace}
 use Rattle.bus_server.specs.Losses.{IsSeeded}

@@ -6,7 +6,7 @@ use Rattle.server_orders.specs.declared.words.ServerOrder.{ServerOrder}
 use Rattle.server_orders.specs.ServerLine.{AsksServer, IsServerOrderOf}
 use Rattle.console.specs.Files.{IsRosterOf}
 use Rattle.roster.specs.Entry.{Entry}
-use Rattle.bus_log.specs.Decoders.{names_of, specs_of}
+use Rattle.roster.specs.Decoders.{names_of, specs_of}
 use Rattle.bus_server.specs.declared.losses.Losses.{Losses}
 use Rattle.bus_server.specs.ServerState.{ServerState, initial_state}
 use Rattle.bus_server.specs.declared.pace.Pace.{Pace}

@@ -1,6 +1,6 @@
 //! Running the program on its arguments, its port and its clock.
 ghost use Rattle.std.specs.Prelude.{◌≡◌, ◌≤◌, OnOk, false, map, true};
-ghost use Rattle.bus_log.specs.Decoders.{entries_of, specs_of};
+ghost use Rattle.roster.specs.Decoders.{entries_of, specs_of};
 ghost use Rattle.bus_log.specs.Verbosities.{verbosity_of};
 ghost use Rattle.bus_server.specs.Snapshots.{HasReported, ObservesLayout, state_of};
 ghost use Rattle.console.specs.Files.{IsRosterOf};
@@ -8,10 +8,10 @@ ghost use Rattle.lbserver.specs.Execution.{HasPace, IsNewServer, RunsWords, Serv
 ghost use Rattle.server_orders.specs.declared.words.ServerOrder.{ServerOrder as OrderValue};
 
 use crate::answering::answer;
-use crate::clients::Clients;
 use crate::fault::ServerFault;
 use crate::files::read_file;
 use crate::plan_file::read_railway;
+use crate::ports;
 use crate::reach::reachable;
 use crate::roster_file::read_roster;
 use crate::standard_output::StandardOutput;
@@ -154,12 +154,12 @@ fn with_sockets<O: Write>(
     ensures failed { output.new.failed ≡ ended_by_output result }
 {
     let address = SocketAddr::from((order.address, order.port));
-    let mut clients = match Clients::bind(rt, address) {
-        Ok(clients) => clients,
+    let mut sockets = match ports::bind(rt, address) {
+        Ok(sockets) => sockets,
         Err(error) => return Err(ServerFault::of_bind(address, &error)),
     };
-    let served = with_page(rt, order, roster, server, &mut clients, output);
-    clients.close_all();
+    let served = with_page(rt, order, roster, server, &mut sockets, output);
+    sockets.close_all();
     served
 }
 
@@ -169,7 +169,7 @@ fn with_page<O: Write>(
     order: &mut ServerOrder,
     roster: Option<&Roster>,
     server: &mut Server,
-    clients: &mut Clients<'_, HostRuntime>,
+    sockets: &mut Sockets<'_, HostRuntime>,
     output: &mut StandardOutput<O>,
 ) -> Result<(), ServerFault>
     requires works { output.old.failed ≡ false }
@@ -184,9 +184,9 @@ fn with_page<O: Write>(
     if let Some(page) = order.page {
         let address = SocketAddr::from((order.address, page));
         let names = mem::replace(&mut order.hosts, Vec::new(rt.alloc()));
-        bind_page(rt, clients, address, order.page_file.take(), names)?;
+        bind_page(rt, sockets, address, order.page_file.take(), names)?;
     }
-    with_log(rt, order, roster, server, clients, output)
+    with_log(rt, order, roster, server, sockets, output)
 }
 
 /// Serves, with a queue for the lines of the log. At the end the rest of them is written.
@@ -195,7 +195,7 @@ fn with_log<O: Write>(
     order: &ServerOrder,
     roster: Option<&Roster>,
     server: &mut Server,
-    clients: &mut Clients<'_, HostRuntime>,
+    sockets: &mut Sockets<'_, HostRuntime>,
     output: &mut StandardOutput<O>,
 ) -> Result<(), ServerFault>
     requires works { output.old.failed ≡ false }
@@ -208,11 +208,11 @@ fn with_log<O: Write>(
     ensures failed { output.new.failed ≡ ended_by_output result }
 {
     let mut log = LogQueue::new(rt.alloc())?;
-    report_addresses(rt, &clients.sockets, &mut log)?;
+    report_addresses(rt, sockets, &mut log)?;
     write_queued(&mut log, output, Duration::ZERO)?;
     let verbosity = Verbosity::of(order.track, order.quiet);
     let mut printer = Printer::new(log, roster, verbosity, server.world(), server.railway());
-    let served = serve(rt, order, server, clients, &mut printer, output);
+    let served = serve(rt, order, server, sockets, &mut printer, output);
     if let Err(ServerFault::Output) = served {
         return served;
     }
@@ -224,7 +224,7 @@ fn with_log<O: Write>(
 /// Reads a page, and serves it by these names.
 fn bind_page(
     rt: &HostRuntime,
-    clients: &mut Clients<'_, HostRuntime>,
+    sockets: &mut Sockets<'_, HostRuntime>,
     address: SocketAddr,
     file: Option<FileName>,
     names: Vec<String>,
@@ -232,7 +232,7 @@ fn bind_page(
     ensures { ended_by_output result ≡ false }
 {
     let page = read_page(rt, file)?;
-    match clients.bind_page(address, page.as_slice(), names) {
+    match ports::bind_page(rt, sockets, address, page.as_slice(), names) {
         Ok(()) => Ok(()),
         Err(error) => Err(ServerFault::of_bind(address, &error)),
     }
@@ -252,7 +252,7 @@ fn read_page(rt: &HostRuntime, file: Option<FileName>) -> Result<Vec<u8>, Server
 /// Reports the bound addresses and ports: of the page, one that other machines reach.
 fn report_addresses(
     rt: &HostRuntime,
-    sockets: &Sockets,
+    sockets: &Sockets<'_, HostRuntime>,
     log: &mut LogQueue,
 ) -> Result<(), ServerFault>
     ensures { ended_by_output result ≡ false }
@@ -276,7 +276,7 @@ fn serve<O: Write>(
     rt: &HostRuntime,
     order: &ServerOrder,
     server: &mut Server,
-    clients: &mut Clients<'_, HostRuntime>,
+    sockets: &mut Sockets<'_, HostRuntime>,
     printer: &mut Printer<'_>,
     output: &mut StandardOutput<O>,
 ) -> Result<(), ServerFault>
@@ -295,7 +295,7 @@ fn serve<O: Write>(
     };
     let mut clock = Ticking { clock: rt, watch };
     let most = most_clients(order.clients);
-    match server.run(clients, &mut clock, printer, output, most) {
+    match server.run(sockets, &mut clock, printer, output, most) {
         Ok(()) => Ok(()),
         Err(Stop::Transport(_)) | Err(Stop::Clock(_)) => Err(ServerFault::Run(RunFault::Network)),
         Err(Stop::Observer(never)) => match never {},

@@ -1,12 +1,13 @@
 //! `lbserver`: a LocoNet command station that serves clients of LocoNet over TCP.
 #![tactic(auto)]
 
+mod after_round;
 mod answering;
-mod clients;
 mod executing;
 mod fault;
 mod files;
 mod plan_file;
+mod ports;
 mod reach;
 mod roster_file;
 mod roster_line;

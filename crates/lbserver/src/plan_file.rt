@@ -1,6 +1,6 @@
 //! Reading a track plan from its file.
 ghost use Rattle.std.specs.Prelude.{◌≡◌, IfErr, IfOk, false};
-ghost use Rattle.bus_log.specs.Decoders.{entries_of};
+ghost use Rattle.roster.specs.Decoders.{entries_of};
 ghost use Rattle.lbserver.specs.Execution.{IsRailwayOf, ended_by_output, is_output};
 ghost use Rattle.lbserver.specs.PlanFaults.{HasPlanFault, plan_fault};
 ghost use Rattle.railway_plan.specs.Railways.{IsRailwayIn};

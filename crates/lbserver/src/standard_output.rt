@@ -1,4 +1,5 @@
-//! Standard output, written only while it accepts bytes.
+//! The outputs after a round: standard output, written only while it accepts bytes, and what pages
+//! have received.
 ghost use Rattle.std.specs.Prelude.{◌≡◌, IfOk, None, OnOk, false, true};
 ghost use Rattle.std.specs.Io.KnownBytes.{Appends};
 ghost use Rattle.input_text.specs.Write.{failed_after};
@@ -7,6 +8,7 @@ use bus_log::LogOutput;
 use console::{RunFault, WriteError};
 use mio::unix::SourceFd;
 use mio::{Events, Interest, Poll, Token};
+use pages::Updates;
 use std::alloc::AllocGlobal;
 use std::io;
 use std::io::{ErrorKind, Write};
@@ -20,7 +22,8 @@ pub(crate) const STANDARD_OUTPUT: RawFd = 1;
 /// In how many parts a wait for standard output is.
 const WAIT_PARTS: u32 = 10;
 
-/// A writer of standard output's file descriptor, written only while that accepts bytes.
+/// A writer of standard output's file descriptor, written only while that accepts bytes, and what
+/// the page at each client index has received.
 ///
 /// A pipe or a terminal is registered for readiness. A file cannot be registered, and always
 /// accepts bytes.
@@ -32,6 +35,7 @@ pub(crate) struct StandardOutput<O> {
     is_pollable: bool,
     /// Whether a write failed.
     pub(crate) failed: bool,
+    pub(crate) updates: Updates,
 }
 
 impl<O: Write + Drop> StandardOutput<O> {
@@ -59,6 +63,7 @@ impl<O: Write + Drop> StandardOutput<O> {
             events,
             is_pollable: registered.is_ok(),
             failed: false,
+            updates: Updates::new(),
         })
     }
 }

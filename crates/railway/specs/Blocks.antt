@@ -61,6 +61,11 @@ abbrev pub are_distinct : List Block → Bool
 are_distinct [] = true
 are_distinct (block ∷ blocks) = is_free block.sensor blocks && are_distinct blocks
 
+-- the name of a block, empty if there is none
+abbrev pub block_name : Option Block → List ℕ
+block_name None = []
+block_name (Some block) = block.name.bytes
+
 abbrev pub same_name : Block → Block → Bool
 same_name one two = pointwise nat_eq one.name.bytes two.name.bytes
 

@@ -1,6 +1,6 @@
 //! The blocks of a track plan, and their ends.
-ghost use Rattle.std.specs.Prelude.{◌≡◌, ◌*◌, ◌≤◌};
-ghost use Rattle.railway.specs.Blocks.{other, same_block_end, same_end};
+ghost use Rattle.std.specs.Prelude.{◌≡◌, ◌*◌, ◌≤◌, length, slice_get};
+ghost use Rattle.railway.specs.Blocks.{block_name, other, same_block_end, same_end};
 
 use arrayvec::ArrayString;
 
@@ -119,5 +119,17 @@ impl Default for BlockEnd {
             block: 0,
             end: End::A,
         }
+    }
+}
+
+/// Returns the name of a block by its index in a plan, from 0; an empty text if there is no such
+/// block.
+pub fn block_name<'a>(blocks: &'a [Block], i: usize) -> &'a str
+    ensures name { result.now ≡ block_name (slice_get blocks.now i) }
+    ensures most { length result.now ≤ 32 }
+{
+    match blocks.get(i) {
+        Some(block) => block.name.as_str(),
+        None => "",
     }
 }

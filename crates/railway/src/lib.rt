@@ -32,7 +32,7 @@ mod report;
 mod track;
 mod train;
 
-pub use block::{Block, BlockEnd, End, LONGEST_BLOCK, LONGEST_NAME, Name, Point};
+pub use block::{Block, BlockEnd, End, LONGEST_BLOCK, LONGEST_NAME, Name, Point, block_name};
 pub use conflict::{Conflict, Conflicts};
 pub use exit::Exit;
 pub use fault::{Part, PlaceFault, PlanFault};

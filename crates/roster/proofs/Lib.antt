@@ -3,4 +3,5 @@ pub mod Cvs
 pub mod Faults
 pub mod Keys
 pub mod Names
+pub mod Naming
 pub mod InTurn

@@ -1,3 +1,4 @@
+pub mod Decoders
 pub mod Details
 pub mod Entry
 pub mod FaultWords

@@ -20,5 +20,5 @@ pub use details::FaultDetails;
 pub use fault::{RosterFault, Why};
 pub use locating::fault_details;
 pub use reading::read;
-pub use roster::Roster;
+pub use roster::{Roster, decoder_name};
 pub use table::{knows_only, value_at};

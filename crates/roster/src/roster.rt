@@ -1,6 +1,7 @@
 //! A roster.
-ghost use Rattle.std.specs.Prelude.{◌≡◌, ◌<◌, ◌≤◌, IsTrue, length, map};
+ghost use Rattle.std.specs.Prelude.{◌≡◌, ◌<◌, ◌≤◌, IsTrue, length, map, slice_get};
 ghost use Rattle.std.specs.List.{slice_index_or};
+ghost use Rattle.roster.specs.Decoders.{decoder_name, entries_of};
 ghost use Rattle.roster.specs.Entry.{is_name, name_of, spec_of, Entry as EntryValue, IsRoster};
 
 use crate::entry::Entry;
@@ -21,6 +22,7 @@ pub struct Roster {
 
 impl Model for Roster {
     ghost use Rattle.std.specs.Prelude.{List};
+    ghost use Rattle.roster.specs.Decoders.{decoder_name, entries_of};
     ghost use Rattle.roster.specs.Entry.{Entry, IsRoster};
 
     ghost Value = { List Entry };
@@ -70,5 +72,25 @@ impl Roster {
         ensures most { length result.now ≤ 16 }
     {
         self.entries.as_slice()[i].name()
+    }
+    /// The name of decoder i, counted from 0; an empty text if there is no such decoder.
+    #[tactic(auto, using(crate::proofs::Naming::name_found, crate::proofs::Naming::name_lost))]
+    fn name_or_empty(&self, i: usize) -> &str
+        ensures name { result.now ≡ decoder_name (slice_get self.now i) }
+        ensures most { length result.now ≤ 16 }
+    {
+        if i < self.len() { self.name(i) } else { "" }
+    }
+}
+
+/// The name of decoder i of a roster, counted from 0; an empty text if there is no roster or no such
+/// decoder.
+pub fn decoder_name<'a>(roster: Option<&'a Roster>, i: usize) -> &'a str
+    ensures name { result.now ≡ decoder_name (slice_get (entries_of roster.entry) i) }
+    ensures most { length result.now ≤ 16 }
+{
+    match roster {
+        Some(roster) => roster.name_or_empty(i),
+        None => "",
     }
 }

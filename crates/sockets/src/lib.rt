@@ -1,21 +1,20 @@
 //! The sockets of a server: its HTTP connections, its upgraded pages, and the streams of up to
 //! eight clients.
 //!
-//! [`Sockets`] is the transport of a `bus_server`; a program calls [`Sockets::poll`] before each
-//! round. [`HttpConnection`] is one HTTP exchange with its stream. [`Stopwatch`] measures the time
-//! since the start.
+//! [`Sockets`] is the transport of a `bus_server`. [`HttpConnection`] is one HTTP exchange with its
+//! stream. [`Stopwatch`] measures the time since the start.
 //!
 //! ```ignore
-//! let mut sockets = Sockets::new(alloc, poll, listener)?;
+//! let mut sockets = Sockets::new(alloc, clock, poll, listener)?;
 //! sockets.serve_page(alloc, page_listener, page, names)?;
-//! let watch = Stopwatch::new(clock)?;
-//! sockets.poll(clock, &watch, Some(1_000))?;
+//! server.run(&mut sockets, ..)?;
 //! ```
 //!
 //! No port is opened here: a program passes the listeners, and a clock to read.
 #![tactic(auto)]
 
 mod client;
+mod connections;
 mod http_connection;
 mod http_server;
 mod silence;

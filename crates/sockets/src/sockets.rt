@@ -1,61 +1,47 @@
-//! The ports of a server, and the streams of up to eight clients.
-ghost use Rattle.std.specs.Prelude.{◌≡◌, ◌<◌, None};
-ghost use Rattle.bus_server.specs.declared.transport.IoOutcome.TheVariants.{Closed};
+//! The sockets of a server, and the clock that measures their deadlines.
+ghost use Rattle.std.specs.Prelude.{None};
 
-use crate::client::{Client, PageClient, ProgramClient};
-use crate::http_connection::is_retryable;
-use crate::http_server::{HttpServer, MAX_EXCHANGES, page_reply};
+use crate::connections::Connections;
 use crate::stopwatch::Stopwatch;
-use crate::wait_time::{duration_of, sooner};
-use bus_server::{IoOutcome, MAX_CLIENTS, PageClients, Transport};
-use loconet_tcp::{Text, push_server_full};
-use mio::net::{TcpListener, TcpStream};
-use mio::unix::SourceFd;
-use mio::{Events, Interest, Poll, Registry, Token};
+use bus_server::{IoOutcome, Transport};
+use mio::Poll;
+use mio::net::TcpListener;
+use pages::Clients;
 use std::alloc::Global;
 use std::io;
-use std::io::{ErrorKind, Write};
 use std::net::SocketAddr;
 use std::os::fd::RawFd;
 use std::time::Clock;
-use web::Page;
 
-/// The ports of a server, and the streams of the accepted clients, by their index, 0 to 7.
+/// The ports of a server, the streams of the accepted clients, and a clock.
 ///
 /// Network I/O is outside the proofs, so this transport keeps no log.
+// What a struct lends that holds a reference has no rule yet, so the connections stand apart.
 #[derive(Drop)]
-pub struct Sockets {
-    alloc: Global,
-    poll: Poll,
-    events: Events,
-    listener: TcpListener,
-    clients: [Option<Client>; MAX_CLIENTS],
-    http: Option<HttpServer>,
-    /// A page has sent bytes, and may have sent more, or a program has ended its sending.
-    has_backlog: bool,
-    /// The last reading of the clock, in microseconds since the start.
-    now: u64,
+pub struct Sockets<'a, C> {
+    connections: Connections,
+    clock: &'a C,
+    watch: Stopwatch,
 }
 
-impl Sockets {
+impl<'a, C: Clock> Sockets<'a, C> {
     /// Creates the sockets for clients of this listener. All memory is allocated here, but for 512
     /// bytes for each program while it is connected.
     ///
     /// # Errors
     ///
-    /// Out of memory, or the listener cannot be registered.
-    pub fn new(alloc: Global, poll: Poll, listener: TcpListener) -> io::Result<Sockets> {
-        let mut listener = listener;
-        register_listener(&mut listener, poll.registry(), MAX_CLIENTS)?;
+    /// Out of memory, the listener cannot be registered, or the clock cannot be read.
+    pub fn new(
+        alloc: Global,
+        clock: &'a C,
+        poll: Poll,
+        listener: TcpListener,
+    ) -> io::Result<Sockets<'a, C>> {
+        let watch = Stopwatch::new(clock)?;
         Ok(Sockets {
-            alloc,
-            poll,
-            events: Events::with_capacity(alloc, MAX_CLIENTS + MAX_EXCHANGES + 2)?,
-            listener,
-            clients: [None, None, None, None, None, None, None, None],
-            http: None,
-            has_backlog: false,
-            now: 0,
+            connections: Connections::new(alloc, poll, listener)?,
+            clock,
+            watch,
         })
     }
 
@@ -72,21 +58,13 @@ impl Sockets {
         page: &[u8],
         names: Vec<String>,
     ) -> io::Result<()> {
-        let reply = page_reply(alloc, page)?;
-        let mut listener = listener;
-        register_listener(&mut listener, self.poll.registry(), MAX_CLIENTS + 1)?;
-        self.http = Some(HttpServer::new(alloc, listener, reply, names));
-        Ok(())
+        self.connections.serve_page(alloc, listener, page, names)
     }
 
     /// Ends a wait when a file descriptor becomes writable. A descriptor that cannot be registered
     /// is always writable.
     pub fn wake_on(&self, descriptor: &RawFd) {
-        let mut source = SourceFd(descriptor);
-        let _ = self
-            .poll
-            .registry()
-            .register(&mut source, Token(MAX_CLIENTS + 3), Interest::WRITABLE);
+        self.connections.wake_on(descriptor);
     }
 
     /// Returns the address and port for programs, and those of the page, if one is served.
@@ -95,243 +73,72 @@ impl Sockets {
     ///
     /// The system does not report them.
     pub fn addresses(&self) -> io::Result<(SocketAddr, Option<SocketAddr>)> {
-        let page = match &self.http {
-            Some(http) => Some(http.listener().local_addr()?),
-            None => None,
-        };
-        Ok((self.listener.local_addr()?, page))
-    }
-
-    /// Waits for readiness, at most `longest` microseconds, or without end for `None`, serves the
-    /// HTTP connections, and pings the pages that are silent.
-    ///
-    /// # Errors
-    ///
-    /// The clock cannot be read, or the system cannot wait.
-    pub fn poll<C: Clock>(
-        &mut self,
-        clock: &C,
-        watch: &Stopwatch,
-        longest: Option<u64>,
-    ) -> io::Result<()> {
-        self.wait(longest, watch.now(clock)?)?;
-        let now = watch.now(clock)?;
-        self.serve_http(now);
-        self.check_pages(now);
-        Ok(())
-    }
-
-    /// Waits for readiness, at most `longest` microseconds. `now` is in microseconds since the
-    /// start.
-    ///
-    /// An event only ends the wait. Each round visits all clients, so no event is looked up, and a
-    /// stale one does no harm.
-    fn wait(&mut self, longest: Option<u64>, now: u64) -> io::Result<()> {
-        let longest = sooner(longest, self.time_left(now));
-        match self.poll.poll(&mut self.events, longest.map(duration_of)) {
-            Err(error) if error.kind() != ErrorKind::Interrupted => Err(error),
-            _ => Ok(()),
-        }
-    }
-
-    /// Returns how long connections can be left waiting, in microseconds.
-    fn time_left(&self, now: u64) -> Option<u64> {
-        if self.has_backlog {
-            return Some(0);
-        }
-        match &self.http {
-            Some(http) => sooner(http.time_left(now), self.pages_time_left(now)),
-            None => None,
-        }
-    }
-
-    /// Returns the microseconds until a page is to be checked.
-    fn pages_time_left(&self, now: u64) -> Option<u64> {
-        let mut left = None;
-        for client in &self.clients {
-            if let Some(Client::Page(page_client)) = client {
-                left = sooner(left, Some(page_client.time_left(now)));
-            }
-        }
-        left
-    }
-
-    /// Checks that each page is still there. `now` is in microseconds since the start.
-    fn check_pages(&mut self, now: u64) {
-        self.now = now;
-        for place in 0..MAX_CLIENTS {
-            if let Some(page_client) = self.page_client(place) {
-                page_client.check(now);
-            }
-        }
-    }
-
-    /// Serves the HTTP connections. `now` is in microseconds since the start.
-    fn serve_http(&mut self, now: u64) {
-        self.has_backlog = false;
-        if let Some(http) = &mut self.http {
-            http.round(self.poll.registry(), Token(MAX_CLIENTS + 2), now);
-        }
-    }
-
-    /// Returns the page at a client index, if that client is a page.
-    fn page_client(&mut self, place: usize) -> Option<&mut PageClient>
-        requires { place < 8 }
-    {
-        match &mut self.clients[place] {
-            Some(Client::Page(page_client)) => Some(page_client),
-            _ => None,
-        }
+        self.connections.addresses()
     }
 
     /// Closes all connections and the ports.
     ///
     /// Owners of the sockets drop them by this call, so that the drop is proved in one place.
     pub fn close_all(self) {}
-
-    /// Closes the connection of a client that has disconnected.
-    fn disconnect(&mut self, client: u8) -> IoOutcome
-        requires { client < 8 }
-        ensures { result ≡ Closed }
-    {
-        self.clients[usize::from(client)] = None;
-        IoOutcome::Closed
-    }
-
-    /// Returns an upgraded page that waits for a client index.
-    fn upgraded(&mut self) -> Option<Page<TcpStream>> {
-        match &mut self.http {
-            Some(http) => http.take_upgraded(),
-            None => None,
-        }
-    }
-
-    /// Accepts a pending program. If memory is out, it is disconnected.
-    fn accept_program(&mut self, place: usize) -> Option<ProgramClient> {
-        let (mut stream, _) = self.listener.accept().ok()?;
-        self.prepare(&mut stream, place).ok()?;
-        ProgramClient::new(self.alloc, stream).ok()
-    }
-
-    /// Prepares a stream to be served at a client index.
-    fn prepare(&self, stream: &mut TcpStream, place: usize) -> io::Result<()> {
-        // Otherwise a second write waits some 40 ms for the client to acknowledge the first.
-        stream.set_nodelay(true)?;
-        // Both directions from the start, because a change is reported once.
-        self.poll.registry().register(
-            stream,
-            Token(place),
-            Interest::READABLE | Interest::WRITABLE,
-        )
-    }
-
-    /// Sends a pending program the text that the server is full. Returns false if none is pending.
-    fn reject_program(&mut self, text: &[u8]) -> bool {
-        let Ok((mut stream, _)) = self.listener.accept() else {
-            return false;
-        };
-        let _ = stream.write(text);
-        true
-    }
 }
 
-impl Transport for Sockets {
+impl<C: Clock> Transport for Sockets<'_, C> {
     type Fault = io::Error;
 
     ghost log = { λ _. None };
 
-    /// Does not wait: `poll` waits.
-    fn wait(&mut self, _longest: Option<u32>) -> io::Result<()> {
+    /// Also serves the HTTP connections, and pings the pages that are silent. Fails if the clock
+    /// cannot be read, or the system cannot wait.
+    fn wait(&mut self, longest: Option<u32>) -> io::Result<()> {
+        let now = self.watch.now(self.clock)?;
+        self.connections.wait(longest.map(u64::from), now)?;
+        let now = self.watch.now(self.clock)?;
+        self.connections.serve_browsers(now);
         Ok(())
     }
 
-    /// Accepts an upgraded page first, and otherwise a program.
     fn accept(&mut self, client: u8) -> bool {
-        let place = usize::from(client);
-        let client = match self.upgraded() {
-            Some(page) => Some(Client::Page(PageClient::new(page, self.now))),
-            None => self.accept_program(place).map(Client::Program),
-        };
-        let is_there = client.is_some();
-        self.clients[place] = client;
-        is_there
+        self.connections.accept(client)
     }
 
     fn reject(&mut self) -> bool {
-        let mut text = Text::new();
-        push_server_full(&mut text);
-        match self.upgraded() {
-            Some(page) => reject_page(page, text.as_slice()),
-            None => self.reject_program(text.as_slice()),
-        }
+        self.connections.reject()
     }
 
     fn read(&mut self, client: u8, room: &mut [u8]) -> IoOutcome {
-        let Some(stream) = &mut self.clients[usize::from(client)] else {
-            return IoOutcome::WouldBlock;
-        };
-        match stream.read(room, self.now, &mut self.has_backlog) {
-            Ok(count) if count > 0 => IoOutcome::Bytes(count),
-            Err(error) if is_retryable(&error) => IoOutcome::WouldBlock,
-            _ => self.disconnect(client),
-        }
+        self.connections.read(client, room)
     }
 
     fn write(&mut self, client: u8, bytes: &[u8]) -> IoOutcome {
-        let Some(stream) = &mut self.clients[usize::from(client)] else {
-            return IoOutcome::WouldBlock;
-        };
-        match stream.write(bytes) {
-            Ok(count) if count > 0 => IoOutcome::Bytes(count),
-            Err(error) if is_retryable(&error) => IoOutcome::WouldBlock,
-            _ => self.disconnect(client),
-        }
+        self.connections.write(client, bytes)
     }
 
     fn close(&mut self, client: u8) {
-        self.clients[usize::from(client)] = None;
+        self.connections.close(client);
     }
 }
 
-impl PageClients for Sockets {
+impl<C: Clock> Clients for Sockets<'_, C> {
     ghost page_log = { λ _. None };
 
     fn take_just_opened(&mut self, place: usize) -> bool {
-        match self.page_client(place) {
+        match self.connections.page_client(place) {
             Some(page_client) => page_client.take_just_opened(),
             None => false,
         }
     }
 
     fn is_writable(&mut self, place: usize) -> bool {
-        match self.page_client(place) {
+        match self.connections.page_client(place) {
             Some(page_client) => page_client.is_writable(),
             None => false,
         }
     }
 
     fn send(&mut self, place: usize, message: &str) -> bool {
-        match self.page_client(place) {
+        match self.connections.page_client(place) {
             Some(page_client) => page_client.send(message),
             None => false,
         }
     }
-}
-
-/// Sends an upgraded page the text that the server is full, and returns true.
-fn reject_page(page: Page<TcpStream>, text: &[u8]) -> bool {
-    let mut page = page;
-    // A page that has already disconnected receives no text.
-    let _ = page.write_lines(text);
-    page.close();
-    true
-}
-
-/// Registers a listener for readiness.
-fn register_listener(
-    listener: &mut TcpListener,
-    registry: &Registry,
-    token: usize,
-) -> io::Result<()> {
-    registry.register(listener, Token(token), Interest::READABLE)
 }

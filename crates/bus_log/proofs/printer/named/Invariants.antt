@@ -1,6 +1,6 @@
 use Rattle.std.proofs.Common.{◌≡◌, take}
 use Rattle.bus_server.specs.NamedNodes.{names_of as named_names, specs_of as named_specs}
-use Rattle.bus_log.specs.Decoders.{names_of, specs_of}
+use Rattle.roster.specs.Decoders.{names_of, specs_of}
 use Rattle.bus_log.proofs.printer.named.Given as goal
 
 -- this number of decoders is present

@@ -1,5 +1,5 @@
 use Rattle.std.proofs.Common.{◌<◌, ◌≤◌, ◌∙◌, length, arith, sym}
-use Rattle.bus_log.specs.Decoders.{entries_of}
+use Rattle.roster.specs.Decoders.{entries_of}
 use Rattle.bus_log.specs.RailwayLines.{conflict_lines}
 use Rattle.bus_log.proofs.EachLine.{each_more, each_none}
 use Rattle.bus_log.proofs.railway_lines.print_conflicts.Goals as goal

@@ -1,5 +1,5 @@
 use Rattle.std.proofs.Common.{◌≡◌, ◌-◌, length}
-use Rattle.bus_log.specs.Decoders.{entries_of}
+use Rattle.roster.specs.Decoders.{entries_of}
 use Rattle.bus_log.specs.LogQueues.{after_lines}
 use Rattle.bus_log.specs.RailwayLines.{conflict_lines, lines_of_each}
 use Rattle.bus_log.proofs.railway_lines.print_conflicts.Given as goal

@@ -1,5 +1,5 @@
 use Rattle.std.proofs.Common.{◌<◌, ◌≤◌, ◌∙◌, ℕ, List, ap, length, arith, sym}
-use Rattle.bus_log.specs.Decoders.{entries_of}
+use Rattle.roster.specs.Decoders.{entries_of}
 use Rattle.bus_log.specs.RailwayLines.{pair_lines}
 use Rattle.bus_log.specs.LogQueues.{after_lines}
 use Rattle.bus_log.proofs.EachLine.{each_more, each_none}

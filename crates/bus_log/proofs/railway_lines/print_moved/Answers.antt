@@ -1,6 +1,6 @@
 use Rattle.std.proofs.Common.{List, ap, length, sym}
 use Rattle.roster.specs.Entry.{Entry}
-use Rattle.bus_log.specs.Decoders.{entries_of}
+use Rattle.roster.specs.Decoders.{entries_of}
 use Rattle.bus_log.specs.LogQueues.{after_lines}
 use Rattle.bus_log.specs.RailwayLines.{block_lines, conflict_lines, derailed_lines, lines_of_each}
 use Rattle.bus_log.proofs.EachLine.{lines_in_order}

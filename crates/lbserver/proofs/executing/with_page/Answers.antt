@@ -1,7 +1,7 @@
 use Rattle.std.proofs.Common.{ap}
 use Rattle.std.proofs.lemmas.Result.{on_ok_weaker}
 use Rattle.server_orders.specs.declared.words.ServerOrder.{ServerOrder}
-use Rattle.bus_log.specs.Decoders.{entries_of}
+use Rattle.roster.specs.Decoders.{entries_of}
 use Rattle.bus_server.specs.Snapshots.{state_of}
 use Rattle.lbserver.specs.Execution.{pace_of}
 use Rattle.lbserver.proofs.Orders.{same_order}

@@ -1,6 +1,6 @@
 use Rattle.std.proofs.Common.{subst}
 use Rattle.std.proofs.lemmas.Result.{on_ok_weaker}
-use Rattle.bus_log.specs.Decoders.{entries_of}
+use Rattle.roster.specs.Decoders.{entries_of}
 use Rattle.lbserver.specs.Execution.{IsRailwayOf}
 use Rattle.lbserver.proofs.executing.with_plan.Goals as goal
 

@@ -1,5 +1,5 @@
 use Rattle.std.proofs.Common.{OnOk, ap, subst}
-use Rattle.bus_log.specs.Decoders.{entries_of}
+use Rattle.roster.specs.Decoders.{entries_of}
 use Rattle.bus_server.specs.ServerState.{ServerState}
 use Rattle.lbserver.specs.Execution.{ServesOrder}
 use Rattle.lbserver.proofs.executing.with_server.Goals as goal

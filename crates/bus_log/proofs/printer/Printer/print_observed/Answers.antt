@@ -1,5 +1,5 @@
 use Rattle.std.proofs.Common.{ap, option_copied}
-use Rattle.bus_log.specs.Decoders.{entries_of}
+use Rattle.roster.specs.Decoders.{entries_of}
 use Rattle.bus_log.specs.Lines.{PrinterState}
 use Rattle.bus_log.specs.Printers.{outcome_lines}
 use Rattle.bus_log.proofs.EachLine.{railway_behind}

@@ -1,0 +1,50 @@
+-- Where a train is, as pages are told of it.
+use Rattle.std.specs.Prelude.{ℕ, ◌+◌, ◌*◌, ◌/◌, ◌==◌, ◌&&◌, min, Bool, if◌then◌else◌, List, [], ◌++◌, Option, Some, None, codes, slice_get}
+use Rattle.std.specs.Fmt.{decimal}
+use Rattle.railway.specs.declared.block.Block.{Block}
+use Rattle.railway.specs.declared.block.End.{End}
+use Rattle.railway.specs.declared.block.End.TheVariants.{A, B}
+use Rattle.railway.specs.declared.train.Place.{Place}
+use Rattle.railway.specs.declared.train.TrainState.{TrainState}
+use Rattle.railway.specs.Blocks.{same_end}
+use Rattle.railway.specs.Places.{is_derailed}
+use Rattle.railway.specs.Turnouts.{same_bool}
+use Rattle.pages.specs.declared.train_place.TrainPlace.{TrainPlace}
+use Rattle.pages.specs.Words.{letter_of, name_in}
+
+-- How far a front is from end a, in picometres, at most 2 ^ 64 - 1. Its own picometre counts if it
+-- faces end b.
+abbrev pub way_from_a : (facing : End) → (at : ℕ) → ℕ
+way_from_a A at = at
+way_from_a B at = min (at + 1) 0xFFFFFFFFFFFFFFFF
+
+-- the tenths of a block that lie on that way, at most ten; a millimetre has 10 ^ 9 picometres
+abbrev pub tenths_in : Option Block → (way : ℕ) → ℕ
+tenths_in None way = 0
+tenths_in (Some block) way = min (way / (block.length * 100000000)) 10
+
+abbrev pub tenths_of : List Block → Place → ℕ
+tenths_of blocks front =
+    tenths_in (slice_get blocks front.block) (way_from_a front.toward front.at)
+
+abbrev pub place_of : List Block → TrainState → TrainPlace
+place_of blocks train = record {
+  front = train.front.block;
+  tenths = tenths_of blocks train.front;
+  facing = train.front.toward;
+  rear = train.rear.block;
+  derailed = is_derailed train;
+}
+
+abbrev pub same_train_place : TrainPlace → TrainPlace → Bool
+same_train_place one other =
+    one.front == other.front && one.tenths == other.tenths && same_end one.facing other.facing
+    && one.rear == other.rear && same_bool one.derailed other.derailed
+
+-- a train of this name: the block of its front, how many tenths of the block the front is from
+-- end a, the end that it faces, and the block of its rear
+abbrev pub train_message : (name : List ℕ) → List Block → TrainPlace → List ℕ
+train_message name blocks place =
+    codes "TRAIN " ++ name ++ codes " " ++ name_in blocks place.front ++ codes " "
+    ++ decimal place.tenths ++ codes " " ++ letter_of place.facing ++ codes " "
+    ++ name_in blocks place.rear ++ (if place.derailed then codes " derailed" else [])

@@ -1,0 +1,226 @@
+//! What pages are told of: the decoders of a layout, and the plan and the trains of a railway. Each
+//! of these items has a state and a message.
+ghost use Rattle.std.specs.Prelude.{◌≡◌, ◌<◌, ◌≤◌, [], get_or, length, map, option_copied, slice_get};
+ghost use Rattle.std.specs.List.{slice_index_or};
+ghost use Rattle.layout_core.specs.declared.node.Node.{Node};
+ghost use Rattle.layout_core.specs.DecoderStates.{decoder_state_of};
+ghost use Rattle.layout_core.specs.Nodes.{spec_of};
+ghost use Rattle.roster.specs.Decoders.{decoder_name, entries_of, specs_of};
+ghost use Rattle.roster.specs.Entry.{Entry};
+ghost use Rattle.pages.specs.Items.{block_message, item_messages, item_states, joint_message, line_at, max_items, node_message, parts_of, plan_messages, plan_states, same_item_state, turnout_message};
+ghost use Rattle.pages.specs.TrainPlace.{place_of, train_message};
+
+use crate::train_place::TrainPlace;
+use crate::words::{Message, push_end, push_number, push_point};
+use decoder_node::MAX_NODES;
+use layout_core::{DecoderState, World};
+use railway::{
+    Block, End, Joint, MAX_BLOCKS, MAX_JOINTS, MAX_TRAINS, MAX_TURNOUTS, Railway, TrainState,
+    TurnoutState,
+};
+use roster::{Roster, decoder_name};
+use show_text::Line;
+
+/// The most items that pages are told of.
+pub(crate) const MAX_ITEMS: usize = MAX_NODES + MAX_BLOCKS + MAX_JOINTS + MAX_TURNOUTS + MAX_TRAINS;
+
+/// The state of an item.
+#[derive(Clone, Copy)]
+pub enum ItemState {
+    Decoder(DecoderState),
+    /// A block, a joint or a turnout of the plan, which do not change.
+    Part,
+    Train(TrainPlace),
+}
+
+impl ItemState {
+    /// Whether the two states are the same.
+    pub(crate) fn is_same(&self, other: &ItemState) -> bool
+        ensures { result ≡ same_item_state self.now other.now }
+    {
+        match (self, other) {
+            (ItemState::Decoder(one), ItemState::Decoder(other)) => one.is_same(other),
+            (ItemState::Part, ItemState::Part) => true,
+            (ItemState::Train(one), ItemState::Train(other)) => one.is(*other),
+            _ => false,
+        }
+    }
+}
+
+/// Returns the number of items.
+pub(crate) fn items(world: &World, railway: Option<&Railway>) -> usize
+    ensures count { result ≡ length (item_states world.now.nodes (option_copied railway.entry)) }
+    ensures most { result ≤ max_items }
+{
+    match railway {
+        Some(railway) => world.nodes() + parts(railway) + railway.trains().len(),
+        None => world.nodes(),
+    }
+}
+
+/// Returns the number of blocks, joints and turnouts.
+fn parts(railway: &Railway) -> usize
+    ensures count { result ≡ parts_of railway.now.network }
+    ensures most { result ≤ 256 }
+{
+    railway.blocks().len() + railway.joints().len() + railway.turnouts().len()
+}
+
+/// Returns the present state of an item, or `None` if there are no more.
+pub(crate) fn item_state(world: &World, railway: Option<&Railway>, i: usize) -> Option<ItemState>
+    ensures { result ≡ slice_get (item_states world.now.nodes (option_copied railway.entry)) i }
+{
+    let decoders = world.nodes();
+    if i < decoders {
+        return Some(ItemState::Decoder(world.decoder_state(i)));
+    }
+    match railway {
+        Some(railway) => plan_state(railway, i - decoders),
+        None => None,
+    }
+}
+
+/// Returns the present state of a part of the plan or of a train.
+fn plan_state(railway: &Railway, i: usize) -> Option<ItemState>
+    ensures { result ≡ slice_get (plan_states railway.now) i }
+{
+    let parts = parts(railway);
+    if i < parts {
+        return Some(ItemState::Part);
+    }
+    match railway.trains().get(i - parts) {
+        Some(train) => Some(ItemState::Train(TrainPlace::of(railway.blocks(), train))),
+        None => None,
+    }
+}
+
+/// Returns the message of an item.
+pub(crate) fn item_message(
+    roster: Option<&Roster>,
+    world: &World,
+    railway: Option<&Railway>,
+    i: usize,
+) -> Message
+    requires { map spec_of world.now.nodes ≡ specs_of (entries_of roster) }
+    ensures { result.bytes ≡ get_or (item_messages (entries_of roster.entry) world.now.nodes
+        (option_copied railway.entry)) i [] }
+{
+    let decoders = world.nodes();
+    if i < decoders {
+        return node_message(roster, world, i);
+    }
+    match railway {
+        Some(railway) => plan_message(roster, railway, i - decoders),
+        None => Message::new(),
+    }
+}
+
+/// Returns `NODE` and the line of a decoder.
+fn node_message(roster: Option<&Roster>, world: &World, decoder: usize) -> Message
+    requires decoders { map spec_of world.now.nodes ≡ specs_of (entries_of roster) }
+    requires decoder { decoder < length world.now.nodes }
+    ensures { (entry : Entry) → (node : Node) → result.bytes
+        ≡ node_message (slice_index_or (entries_of roster.entry) decoder entry)
+        (decoder_state_of (slice_index_or world.now.nodes decoder node)) }
+{
+    let mut message = Message::new();
+    message.push_str("NODE ");
+    message.push_str(node_line(roster, world, decoder).as_str());
+    message
+}
+
+/// Returns the line of a decoder, by its index in the roster.
+fn node_line(roster: Option<&Roster>, world: &World, decoder: usize) -> Line
+    requires decoders { map spec_of world.now.nodes ≡ specs_of (entries_of roster) }
+    requires decoder { decoder < length world.now.nodes }
+    ensures { (entry : Entry) → (node : Node) → result.bytes
+        ≡ line_at (slice_index_or (entries_of roster.entry) decoder entry)
+        (decoder_state_of (slice_index_or world.now.nodes decoder node)) }
+{
+    let Some(roster) = roster else {
+        // Without a roster there are no decoders.
+        return Line::new();
+    };
+    let specs = roster.nodes();
+    world
+        .decoder_state(decoder)
+        .line(roster.name(decoder), &specs.as_slice()[decoder])
+}
+
+/// Returns the message of a part of the plan or of a train.
+fn plan_message(roster: Option<&Roster>, railway: &Railway, i: usize) -> Message
+    ensures { result.bytes ≡ get_or (plan_messages (entries_of roster.entry) railway.now) i [] }
+{
+    let blocks = railway.blocks();
+    if i < blocks.len() {
+        return block_message(&blocks[i]);
+    }
+    let i = i - blocks.len();
+    let joints = railway.joints();
+    if i < joints.len() {
+        return joint_message(blocks, &joints[i]);
+    }
+    let i = i - joints.len();
+    let turnouts = railway.turnouts();
+    if i < turnouts.len() {
+        return turnout_message(blocks, &turnouts[i]);
+    }
+    let i = i - turnouts.len();
+    let trains = railway.trains();
+    if i < trains.len() {
+        return message_of_train(roster, blocks, &trains[i]);
+    }
+    Message::new()
+}
+
+fn message_of_train(roster: Option<&Roster>, blocks: &[Block], train: &TrainState) -> Message
+    ensures { result.bytes
+        ≡ train_message (decoder_name (slice_get (entries_of roster.entry) train.now.decoder))
+        blocks.now (place_of blocks.now train.now) }
+{
+    let name = decoder_name(roster, usize::from(train.decoder));
+    TrainPlace::of(blocks, train).message(name, blocks)
+}
+
+/// Returns `BLOCK NAME LENGTH`, and where its ends are drawn.
+fn block_message(block: &Block) -> Message
+    ensures { result.bytes ≡ block_message block.now }
+{
+    let mut message = Message::new();
+    message.push_str("BLOCK ");
+    message.push_str(block.name.as_str());
+    message.push_str(" ");
+    push_number(&mut message, u64::from(block.length));
+    push_point(&mut message, End::A, block.point_a);
+    push_point(&mut message, End::B, block.point_b);
+    message
+}
+
+/// Returns `JOINT` and its two ends.
+fn joint_message(blocks: &[Block], joint: &Joint) -> Message
+    ensures { result.bytes ≡ joint_message blocks.now joint.now }
+{
+    let mut message = Message::new();
+    message.push_str("JOINT ");
+    push_end(&mut message, blocks, joint.one);
+    message.push_str(" ");
+    push_end(&mut message, blocks, joint.two);
+    message
+}
+
+/// Returns `TURNOUT`, its number, and its common, closed and thrown end.
+fn turnout_message(blocks: &[Block], state: &TurnoutState) -> Message
+    ensures { result.bytes ≡ turnout_message blocks.now state.now }
+{
+    let turnout = &state.turnout;
+    let mut message = Message::new();
+    message.push_str("TURNOUT ");
+    push_number(&mut message, u64::from(turnout.switch));
+    message.push_str(" ");
+    push_end(&mut message, blocks, turnout.common);
+    message.push_str(" ");
+    push_end(&mut message, blocks, turnout.closed);
+    message.push_str(" ");
+    push_end(&mut message, blocks, turnout.thrown);
+    message
+}

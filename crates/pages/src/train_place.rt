@@ -1,0 +1,102 @@
+//! Where a train is, as pages are told of it.
+ghost use Rattle.std.specs.Prelude.{◌≡◌, ◌≤◌, ◌*◌, ◌/◌, length, min, slice_get};
+ghost use Rattle.pages.specs.TrainPlace.{place_of, same_train_place, tenths_in, tenths_of, train_message, way_from_a};
+
+use crate::words::{Message, letter_of, push_number};
+use railway::{Block, End, Place, TrainState, block_name};
+
+/// The tenth of a millimetre, in picometres.
+const TENTH: u64 = 100_000_000;
+
+/// The words of a train's message behind its name.
+#[derive(Clone, Copy)]
+pub struct TrainPlace {
+    /// The index in the plan of the block of its front, from 0.
+    pub front: u8,
+    /// How many tenths of that block its front is from end A, 0 to 10, rounded down.
+    pub tenths: u8,
+    /// The end that its front faces.
+    pub facing: End,
+    /// The index in the plan of the block of its rear, from 0.
+    pub rear: u8,
+    /// Whether it is off the rails.
+    pub derailed: bool,
+}
+
+impl TrainPlace {
+    /// Returns where a train is on these blocks.
+    pub(crate) fn of(blocks: &[Block], train: &TrainState) -> TrainPlace
+        ensures { result ≡ place_of blocks.now train.now }
+    {
+        TrainPlace {
+            front: train.front.block,
+            tenths: tenths_of(blocks, train.front),
+            facing: train.front.toward,
+            rear: train.rear.block,
+            derailed: train.is_derailed(),
+        }
+    }
+
+    /// Whether it is this place.
+    pub(crate) fn is(self, place: TrainPlace) -> bool
+        ensures { result ≡ same_train_place self place }
+    {
+        self.front == place.front
+            && self.tenths == place.tenths
+            && self.facing.is(place.facing)
+            && self.rear == place.rear
+            && self.derailed == place.derailed
+    }
+
+    /// Returns `TRAIN`, the name of the train, at most 16 bytes, and this place.
+    pub(crate) fn message(self, name: &str, blocks: &[Block]) -> Message
+        requires { length name.now ≤ 16 }
+        ensures { result.bytes ≡ train_message name.now blocks.now self }
+    {
+        let mut message = Message::new();
+        message.push_str("TRAIN ");
+        message.push_str(name);
+        message.push_str(" ");
+        message.push_str(block_name(blocks, usize::from(self.front)));
+        message.push_str(" ");
+        push_number(&mut message, u64::from(self.tenths));
+        message.push_str(" ");
+        message.push_str(letter_of(self.facing));
+        message.push_str(" ");
+        message.push_str(block_name(blocks, usize::from(self.rear)));
+        message.push_str(if self.derailed { " derailed" } else { "" });
+        message
+    }
+}
+
+/// Returns how many tenths of its block a front is from end A.
+fn tenths_of(blocks: &[Block], front: Place) -> u8
+    ensures { result ≡ tenths_of blocks.now front }
+{
+    let way = way_from_a(front);
+    match blocks.get(usize::from(front.block)) {
+        Some(block) => tenths_in(block, way),
+        None => 0,
+    }
+}
+
+/// Returns how far a front is from end A, in picometres.
+fn way_from_a(front: Place) -> u64
+    ensures { result ≡ way_from_a front.toward front.at }
+{
+    match front.toward {
+        End::A => front.at,
+        End::B => front.at.saturating_add(1),
+    }
+}
+
+/// Returns how many tenths of a block lie on a way, at most ten.
+fn tenths_in(block: &Block, way: u64) -> u8
+    ensures { result ≡ min (way / (block.now.length * 100000000)) 10 }
+{
+    let tenth = u64::from(block.length) * TENTH;
+    match way.checked_div(tenth) {
+        Some(tenths) => tenths.min(10) as u8,
+        None => 0,
+    }
+}
