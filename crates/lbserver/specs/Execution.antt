@@ -7,8 +7,10 @@ use Rattle.server_orders.specs.ServerLine.{AsksServer, IsServerOrderOf}
 use Rattle.console.specs.Files.{IsRosterOf}
 use Rattle.roster.specs.Entry.{Entry}
 use Rattle.roster.specs.Decoders.{names_of, specs_of}
+use Rattle.bus_server.specs.declared.hub.Hub.{Hub}
 use Rattle.bus_server.specs.declared.losses.Losses.{Losses}
 use Rattle.bus_server.specs.ServerState.{ServerState, initial_state}
+use Rattle.bus_server.specs.Snapshots.{HasReported, ObservesLayout, state_of}
 use Rattle.bus_server.specs.declared.pace.Pace.{Pace}
 use Rattle.bus_server.specs.declared.pace.Pace.TheVariants.{AfterMessages, RealTime}
 use Rattle.bus_server.specs.Losses.{IsSeeded}
@@ -52,6 +54,12 @@ HasPace order = IsTrue (is_pace (pace_of order.turns order.rate))
 abbrev pub IsNewServer : ServerOrder → List Entry → Option RailwayState → ServerState → Type 0
 IsNewServer order entries railway start =
     (losses : Losses) × IsSeeded order.lose order.seed losses × (start ≡ initial_state (specs_of entries) (names_of entries) railway (pace_of order.turns order.rate) losses)
+
+-- A server that is ready to serve an order: new, with the decoders of its roster, and nothing to report.
+pub record IsReady (order : ServerOrder) (entries : List Entry) (hub : Hub) : Type 0 where
+  pub observes : ObservesLayout (specs_of entries) hub
+  pub reported : HasReported hub
+  pub new : IsNewServer order entries (state_of hub).railway (state_of hub)
 
 -- sockets, the system's clock and standard output keep no logs
 abbrev pub unlogged : ServerState → RunSnapshot

@@ -1,10 +1,10 @@
 //! Running the program on its arguments, its port and its clock.
 ghost use Rattle.std.specs.Prelude.{◌≡◌, ◌≤◌, OnOk, false, map, true};
-ghost use Rattle.roster.specs.Decoders.{entries_of, specs_of};
+ghost use Rattle.roster.specs.Decoders.{entries_of};
 ghost use Rattle.bus_log.specs.Verbosities.{verbosity_of};
-ghost use Rattle.bus_server.specs.Snapshots.{HasReported, ObservesLayout, state_of};
+ghost use Rattle.bus_server.specs.Snapshots.{state_of};
 ghost use Rattle.console.specs.Files.{IsRosterOf};
-ghost use Rattle.lbserver.specs.Execution.{HasPace, IsNewServer, RunsWords, ServesOrder, ServesPlan, clients_of, ended_by_output, entries_in, pace_of};
+ghost use Rattle.lbserver.specs.Execution.{HasPace, IsReady, RunsWords, ServesOrder, ServesPlan, clients_of, ended_by_output, entries_in, pace_of};
 ghost use Rattle.server_orders.specs.declared.words.ServerOrder.{ServerOrder as OrderValue};
 
 use crate::answering::answer;
@@ -145,10 +145,7 @@ fn with_sockets<O: Write>(
     output: &mut StandardOutput<O>,
 ) -> Result<(), ServerFault>
     requires works { output.old.failed ≡ false }
-    requires observes { ObservesLayout (specs_of (entries_of roster)) server.old.hub }
-    requires reported { HasReported server.old.hub }
-    requires new { IsNewServer order.old (entries_of roster)
-        (state_of server.old.hub).railway (state_of server.old.hub) }
+    requires ready { IsReady order.old (entries_of roster) server.old.hub }
     ensures serves { OnOk result (ServesOrder order.old (entries_of roster.entry)
         (state_of server.old.hub).railway) }
     ensures failed { output.new.failed ≡ ended_by_output result }
@@ -173,10 +170,7 @@ fn with_page<O: Write>(
     output: &mut StandardOutput<O>,
 ) -> Result<(), ServerFault>
     requires works { output.old.failed ≡ false }
-    requires observes { ObservesLayout (specs_of (entries_of roster)) server.old.hub }
-    requires reported { HasReported server.old.hub }
-    requires new { IsNewServer order.old (entries_of roster)
-        (state_of server.old.hub).railway (state_of server.old.hub) }
+    requires ready { IsReady order.old (entries_of roster) server.old.hub }
     ensures serves { OnOk result (ServesOrder order.old (entries_of roster.entry)
         (state_of server.old.hub).railway) }
     ensures failed { output.new.failed ≡ ended_by_output result }
@@ -199,10 +193,7 @@ fn with_log<O: Write>(
     output: &mut StandardOutput<O>,
 ) -> Result<(), ServerFault>
     requires works { output.old.failed ≡ false }
-    requires observes { ObservesLayout (specs_of (entries_of roster)) server.old.hub }
-    requires reported { HasReported server.old.hub }
-    requires new { IsNewServer order.now (entries_of roster)
-        (state_of server.old.hub).railway (state_of server.old.hub) }
+    requires ready { IsReady order.now (entries_of roster) server.old.hub }
     ensures serves { OnOk result (ServesOrder order.now (entries_of roster.entry)
         (state_of server.old.hub).railway) }
     ensures failed { output.new.failed ≡ ended_by_output result }
@@ -281,10 +272,7 @@ fn serve<O: Write>(
     output: &mut StandardOutput<O>,
 ) -> Result<(), ServerFault>
     requires works { output.old.failed ≡ false }
-    requires observes { ObservesLayout (specs_of (entries_of printer.old.roster)) server.old.hub }
-    requires reported { HasReported server.old.hub }
-    requires new { IsNewServer order.now (entries_of printer.old.roster)
-        (state_of server.old.hub).railway (state_of server.old.hub) }
+    requires ready { IsReady order.now (entries_of printer.old.roster) server.old.hub }
     requires verbosity { printer.old.verbosity ≡ verbosity_of order.now.track order.now.quiet }
     ensures serves { OnOk result (ServesOrder order.now (entries_of printer.old.roster)
         (state_of server.old.hub).railway) }
