@@ -39,7 +39,6 @@ use Rattle.bus_server.specs.TransportEvents.{Accepted, NonePending, PeerClosed, 
 use Rattle.bus_server.proofs.Going.{log-append}
 use Rattle.bus_server.proofs.Keeping.{enqueued_there, joined_one, none_of_both, none_set, only_joins, only_leaves, left_is_not_late, put_keeps, row_before, row_behind, set_at}
 use Rattle.bus_server.proofs.Placing.{length-enqueued}
-use Rattle.bus_server.proofs.Rounding.{accepts_apply, accepts_unread}
 use Rattle.bus_server.proofs.Sizes.{HasFew, HasFewBlocks, SameBlocks, answered_request, event_few, none_due, report_size, request_most, request_sound}
 
 -- What is queued for a client, and with it the reports that are still due, which are at most as many bytes; nothing has overflowed.
@@ -486,7 +485,7 @@ Unclosed client n log new = Within client n new × (is_closed client log ≡ fal
 unread_one : (client n : ℕ) (log : TransportEvent) (applied : List LoggedEvent) (old new : ServerState) → Applies log applied old new → is_reading log ≡ false → 26 ≤ n → n ≤ 65536 → Within client n old → Unclosed client n log new
 unread_one client n (Polled longest) applied old new does unread least room h = absurd does
 unread_one client n (Accepted i) applied old new does unread least room h =
-    let joins = only_joins i applied (with_backlog old) new does.1 in
+    let joins = only_joins i applied (with_backlog old) new does in
     (joins_within client i n joins.0 (with_backlog old) new least room joins.1 h, refl)
 unread_one client n (Received i byte) applied old new does unread least room h = cc
 unread_one client n (PeerClosed i) applied old new does unread least room h =
@@ -518,7 +517,7 @@ is_accepting i other = false
 
 accepted_one : (client : ℕ) (log : TransportEvent) (applied : List LoggedEvent) (old new : ServerState) → Applies log applied old new → is_accepting client log ≡ true → Within client 65536 old → Within client 3477 new
 accepted_one client (Accepted i) applied old new does is h =
-    let joins = only_joins i applied (with_backlog old) new does.1 in
+    let joins = only_joins i applied (with_backlog old) new does in
     within_more client 26 3477 new (omega arith) (joined_within client joins.0 (with_backlog old) new (subst (λ (k : ℕ). RunsEvent (Connects k) joins.0 (with_backlog old) new) (eqb-true i client is) joins.1) h.0 h.3.1)
 accepted_one client (Polled longest) applied old new does is h = cc
 accepted_one client (Received i byte) applied old new does is h = cc
@@ -629,7 +628,7 @@ round_keeps same client handled old new among round up h =
     let serves : ServesClients (suc 7) turns old round.2 = round.4 in
     let served = last_keeps same client 7 turns serves.0 serves.1 old serves.2 round.2 among serves.3 serves.5 (up_before client (transport_events turns) (transport_events last) up_log)
     (λ first. serves_keep same client 7 serves.0 old serves.2 among serves.4 first h) in
-    let accepted = unread_all client 3477 last round.2 new (accepts_apply last round.2 new round.5) (accepts_unread last round.2 new round.5) (omega arith) (omega arith) served.0 in
+    let accepted = unread_all client 3477 last round.2 new round.5 round.6 (omega arith) (omega arith) served.0 in
     subst (λ (all : List TransportEvent). StaysUp client 3477 all new) (sym log) (both_stay client 3477 (transport_events turns) (transport_events last) new served.1 accepted)
 
 -- A round starts: a line of an answer has at most 647 bytes, and that turns have passed is told in 10.

@@ -1,7 +1,6 @@
 pub mod Accounts
 pub mod Answering
 pub mod Courses
-pub mod Following
 pub mod Going
 pub mod Hearing
 pub mod Keeping
@@ -11,7 +10,6 @@ pub mod Missed
 pub mod Missing
 pub mod Naming
 pub mod Nothings
-pub mod Ordering
 pub mod Placing
 pub mod Repeating
 pub mod Rounding

@@ -10,7 +10,7 @@ use Rattle.bus.specs.declared.event.Event.TheVariants.{Disconnects}
 use Rattle.bus_server.specs.Observations.{Observation}
 use Rattle.bus.specs.Log.{Extends}
 use Rattle.bus_server.specs.Snapshots.{ProgressesWithoutInput, Snapshot, WritesFront}
-use Rattle.bus_server.specs.Rounds.{Accepts, AllWrittenTo, HasMoreClients, Reads, ReadsOn, ServesClients, IsReadOn, IsRound, IsUnread, IsWrittenTo, is_read, is_reading, PreservesRound, AcceptsPending, WritesInARow, backlog_after, refusals, is_write, pieces_to, IsFair, Writes, WritesNone}
+use Rattle.bus_server.specs.Rounds.{AllWrittenTo, HasMoreClients, Reads, ReadsOn, ServesClients, IsReadOn, IsRound, IsUnread, IsWrittenTo, is_read, is_reading, PreservesRound, AcceptsPending, WritesInARow, backlog_after, refusals, is_write, pieces_to, IsFair, Writes, WritesNone}
 use Rattle.bus_server.specs.ServerState.{Handled, RunsEventWithReports, Applies, LoggedEvent, AppliesAll, ServerState, is_connected, has_overflowed, transport_events, observations_in, observations_of}
 use Rattle.bus_server.specs.declared.transport.IoOutcome.TheVariants.{WouldBlock}
 use Rattle.bus_server.specs.TransportEvents.{Accepted, Polled, ReadBlocked, ServerClosed, WriteBlocked, PeerClosed, NonePending, TransportEvent, Received, Written, Refused}
@@ -223,20 +223,8 @@ turns_serve (suc n) handled old new h =
     (serves_more h.0 h.1 old h.2 new (turns_serve n h.0 old h.2 h.4)
     (subst (λ (all : List Handled). AppliesAll all h.2 new) (sym turn.3) (serves_more turn.0 turn.1 h.2 turn.2 new (reads_apply n turn.0 h.2 turn.2 turn.4) turn.5)))
 
-pub accepts_apply : (handled : List Handled) (old new : ServerState) → Accepts handled old new → AppliesAll handled old new
-accepts_apply handled old new h = elim h [
-  | inl none ↦ subst (λ (all : List Handled). AppliesAll all old new) (sym none.1) none.2
-  | inr some ↦ some.1
-]
-
-pub accepts_unread : (handled : List Handled) (old new : ServerState) → Accepts handled old new → IsUnread (transport_events handled)
-accepts_unread handled old new h = elim h [
-  | inl none ↦ ap (λ (all : List Handled). list_any is_reading (transport_events all)) none.1
-  | inr some ↦ some.2
-]
-
 pub round_serves : (handled : List Handled) (old new : ServerState) → IsRound handled old new → AppliesAll handled old new
-round_serves handled old new round = subst (λ (all : List Handled). AppliesAll all old new) (sym round.3) (serves_more round.0 round.1 old round.2 new (turns_serve 8 round.0 old round.2 round.4) (accepts_apply round.1 round.2 new round.5))
+round_serves handled old new round = subst (λ (all : List Handled). AppliesAll all old new) (sym round.3) (serves_more round.0 round.1 old round.2 new (turns_serve 8 round.0 old round.2 round.4) round.5)
 
 pub lets_in_behind : (first second : List TransportEvent) → AcceptsPending second → AcceptsPending (first ++ second)
 lets_in_behind first second last = (

@@ -1,7 +1,7 @@
 -- A round of a server: all clients are read and written to, and pending clients are accepted.
 use Rattle.std.specs.Prelude.{ℕ, zero, suc, ◌≡◌, ◌⊎◌, ◌+◌, ◌<◌, ◌≤◌, ◌==◌, Bool, true, false, if◌then◌else◌, List, [], ◌∷◌, ◌++◌, length, replicate, None}
 use Rattle.std.specs.List.{list_all, list_any, slice_index_or}
-use Rattle.bus_server.specs.ServerState.{Handled, Applies, AppliesAll, ServerState, has_overflowed, has_turns_to_follow, is_connected, is_crowded, transport_events, waits, with_backlog}
+use Rattle.bus_server.specs.ServerState.{Handled, Applies, AppliesAll, ServerState, has_overflowed, has_turns_due, is_connected, is_crowded, transport_events, with_backlog}
 use Rattle.bus_server.specs.SendQueue.{queued}
 use Rattle.bus_server.specs.TransportEvents.{Accepted, WriteBlocked, PeerClosed, NonePending, TransportEvent, Written, ReadBlocked, Received, Refused}
 
@@ -69,14 +69,14 @@ is_last_read (PeerClosed client) = true
 is_last_read (ReadBlocked client) = true
 is_last_read other = false
 
--- After an event of a client it is read on: it waits for no turns, and no queue is more than half full, unless the event
+-- After an event of a client it is read on: no turns are due to it, and no queue is more than half full, unless the event
 -- enqueued nothing.
 abbrev pub IsReadOn : (client : ℕ) → (old new : ServerState) → Type 0
-IsReadOn client old new = (waits new client ≡ false) × ((is_crowded new ≡ false) ⊎ (new.queues ≡ old.queues))
+IsReadOn client old new = (has_turns_due new client ≡ false) × ((is_crowded new ≡ false) ⊎ (new.queues ≡ old.queues))
 
--- Or it is not: there are no more bytes, it waits for turns, or a queue is more than half full.
+-- Or it is not: there are no more bytes, turns are due to it, or a queue is more than half full.
 abbrev pub IsReadLater : (client : ℕ) → TransportEvent → ServerState → Type 0
-IsReadLater client log new = (is_last_read log ≡ true) ⊎ (waits new client ≡ true) ⊎ (is_crowded new ≡ true)
+IsReadLater client log new = (is_last_read log ≡ true) ⊎ (has_turns_due new client ≡ true) ⊎ (is_crowded new ≡ true)
 
 -- a client is read, and then read on, one byte after another
 abbrev pub ReadsOn : (client : ℕ) → List Handled → ServerState → ServerState → Type 0
@@ -85,13 +85,13 @@ ReadsOn client (one ∷ handled) old new =
     (mid : ServerState) × (is_read client one.log ≡ true) × Applies one.log one.applied old mid × IsReadOn client old mid
     × ReadsOn client handled mid new
 
--- A client is read, 400 bytes at most, and nothing else happens: until it is to be read later. It is not read at all while it
--- waits for turns.
+-- A client is read, 400 bytes at most, and nothing else happens: until it is to be read later. It is not read at all while turns
+-- are due to it, which what it sends waits for.
 abbrev pub Reads : (client : ℕ) → List Handled → ServerState → ServerState → Type 0
 Reads client handled old new =
-    ((waits old client ≡ true) × (handled ≡ []) × (new ≡ old))
-    ⊎ ((waits old client ≡ false) × ReadsOn client handled old new × (length handled ≡ 400))
-    ⊎ ((waits old client ≡ false) × (before : List Handled) × (last : Handled) × (mid : ServerState)
+    ((has_turns_due old client ≡ true) × (handled ≡ []) × (new ≡ old))
+    ⊎ ((has_turns_due old client ≡ false) × ReadsOn client handled old new × (length handled ≡ 400))
+    ⊎ ((has_turns_due old client ≡ false) × (before : List Handled) × (last : Handled) × (mid : ServerState)
     × (handled ≡ before ++ last ∷ []) × (length handled ≤ 400) × ReadsOn client before old mid
     × (is_read client last.log ≡ true) × Applies last.log last.applied mid new × IsReadLater client last.log new)
 
@@ -107,17 +107,9 @@ abbrev pub ServesClients : (count : ℕ) → List Handled → ServerState → Se
 ServesClients zero handled old new = (handled ≡ []) × (new ≡ old)
 ServesClients (suc n) handled old new = (before handled' : List Handled) × (mid : ServerState) × (handled ≡ before ++ handled') × ServesClients n before old mid × ServesClient n handled' mid new
 
--- Pending clients are accepted, unless turns are left that follow a message.
-abbrev pub Accepts : List Handled → ServerState → ServerState → Type 0
-Accepts handled old new =
-    ((has_turns_to_follow old ≡ true) × (handled ≡ []) × (new ≡ old))
-    ⊎ ((has_turns_to_follow old ≡ false) × AppliesAll handled old new × IsUnread (transport_events handled)
-    × AcceptsPending (transport_events handled))
-
 -- A round: all eight are served, and then pending clients are accepted.
 abbrev pub IsRound : List Handled → ServerState → ServerState → Type 0
-IsRound handled old new =
-    (turns last : List Handled) × (mid : ServerState) × (handled ≡ turns ++ last) × ServesClients 8 turns old mid × Accepts last mid new
+IsRound handled old new = (turns last : List Handled) × (mid : ServerState) × (handled ≡ turns ++ last) × ServesClients 8 turns old mid × AppliesAll last mid new × IsUnread (transport_events last) × AcceptsPending (transport_events last)
 
 -- What the parts of a round promise one another.
 
@@ -145,8 +137,7 @@ pub record PreservesRound (more : List TransportEvent) (old new : ServerState) :
   pub on_time : (client : ℕ) → has_overflowed old client ≡ false → has_overflowed new client ≡ false
   pub unread : IsUnread more
 
--- this client is connected now, and so are all that were; what is due stays
+-- this client is connected now, and so are all that were
 pub record HasMoreClients (client : ℕ) (old new : ServerState) : Type 0 where
   pub takes : is_connected new client ≡ true
   pub keeps : (other : ℕ) → is_connected old other ≡ true → is_connected new other ≡ true
-  pub turns : new.turns_due ≡ old.turns_due

@@ -11,7 +11,7 @@ use Rattle.bus_server.specs.declared.losses.Losses.{Losses}
 use Rattle.bus_server.specs.Losses.{IsDraw}
 use Rattle.bus_server.specs.declared.pace.Pace.{Pace}
 use Rattle.bus_server.specs.declared.track_due.TurnsDue.{TurnsDue}
-use Rattle.bus_server.specs.TrackDue.{after_answer, due_after, due_to, follow_message, is_due, must_wait, none_due, turns_answer}
+use Rattle.bus_server.specs.TrackDue.{after_answer, due_after, due_to, is_due, none_due, turns_answer}
 use Rattle.bus_server.specs.Pace.{clock_time, follows_messages}
 use Rattle.bus.specs.declared.event.Event.{Event}
 use Rattle.bus.specs.declared.event.Event.TheVariants.{Receives, Connects, Disconnects, Elapses, Turn}
@@ -132,13 +132,9 @@ has_overflowed state client = is_connected state client && not (is_some (slice_i
 abbrev pub is_crowded : ServerState → Bool
 is_crowded state = list_any is_more_than_half state.queues
 
--- turns are left that follow a message
-abbrev pub has_turns_to_follow : ServerState → Bool
-has_turns_to_follow state = list_any follow_message state.turns_due
-
--- what a client sends waits for turns
-abbrev pub waits : ServerState → (client : ℕ) → Bool
-waits state client = must_wait state.turns_due client
+-- turns are due to a client
+abbrev pub has_turns_due : ServerState → (client : ℕ) → Bool
+has_turns_due state client = is_due (due_to state.turns_due client)
 
 -- this event, and what sensors report after it
 abbrev pub IsWithReports : Event → List Event → Type 0
@@ -194,15 +190,14 @@ abbrev pub round_start : ServerState → ServerState
 round_start state = with_answers (without_backlog state)
 
 -- What each event of the transport does, after a wait. A client that is accepted or closes, and each byte, is an event of the
--- bus; a client is not read while it waits for turns, and none is accepted while turns are left that follow a message. What is
--- written is the front of the client's queue. The server closes a client only if its queue has overflowed, and refuses one only
--- while all eight are connected. After what was read, accepted or refused there may be more.
+-- bus; a client is not read while turns are due to it. What is written is the front of the client's queue. The server closes a
+-- client only if its queue has overflowed, and refuses one only while all eight are connected. After what was read, accepted or
+-- refused there may be more.
 abbrev pub Applies : TransportEvent → List LoggedEvent → ServerState → ServerState → Type 0
 Applies (Polled longest) applied old new = ⊥
-Applies (Accepted client) applied old new =
-    (has_turns_to_follow old ≡ false) × RunsEventWithReports (Connects client) applied (with_backlog old) new
+Applies (Accepted client) applied old new = RunsEventWithReports (Connects client) applied (with_backlog old) new
 Applies (Received client byte) applied old new =
-    (waits old client ≡ false) × RunsEventWithReports (Receives client byte) applied (with_backlog old) new
+    (has_turns_due old client ≡ false) × RunsEventWithReports (Receives client byte) applied (with_backlog old) new
 Applies (PeerClosed client) applied old new = RunsEventWithReports (Disconnects client) applied old new
 Applies (ServerClosed client) applied old new = (has_overflowed old client ≡ true) × RunsEventWithReports (Disconnects client) applied old new
 Applies (Written client bytes) applied old new =

@@ -6,7 +6,7 @@ ghost use Rattle.bus.specs.Bus.{is_event};
 ghost use Rattle.bus.specs.Course.{is_time};
 ghost use Rattle.bus.specs.State.{bus_state};
 ghost use Rattle.bus_server.specs.TransportEvents.{Received};
-ghost use Rattle.bus_server.specs.ServerState.{Applies, RunsEventWithReports, has_overflowed, has_turns_to_follow, initial_state, is_accepted, outcome_in, waits};
+ghost use Rattle.bus_server.specs.ServerState.{Applies, RunsEventWithReports, has_overflowed, has_turns_due, initial_state, is_accepted, outcome_in};
 ghost use Rattle.bus_server.specs.NamedNodes.{names_of, specs_of};
 ghost use Rattle.bus_server.specs.Pace.{is_pace};
 ghost use Rattle.bus_server.specs.Reading.{IsReadNext, ReadsOne};
@@ -105,7 +105,7 @@ impl Server {
     }
 
     /// Serves one round, which [`Server::run`] starts: reads each client, writing to all after each, and then accepts pending
-    /// clients. While turns are left that follow a message, nobody is read or accepted.
+    /// clients.
     ///
     /// # Errors
     ///
@@ -131,9 +131,6 @@ impl Server {
             self.receive(client, transport, observer)?;
             self.write_all(transport, observer)?;
         }
-        if self.hub.track_due.follow_message() {
-            return Ok(());
-        }
         // Last, so that the index of a client that has disconnected meanwhile is free.
         self.accept_pending(transport, observer)
     }
@@ -144,7 +141,6 @@ impl Server {
         transport: &mut W,
         observer: &mut P,
     ) -> Result<(), P::Fault>
-        requires turns { has_turns_to_follow (state_of self.old.hub) ≡ false }
         requires observes { ObservesLayout (P.decoder_specs observer.old) self.old.hub }
         requires reported { HasReported self.old.hub }
         ensures observes { ObservesLayout (P.decoder_specs observer.new) self.new.hub }
@@ -175,7 +171,6 @@ impl Server {
         observer: &mut P,
     ) -> Result<bool, P::Fault>
         requires client { client < 8 }
-        requires turns { has_turns_to_follow (state_of self.old.hub) ≡ false }
         requires observes { ObservesLayout (P.decoder_specs observer.old) self.old.hub }
         requires reported { HasReported self.old.hub }
         ensures observes { ObservesLayout (P.decoder_specs observer.new) self.new.hub }
@@ -230,7 +225,7 @@ impl Server {
         Ok(())
     }
 
-    /// Reads what a client sent, 400 bytes at most, and applies it, unless it waits for turns.
+    /// Reads what a client sent, 400 bytes at most, and applies it, unless turns are due to it.
     fn receive<W: Transport, P: Observer>(
         &mut self,
         client: u8,
@@ -250,7 +245,7 @@ impl Server {
             (Stops (snapshot (W.log transport.old) (P.observed observer.old) self.old.hub)
             (snapshot (W.log transport.new) (P.observed observer.new) self.new.hub)) }
     {
-        if self.hub.track_due.must_wait(client) {
+        if self.hub.track_due.is_due_to(client) {
             return Ok(());
         }
         for _byte in 0..MAX_READ {
@@ -261,8 +256,8 @@ impl Server {
         Ok(())
     }
 
-    /// Reads a byte of a client and applies it. Returns whether the client is to be read on: not if there are no more bytes, it
-    /// waits for turns, or a queue is more than half full.
+    /// Reads a byte of a client and applies it. Returns whether the client is to be read on: not if there are no more bytes, turns
+    /// are due to it, or a queue is more than half full.
     fn receive_byte<W: Transport, P: Observer>(
         &mut self,
         client: u8,
@@ -270,7 +265,7 @@ impl Server {
         observer: &mut P,
     ) -> Result<bool, P::Fault>
         requires client { client < 8 }
-        requires waits { waits (state_of self.old.hub) client ≡ false }
+        requires none_due { has_turns_due (state_of self.old.hub) client ≡ false }
         requires observes { ObservesLayout (P.decoder_specs observer.old) self.old.hub }
         requires reported { HasReported self.old.hub }
         ensures observes { ObservesLayout (P.decoder_specs observer.new) self.new.hub }
@@ -302,7 +297,7 @@ impl Server {
         observer: &mut P,
     ) -> Result<bool, P::Fault>
         requires client { client < 8 }
-        requires waits { waits (state_of self.old.hub) client ≡ false }
+        requires none_due { has_turns_due (state_of self.old.hub) client ≡ false }
         requires observes { ObservesLayout (P.decoder_specs observer.old) self.old.hub }
         requires reported { HasReported self.old.hub }
         ensures observes { ObservesLayout (P.decoder_specs observer.new) self.new.hub }
@@ -322,7 +317,7 @@ impl Server {
         if let Outcome::Nothing = outcome {
             return Ok(true);
         }
-        Ok(!self.hub.track_due.must_wait(client) && !self.hub.is_crowded())
+        Ok(!self.hub.track_due.is_due_to(client) && !self.hub.is_crowded())
     }
 
     /// Writes to each client, and disconnects those whose queue has overflowed.

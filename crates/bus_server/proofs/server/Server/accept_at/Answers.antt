@@ -1,4 +1,4 @@
-use Rattle.std.proofs.Common.{◌<◌, ◌∷◌, [], length, refl, sym, ◌∙◌, arith}
+use Rattle.std.proofs.Common.{◌<◌, ◌∷◌, [], length, sym, ◌∙◌, arith}
 use Rattle.bus_server.specs.Snapshots.{snapshot, state_of}
 use Rattle.bus_server.specs.Rounds.{HasMoreClients, PreservesRound}
 use Rattle.bus_server.specs.TransportEvents.{Accepted}
@@ -12,7 +12,7 @@ pub returns-then-is_connected-clause-seats : goal.returns-then-is_connected-clau
 returns-then-is_connected-clause-seats g c =
     let all = state_of c.args.self.now.hub in
     calm_nowhere (λ _ new. HasMoreClients c.args.client all new) (snapshot (g.W.Transport.log c.args.transport.now) (g.P.Observer.observed c.args.observer.now) c.args.self.now.hub)
-    (record { takes = sym c.is_connected.ensures ∙ c.if-is_connected.true; keeps = λ other placed. placed; turns = refl })
+    (record { takes = sym c.is_connected.ensures ∙ c.if-is_connected.true; keeps = λ other placed. placed })
 
 pub returns-clause-seats : goal.returns-clause-seats
 returns-clause-seats g c =
@@ -24,11 +24,11 @@ returns-clause-seats g c =
     let place : client < length old.queues = omega (arith, c.args.self.now.hub.eight, c.requires.client) in
     let line : client < length old.bus.clients = omega (arith, c.invariant_holds.ensures.kept.client_count, c.requires.client) in
     goes_one (λ more all. PreservesRound more old all × HasMoreClients client old all) (Accepted client) does.0
-    (snapshot (g.W.Transport.log c.args.transport.now) (g.P.Observer.observed c.args.observer.now) c.args.self.now.hub) (snapshot (g.W.Transport.log c.accept.new.self) (g.P.Observer.observed c.apply.new.observer) c.apply.new.self.hub) c.if-not-accept.ensures does.1 (c.requires.turns, does.2)
+    (snapshot (g.W.Transport.log c.args.transport.now) (g.P.Observer.observed c.args.observer.now) c.args.self.now.hub) (snapshot (g.W.Transport.log c.accept.new.self) (g.P.Observer.observed c.apply.new.observer) c.apply.new.self.hub) c.if-not-accept.ensures does.1 does.2
     (keeps_backlog (Accepted client ∷ []) old new (joined_keeps client joined.0 (with_backlog old) new place c.args.self.now.hub.within_capacity joined.1), more_backlog client old new (joined_places client joined.0 (with_backlog old) new line joined.1))
 
 pub returns-in_err-apply-clause-stops : goal.returns-in_err-apply-clause-stops
 returns-in_err-apply-clause-stops g c =
     let begun = c.apply.ensures.happened in
     whatever_fails c.from_residual.result
-    (stops_first (Accepted c.args.client) begun.0 (snapshot (g.W.Transport.log c.args.transport.now) (g.P.Observer.observed c.args.observer.now) c.args.self.now.hub) (snapshot (g.W.Transport.log c.accept.new.self) (g.P.Observer.observed c.apply.new.observer) c.apply.new.self.hub) c.if-not-accept.ensures begun.1 (c.requires.turns, begun.2))
+    (stops_first (Accepted c.args.client) begun.0 (snapshot (g.W.Transport.log c.args.transport.now) (g.P.Observer.observed c.args.observer.now) c.args.self.now.hub) (snapshot (g.W.Transport.log c.accept.new.self) (g.P.Observer.observed c.apply.new.observer) c.apply.new.self.hub) c.if-not-accept.ensures begun.1 begun.2)

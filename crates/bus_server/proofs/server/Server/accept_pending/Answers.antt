@@ -1,7 +1,4 @@
-use Rattle.std.proofs.Common.{◌<◌, ◌≡◌, ◌+◌, ℕ, List, true, ap, arith, ◌∙◌}
-use Rattle.std.specs.List.{list_any}
-use Rattle.bus_server.specs.declared.track_due.TurnsDue.{TurnsDue}
-use Rattle.bus_server.specs.TrackDue.{follow_message}
+use Rattle.std.proofs.Common.{◌<◌, ◌≡◌, ◌+◌, ℕ, true, arith}
 use Rattle.bus_server.specs.Snapshots.{snapshot, state_of}
 use Rattle.bus_server.specs.Rounds.{HasMoreClients, AcceptsPending}
 use Rattle.bus_server.specs.ServerState.{is_connected}
@@ -11,7 +8,7 @@ use Rattle.bus_server.proofs.Stopping.{stops_behind, whatever_fails}
 use Rattle.bus_server.proofs.server.Server.accept_pending.Goals as goal
 
 pub loop-client-init : goal.loop-client-init
-loop-client-init g c = record { observes = c.requires.observes; reported = c.requires.reported; turns = c.requires.turns; served = calm_nowhere (AreTaken 0) (snapshot (g.W.Transport.log c.args.transport.now) (g.P.Observer.observed c.args.observer.now) c.args.self.now.hub) (λ client within. absurd (omega (arith, within))) }
+loop-client-init g c = record { observes = c.requires.observes; reported = c.requires.reported; served = calm_nowhere (AreTaken 0) (snapshot (g.W.Transport.log c.args.transport.now) (g.P.Observer.observed c.args.observer.now) c.args.self.now.hub) (λ client within. absurd (omega (arith, within))) }
 
 pub loop-client-preserved : goal.loop-client-preserved
 loop-client-preserved g c =
@@ -20,7 +17,6 @@ loop-client-preserved g c =
     record {
       observes = c.accept_at.ensures.observes;
       reported = c.in_ok-accept_at.ensures.reported;
-      turns = ap (λ (turns : List TurnsDue). list_any follow_message turns) seats.4.1.turns ∙ first.invariant.turns;
       served =
           calm_then (AreTaken first.client) (λ _ all. HasMoreClients first.client (state_of first.self.hub) all) (AreTaken (first.client + 1)) (snapshot (g.W.Transport.log c.args.transport.now) (g.P.Observer.observed c.args.observer.now) c.args.self.now.hub) (snapshot (g.W.Transport.log first.transport) (g.P.Observer.observed first.observer) first.self.hub) (snapshot (g.W.Transport.log c.accept_at.new.transport) (g.P.Observer.observed c.accept_at.new.observer) c.accept_at.new.self.hub)
           (λ these those kept taken more. more_taken first.client (state_of first.self.hub) (state_of c.accept_at.new.self.hub) taken more)

@@ -1,6 +1,4 @@
-use Rattle.std.proofs.Common.{◌≡◌, ◌++◌, List, [], ℕ, append-nil, arith, inl, inr, refl, subst, sym, ◌∙◌}
-use Rattle.bus.specs.Log.{Extends}
-use Rattle.bus_server.specs.ServerState.{Handled, observations_in, transport_events}
+use Rattle.std.proofs.Common.{◌≡◌, ◌++◌, [], ℕ, arith, refl, subst}
 use Rattle.std.proofs.lemmas.Result.{on_ok_weaker, on_err_weaker}
 use Rattle.bus_server.specs.Snapshots.{state_of, snapshot}
 use Rattle.bus_server.specs.Rounds.{ServesClients}
@@ -56,28 +54,12 @@ returns-clause-served g c =
         state_of first.self.hub,
         refl,
         subst (λ (n : ℕ). ServesClients n so_far.0 (state_of c.args.self.now.hub) (state_of first.self.hub)) eight so_far.3,
-        inr (sym c.follow_message.ensures ∙ c.if-follow_message.false, last.3, last.4.0.unread, last.4.1),
+        last.3,
+        last.4.0.unread,
+        last.4.1,
       ),
     ))
     c.accept_pending.ensures.served
-
-pub returns-then-follow_message-clause-served : goal.returns-then-follow_message-clause-served
-returns-then-follow_message-clause-served g c =
-    let first = c.loop-client in
-    let so_far = first.invariant.served in
-    let eight : first.client ≡ 8 = omega (arith, first.auto.client-end, c.loop-client-test.false) in (
-      so_far.0 ++ [],
-      subst (λ (all : List Handled). Extends (g.W.Transport.log c.args.transport.now) (g.W.Transport.log first.transport) (transport_events all)) (sym (append-nil so_far.0)) so_far.1,
-      subst (λ (all : List Handled). Extends (g.P.Observer.observed c.args.observer.now) (g.P.Observer.observed first.observer) (observations_in all)) (sym (append-nil so_far.0)) so_far.2,
-      (
-        so_far.0,
-        [],
-        state_of first.self.hub,
-        refl,
-        subst (λ (n : ℕ). ServesClients n so_far.0 (state_of c.args.self.now.hub) (state_of first.self.hub)) eight so_far.3,
-        inl (sym c.follow_message.ensures ∙ c.if-follow_message.true, refl, refl),
-      ),
-    )
 
 pub returns-in_err-receive-clause-stops : goal.returns-in_err-receive-clause-stops
 returns-in_err-receive-clause-stops g c =
