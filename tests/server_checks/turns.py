@@ -1,5 +1,6 @@
 """The options --turns, --track and --roster: exact lines, worked out from docs/SENDING.md and docs/DCC.md."""
 
+import contextlib
 import time
 
 from server_checks.common import (
@@ -13,6 +14,7 @@ from server_checks.common import (
     TAKE_3,
     USE_1,
     holds,
+    is_tried_again,
     printed_after,
     receive,
     same,
@@ -145,6 +147,51 @@ def requested_turns():
     with serve(*LAYOUT, "--track") as server, Client(server) as client:
         client.write(["TURNS 10000", "TURNS x"])
         same("in real time", [client.line(), client.line()], ["TURNS ERROR real time"] * 2)
+
+
+def several_clients():
+    """--turns 120 and three clients that send at once: the turns after each message pass before the next, and before one joins"""
+    stop, turns, count = "SEND 85 7A", 120, 10
+    with serve("--turns", str(turns), "--track") as server, contextlib.ExitStack() as stack:
+        clients = [stack.enter_context(Client(server)) for _ in range(3)]
+        clients[0].send(0x83)
+        for client in clients:
+            client.write([stop] * count)
+        stack.enter_context(Client(server))
+        for client in clients:
+            for _ in range(count):
+                client.lines_until("SENT OK")
+        # Each turn after the first stop has a broadcast stop, and none before it a packet to print.
+        last = turns * (1 + len(clients) * count)
+        holds("the last", server.until(lambda: turns_of(server.printed())[-1:] == [last]))
+        lines = server.printed()
+        for number, part in enumerate("\n".join(lines).split("message 85 7A  stop all locomotives")[1:], 1):
+            same(f"turns after stop {number}", turns_of(part.splitlines()), list(range(turns * number + 1, turns * (number + 1) + 1)))
+        before = turns_of(lines[: lines.index("client 4 joins")])
+        holds(f"turns {before} before the fourth joins", not before or before[-1] % turns == 0)
+
+
+def served_in_turn():
+    """--turns 120 and a client that sends without a pause: another is served after each of its messages, and a third joins"""
+    on, stop = "message 83 7C  track power on", "message 85 7A  stop all locomotives"
+
+    def compete():
+        with serve("--turns", "120") as server, Client(server) as busy, Client(server) as other:
+            busy.write(send(*400 * [POWER_ON]))
+            other.write(send(*10 * ["85 7A"]))
+            for _ in range(10):
+                other.lines_until("SENT OK")
+            with Client(server) as third:
+                third.lines_until(f"RECEIVE {POWER_ON}")
+            for _ in range(400):
+                busy.lines_until("SENT OK")
+            log = printed_after(server, "client 3 leaves")
+            stops = [number for number, line in enumerate(log) if line == stop]
+            between = [log[first:last].count(on) for first, last in zip(stops, stops[1:])]
+            holds(f"messages of the first between those of the other: {between}", len(stops) == 10 and max(between) <= 1)
+            holds("the third joins while the first sends", on in log[log.index("client 3 joins") :])
+
+    is_tried_again(compete)
 
 
 def no_roster():

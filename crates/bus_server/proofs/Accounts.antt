@@ -132,7 +132,7 @@ as_before i account applied old new none same fits = nothing_more i account appl
 
 front_act : (i : ℕ) (account : Account) (log : TransportEvent) (applied : List LoggedEvent) (old new : ServerState) → Applies log applied old new → IsFront i account old
     → IsFront i (account_applied i (account_written i account log) applied) new
-front_act i account (Accepted client) applied old new h fits = front_happened i account applied (with_backlog old) new h.2 fits
+front_act i account (Accepted client) applied old new h fits = front_happened i account applied (with_backlog old) new h.1.2 fits
 front_act i account (Received client byte) applied old new h fits = front_happened i account applied (with_backlog old) new h.1.2 fits
 front_act i account (PeerClosed client) applied old new h fits = front_happened i account applied old new h.2 fits
 front_act i account (ServerClosed client) applied old new h fits = front_happened i account applied old new h.1.2 fits

@@ -93,7 +93,7 @@ pub course_polled : (events : List Event) (old new : ServerState) → IsEventRun
 course_polled events old new h = record { legal = h.legal; bus = h.bus; nodes = h.nodes; losses = h.losses }
 
 pub act_course : Laws → (log : TransportEvent) (applied : List LoggedEvent) (old new : ServerState) → IsInvariant old.bus → Applies log applied old new → IsEventRun (events_of applied) old new
-act_course laws (Accepted client) applied old new kept h = course_behind (events_of applied) old new (happened_course laws applied (with_backlog old) new kept h.2)
+act_course laws (Accepted client) applied old new kept h = course_behind (events_of applied) old new (happened_course laws applied (with_backlog old) new kept h.1.2)
 act_course laws (Received client byte) applied old new kept h = course_behind (events_of applied) old new (happened_course laws applied (with_backlog old) new kept h.1.2)
 act_course laws (PeerClosed client) applied old new kept h = happened_course laws applied old new kept h.2
 act_course laws (ServerClosed client) applied old new kept h = happened_course laws applied old new kept h.1.2

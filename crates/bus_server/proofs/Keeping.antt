@@ -260,6 +260,7 @@ joined_places client observed old new within happened =
     ap (λ (bus : BusState). is_some (slice_index_or bus.clients client None)) happened.bus ∙ ap is_some (get_or-set_same old.bus.clients client (Some []) None within) in
     record {
       takes = now;
+      turns = happened.turns_due;
       keeps = λ other placed. elim (cases_eq other client) [
         | inl same ↦ subst (λ (i : ℕ). is_connected new i ≡ true) (sym same) now
         | inr differs ↦
@@ -284,7 +285,7 @@ pub keeps_backlog : (more : List TransportEvent) (old new : ServerState) → Pre
 keeps_backlog more old new h = record { written = h.written; on_time = h.on_time; unread = h.unread }
 
 pub more_backlog : (client : ℕ) (old new : ServerState) → HasMoreClients client (with_backlog old) new → HasMoreClients client old new
-more_backlog client old new h = record { takes = h.takes; keeps = h.keeps }
+more_backlog client old new h = record { takes = h.takes; keeps = h.keeps; turns = h.turns }
 
 still_backlog : (count : ℕ) (all : ServerState) → backlog_after count (with_backlog all) ≡ with_backlog all
 still_backlog zero all = refl

@@ -29,7 +29,7 @@ use Rattle.bus_server.specs.KeepUp.{IsAtRest, IsUpToDate, KeepsUp, is_blocked, i
 use Rattle.bus_server.specs.Observations.{Observation}
 use Rattle.bus_server.specs.Placement.{answered, place_answer}
 use Rattle.bus_server.specs.SendQueue.{enqueued, is_more_than_half, queued}
-use Rattle.bus_server.specs.Rounds.{IsReadOn, IsRound, IsUnread, Reads, ReadsOn, ServesClient, ServesClients, is_read, is_reading, is_write_blocked}
+use Rattle.bus_server.specs.Rounds.{IsReadOn, IsRound, IsUnread, Reads, ReadsOn, ServesClient, ServesClients, is_read, is_reading, is_write_blocked, nth_client}
 use Rattle.bus_server.specs.declared.pace.Pace.{Pace}
 use Rattle.bus_server.specs.declared.pace.Pace.TheVariants.{AfterMessages, RealTime}
 use Rattle.bus_server.specs.Running.{Round, RunsRounds, transport_log}
@@ -39,6 +39,7 @@ use Rattle.bus_server.specs.TransportEvents.{Accepted, NonePending, PeerClosed, 
 use Rattle.bus_server.proofs.Going.{log-append}
 use Rattle.bus_server.proofs.Keeping.{enqueued_there, joined_one, none_of_both, none_set, only_joins, only_leaves, left_is_not_late, put_keeps, row_before, row_behind, set_at}
 use Rattle.bus_server.proofs.Placing.{length-enqueued}
+use Rattle.bus_server.proofs.Rounding.{accepts_apply, accepts_unread, early_applies, early_unread}
 use Rattle.bus_server.proofs.Sizes.{HasFew, HasFewBlocks, SameBlocks, answered_request, event_few, none_due, report_size, request_most, request_sound}
 
 -- What is queued for a client, and with it the reports that are still due, which are at most as many bytes; nothing has overflowed.
@@ -485,7 +486,7 @@ Unclosed client n log new = Within client n new × (is_closed client log ≡ fal
 unread_one : (client n : ℕ) (log : TransportEvent) (applied : List LoggedEvent) (old new : ServerState) → Applies log applied old new → is_reading log ≡ false → 26 ≤ n → n ≤ 65536 → Within client n old → Unclosed client n log new
 unread_one client n (Polled longest) applied old new does unread least room h = absurd does
 unread_one client n (Accepted i) applied old new does unread least room h =
-    let joins = only_joins i applied (with_backlog old) new does in
+    let joins = only_joins i applied (with_backlog old) new does.1 in
     (joins_within client i n joins.0 (with_backlog old) new least room joins.1 h, refl)
 unread_one client n (Received i byte) applied old new does unread least room h = cc
 unread_one client n (PeerClosed i) applied old new does unread least room h =
@@ -517,7 +518,7 @@ is_accepting i other = false
 
 accepted_one : (client : ℕ) (log : TransportEvent) (applied : List LoggedEvent) (old new : ServerState) → Applies log applied old new → is_accepting client log ≡ true → Within client 65536 old → Within client 3477 new
 accepted_one client (Accepted i) applied old new does is h =
-    let joins = only_joins i applied (with_backlog old) new does in
+    let joins = only_joins i applied (with_backlog old) new does.1 in
     within_more client 26 3477 new (omega arith) (joined_within client joins.0 (with_backlog old) new (subst (λ (k : ℕ). RunsEvent (Connects k) joins.0 (with_backlog old) new) (eqb-true i client is) joins.1) h.0 h.3.1)
 accepted_one client (Polled longest) applied old new does is h = cc
 accepted_one client (Received i byte) applied old new does is h = cc
@@ -611,25 +612,34 @@ last_keeps same client n handled first last old mid new among both serve up befo
     let after = serve_keeps same client n last mid new among serve (up_behind client (transport_events first) (transport_events last) up_log) so_far.0 in
     subst (λ (all : List TransportEvent). StaysUp client 3477 all new) (sym log) (both_stay client 3477 (transport_events first) (transport_events last) new so_far.1 after)
 
-serves_keep : SameBlocks → (client count : ℕ) (handled : List Handled) (old new : ServerState) → client < 8 → ServesClients count handled old new → KeepsUp client (transport_events handled) → Within client 57617 old
+serves_keep : SameBlocks → (client first count : ℕ) (handled : List Handled) (old new : ServerState) → client < 8 → ServesClients first count handled old new → KeepsUp client (transport_events handled) → Within client 57617 old
     → StaysUp client 57617 (transport_events handled) new
-serves_keep same client zero handled old new among serves up h =
+serves_keep same client first zero handled old new among serves up h =
     subst (λ (all : List Handled). StaysUp client 57617 (transport_events all) new) (sym serves.0) (subst (λ (s : ServerState). Within client 57617 s) (sym serves.1) h, refl)
-serves_keep same client (suc n) handled old new among serves up h =
-    let all = last_keeps same client n handled serves.0 serves.1 old serves.2 new among serves.3 serves.5 up (λ first. serves_keep same client n serves.0 old serves.2 among serves.4 first h) in
+serves_keep same client first (suc n) handled old new among serves up h =
+    let all = last_keeps same client (nth_client first n) handled serves.0 serves.1 old serves.2 new among serves.3 serves.5 up (λ before. serves_keep same client first n serves.0 old serves.2 among serves.4 before h) in
     (within_more client 3477 57617 new (omega arith) all.0, all.1)
+
+-- all eight are served
+all_served : SameBlocks → (client first : ℕ) (handled : List Handled) (old new : ServerState) → client < 8 → ServesClients first 8 handled old new → KeepsUp client (transport_events handled) → Within client 57617 old
+    → StaysUp client 3477 (transport_events handled) new
+all_served same client first handled old new among all up h =
+    let serves : ServesClients first (suc 7) handled old new = all in
+    last_keeps same client (nth_client first 7) handled serves.0 serves.1 old serves.2 new among serves.3 serves.5 up (λ before. serves_keep same client first 7 serves.0 old serves.2 among serves.4 before h)
 
 round_keeps : SameBlocks → (client : ℕ) (handled : List Handled) (old new : ServerState) → client < 8 → IsRound handled old new → KeepsUp client (transport_events handled) → Within client 57617 old → StaysUp client 3477 (transport_events handled) new
 round_keeps same client handled old new among round up h =
-    let turns = round.0 in
-    let last = round.1 in
-    let log : transport_events handled ≡ transport_events turns ++ transport_events last = ap transport_events round.3 ∙ log-append turns last in
-    let up_log : KeepsUp client (transport_events turns ++ transport_events last) = subst (KeepsUp client) log up in
-    let serves : ServesClients (suc 7) turns old round.2 = round.4 in
-    let served = last_keeps same client 7 turns serves.0 serves.1 old serves.2 round.2 among serves.3 serves.5 (up_before client (transport_events turns) (transport_events last) up_log)
-    (λ first. serves_keep same client 7 serves.0 old serves.2 among serves.4 first h) in
-    let accepted = unread_all client 3477 last round.2 new round.5 round.6 (omega arith) (omega arith) served.0 in
-    subst (λ (all : List TransportEvent). StaysUp client 3477 all new) (sym log) (both_stay client 3477 (transport_events turns) (transport_events last) new served.1 accepted)
+    let early = transport_events round.0 in
+    let served = transport_events round.1 in
+    let joined = transport_events round.2 in
+    let log : transport_events handled ≡ early ++ (served ++ joined) =
+    ap transport_events round.5 ∙ log-append round.0 (round.1 ++ round.2) ∙ ap (λ (rest : List TransportEvent). early ++ rest) (log-append round.1 round.2) in
+    let up_log : KeepsUp client (early ++ (served ++ joined)) = subst (KeepsUp client) log up in
+    let begun = unread_all client 57617 round.0 old round.3 (early_applies round.0 old round.3 round.6) (early_unread round.0 old round.3 round.6) (omega arith) (omega arith) h in
+    let read = all_served same client round.3.first_client round.1 round.3 round.4 among round.7 (up_before client served joined (up_behind client early (served ++ joined) up_log)) begun.0 in
+    let accepted = unread_all client 3477 round.2 round.4 new (accepts_apply round.2 round.4 new round.8) (accepts_unread round.2 round.4 new round.8) (omega arith) (omega arith) read.0 in
+    subst (λ (all : List TransportEvent). StaysUp client 3477 all new) (sym log)
+    (both_stay client 3477 early (served ++ joined) new begun.1 (both_stay client 3477 served joined new read.1 accepted))
 
 -- A round starts: a line of an answer has at most 647 bytes, and that turns have passed is told in 10.
 

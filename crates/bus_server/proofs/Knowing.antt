@@ -245,7 +245,7 @@ module _ (laws : SensorLaws) (block sensor : ℕ) where
 
   act_known : (log : TransportEvent) (applied : List LoggedEvent) (level : Bool) (old new : ServerState) → Applies log applied old new → ClaimNothing applied → IsKnown block sensor level old
       → IsKnown block sensor (known_after sensor applied level) new
-  act_known (Accepted client) applied level old new does quiet h = happened_known applied level (with_backlog old) new does.2 quiet h
+  act_known (Accepted client) applied level old new does quiet h = happened_known applied level (with_backlog old) new does.1.2 quiet h
   act_known (Received client byte) applied level old new does quiet h = happened_known applied level (with_backlog old) new does.1.2 quiet h
   act_known (PeerClosed client) applied level old new does quiet h = happened_known applied level old new does.2 quiet h
   act_known (ServerClosed client) applied level old new does quiet h = happened_known applied level old new does.1.2 quiet h

@@ -1,6 +1,7 @@
 pub mod Accounts
 pub mod Answering
 pub mod Courses
+pub mod Following
 pub mod Going
 pub mod Hearing
 pub mod Keeping
@@ -10,6 +11,7 @@ pub mod Missed
 pub mod Missing
 pub mod Naming
 pub mod Nothings
+pub mod Ordering
 pub mod Placing
 pub mod Repeating
 pub mod Rounding

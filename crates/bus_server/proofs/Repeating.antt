@@ -24,32 +24,32 @@ use Rattle.bus_server.proofs.Rounding.{round_serves}
 use Rattle.bus_server.proofs.Tracking.{track_ran}
 
 -- what of a server its events change alike, however it is read and written to
-record Core : Type 0 where
-  bus : BusState
-  nodes : List Node
-  names : List (List ℕ)
-  railway : Option RailwayState
-  unreported : List SensorReport
-  losses : Losses
+pub record Core : Type 0 where
+  pub bus : BusState
+  pub nodes : List Node
+  pub names : List (List ℕ)
+  pub railway : Option RailwayState
+  pub unreported : List SensorReport
+  pub losses : Losses
 
-abbrev core : ServerState → Core
+abbrev pub core : ServerState → Core
 core state = record { bus = state.bus; nodes = state.nodes; names = state.names; railway = state.railway; unreported = state.unreported; losses = state.losses }
 
 -- the effect of an event on it
-record HasEffect (event : Event) (observed : Observation) (old new : Core) : Type 0 where
-  bus : new.bus ≡ after_event old.bus event
-  nodes : HaveHeard old.bus.station (layout_event old.bus event) old.nodes new.nodes
-  names : new.names ≡ old.names
-  railway : new.railway ≡ railway_after old.names old.bus old.nodes event old.railway
-  unreported : IsDue event (reports_after old.names old.bus old.nodes event old.railway) old.unreported new.unreported
-  losses : IsDrawn event old.bus (length old.nodes) old.losses new.losses
-  saw : observed ≡ Observed (answered old.names old.railway (outcome_of old.bus event)) new.nodes new.railway
+pub record HasEffect (event : Event) (observed : Observation) (old new : Core) : Type 0 where
+  pub bus : new.bus ≡ after_event old.bus event
+  pub nodes : HaveHeard old.bus.station (layout_event old.bus event) old.nodes new.nodes
+  pub names : new.names ≡ old.names
+  pub railway : new.railway ≡ railway_after old.names old.bus old.nodes event old.railway
+  pub unreported : IsDue event (reports_after old.names old.bus old.nodes event old.railway) old.unreported new.unreported
+  pub losses : IsDrawn event old.bus (length old.nodes) old.losses new.losses
+  pub saw : observed ≡ Observed (answered old.names old.railway (outcome_of old.bus event)) new.nodes new.railway
 
 effect : (event : Event) (observed : Observation) (old new : ServerState) → RunsEvent event observed old new → HasEffect event observed (core old) (core new)
 effect event observed old new h = record { bus = h.bus; nodes = h.nodes; names = h.names; railway = h.railway; unreported = h.unreported; losses = h.losses; saw = h.saw }
 
 -- one after another
-abbrev Course : List LoggedEvent → Core → Core → Type 0
+abbrev pub Course : List LoggedEvent → Core → Core → Type 0
 Course [] old new = new ≡ old
 Course (one ∷ more) old new = (mid : Core) × HasEffect one.event one.observed old mid × Course more mid new
 
@@ -67,7 +67,7 @@ none_course : (applied : List LoggedEvent) (old new : ServerState) → applied �
 none_course applied old new none same = subst (λ (all : List LoggedEvent). Course all (core old) (core new)) (sym none) same
 
 act_course : (log : TransportEvent) (applied : List LoggedEvent) (old new : ServerState) → Applies log applied old new → Course applied (core old) (core new)
-act_course (Accepted client) applied old new h = events_course applied (with_backlog old) new h.2
+act_course (Accepted client) applied old new h = events_course applied (with_backlog old) new h.1.2
 act_course (Received client byte) applied old new h = events_course applied (with_backlog old) new h.1.2
 act_course (PeerClosed client) applied old new h = events_course applied old new h.2
 act_course (ServerClosed client) applied old new h = events_course applied old new h.1.2
@@ -86,7 +86,7 @@ acts_course [] old new same = ap core same
 acts_course (one ∷ handled) old new h =
     course_more one.applied (applied_in handled) (core old) (core h.0) (core new) (act_course one.log one.applied old h.0 h.1) (acts_course handled h.0 new h.2)
 
-rounds_course : (most : ℕ) (rounds : List Round) (old new : ServerState) → RunsRounds most rounds old new → Course (logged_in rounds) (core old) (core new)
+pub rounds_course : (most : ℕ) (rounds : List Round) (old new : ServerState) → RunsRounds most rounds old new → Course (logged_in rounds) (core old) (core new)
 rounds_course most [] old new same = ap core same
 rounds_course most (round ∷ rounds) old new h =
     let went = h.2 in
@@ -164,15 +164,15 @@ rest_of : {A : Type 0} → List A → List A
 rest_of [] = []
 rest_of (x ∷ xs) = xs
 
-head_same : {A : Type 0} (x y : A) (xs ys : List A) → x ∷ xs ≡ y ∷ ys → x ≡ y
+pub head_same : {A : Type 0} (x y : A) (xs ys : List A) → x ∷ xs ≡ y ∷ ys → x ≡ y
 unfolding first_or
 head_same x y xs ys h = ap (first_or x) h
 
-tail_same : {A : Type 0} (x y : A) (xs ys : List A) → x ∷ xs ≡ y ∷ ys → xs ≡ ys
+pub tail_same : {A : Type 0} (x y : A) (xs ys : List A) → x ∷ xs ≡ y ∷ ys → xs ≡ ys
 unfolding rest_of
 tail_same x y xs ys h = ap rest_of h
 
-no_cons : {A B : Type 0} (x : A) (xs : List A) → [] ≡ x ∷ xs → B
+pub no_cons : {A B : Type 0} (x : A) (xs : List A) → [] ≡ x ∷ xs → B
 no_cons x xs h = cc
 
 -- Two events with the same effect.
@@ -204,7 +204,7 @@ effect_same event seen those old a b h k losses =
     )
 
 -- the same input has the same effect
-input_same : (event other : Event) (seen those : Observation) (old a b : Core) → unmissed event ≡ unmissed other → HasEffect event seen old a → HasEffect other those old b → EndsSame seen those a b
+pub input_same : (event other : Event) (seen those : Observation) (old a b : Core) → unmissed event ≡ unmissed other → HasEffect event seen old a → HasEffect other those old b → EndsSame seen those a b
 input_same event other seen those old a b input h k =
     let nodes = length old.nodes in
     let drawn = drawn_for other old.bus nodes old.losses b.losses k.losses in
@@ -216,7 +216,7 @@ input_same event other seen those old a b input h k =
 
 -- Sensors report what is due, and nothing else comes before.
 
-none_due : (event : Event) (made old new : List SensorReport) → is_report event ≡ false → IsDue event made old new → old ≡ []
+pub none_due : (event : Event) (made old new : List SensorReport) → is_report event ≡ false → IsDue event made old new → old ≡ []
 none_due (Connects client) made old new is h = h.0
 none_due (Receives client byte) made old new is h = h.0
 none_due (Disconnects client) made old new is h = h.0
@@ -224,7 +224,7 @@ none_due (Elapses micros missed) made old new is h = h.0
 none_due (Turn missed) made old new is h = h.0
 none_due (Reports sensor occupied) made old new is h = cc
 
-no_report : (event : Event) (made old new : List SensorReport) → old ≡ [] → IsDue event made old new → is_report event ≡ false
+pub no_report : (event : Event) (made old new : List SensorReport) → old ≡ [] → IsDue event made old new → is_report event ≡ false
 no_report (Connects client) made old new none h = refl
 no_report (Receives client byte) made old new none h = refl
 no_report (Disconnects client) made old new none h = refl
@@ -235,7 +235,7 @@ no_report (Reports sensor occupied) made old new none h = no_cons (record { sens
 report_of_due : SensorReport → Event
 report_of_due report = Reports report.sensor report.occupied
 
-report_same : (event other : Event) (made those old a b : List SensorReport) → is_report event ≡ true → is_report other ≡ true → IsDue event made old a → IsDue other those old b → event ≡ other
+pub report_same : (event other : Event) (made those old a b : List SensorReport) → is_report event ≡ true → is_report other ≡ true → IsDue event made old a → IsDue other those old b → event ≡ other
 unfolding report_of_due
 report_same (Reports sensor occupied) (Reports reporting level) made those old a b is are h k =
     ap report_of_due (head_same (record { sensor = sensor; occupied = occupied }) (record { sensor = reporting; occupied = level }) a b (sym h ∙ k))
@@ -291,7 +291,7 @@ course_same (one ∷ first) (two ∷ second) start a b h k ends too inputs =
 
 -- Servers that are alike have the same core.
 
-alike_core : (old old' : ServerState) → IsAlike old old' → core old' ≡ core old
+pub alike_core : (old old' : ServerState) → IsAlike old old' → core old' ≡ core old
 alike_core old old' h =
     ap₂ (λ (bus : BusState) (nodes : List Node). record (core old') { bus = bus; nodes = nodes }) h.bus h.nodes
     ∙ ap₂ (λ (names : List (List ℕ)) (railway : Option RailwayState). record (core old') { bus = old.bus; nodes = old.nodes; names = names; railway = railway }) h.names h.railway

@@ -10,7 +10,7 @@ use Rattle.bus.specs.declared.event.Event.TheVariants.{Disconnects}
 use Rattle.bus_server.specs.Observations.{Observation}
 use Rattle.bus.specs.Log.{Extends}
 use Rattle.bus_server.specs.Snapshots.{ProgressesWithoutInput, Snapshot, WritesFront}
-use Rattle.bus_server.specs.Rounds.{AllWrittenTo, HasMoreClients, Reads, ReadsOn, ServesClients, IsReadOn, IsRound, IsUnread, IsWrittenTo, is_read, is_reading, PreservesRound, AcceptsPending, WritesInARow, backlog_after, refusals, is_write, pieces_to, IsFair, Writes, WritesNone}
+use Rattle.bus_server.specs.Rounds.{Accepts, AcceptsFirst, AcceptsSome, AllWrittenTo, HasMoreClients, Reads, ReadsOn, ServesClient, ServesClients, IsReadOn, IsRound, IsUnread, IsWrittenTo, is_read, is_reading, PreservesRound, AcceptsPending, WritesInARow, backlog_after, refusals, is_accept, is_write, nth_client, pieces_to, IsFair, Writes, WritesNone}
 use Rattle.bus_server.specs.ServerState.{Handled, RunsEventWithReports, Applies, LoggedEvent, AppliesAll, ServerState, is_connected, has_overflowed, transport_events, observations_in, observations_of}
 use Rattle.bus_server.specs.declared.transport.IoOutcome.TheVariants.{WouldBlock}
 use Rattle.bus_server.specs.TransportEvents.{Accepted, Polled, ReadBlocked, ServerClosed, WriteBlocked, PeerClosed, NonePending, TransportEvent, Received, Written, Refused}
@@ -181,11 +181,10 @@ all_fair client more all shared other = at_most_four (nat_lt other client) (piec
 
 -- The turns of a round.
 
-pub next_turn : (client : ℕ) (first heard written : List Handled) (old before mid new : ServerState) → ServesClients client first old before → Reads client heard before mid
-    → AppliesAll written mid new → IsUnread (transport_events written) → AllWrittenTo 8 (transport_events written) new → IsFair (transport_events written) → ServesClients (client + 1) (first ++ (heard ++ written)) old new
-next_turn client first heard written old before mid new had reads writes unread all fair =
-    subst (λ (n : ℕ). ServesClients n (first ++ (heard ++ written)) old new) {x = suc client} {y = client + 1} (omega arith)
-    (first, heard ++ written, before, refl, had, (heard, written, mid, refl, reads, writes, unread, all, fair))
+pub next_turn : (first count : ℕ) (before served : List Handled) (old mid new : ServerState) → ServesClients first count before old mid → ServesClient (nth_client first count) served mid new
+    → ServesClients first (count + 1) (before ++ served) old new
+next_turn first count before served old mid new had turn =
+    subst (λ (n : ℕ). ServesClients first n (before ++ served) old new) {x = suc count} {y = count + 1} (omega arith) (before, served, mid, refl, had, turn)
 
 -- a read of one byte
 pub one_received : (client count : ℕ) (buf : List ℕ) (log log' : Option (List TransportEvent)) → (0 < count) × (count ≤ length buf) → length buf ≡ 1 → Extends log log' (map (λ byte. Received client byte) (take count buf))
@@ -215,16 +214,45 @@ reads_apply client handled old new reads = elim reads [
       (serves_more ends.1 (ends.2 ∷ []) old ends.3 new (reads_on_apply client ends.1 old ends.3 ends.6) (new, ends.8, refl))
 ]
 
-pub turns_serve : (count : ℕ) (handled : List Handled) (old new : ServerState) → ServesClients count handled old new → AppliesAll handled old new
-turns_serve zero handled old new h = subst (λ (all : List Handled). AppliesAll all old new) (sym h.0) h.1
-turns_serve (suc n) handled old new h =
-    let turn = h.5 in
+pub turn_serves : (client : ℕ) (handled : List Handled) (old new : ServerState) → ServesClient client handled old new → AppliesAll handled old new
+turn_serves client handled old new turn =
+    subst (λ (all : List Handled). AppliesAll all old new) (sym turn.3) (serves_more turn.0 turn.1 old turn.2 new (reads_apply client turn.0 old turn.2 turn.4) turn.5)
+
+pub turns_serve : (first count : ℕ) (handled : List Handled) (old new : ServerState) → ServesClients first count handled old new → AppliesAll handled old new
+turns_serve first zero handled old new h = subst (λ (all : List Handled). AppliesAll all old new) (sym h.0) h.1
+turns_serve first (suc n) handled old new h =
     subst (λ (all : List Handled). AppliesAll all old new) (sym h.3)
-    (serves_more h.0 h.1 old h.2 new (turns_serve n h.0 old h.2 h.4)
-    (subst (λ (all : List Handled). AppliesAll all h.2 new) (sym turn.3) (serves_more turn.0 turn.1 h.2 turn.2 new (reads_apply n turn.0 h.2 turn.2 turn.4) turn.5)))
+    (serves_more h.0 h.1 old h.2 new (turns_serve first n h.0 old h.2 h.4) (turn_serves (nth_client first n) h.1 h.2 new h.5))
+
+pub early_applies : (handled : List Handled) (old new : ServerState) → AcceptsFirst handled old new → AppliesAll handled old new
+early_applies handled old new h = elim h [
+  | inl none ↦ subst (λ (all : List Handled). AppliesAll all old new) (sym none.1) none.2
+  | inr some ↦ some.2
+]
+
+pub early_unread : (handled : List Handled) (old new : ServerState) → AcceptsFirst handled old new → IsUnread (transport_events handled)
+early_unread handled old new h = elim h [
+  | inl none ↦ ap (λ (all : List Handled). list_any is_reading (transport_events all)) none.1
+  | inr some ↦ some.3
+]
+
+pub accepts_apply : (handled : List Handled) (old new : ServerState) → Accepts handled old new → AppliesAll handled old new
+accepts_apply handled old new h = elim h [
+  | inl none ↦ subst (λ (all : List Handled). AppliesAll all old new) (sym none.1) none.2
+  | inr some ↦ some.1
+]
+
+pub accepts_unread : (handled : List Handled) (old new : ServerState) → Accepts handled old new → IsUnread (transport_events handled)
+accepts_unread handled old new h = elim h [
+  | inl none ↦ ap (λ (all : List Handled). list_any is_reading (transport_events all)) none.1
+  | inr some ↦ some.2
+]
 
 pub round_serves : (handled : List Handled) (old new : ServerState) → IsRound handled old new → AppliesAll handled old new
-round_serves handled old new round = subst (λ (all : List Handled). AppliesAll all old new) (sym round.3) (serves_more round.0 round.1 old round.2 new (turns_serve 8 round.0 old round.2 round.4) round.5)
+round_serves handled old new round =
+    subst (λ (all : List Handled). AppliesAll all old new) (sym round.5)
+    (serves_more round.0 (round.1 ++ round.2) old round.3 new (early_applies round.0 old round.3 round.6)
+    (serves_more round.1 round.2 round.3 round.4 new (turns_serve round.3.first_client 8 round.1 round.3 round.4 round.7) (accepts_apply round.2 round.4 new round.8)))
 
 pub lets_in_behind : (first second : List TransportEvent) → AcceptsPending second → AcceptsPending (first ++ second)
 lets_in_behind first second last = (
@@ -237,6 +265,9 @@ lets_in_behind first second last = (
 
 -- The pending clients.
 
+both_accept : (first second : List TransportEvent) → list_all is_accept first ≡ true → list_all is_accept second ≡ true → list_all is_accept (first ++ second) ≡ true
+both_accept first second one two = list_all-append is_accept first second ∙ and_from (list_all is_accept first) (list_all is_accept second) one two
+
 -- the places before this one are taken
 abbrev pub AreTaken : (below : ℕ) → List TransportEvent → ServerState → Type 0
 AreTaken below more all = (client : ℕ) → client < below → is_connected all client ≡ true
@@ -247,9 +278,21 @@ more_taken below mid new taken more client within = elim (cases_eq client below)
   | inr differs ↦ let before : client < below = omega (arith, within, differs) in more.keeps client (taken client before)
 ]
 
-pub nobody_waits : (old new : Snapshot) → Extends old.log new.log (NonePending ∷ []) → Extends old.observed new.observed [] → new.state ≡ old.state → ProgressesWithoutInput (λ more _. AcceptsPending more) old new
+-- the places before this one are taken, and none was refused
+abbrev pub HasAccepted : (below : ℕ) → List TransportEvent → ServerState → Type 0
+HasAccepted below more all = (list_all is_accept more ≡ true) × AreTaken below more all
+
+pub accepted_more : (below : ℕ) (these those : List TransportEvent) (mid new : ServerState) → HasAccepted below these mid → (list_all is_accept those ≡ true) × HasMoreClients below mid new
+    → HasAccepted (below + 1) (these ++ those) new
+accepted_more below these those mid new so_far more = (both_accept these those so_far.0 more.0, more_taken below mid new so_far.1 more.1)
+
+pub nobody_waits : (old new : Snapshot) → Extends old.log new.log (NonePending ∷ []) → Extends old.observed new.observed [] → new.state ≡ old.state → ProgressesWithoutInput (AcceptsSome false) old new
 nobody_waits old new grows observed same =
-    same_on_wire (λ more _. AcceptsPending more) (record { log = NonePending; applied = [] } ∷ []) (NonePending ∷ []) old new refl refl grows observed (old.state, (refl, refl), refl) same refl ([], inl refl)
+    same_on_wire (AcceptsSome false) (record { log = NonePending; applied = [] } ∷ []) (NonePending ∷ []) old new refl refl grows observed (old.state, (refl, refl), refl) same refl (refl, [], refl)
+
+pub nobody_more : (below : ℕ) (these those : List TransportEvent) (mid new : ServerState) → HasAccepted below these mid → AcceptsSome false those new → AcceptsSome false (these ++ those) new
+nobody_more below these those mid new so_far last =
+    (both_accept these those so_far.0 last.0, these ++ last.1, ap (λ (all : List TransportEvent). these ++ all) last.2 ∙ sym (append_assoc these last.1 (NonePending ∷ [])))
 
 -- a number are refused: eight, or fewer and then none is pending
 abbrev none_pending : Handled

@@ -40,6 +40,7 @@ runs event observed losses railway unreported old new h piece drawn told trains 
   time_due = h.time_due;
   losses = subst (λ (l : Losses). IsDrawn event old.bus (length old.nodes) old.losses l) (sym h.losses) drawn;
   pace = h.pace;
+  first_client = h.first_client;
   has_backlog = h.has_backlog;
   disconnected = h.disconnected;
   saw = h.saw ∙ ap (λ (outcome : Outcome). Observed outcome new.nodes new.railway) told;

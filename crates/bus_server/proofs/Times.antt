@@ -89,7 +89,7 @@ took_polled : (read : ℕ) (events : List Event) (old new : ServerState) → Too
 took_polled read events old new h = record { bus = h.bus; time = h.time; pace = h.pace }
 
 act_took : (log : TransportEvent) (applied : List LoggedEvent) (old new : ServerState) → Applies log applied old new → Took 0 (events_of applied) old new
-act_took (Accepted client) applied old new h = took_behind 0 (events_of applied) old new (brings_took (Connects client) applied (with_backlog old) new refl h)
+act_took (Accepted client) applied old new h = took_behind 0 (events_of applied) old new (brings_took (Connects client) applied (with_backlog old) new refl h.1)
 act_took (Received client byte) applied old new h = took_behind 0 (events_of applied) old new (brings_took (Receives client byte) applied (with_backlog old) new refl h.1)
 act_took (PeerClosed client) applied old new h = brings_took (Disconnects client) applied old new refl h
 act_took (ServerClosed client) applied old new h = brings_took (Disconnects client) applied old new refl h.1

@@ -42,6 +42,7 @@ event_moved event observed turns micros backlog old new h = record {
   time_due = refl;
   losses = h.losses;
   pace = h.pace;
+  first_client = h.first_client;
   has_backlog = refl;
   disconnected = h.disconnected;
   saw = h.saw;
@@ -95,7 +96,7 @@ report_keeps (Disconnects client) observed old new is h = cc
 report_keeps (Turn missed) observed old new is h = cc
 report_keeps (Elapses micros missed) observed old new is h = cc
 
-reports_keep : (applied : List LoggedEvent) (old new : ServerState) → list_all is_report (events_of applied) ≡ true → RunsEvents applied old new → new.turns_due ≡ old.turns_due
+pub reports_keep : (applied : List LoggedEvent) (old new : ServerState) → list_all is_report (events_of applied) ≡ true → RunsEvents applied old new → new.turns_due ≡ old.turns_due
 reports_keep [] old new are same = ap (λ (s : ServerState). s.turns_due) same
 reports_keep (one ∷ applied) old new are h =
     let p = and_parts (is_report one.event) (list_all is_report (events_of applied)) are in

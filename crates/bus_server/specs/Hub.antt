@@ -9,7 +9,7 @@ use Rattle.bus.specs.Layout.{layout_event}
 use Rattle.bus.specs.Log.{Extends}
 use Rattle.bus_server.specs.Observations.{Observation, Observed}
 use Rattle.bus_server.specs.Answers.{answers_after}
-use Rattle.bus_server.specs.ServerState.{LoggedEvent, RunsEvents, ServerState, disconnected_after, events_of, observations_of, outcome_in}
+use Rattle.bus_server.specs.ServerState.{LoggedEvent, RunsEvents, ServerState, disconnected_after, events_of, first_after, observations_of, outcome_in}
 use Rattle.bus_server.specs.SendQueues.{queues_after}
 use Rattle.bus_server.specs.TrackDue.{due_after}
 use Rattle.bus_server.specs.Sensors.{is_report, railway_elapsed, railway_placed, reports_due, reports_elapsed, running_time}
@@ -38,6 +38,7 @@ pub record RunsOnBus (event : Event) (observed : Observation) (old new : ServerS
   pub time_due : new.time_due ≡ old.time_due
   pub losses : new.losses ≡ old.losses
   pub pace : new.pace ≡ old.pace
+  pub first_client : new.first_client ≡ first_after (outcome_of old.bus event) old.first_client
   pub has_backlog : new.has_backlog ≡ old.has_backlog
   pub disconnected : new.disconnected
       ≡ disconnected_after (outcome_of old.bus event) old.disconnected

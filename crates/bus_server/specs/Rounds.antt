@@ -1,7 +1,8 @@
 -- A round of a server: all clients are read and written to, and pending clients are accepted.
-use Rattle.std.specs.Prelude.{ℕ, zero, suc, ◌≡◌, ◌⊎◌, ◌+◌, ◌<◌, ◌≤◌, ◌==◌, Bool, true, false, if◌then◌else◌, List, [], ◌∷◌, ◌++◌, length, replicate, None}
+use Rattle.std.specs.Prelude.{ℕ, zero, suc, ◌≡◌, ◌⊎◌, ◌+◌, ◌%◌, ◌<◌, ◌≤◌, ◌==◌, ◌&&◌, not, Bool, true, false, if◌then◌else◌, List, [], ◌∷◌, ◌++◌, length, replicate, None}
 use Rattle.std.specs.List.{list_all, list_any, slice_index_or}
-use Rattle.bus_server.specs.ServerState.{Handled, Applies, AppliesAll, ServerState, has_overflowed, has_turns_due, is_connected, is_crowded, transport_events, with_backlog}
+use Rattle.bus_server.specs.Pace.{follows_messages}
+use Rattle.bus_server.specs.ServerState.{Handled, Applies, AppliesAll, ServerState, has_overflowed, has_turns_to_follow, is_connected, is_crowded, transport_events, waits, with_backlog}
 use Rattle.bus_server.specs.SendQueue.{queued}
 use Rattle.bus_server.specs.TransportEvents.{Accepted, WriteBlocked, PeerClosed, NonePending, TransportEvent, Written, ReadBlocked, Received, Refused}
 
@@ -40,6 +41,18 @@ IsWrittenTo client more state = HasEmptyQueue client state ⊎ (list_any (is_wri
 abbrev pub AcceptsPending : List TransportEvent → Type 0
 AcceptsPending more = (before : List TransportEvent) × ((more ≡ before ++ NonePending ∷ []) ⊎ (more ≡ before ++ replicate 8 Refused))
 
+-- a pending client is accepted, or none is pending
+abbrev pub is_accept : TransportEvent → Bool
+is_accept (Accepted client) = true
+is_accept NonePending = true
+is_accept other = false
+
+-- Pending clients are accepted, and none is refused: until all eight are connected, or none is pending.
+abbrev pub AcceptsSome : (is_full : Bool) → List TransportEvent → ServerState → Type 0
+AcceptsSome true more state =
+    (list_all is_accept more ≡ true) × ((client : ℕ) → client < 8 → is_connected state client ≡ true)
+AcceptsSome false more state = (list_all is_accept more ≡ true) × (before : List TransportEvent) × (more ≡ before ++ NonePending ∷ [])
+
 -- how many pieces are written to a client
 abbrev pub pieces_to : (client : ℕ) → List TransportEvent → ℕ
 pieces_to i [] = 0
@@ -69,14 +82,14 @@ is_last_read (PeerClosed client) = true
 is_last_read (ReadBlocked client) = true
 is_last_read other = false
 
--- After an event of a client it is read on: no turns are due to it, and no queue is more than half full, unless the event
+-- After an event of a client it is read on: it waits for no turns, and no queue is more than half full, unless the event
 -- enqueued nothing.
 abbrev pub IsReadOn : (client : ℕ) → (old new : ServerState) → Type 0
-IsReadOn client old new = (has_turns_due new client ≡ false) × ((is_crowded new ≡ false) ⊎ (new.queues ≡ old.queues))
+IsReadOn client old new = (waits new client ≡ false) × ((is_crowded new ≡ false) ⊎ (new.queues ≡ old.queues))
 
--- Or it is not: there are no more bytes, turns are due to it, or a queue is more than half full.
+-- Or it is not: there are no more bytes, it waits for turns, or a queue is more than half full.
 abbrev pub IsReadLater : (client : ℕ) → TransportEvent → ServerState → Type 0
-IsReadLater client log new = (is_last_read log ≡ true) ⊎ (has_turns_due new client ≡ true) ⊎ (is_crowded new ≡ true)
+IsReadLater client log new = (is_last_read log ≡ true) ⊎ (waits new client ≡ true) ⊎ (is_crowded new ≡ true)
 
 -- a client is read, and then read on, one byte after another
 abbrev pub ReadsOn : (client : ℕ) → List Handled → ServerState → ServerState → Type 0
@@ -85,13 +98,13 @@ ReadsOn client (one ∷ handled) old new =
     (mid : ServerState) × (is_read client one.log ≡ true) × Applies one.log one.applied old mid × IsReadOn client old mid
     × ReadsOn client handled mid new
 
--- A client is read, 400 bytes at most, and nothing else happens: until it is to be read later. It is not read at all while turns
--- are due to it, which what it sends waits for.
+-- A client is read, 400 bytes at most, and nothing else happens: until it is to be read later. It is not read at all while it
+-- waits for turns.
 abbrev pub Reads : (client : ℕ) → List Handled → ServerState → ServerState → Type 0
 Reads client handled old new =
-    ((has_turns_due old client ≡ true) × (handled ≡ []) × (new ≡ old))
-    ⊎ ((has_turns_due old client ≡ false) × ReadsOn client handled old new × (length handled ≡ 400))
-    ⊎ ((has_turns_due old client ≡ false) × (before : List Handled) × (last : Handled) × (mid : ServerState)
+    ((waits old client ≡ true) × (handled ≡ []) × (new ≡ old))
+    ⊎ ((waits old client ≡ false) × ReadsOn client handled old new × (length handled ≡ 400))
+    ⊎ ((waits old client ≡ false) × (before : List Handled) × (last : Handled) × (mid : ServerState)
     × (handled ≡ before ++ last ∷ []) × (length handled ≤ 400) × ReadsOn client before old mid
     × (is_read client last.log ≡ true) × Applies last.log last.applied mid new × IsReadLater client last.log new)
 
@@ -102,14 +115,40 @@ ServesClient client handled old new =
     × AppliesAll written mid new × IsUnread (transport_events written) × AllWrittenTo 8 (transport_events written) new
     × IsFair (transport_events written)
 
--- a number are served, one after another
-abbrev pub ServesClients : (count : ℕ) → List Handled → ServerState → ServerState → Type 0
-ServesClients zero handled old new = (handled ≡ []) × (new ≡ old)
-ServesClients (suc n) handled old new = (before handled' : List Handled) × (mid : ServerState) × (handled ≡ before ++ handled') × ServesClients n before old mid × ServesClient n handled' mid new
+-- the client that is served so many after the first: behind client 7 comes client 0
+abbrev pub nth_client : (first count : ℕ) → ℕ
+nth_client first count = (first + count) % 8
 
--- A round: all eight are served, and then pending clients are accepted.
+-- a number are served, one after another, from the first on
+abbrev pub ServesClients : (first count : ℕ) → List Handled → ServerState → ServerState → Type 0
+ServesClients first zero handled old new = (handled ≡ []) × (new ≡ old)
+ServesClients first (suc n) handled old new =
+    (before handled' : List Handled) × (mid : ServerState) × (handled ≡ before ++ handled') × ServesClients first n before old mid
+    × ServesClient (nth_client first n) handled' mid new
+
+-- Pending clients are accepted before others are read: where turns follow messages, and none is left to follow.
+abbrev pub accepts_first : ServerState → Bool
+accepts_first state = follows_messages state.pace && not (has_turns_to_follow state)
+
+-- Then clients that send without a pause, whose turns are left whenever all have been served, do not keep others out.
+abbrev pub AcceptsFirst : List Handled → ServerState → ServerState → Type 0
+AcceptsFirst handled old new =
+    ((accepts_first old ≡ false) × (handled ≡ []) × (new ≡ old))
+    ⊎ ((accepts_first old ≡ true) × (is_full : Bool) × AppliesAll handled old new × IsUnread (transport_events handled)
+    × AcceptsSome is_full (transport_events handled) new)
+
+-- Pending clients are accepted or refused, unless turns are left that follow a message.
+abbrev pub Accepts : List Handled → ServerState → ServerState → Type 0
+Accepts handled old new =
+    ((has_turns_to_follow old ≡ true) × (handled ≡ []) × (new ≡ old))
+    ⊎ ((has_turns_to_follow old ≡ false) × AppliesAll handled old new × IsUnread (transport_events handled)
+    × AcceptsPending (transport_events handled))
+
+-- A round: all eight are served, beginning behind the one that sent the last message, and then pending clients are accepted.
 abbrev pub IsRound : List Handled → ServerState → ServerState → Type 0
-IsRound handled old new = (turns last : List Handled) × (mid : ServerState) × (handled ≡ turns ++ last) × ServesClients 8 turns old mid × AppliesAll last mid new × IsUnread (transport_events last) × AcceptsPending (transport_events last)
+IsRound handled old new =
+    (early served joined : List Handled) × (start mid : ServerState) × (handled ≡ early ++ (served ++ joined)) × AcceptsFirst early old start
+    × ServesClients start.first_client 8 served start mid × Accepts joined mid new
 
 -- What the parts of a round promise one another.
 
@@ -137,7 +176,8 @@ pub record PreservesRound (more : List TransportEvent) (old new : ServerState) :
   pub on_time : (client : ℕ) → has_overflowed old client ≡ false → has_overflowed new client ≡ false
   pub unread : IsUnread more
 
--- this client is connected now, and so are all that were
+-- this client is connected now, and so are all that were; what is due stays
 pub record HasMoreClients (client : ℕ) (old new : ServerState) : Type 0 where
   pub takes : is_connected new client ≡ true
   pub keeps : (other : ℕ) → is_connected old other ≡ true → is_connected new other ≡ true
+  pub turns : new.turns_due ≡ old.turns_due

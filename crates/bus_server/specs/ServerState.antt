@@ -1,5 +1,5 @@
 -- The effect of transport events, and of time, on a server.
-use Rattle.std.specs.Prelude.{ℕ, ◌≡◌, ◌<◌, ◌+◌, ◌-◌, ◌^◌, Bool, true, false, if◌then◌else◌, ◌&&◌, nat_le, nat_lt, not, is_some, length, min, ◌||◌, List, [], ◌∷◌, ◌++◌, map, replicate, MatchBool, Option, Some, None, slice_set}
+use Rattle.std.specs.Prelude.{ℕ, ◌≡◌, ◌<◌, ◌+◌, ◌-◌, ◌%◌, ◌^◌, Bool, true, false, if◌then◌else◌, ◌&&◌, nat_le, nat_lt, not, is_some, length, min, ◌||◌, List, [], ◌∷◌, ◌++◌, map, replicate, MatchBool, Option, Some, None, slice_set}
 use Rattle.decoder_node.specs.declared.node.NodeSpec.{NodeSpec}
 use Rattle.std.specs.List.{flat_map, list_all, list_any, slice_index_or}
 use Rattle.layout_core.specs.declared.node.Node.{Node}
@@ -11,12 +11,12 @@ use Rattle.bus_server.specs.declared.losses.Losses.{Losses}
 use Rattle.bus_server.specs.Losses.{IsDraw}
 use Rattle.bus_server.specs.declared.pace.Pace.{Pace}
 use Rattle.bus_server.specs.declared.track_due.TurnsDue.{TurnsDue}
-use Rattle.bus_server.specs.TrackDue.{after_answer, due_after, due_to, is_due, none_due, turns_answer}
+use Rattle.bus_server.specs.TrackDue.{after_answer, due_after, due_to, follow_message, is_due, must_wait, none_due, turns_answer}
 use Rattle.bus_server.specs.Pace.{clock_time, follows_messages}
 use Rattle.bus.specs.declared.event.Event.{Event}
 use Rattle.bus.specs.declared.event.Event.TheVariants.{Receives, Connects, Disconnects, Elapses, Turn}
 use Rattle.bus.specs.declared.outcome.Outcome.{Outcome}
-use Rattle.bus.specs.declared.outcome.Outcome.TheVariants.{Disconnected}
+use Rattle.bus.specs.declared.outcome.Outcome.TheVariants.{Disconnected, Sent}
 use Rattle.bus.specs.Bus.{BusState, after_event, client_of, first_bus, is_event, outcome_of}
 use Rattle.bus.specs.Layout.{layout_event}
 use Rattle.bus_server.specs.Observations.{Observed, Observation, Overflowed}
@@ -29,8 +29,9 @@ use Rattle.bus_server.specs.TransportEvents.{Polled, ServerClosed, Accepted, Pee
 
 -- A server: its bus, the decoders and their names, the railway beside them (or None) and what its
 -- sensors are still to report, the queue of each client, the answer under way to each, the turns due
--- to each and the microseconds that are due, the generator of losses, what turns follow, how many
--- clients have disconnected, and whether there may be more input than was read.
+-- to each and the microseconds that are due, the generator of losses, what turns follow, the client
+-- that is read first in the next round, how many clients have disconnected, and whether there may be
+-- more input than was read.
 pub record ServerState : Type 0 where
   pub bus : BusState
   pub nodes : List Node
@@ -43,6 +44,7 @@ pub record ServerState : Type 0 where
   pub time_due : ℕ
   pub losses : Losses
   pub pace : Pace
+  pub first_client : ℕ
   pub disconnected : ℕ
   pub has_backlog : Bool
 
@@ -60,9 +62,15 @@ initial_state nodes names railway pace losses = record {
   time_due = 0;
   losses = losses;
   pace = pace;
+  first_client = 0;
   disconnected = 0;
   has_backlog = false;
 }
+
+-- the client that is read first: that behind the last which sent a message
+abbrev pub first_after : Outcome → ℕ → ℕ
+first_after (Sent client message reply) first = (client + 1) % 8
+first_after other first = first
 
 -- how many clients have disconnected: one more after each, as far as 64 bits count
 abbrev pub disconnected_after : Outcome → ℕ → ℕ
@@ -95,6 +103,7 @@ pub record RunsEvent (event : Event) (observed : Observation) (old new : ServerS
   pub time_due : new.time_due ≡ old.time_due
   pub losses : IsDrawn event old.bus (length old.nodes) old.losses new.losses
   pub pace : new.pace ≡ old.pace
+  pub first_client : new.first_client ≡ first_after (outcome_of old.bus event) old.first_client
   pub has_backlog : new.has_backlog ≡ old.has_backlog
   pub disconnected : new.disconnected ≡ disconnected_after (outcome_of old.bus event) old.disconnected
   pub saw : observed ≡ Observed (outcome_in old event) new.nodes new.railway
@@ -132,9 +141,13 @@ has_overflowed state client = is_connected state client && not (is_some (slice_i
 abbrev pub is_crowded : ServerState → Bool
 is_crowded state = list_any is_more_than_half state.queues
 
--- turns are due to a client
-abbrev pub has_turns_due : ServerState → (client : ℕ) → Bool
-has_turns_due state client = is_due (due_to state.turns_due client)
+-- turns are left that follow a message
+abbrev pub has_turns_to_follow : ServerState → Bool
+has_turns_to_follow state = list_any follow_message state.turns_due
+
+-- what a client sends waits for turns
+abbrev pub waits : ServerState → (client : ℕ) → Bool
+waits state client = must_wait state.turns_due client
 
 -- this event, and what sensors report after it
 abbrev pub IsWithReports : Event → List Event → Type 0
@@ -190,14 +203,15 @@ abbrev pub round_start : ServerState → ServerState
 round_start state = with_answers (without_backlog state)
 
 -- What each event of the transport does, after a wait. A client that is accepted or closes, and each byte, is an event of the
--- bus; a client is not read while turns are due to it. What is written is the front of the client's queue. The server closes a
--- client only if its queue has overflowed, and refuses one only while all eight are connected. After what was read, accepted or
--- refused there may be more.
+-- bus; a client is not read while it waits for turns, and none is accepted while turns are left that follow a message. What is
+-- written is the front of the client's queue. The server closes a client only if its queue has overflowed, and refuses one only
+-- while all eight are connected. After what was read, accepted or refused there may be more.
 abbrev pub Applies : TransportEvent → List LoggedEvent → ServerState → ServerState → Type 0
 Applies (Polled longest) applied old new = ⊥
-Applies (Accepted client) applied old new = RunsEventWithReports (Connects client) applied (with_backlog old) new
+Applies (Accepted client) applied old new =
+    (has_turns_to_follow old ≡ false) × RunsEventWithReports (Connects client) applied (with_backlog old) new
 Applies (Received client byte) applied old new =
-    (has_turns_due old client ≡ false) × RunsEventWithReports (Receives client byte) applied (with_backlog old) new
+    (waits old client ≡ false) × RunsEventWithReports (Receives client byte) applied (with_backlog old) new
 Applies (PeerClosed client) applied old new = RunsEventWithReports (Disconnects client) applied old new
 Applies (ServerClosed client) applied old new = (has_overflowed old client ≡ true) × RunsEventWithReports (Disconnects client) applied old new
 Applies (Written client bytes) applied old new =

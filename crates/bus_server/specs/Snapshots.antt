@@ -1,5 +1,6 @@
 -- A server as contracts see it, and how it progresses with its transport and its observer.
 use Rattle.std.specs.Prelude.{ℕ, ◌≡◌, ◌⊎◌, Bool, true, false, List, [], ◌∷◌, map, Option}
+use Rattle.std.specs.List.{list_all}
 use Rattle.bus.specs.State.{bus_state}
 use Rattle.bus_server.specs.Observations.{Observation}
 use Rattle.decoder_node.specs.declared.node.NodeSpec.{NodeSpec}
@@ -7,7 +8,7 @@ use Rattle.layout_core.specs.Nodes.{spec_of}
 use Rattle.bus.specs.Log.{Extends}
 use Rattle.bus_server.specs.declared.hub.Hub.{Hub}
 use Rattle.bus_server.specs.NamedNodes.{names_of}
-use Rattle.bus_server.specs.Rounds.{HasMoreClients, PreservesRound, HasEmptyQueue}
+use Rattle.bus_server.specs.Rounds.{HasMoreClients, PreservesRound, HasEmptyQueue, is_accept}
 use Rattle.bus_server.specs.ServerState.{Handled, Applies, LoggedEvent, AppliesAll, ServerState, transport_events, observations_in, observations_of}
 use Rattle.bus_server.specs.declared.transport.IoOutcome.{IoOutcome}
 use Rattle.bus_server.specs.declared.transport.IoOutcome.TheVariants.{Bytes, Closed, WouldBlock}
@@ -26,6 +27,7 @@ state_of hub = record {
   time_due = hub.track_due.micros;
   losses = hub.losses;
   pace = hub.pace;
+  first_client = hub.first_client;
   disconnected = hub.disconnected;
   has_backlog = hub.has_backlog;
 }
@@ -66,7 +68,8 @@ ProgressesWithoutInput Holds old new = Progresses (λ more all. PreservesRound m
 
 -- A client is connected at this index, or is accepted there; or none is pending, and nothing changes.
 abbrev pub AcceptsAt : (client : ℕ) → (is_taken : Bool) → (old new : Snapshot) → Type 0
-AcceptsAt client true old new = ProgressesWithoutInput (λ more all. HasMoreClients client old.state all) old new
+AcceptsAt client true old new =
+    ProgressesWithoutInput (λ more all. (list_all is_accept more ≡ true) × HasMoreClients client old.state all) old new
 AcceptsAt client false old new = Extends old.log new.log (NonePending ∷ []) × Extends old.observed new.observed [] × (new.state ≡ old.state)
 
 -- A write of the front of a client's queue, which is removed from it. An empty queue is not written. A write that would block

@@ -4,7 +4,7 @@ ghost use Rattle.std.specs.List.{list_all};
 ghost use Rattle.bus_server.specs.SendQueue.{is_within_capacity, queued};
 ghost use Rattle.layout_core.specs.Nodes.{spec_of};
 ghost use Rattle.bus_server.specs.Answers.{next_line, node_lines};
-ghost use Rattle.bus_server.specs.ServerState.{disconnected_after};
+ghost use Rattle.bus_server.specs.ServerState.{disconnected_after, first_after};
 ghost use Rattle.bus_server.specs.SendQueues.{names_client, enqueued_all, enqueued_from, queues_after};
 ghost use Rattle.bus_server.specs.TrackDue.{due_to, turns_answer};
 ghost use Rattle.bus_server.specs.NamedNodes.{names_of, specs_of};
@@ -37,11 +37,14 @@ pub(crate) struct Hub {
     pub(crate) losses: Losses,
     /// What turns follow.
     pub(crate) pace: Pace,
+    /// The client that is read first in the next round.
+    pub(crate) first_client: u8,
     /// How many clients have disconnected.
     pub(crate) disconnected: u64,
     /// Something was read, accepted or refused since the last wait, so there may be more.
     pub(crate) has_backlog: bool,
     ghost eight: { length queues ≡ 8 },
+    ghost first: { first_client < 8 },
     ghost within_capacity: { list_all is_within_capacity queues ≡ true },
     ghost paced: { is_pace pace ≡ true },
     ghost named: { specs_of answers.nodes.items ≡ map spec_of bus.world.nodes },
@@ -55,7 +58,7 @@ impl Hub {
     ghost use Rattle.bus.specs.State.{bus_state};
     ghost use Rattle.bus_server.specs.Observations.{Observed};
     ghost use Rattle.bus.specs.declared.event.Event.TheVariants.{Elapses, Reports, Turn};
-    ghost use Rattle.bus_server.specs.Rounds.{backlog_after};
+    ghost use Rattle.bus_server.specs.Rounds.{accepts_first, backlog_after};
     ghost use Rattle.bus_server.specs.Snapshots.{HasReported, WritesFront, state_of};
     ghost use Rattle.bus_server.specs.Hub.{RunsOnBus, with_trains_run};
     ghost use Rattle.bus_server.specs.ServerState.{RunsEvent, IsDrawn, initial_state, has_overflowed, is_crowded, outcome_in, round_start};
@@ -94,6 +97,7 @@ impl Hub {
             track_due: TrackDue::none(),
             losses,
             pace,
+            first_client: 0,
             disconnected: 0,
             has_backlog: false,
         })
@@ -113,6 +117,7 @@ impl Hub {
         let outcome = self.bus.step(event);
         self.answers.update(&outcome);
         self.track_due.update(&outcome, self.pace);
+        self.first_client = first_after(&outcome, self.first_client);
         self.disconnected = disconnected_after(&outcome, self.disconnected);
         let outcome = self.sensors.answer(outcome, &self.answers.nodes);
         enqueue(&mut self.queues, &outcome);
@@ -261,6 +266,13 @@ impl Hub {
         wrote
     }
 
+    /// Whether pending clients are accepted before others are read.
+    pub(crate) fn accepts_first(&self) -> bool
+        ensures { result ≡ accepts_first (state_of self.now) }
+    {
+        self.pace.follows_messages() && !self.track_due.follow_message()
+    }
+
     /// Whether a queue is more than half full.
     pub(crate) fn is_crowded(&self) -> bool
         ensures { result ≡ is_crowded (state_of self.now) }
@@ -300,6 +312,19 @@ fn consume(queues: &mut SendQueues, client: u8, count: usize)
         (Some (drop count (queued (slice_index_or queues.old client None)))) }
 {
     queues[usize::from(client)].consume(count);
+}
+
+/// The client that is read first after this outcome: that behind the last which sent a message.
+fn first_after(outcome: &Outcome, first: u8) -> u8
+    requires client { IsTrue (names_client outcome.now) }
+    requires first { first < 8 }
+    ensures first { result ≡ first_after outcome.now first }
+    ensures client { result < 8 }
+{
+    match outcome {
+        Outcome::Sent { client, .. } => (*client + 1) % CLIENTS,
+        _ => first,
+    }
 }
 
 /// How many clients have disconnected after this outcome.

@@ -2,7 +2,7 @@
 ghost use Rattle.bus_server.specs.Fronts.{FrontsAreWritten};
 ghost use Rattle.bus_server.specs.KeepUp.{StaysConnected};
 ghost use Rattle.bus_server.specs.Known.{BecomesKnown, StaysKnown};
-ghost use Rattle.bus_server.specs.Repeats.{RunsRepeat};
+ghost use Rattle.bus_server.specs.Repeats.{OrderDecides, RunsRepeat, TurnsFollowMessages};
 ghost use Rattle.bus_server.specs.Running.{NoneMisses, RoundsAreARun, TimeIsRead};
 
 /// Whatever rounds a run has had, also one that goes on: their events, in order, are what the bus ran, and the headline in time
@@ -45,10 +45,16 @@ pub fn clients_know()
     railway::laws::railways_are_kept();
 }
 
+/// Where turns follow messages, all those of one pass before a client sends a byte or connects.
+pub fn turns_follow_messages()
+    ensures { TurnsFollowMessages }
+{}
+
 /// Runs repeat: if the same comes from outside to two servers that are alike, in the same order and with the same turns between, the
-/// outcomes are the same, and the servers are alike after it.
+/// outcomes are the same, and the servers are alike after it. Turns that follow messages need not be compared.
 pub fn runs_repeat()
-    ensures { RunsRepeat }
+    ensures repeat { RunsRepeat }
+    ensures in_order { OrderDecides }
 {}
 
 /// If no share of the packets is to be lost, no decoder misses a turn.

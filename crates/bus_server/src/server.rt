@@ -6,13 +6,13 @@ ghost use Rattle.bus.specs.Bus.{is_event};
 ghost use Rattle.bus.specs.Course.{is_time};
 ghost use Rattle.bus.specs.State.{bus_state};
 ghost use Rattle.bus_server.specs.TransportEvents.{Received};
-ghost use Rattle.bus_server.specs.ServerState.{Applies, RunsEventWithReports, has_overflowed, has_turns_due, initial_state, is_accepted, outcome_in};
+ghost use Rattle.bus_server.specs.ServerState.{Applies, RunsEventWithReports, has_overflowed, has_turns_to_follow, initial_state, is_accepted, outcome_in, waits};
 ghost use Rattle.bus_server.specs.NamedNodes.{names_of, specs_of};
 ghost use Rattle.bus_server.specs.Pace.{is_pace};
 ghost use Rattle.bus_server.specs.Reading.{IsReadNext, ReadsOne};
 ghost use Rattle.bus_server.specs.Hub.{ObservesReports};
 ghost use Rattle.bus_server.specs.Snapshots.{HasReported, ProgressesBy, Progresses, ProgressesWithoutInput, Snapshot, AcceptsAt, IsObserved, ObservesLayout, snapshot, state_of};
-ghost use Rattle.bus_server.specs.Rounds.{AllWrittenTo, IsFair, IsRound, AcceptsPending, Reads, Writes, WritesNone, refusals};
+ghost use Rattle.bus_server.specs.Rounds.{Accepts, AcceptsFirst, AcceptsSome, AllWrittenTo, IsFair, IsRound, Reads, ServesClient, ServesClients, Writes, WritesNone, refusals};
 ghost use Rattle.bus_server.specs.StoppedRuns.{Stops};
 
 use crate::CLIENTS;
@@ -104,8 +104,8 @@ impl Server {
         self.hub.has_backlog
     }
 
-    /// Serves one round, which [`Server::run`] starts: reads each client, writing to all after each, and then accepts pending
-    /// clients.
+    /// Serves one round, which [`Server::run`] starts: reads each client, writing to all after each, and accepts pending clients.
+    /// While turns are left that follow a message, nobody is read or accepted.
     ///
     /// # Errors
     ///
@@ -127,12 +127,85 @@ impl Server {
             (Stops (snapshot (W.log transport.old) (P.observed observer.old) self.old.hub)
             (snapshot (W.log transport.new) (P.observed observer.new) self.new.hub)) }
     {
-        for client in 0..CLIENTS {
-            self.receive(client, transport, observer)?;
-            self.write_all(transport, observer)?;
-        }
+        self.accept_first(transport, observer)?;
+        self.serve_all(transport, observer)?;
         // Last, so that the index of a client that has disconnected meanwhile is free.
         self.accept_pending(transport, observer)
+    }
+
+    /// Accepts pending clients before others are read, where turns follow messages. Otherwise those that send without a pause
+    /// keep them out, as turns are left whenever all have been served.
+    fn accept_first<W: Transport, P: Observer>(
+        &mut self,
+        transport: &mut W,
+        observer: &mut P,
+    ) -> Result<(), P::Fault>
+        requires observes { ObservesLayout (P.decoder_specs observer.old) self.old.hub }
+        requires reported { HasReported self.old.hub }
+        ensures observes { ObservesLayout (P.decoder_specs observer.new) self.new.hub }
+        ensures reported { OnOk result (HasReported self.new.hub) }
+        ensures served { OnOk result
+            (ProgressesBy AcceptsFirst
+            (snapshot (W.log transport.old) (P.observed observer.old) self.old.hub)
+            (snapshot (W.log transport.new) (P.observed observer.new) self.new.hub)) }
+        ensures stops { OnErr result
+            (Stops (snapshot (W.log transport.old) (P.observed observer.old) self.old.hub)
+            (snapshot (W.log transport.new) (P.observed observer.new) self.new.hub)) }
+    {
+        if !self.hub.accepts_first() {
+            return Ok(());
+        }
+        self.accept_some(transport, observer)?;
+        Ok(())
+    }
+
+    /// Serves each client, beginning behind the one that sent the last message.
+    fn serve_all<W: Transport, P: Observer>(
+        &mut self,
+        transport: &mut W,
+        observer: &mut P,
+    ) -> Result<(), P::Fault>
+        requires observes { ObservesLayout (P.decoder_specs observer.old) self.old.hub }
+        requires reported { HasReported self.old.hub }
+        ensures observes { ObservesLayout (P.decoder_specs observer.new) self.new.hub }
+        ensures reported { OnOk result (HasReported self.new.hub) }
+        ensures served { OnOk result
+            (ProgressesBy (ServesClients self.old.hub.first_client 8)
+            (snapshot (W.log transport.old) (P.observed observer.old) self.old.hub)
+            (snapshot (W.log transport.new) (P.observed observer.new) self.new.hub)) }
+        ensures stops { OnErr result
+            (Stops (snapshot (W.log transport.old) (P.observed observer.old) self.old.hub)
+            (snapshot (W.log transport.new) (P.observed observer.new) self.new.hub)) }
+    {
+        let first = self.hub.first_client;
+        for count in 0..CLIENTS {
+            self.serve((first + count) % CLIENTS, transport, observer)?;
+        }
+        Ok(())
+    }
+
+    /// Reads a client, and then writes to all.
+    fn serve<W: Transport, P: Observer>(
+        &mut self,
+        client: u8,
+        transport: &mut W,
+        observer: &mut P,
+    ) -> Result<(), P::Fault>
+        requires client { client < 8 }
+        requires observes { ObservesLayout (P.decoder_specs observer.old) self.old.hub }
+        requires reported { HasReported self.old.hub }
+        ensures observes { ObservesLayout (P.decoder_specs observer.new) self.new.hub }
+        ensures reported { OnOk result (HasReported self.new.hub) }
+        ensures served { OnOk result
+            (ProgressesBy (ServesClient client)
+            (snapshot (W.log transport.old) (P.observed observer.old) self.old.hub)
+            (snapshot (W.log transport.new) (P.observed observer.new) self.new.hub)) }
+        ensures stops { OnErr result
+            (Stops (snapshot (W.log transport.old) (P.observed observer.old) self.old.hub)
+            (snapshot (W.log transport.new) (P.observed observer.new) self.new.hub)) }
+    {
+        self.receive(client, transport, observer)?;
+        self.write_all(transport, observer)
     }
 
     /// Accepts pending clients at free indexes, and rejects others.
@@ -146,7 +219,37 @@ impl Server {
         ensures observes { ObservesLayout (P.decoder_specs observer.new) self.new.hub }
         ensures reported { OnOk result (HasReported self.new.hub) }
         ensures served { OnOk result
-            (ProgressesWithoutInput (λ more _. AcceptsPending more)
+            (ProgressesBy Accepts
+            (snapshot (W.log transport.old) (P.observed observer.old) self.old.hub)
+            (snapshot (W.log transport.new) (P.observed observer.new) self.new.hub)) }
+        ensures stops { OnErr result
+            (Stops (snapshot (W.log transport.old) (P.observed observer.old) self.old.hub)
+            (snapshot (W.log transport.new) (P.observed observer.new) self.new.hub)) }
+    {
+        if self.hub.track_due.follow_message() {
+            return Ok(());
+        }
+        if !self.accept_some(transport, observer)? {
+            return Ok(());
+        }
+        let refused = reject_pending(transport);
+        self.hub.note_refused(refused);
+        Ok(())
+    }
+
+    /// Accepts pending clients at free indexes. Returns whether all are taken, so that more may be pending.
+    fn accept_some<W: Transport, P: Observer>(
+        &mut self,
+        transport: &mut W,
+        observer: &mut P,
+    ) -> Result<bool, P::Fault>
+        requires turns { has_turns_to_follow (state_of self.old.hub) ≡ false }
+        requires observes { ObservesLayout (P.decoder_specs observer.old) self.old.hub }
+        requires reported { HasReported self.old.hub }
+        ensures observes { ObservesLayout (P.decoder_specs observer.new) self.new.hub }
+        ensures reported { OnOk result (HasReported self.new.hub) }
+        ensures served { IfOk result
+            (λ is_full. ProgressesWithoutInput (AcceptsSome is_full)
             (snapshot (W.log transport.old) (P.observed observer.old) self.old.hub)
             (snapshot (W.log transport.new) (P.observed observer.new) self.new.hub)) }
         ensures stops { OnErr result
@@ -155,12 +258,10 @@ impl Server {
     {
         for client in 0..CLIENTS {
             if !self.accept_at(client, transport, observer)? {
-                return Ok(());
+                return Ok(false);
             }
         }
-        let refused = reject_pending(transport);
-        self.hub.note_refused(refused);
-        Ok(())
+        Ok(true)
     }
 
     /// Accepts a pending client at this index, unless one is connected there. Returns false if none is pending.
@@ -171,6 +272,7 @@ impl Server {
         observer: &mut P,
     ) -> Result<bool, P::Fault>
         requires client { client < 8 }
+        requires turns { has_turns_to_follow (state_of self.old.hub) ≡ false }
         requires observes { ObservesLayout (P.decoder_specs observer.old) self.old.hub }
         requires reported { HasReported self.old.hub }
         ensures observes { ObservesLayout (P.decoder_specs observer.new) self.new.hub }
@@ -225,7 +327,7 @@ impl Server {
         Ok(())
     }
 
-    /// Reads what a client sent, 400 bytes at most, and applies it, unless turns are due to it.
+    /// Reads what a client sent, 400 bytes at most, and applies it, unless it waits for turns.
     fn receive<W: Transport, P: Observer>(
         &mut self,
         client: u8,
@@ -245,7 +347,7 @@ impl Server {
             (Stops (snapshot (W.log transport.old) (P.observed observer.old) self.old.hub)
             (snapshot (W.log transport.new) (P.observed observer.new) self.new.hub)) }
     {
-        if self.hub.track_due.is_due_to(client) {
+        if self.hub.track_due.must_wait(client) {
             return Ok(());
         }
         for _byte in 0..MAX_READ {
@@ -256,8 +358,8 @@ impl Server {
         Ok(())
     }
 
-    /// Reads a byte of a client and applies it. Returns whether the client is to be read on: not if there are no more bytes, turns
-    /// are due to it, or a queue is more than half full.
+    /// Reads a byte of a client and applies it. Returns whether the client is to be read on: not if there are no more bytes, it
+    /// waits for turns, or a queue is more than half full.
     fn receive_byte<W: Transport, P: Observer>(
         &mut self,
         client: u8,
@@ -265,7 +367,7 @@ impl Server {
         observer: &mut P,
     ) -> Result<bool, P::Fault>
         requires client { client < 8 }
-        requires none_due { has_turns_due (state_of self.old.hub) client ≡ false }
+        requires waits { waits (state_of self.old.hub) client ≡ false }
         requires observes { ObservesLayout (P.decoder_specs observer.old) self.old.hub }
         requires reported { HasReported self.old.hub }
         ensures observes { ObservesLayout (P.decoder_specs observer.new) self.new.hub }
@@ -297,7 +399,7 @@ impl Server {
         observer: &mut P,
     ) -> Result<bool, P::Fault>
         requires client { client < 8 }
-        requires none_due { has_turns_due (state_of self.old.hub) client ≡ false }
+        requires waits { waits (state_of self.old.hub) client ≡ false }
         requires observes { ObservesLayout (P.decoder_specs observer.old) self.old.hub }
         requires reported { HasReported self.old.hub }
         ensures observes { ObservesLayout (P.decoder_specs observer.new) self.new.hub }
@@ -317,7 +419,7 @@ impl Server {
         if let Outcome::Nothing = outcome {
             return Ok(true);
         }
-        Ok(!self.hub.track_due.is_due_to(client) && !self.hub.is_crowded())
+        Ok(!self.hub.track_due.must_wait(client) && !self.hub.is_crowded())
     }
 
     /// Writes to each client, and disconnects those whose queue has overflowed.

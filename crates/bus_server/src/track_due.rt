@@ -2,19 +2,55 @@
 ghost use Rattle.std.specs.Prelude.{◌≡◌, ◌<◌, ◌≤◌, IsTrue, length, map, nat_lt, replicate, slice_set, ◌||◌};
 ghost use Rattle.std.specs.List.{list_any};
 ghost use Rattle.bus_server.specs.SendQueues.{names_client};
-ghost use Rattle.bus_server.specs.TrackDue.{after_answer, due_after, due_to, have_passed, is_due, less, none_due, unrequested};
+ghost use Rattle.bus_server.specs.TrackDue.{after_answer, after_departure, due_after, due_to, follow_message, have_passed, is_due, is_message, is_request, less, must_wait, none_due};
 
 use crate::CLIENTS;
 use crate::pace::Pace;
 use bus::{MAX_CLIENTS, Outcome};
+
+/// What turns are due to.
+#[derive(Clone, Copy, Drop)]
+pub(crate) enum Cause {
+    /// A message of the client. Nothing is read before they have passed.
+    Message,
+    /// A request of the client, which is told when they have passed.
+    Request,
+    /// A request of a client that has disconnected since.
+    Departed,
+}
+
+impl Cause {
+    /// Whether the turns follow a message.
+    fn is_message(self) -> bool
+        ensures { result ≡ is_message self }
+    {
+        matches!(self, Cause::Message)
+    }
+
+    /// Whether the client requested them.
+    fn is_request(self) -> bool
+        ensures { result ≡ is_request self }
+    {
+        matches!(self, Cause::Request)
+    }
+
+    /// The same, once the client has disconnected.
+    fn after_departure(self) -> Cause
+        ensures { result ≡ after_departure self }
+    {
+        match self {
+            Cause::Message => Cause::Message,
+            Cause::Request | Cause::Departed => Cause::Departed,
+        }
+    }
+}
 
 /// The turns that are due to a client: those that follow its message, or that it requested.
 #[derive(Clone, Copy, Drop)]
 pub(crate) struct TurnsDue {
     /// How many are still to run, at most 10,000.
     pub(crate) left: u16,
-    /// The client requested them, and is told when they have passed.
-    pub(crate) is_requested: bool,
+    pub(crate) cause: Cause,
 }
 
 impl TurnsDue {
@@ -24,7 +60,7 @@ impl TurnsDue {
     {
         TurnsDue {
             left: 0,
-            is_requested: false,
+            cause: Cause::Message,
         }
     }
 
@@ -32,14 +68,21 @@ impl TurnsDue {
     fn is_due(&self) -> bool
         ensures { result ≡ is_due self.now }
     {
-        self.left > 0 || self.is_requested
+        self.left > 0 || self.cause.is_request()
+    }
+
+    /// Whether some are left that follow a message.
+    fn follow_message(&self) -> bool
+        ensures { result ≡ follow_message self.now }
+    {
+        self.left > 0 && self.cause.is_message()
     }
 
     /// Whether those that the client requested have passed.
     fn have_passed(&self) -> bool
         ensures { result ≡ have_passed self.now }
     {
-        self.left == 0 && self.is_requested
+        self.left == 0 && self.cause.is_request()
     }
 
     /// What is due once the client is told of those that have passed.
@@ -85,29 +128,29 @@ impl TrackDue {
         match outcome {
             Outcome::Sent { client, .. } => {
                 if let Pace::AfterMessages { turns } = pace {
-                    self.set(*client, u16::from(turns), false);
+                    self.set(*client, u16::from(turns), Cause::Message);
                 }
             }
             Outcome::TurnsRequested {
                 client,
                 turns: Ok(count),
-            } => self.set(*client, *count, true),
+            } => self.set(*client, *count, Cause::Request),
             Outcome::Disconnected { client } => {
-                let left = self.left(*client);
-                self.set(*client, left, false);
+                let owed = self.turns[usize::from(*client)];
+                self.set(*client, owed.left, owed.cause.after_departure());
             }
             _ => {}
         }
     }
 
     /// Makes turns due to a client.
-    fn set(&mut self, client: u8, left: u16, is_requested: bool)
+    fn set(&mut self, client: u8, left: u16, cause: Cause)
         requires { client < 8 }
         ensures turns { self.new.turns ≡ slice_set self.old.turns client
-            (record { left = left; is_requested = is_requested }) }
+            (record { left = left; cause = cause }) }
         ensures micros { self.new.micros ≡ self.old.micros }
     {
-        self.turns[usize::from(client)] = TurnsDue { left, is_requested };
+        self.turns[usize::from(client)] = TurnsDue { left, cause };
     }
 
     /// How many turns of a client are still to run.
@@ -118,12 +161,19 @@ impl TrackDue {
         self.turns[usize::from(client)].left
     }
 
-    /// Whether turns are due to a client.
-    pub(crate) fn is_due_to(&self, client: u8) -> bool
+    /// Whether what a client sends has to wait: turns are due to it, or are left that follow a message of any client.
+    pub(crate) fn must_wait(&self, client: u8) -> bool
         requires { client < 8 }
-        ensures { result ≡ is_due (due_to self.now.turns client) }
+        ensures { result ≡ must_wait self.now.turns client }
     {
-        self.turns[usize::from(client)].is_due()
+        self.follow_message() || self.turns[usize::from(client)].is_due()
+    }
+
+    /// Whether turns are left that follow a message.
+    pub(crate) fn follow_message(&self) -> bool
+        ensures { result ≡ list_any follow_message self.now.turns }
+    {
+        self.turns.iter().any(|owed| owed.follow_message())
     }
 
     /// Whether the turns that a client requested have passed.
@@ -157,7 +207,7 @@ impl TrackDue {
         ensures micros { self.new.micros ≡ self.old.micros }
     {
         let owed = self.turns[usize::from(client)];
-        self.set(client, owed.left - count, owed.is_requested);
+        self.set(client, owed.left - count, owed.cause);
     }
 
     /// Notes that each client whose turns have passed was told.

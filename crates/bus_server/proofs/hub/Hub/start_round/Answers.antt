@@ -16,6 +16,7 @@ invariant_of-self c =
     record {
       eight = ap length c.enqueue_lines.ensures ∙ length-enqueued 0 text old.queues ∙ old.eight;
       within_capacity = ap (list_all is_within_capacity) c.enqueue_lines.ensures ∙ within_capacity-all 0 text old.queues;
+      first = old.first;
       paced = old.paced;
       named = ap (λ (nodes : ArrayVec NamedNode). specs_of nodes.items) c.advance.ensures.nodes ∙ old.named;
     }

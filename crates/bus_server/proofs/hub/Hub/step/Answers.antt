@@ -5,7 +5,7 @@ use Rattle.bus.specs.State.{bus_state}
 use Rattle.bus_server.specs.Observations.{Observed}
 use Rattle.bus_server.specs.SendQueue.{is_within_capacity}
 use Rattle.bus_server.specs.Answers.{answers_after}
-use Rattle.bus_server.specs.ServerState.{disconnected_after, outcome_in}
+use Rattle.bus_server.specs.ServerState.{disconnected_after, first_after, outcome_in}
 use Rattle.bus_server.specs.TrackDue.{due_after}
 use Rattle.bus_server.specs.SendQueues.{names_client, queues_after}
 use Rattle.arrayvec.specs.ArrayVec.{ArrayVec}
@@ -23,6 +23,9 @@ update-requires c = ap names_client c.step-outcome.ensures.outcome ∙ placed_by
 pub update-requires-2 : goal.update-requires-2
 update-requires-2 c = ap names_client c.step-outcome.ensures.outcome ∙ placed_by (bus_state c.args.self.now.bus) c.args.event c.requires
 
+pub first_after-self-requires-clause-client : goal.first_after-self-requires-clause-client
+first_after-self-requires-clause-client c = ap names_client c.step-outcome.ensures.outcome ∙ placed_by (bus_state c.args.self.now.bus) c.args.event c.requires
+
 pub enqueue-requires : goal.enqueue-requires
 enqueue-requires c =
     ap names_client c.answer-outcome.ensures.answered
@@ -32,6 +35,7 @@ enqueue-requires c =
 pub invariant_of-self-2 : goal.invariant_of-self-2
 invariant_of-self-2 c = record {
   eight = ap length c.enqueue.ensures ∙ length-after c.answer-outcome.result c.args.self.now.queues ∙ c.args.self.now.eight;
+  first = c.first_after-self.ensures.client;
   within_capacity = ap (list_all is_within_capacity) c.enqueue.ensures ∙ within_capacity-after c.answer-outcome.result c.args.self.now.queues c.args.self.now.within_capacity;
   paced = c.args.self.now.paced;
   named = ap (λ (nodes : ArrayVec NamedNode). specs_of nodes.items) c.update.ensures.nodes ∙ c.args.self.now.named ∙ sym c.step-outcome.ensures.same.specs;
@@ -69,6 +73,7 @@ returns-clause-runs c =
       time_due = c.update-2.ensures.micros;
       losses = refl;
       pace = refl;
+      first_client = c.first_after-self.ensures.first ∙ ap (λ (outcome : Outcome). first_after outcome old.first_client) outcome;
       has_backlog = refl;
       disconnected = c.disconnected_after-self.ensures ∙ ap (λ (outcome : Outcome). disconnected_after outcome old.disconnected) outcome;
       saw = ap (λ (outcome : Outcome). Observed outcome c.step-outcome.new.self.world.nodes c.answer-outcome.new.self.railway) (told c);

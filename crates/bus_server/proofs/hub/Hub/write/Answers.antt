@@ -33,6 +33,7 @@ invariant_of-self g c =
     record {
       eight = ap length c.consume.ensures ∙ length-set old.queues client rest ∙ old.eight;
       within_capacity = ap (list_all is_within_capacity) c.consume.ensures ∙ room_set old.queues client rest old.within_capacity (within_capacity-dropped c.in-Bytes.count (slice_index_or old.queues client None) (room_at old.queues client old.within_capacity));
+      first = old.first;
       paced = old.paced;
       named = old.named;
     }

@@ -1,6 +1,7 @@
-use Rattle.std.proofs.Common.{◌<◌, ◌∷◌, [], length, sym, ◌∙◌, arith}
+use Rattle.std.proofs.Common.{◌<◌, ◌≡◌, ◌∷◌, [], length, refl, sym, true, ◌∙◌, arith}
+use Rattle.std.specs.List.{list_all}
 use Rattle.bus_server.specs.Snapshots.{snapshot, state_of}
-use Rattle.bus_server.specs.Rounds.{HasMoreClients, PreservesRound}
+use Rattle.bus_server.specs.Rounds.{HasMoreClients, PreservesRound, is_accept}
 use Rattle.bus_server.specs.TransportEvents.{Accepted}
 use Rattle.bus_server.proofs.Going.{calm_nowhere, goes_one}
 use Rattle.bus_server.specs.ServerState.{with_backlog}
@@ -11,8 +12,8 @@ use Rattle.bus_server.proofs.server.Server.accept_at.Goals as goal
 pub returns-then-is_connected-clause-seats : goal.returns-then-is_connected-clause-seats
 returns-then-is_connected-clause-seats g c =
     let all = state_of c.args.self.now.hub in
-    calm_nowhere (λ _ new. HasMoreClients c.args.client all new) (snapshot (g.W.Transport.log c.args.transport.now) (g.P.Observer.observed c.args.observer.now) c.args.self.now.hub)
-    (record { takes = sym c.is_connected.ensures ∙ c.if-is_connected.true; keeps = λ other placed. placed })
+    calm_nowhere (λ more new. (list_all is_accept more ≡ true) × HasMoreClients c.args.client all new) (snapshot (g.W.Transport.log c.args.transport.now) (g.P.Observer.observed c.args.observer.now) c.args.self.now.hub)
+    (refl, record { takes = sym c.is_connected.ensures ∙ c.if-is_connected.true; keeps = λ other placed. placed; turns = refl })
 
 pub returns-clause-seats : goal.returns-clause-seats
 returns-clause-seats g c =
@@ -23,12 +24,12 @@ returns-clause-seats g c =
     let joined = only_joins client does.0 (with_backlog old) new does.2 in
     let place : client < length old.queues = omega (arith, c.args.self.now.hub.eight, c.requires.client) in
     let line : client < length old.bus.clients = omega (arith, c.invariant_holds.ensures.kept.client_count, c.requires.client) in
-    goes_one (λ more all. PreservesRound more old all × HasMoreClients client old all) (Accepted client) does.0
-    (snapshot (g.W.Transport.log c.args.transport.now) (g.P.Observer.observed c.args.observer.now) c.args.self.now.hub) (snapshot (g.W.Transport.log c.accept.new.self) (g.P.Observer.observed c.apply.new.observer) c.apply.new.self.hub) c.if-not-accept.ensures does.1 does.2
-    (keeps_backlog (Accepted client ∷ []) old new (joined_keeps client joined.0 (with_backlog old) new place c.args.self.now.hub.within_capacity joined.1), more_backlog client old new (joined_places client joined.0 (with_backlog old) new line joined.1))
+    goes_one (λ more all. PreservesRound more old all × ((list_all is_accept more ≡ true) × HasMoreClients client old all)) (Accepted client) does.0
+    (snapshot (g.W.Transport.log c.args.transport.now) (g.P.Observer.observed c.args.observer.now) c.args.self.now.hub) (snapshot (g.W.Transport.log c.accept.new.self) (g.P.Observer.observed c.apply.new.observer) c.apply.new.self.hub) c.if-not-accept.ensures does.1 (c.requires.turns, does.2)
+    (keeps_backlog (Accepted client ∷ []) old new (joined_keeps client joined.0 (with_backlog old) new place c.args.self.now.hub.within_capacity joined.1), (refl, more_backlog client old new (joined_places client joined.0 (with_backlog old) new line joined.1)))
 
 pub returns-in_err-apply-clause-stops : goal.returns-in_err-apply-clause-stops
 returns-in_err-apply-clause-stops g c =
     let begun = c.apply.ensures.happened in
     whatever_fails c.from_residual.result
-    (stops_first (Accepted c.args.client) begun.0 (snapshot (g.W.Transport.log c.args.transport.now) (g.P.Observer.observed c.args.observer.now) c.args.self.now.hub) (snapshot (g.W.Transport.log c.accept.new.self) (g.P.Observer.observed c.apply.new.observer) c.apply.new.self.hub) c.if-not-accept.ensures begun.1 begun.2)
+    (stops_first (Accepted c.args.client) begun.0 (snapshot (g.W.Transport.log c.args.transport.now) (g.P.Observer.observed c.args.observer.now) c.args.self.now.hub) (snapshot (g.W.Transport.log c.accept.new.self) (g.P.Observer.observed c.apply.new.observer) c.apply.new.self.hub) c.if-not-accept.ensures begun.1 (c.requires.turns, begun.2))

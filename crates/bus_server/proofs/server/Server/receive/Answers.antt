@@ -5,19 +5,19 @@ use Rattle.bus_server.proofs.Rounding.{reads_on_apply, reads_on_more}
 use Rattle.bus_server.proofs.Stopping.{stops_behind, whatever_fails}
 use Rattle.bus_server.proofs.server.Server.receive.Goals as goal
 
-pub returns-then-is_due_to-clause-served : goal.returns-then-is_due_to-clause-served
-returns-then-is_due_to-clause-served g c = (
+pub returns-then-must_wait-clause-served : goal.returns-then-must_wait-clause-served
+returns-then-must_wait-clause-served g c = (
   [],
   grows_none (g.W.Transport.log c.args.transport.now),
   grows_none (g.P.Observer.observed c.args.observer.now),
-  inl (sym c.is_due_to.ensures ∙ c.if-is_due_to.true, refl, refl),
+  inl (sym c.must_wait.ensures ∙ c.if-must_wait.true, refl, refl),
 )
 
 pub loop-byte-init : goal.loop-byte-init
 loop-byte-init g c = record {
   observes = c.requires.observes;
   reported = c.requires.reported;
-  none_due = sym c.is_due_to.ensures ∙ c.if-is_due_to.false;
+  waits = sym c.must_wait.ensures ∙ c.if-must_wait.false;
   served = ([], refl, grows_none (g.W.Transport.log c.args.transport.now), grows_none (g.P.Observer.observed c.args.observer.now), refl);
 }
 
@@ -31,7 +31,7 @@ loop-byte-preserved g c =
     record {
       observes = c.receive_byte.ensures.observes;
       reported = c.in_ok-receive_byte.ensures.reported;
-      none_due = one.5.0;
+      waits = one.5.0;
       served = (
         so_far.0 ++ one.0 ∷ [],
         omega (arith, length-append so_far.0 (one.0 ∷ []), so_far.1),
@@ -52,7 +52,7 @@ returns-then-not-branch-clause-served g c =
       so_far.0 ++ one.0 ∷ [],
       wire_more (log c.args.transport.now) (log first.transport) (log c.receive_byte.new.transport) so_far.0 (one.0 ∷ []) so_far.2 one.1,
       acts_more (observed c.args.observer.now) (observed first.observer) (observed c.receive_byte.new.observer) so_far.0 (one.0 ∷ []) so_far.3 one.2,
-      inr (inr (sym c.is_due_to.ensures ∙ c.if-is_due_to.false, so_far.0, one.0, state_of first.self.hub, refl, few, so_far.4, one.3, one.4, one.5)),
+      inr (inr (sym c.must_wait.ensures ∙ c.if-must_wait.false, so_far.0, one.0, state_of first.self.hub, refl, few, so_far.4, one.3, one.4, one.5)),
     )
 
 pub returns-clause-served : goal.returns-clause-served
@@ -60,7 +60,7 @@ returns-clause-served g c =
     let first = c.loop-byte in
     let so_far = first.invariant.served in
     let all : length so_far.0 ≡ 400 = omega (arith, so_far.1, first.auto._byte-end, c.loop-byte-test.false) in
-    (so_far.0, so_far.2, so_far.3, inr (inl (sym c.is_due_to.ensures ∙ c.if-is_due_to.false, so_far.4, all)))
+    (so_far.0, so_far.2, so_far.3, inr (inl (sym c.must_wait.ensures ∙ c.if-must_wait.false, so_far.4, all)))
 
 pub returns-in_err-receive_byte-clause-stops : goal.returns-in_err-receive_byte-clause-stops
 returns-in_err-receive_byte-clause-stops g c =
