@@ -1,9 +1,12 @@
 -- The effect of `lbserver` for the arguments after its name: it serves as they order, or writes the
 -- text that they ask for.
-use Rattle.std.specs.Prelude.{ℕ, ◌≡◌, ◌⊎◌, ◌-◌, ◌^◌, Bool, IsTrue, true, false, List, [], Option, Some, None, Result, Ok, Err}
+use Rattle.std.specs.Prelude.{ℕ, ◌≡◌, ◌⊎◌, ◌-◌, ◌==◌, ◌^◌, Bool, IsTrue, true, false, List, [], Option, Some, None, Result, Ok, Err}
 use Rattle.std.specs.Io.KnownBytes.{Appends}
 use Rattle.server_orders.specs.declared.words.ServerOrder.{ServerOrder}
-use Rattle.server_orders.specs.ServerLine.{AsksServer, IsServerOrderOf}
+use Rattle.command_line.specs.Fault as order
+use Rattle.command_line.specs.declared.fault.OrderFault.{OrderFault}
+use Rattle.server_orders.specs.ServerLine.{AsksServer, IsServerFault, IsServerOrderOf}
+use Rattle.console.specs.Fault as run
 use Rattle.console.specs.Files.{IsRosterOf}
 use Rattle.roster.specs.Entry.{Entry}
 use Rattle.roster.specs.Decoders.{names_of, specs_of}
@@ -19,7 +22,7 @@ use Rattle.railway.specs.Railway.{RailwayState}
 use Rattle.railway_plan.specs.Railways.{IsRailwayIn}
 use Rattle.bus_server.specs.Running.{IsRun, RunSnapshot}
 use Rattle.lbserver.specs.declared.fault.ServerFault.{ServerFault}
-use Rattle.lbserver.specs.declared.fault.ServerFault.TheVariants.{Output}
+use Rattle.lbserver.specs.declared.fault.ServerFault.TheVariants.{Listen, Order, Output, Plan, Roster, Run, Unopened}
 
 -- how many clients have to disconnect before the server ends; without a number, as many as can be
 -- counted
@@ -88,6 +91,25 @@ AnswersWords words old_output new_output = AsksServer words × ((text : List ℕ
 abbrev pub RunsWords : List (List ℕ) → (old_output new_output : Option (List ℕ)) → Type 0
 RunsWords words old_output new_output = ServesWords words ⊎ AnswersWords words old_output new_output
 
+-- the exit status for a fault
+abbrev pub status_of : ServerFault → ℕ
+status_of (Order fault) = order.status_of fault
+status_of (Unopened file why) = 2
+status_of (Roster file fault details) = 3
+status_of (Plan file fault) = 3
+status_of (Listen address why) = 4
+status_of Output = 4
+status_of (Run fault) = run.status_of fault
+
+-- The words are those of no order, as clap rejects them, or its matches are none.
+abbrev pub AreNoOrder : List (List ℕ) → Type 0
+AreNoOrder words = (fault : OrderFault) × IsServerFault words fault × (order.status_of fault ≡ 1)
+
+-- a run ended for its words: with status 1
+abbrev pub ended_by_words : {A : Type 0} → Result A ServerFault → Bool
+ended_by_words (Ok a) = false
+ended_by_words (Err fault) = status_of fault == 1
+
 -- standard output could not be written
 abbrev pub is_output : ServerFault → Bool
 is_output Output = true
@@ -97,3 +119,7 @@ is_output other = false
 abbrev pub ended_by_output : {A : Type 0} → Result A ServerFault → Bool
 ended_by_output (Ok a) = false
 ended_by_output (Err fault) = is_output fault
+
+-- A run of an order ended: for standard output exactly if a write failed, and not for its words.
+abbrev pub IsEnd : {A : Type 0} → (failed : Bool) → Result A ServerFault → Type 0
+IsEnd failed result = (failed ≡ ended_by_output result) × (ended_by_words result ≡ false)

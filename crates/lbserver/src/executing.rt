@@ -4,7 +4,7 @@ ghost use Rattle.roster.specs.Decoders.{entries_of};
 ghost use Rattle.bus_log.specs.Verbosities.{verbosity_of};
 ghost use Rattle.bus_server.specs.Snapshots.{state_of};
 ghost use Rattle.console.specs.Files.{IsRosterOf};
-ghost use Rattle.lbserver.specs.Execution.{HasPace, IsReady, RunsWords, ServesOrder, ServesPlan, clients_of, ended_by_output, entries_in, pace_of};
+ghost use Rattle.lbserver.specs.Execution.{HasPace, IsReady, RunsWords, ServesOrder, ServesPlan, AreNoOrder, IsEnd, clients_of, ended_by_output, ended_by_words, entries_in, pace_of};
 ghost use Rattle.server_orders.specs.declared.words.ServerOrder.{ServerOrder as OrderValue};
 
 use crate::answering::answer;
@@ -53,6 +53,8 @@ pub(crate) fn execute<O: Write, E: Write>(
     // or the version, which is written to `output`.
     ensures serves { result ≡ 0 → RunsWords (map (λ word. word.now) words.entry.now)
         (O.contents output.old.writer) (O.contents output.new.writer) }
+    // Status 1 only where the arguments are those of no order.
+    ensures refuses { result ≡ 1 → AreNoOrder (map (λ word. word.now) words.entry.now) }
     ensures quiet { result ≡ 0 → faults.new ≡ faults.old }
     // No write of the output failed if the status is 0; if one failed, the status is 4.
     ensures written { result ≡ 0 → output.new.failed ≡ false }
@@ -77,6 +79,8 @@ fn run<O: Write>(
     ensures serves { OnOk result (RunsWords (map (λ word. word.now) words.entry.now)
         (O.contents output.old.writer) (O.contents output.new.writer)) }
     ensures failed { output.new.failed ≡ ended_by_output result }
+    ensures refuses { ended_by_words result ≡ true
+        → AreNoOrder (map (λ word. word.now) words.entry.now) }
 {
     match server_order(rt.alloc(), words) {
         Ok(mut order) => with_roster(rt, &mut order, output),
@@ -95,7 +99,7 @@ fn with_roster<O: Write>(
     ensures serves { OnOk result
         ((roster : _) × IsRosterOf order.old.roster roster
         × ServesPlan order.old (entries_in roster)) }
-    ensures failed { output.new.failed ≡ ended_by_output result }
+    ensures end { IsEnd output.new.failed result }
 {
     let roster = read_roster(rt, order.roster.take())?;
     with_plan(rt, order, roster.as_ref(), output)
@@ -111,7 +115,7 @@ fn with_plan<O: Write>(
     requires works { output.old.failed ≡ false }
     requires pace { HasPace order.old }
     ensures serves { OnOk result (ServesPlan order.old (entries_of roster.entry)) }
-    ensures failed { output.new.failed ≡ ended_by_output result }
+    ensures end { IsEnd output.new.failed result }
 {
     let railway = read_railway(rt, order.plan.take(), roster)?;
     with_server(rt, order, roster, railway, output)
@@ -128,7 +132,7 @@ fn with_server<O: Write>(
     requires works { output.old.failed ≡ false }
     requires pace { HasPace order.old }
     ensures serves { OnOk result (ServesOrder order.old (entries_of roster.entry) railway) }
-    ensures failed { output.new.failed ≡ ended_by_output result }
+    ensures end { IsEnd output.new.failed result }
 {
     let losses = Losses::new(order.lose, u64::from(order.seed));
     let pace = pace_of(order.turns, order.rate);
@@ -148,7 +152,7 @@ fn with_sockets<O: Write>(
     requires ready { IsReady order.old (entries_of roster) server.old.hub }
     ensures serves { OnOk result (ServesOrder order.old (entries_of roster.entry)
         (state_of server.old.hub).railway) }
-    ensures failed { output.new.failed ≡ ended_by_output result }
+    ensures end { IsEnd output.new.failed result }
 {
     let address = SocketAddr::from((order.address, order.port));
     let mut sockets = match ports::bind(rt, address) {
@@ -173,7 +177,7 @@ fn with_page<O: Write>(
     requires ready { IsReady order.old (entries_of roster) server.old.hub }
     ensures serves { OnOk result (ServesOrder order.old (entries_of roster.entry)
         (state_of server.old.hub).railway) }
-    ensures failed { output.new.failed ≡ ended_by_output result }
+    ensures end { IsEnd output.new.failed result }
 {
     if let Some(page) = order.page {
         let address = SocketAddr::from((order.address, page));
@@ -196,7 +200,7 @@ fn with_log<O: Write>(
     requires ready { IsReady order.now (entries_of roster) server.old.hub }
     ensures serves { OnOk result (ServesOrder order.now (entries_of roster.entry)
         (state_of server.old.hub).railway) }
-    ensures failed { output.new.failed ≡ ended_by_output result }
+    ensures end { IsEnd output.new.failed result }
 {
     let mut log = LogQueue::new(rt.alloc())?;
     report_addresses(rt, sockets, &mut log)?;
@@ -220,7 +224,7 @@ fn bind_page(
     file: Option<FileName>,
     names: Vec<String>,
 ) -> Result<(), ServerFault>
-    ensures { ended_by_output result ≡ false }
+    ensures { IsEnd false result }
 {
     let page = read_page(rt, file)?;
     match ports::bind_page(rt, sockets, address, page.as_slice(), names) {
@@ -231,7 +235,7 @@ fn bind_page(
 
 /// Returns the page of this file, or that of the repository.
 fn read_page(rt: &HostRuntime, file: Option<FileName>) -> Result<Vec<u8>, ServerFault>
-    ensures { ended_by_output result ≡ false }
+    ensures { IsEnd false result }
 {
     let file = match file {
         Some(file) => file,
@@ -246,7 +250,7 @@ fn report_addresses(
     sockets: &Sockets<'_, HostRuntime>,
     log: &mut LogQueue,
 ) -> Result<(), ServerFault>
-    ensures { ended_by_output result ≡ false }
+    ensures { IsEnd false result }
 {
     let Ok((bus, page)) = sockets.addresses() else {
         return Err(ServerFault::Run(RunFault::Network));
@@ -276,7 +280,7 @@ fn serve<O: Write>(
     requires verbosity { printer.old.verbosity ≡ verbosity_of order.now.track order.now.quiet }
     ensures serves { OnOk result (ServesOrder order.now (entries_of printer.old.roster)
         (state_of server.old.hub).railway) }
-    ensures failed { output.new.failed ≡ ended_by_output result }
+    ensures end { IsEnd output.new.failed result }
 {
     let Ok(watch) = Stopwatch::new(rt) else {
         return Err(ServerFault::Run(RunFault::Network));

@@ -2,7 +2,7 @@
 ghost use Rattle.std.specs.Prelude.{◌≡◌, ◌<◌, ◌≤◌, false, true};
 ghost use Rattle.console.specs.declared.fault.RunFault.TheVariants.{NoMemory};
 ghost use Rattle.lbserver.specs.declared.fault.ServerFault.TheVariants.{Order, Output, Run};
-ghost use Rattle.lbserver.specs.Execution.{is_output};
+ghost use Rattle.lbserver.specs.Execution.{is_output, status_of};
 
 use crate::roster_line::{NAME, write_roster_fault};
 use command_line::{FileName, OrderFault, open_error_words};
@@ -49,7 +49,8 @@ pub(crate) enum ServerFault {
 impl ServerFault {
     /// Returns the fault of an address and port that could not be bound for this error.
     pub(crate) fn of_bind(address: SocketAddr, error: &io::Error) -> ServerFault
-        ensures { is_output result ≡ false }
+        ensures output { is_output result ≡ false }
+        ensures status { 1 < status_of result }
     {
         match error.kind() {
             ErrorKind::OutOfMemory => ServerFault::Run(RunFault::NoMemory),
@@ -59,7 +60,8 @@ impl ServerFault {
 
     /// Returns the fault of a file that could not be opened for this reason.
     pub(crate) fn of_opening(file: FileName, why: ErrorKind) -> ServerFault
-        ensures { is_output result ≡ false }
+        ensures output { is_output result ≡ false }
+        ensures status { 1 < status_of result }
     {
         match why {
             ErrorKind::OutOfMemory => ServerFault::Run(RunFault::NoMemory),
@@ -72,7 +74,7 @@ impl ServerFault {
     pub(crate) fn report<E: Write>(&self, faults: &mut E) -> u8
         ensures some { 0 < result }
         ensures most { result ≤ 6 }
-        ensures output { is_output self.now ≡ true → result ≡ 4 }
+        ensures status { result ≡ status_of self.now }
     {
         match self {
             ServerFault::Order(fault) => fault.report(NAME, faults),

@@ -1,6 +1,6 @@
 //! Reading the files that the options name.
 ghost use Rattle.std.specs.Prelude.{◌≡◌, ◌<◌, ◌≤◌, ◌+◌, ◌^◌, IfOk, false, length};
-ghost use Rattle.lbserver.specs.Execution.{ended_by_output};
+ghost use Rattle.lbserver.specs.Execution.{IsEnd};
 
 use crate::fault::ServerFault;
 use command_line::{FileName, open_file};
@@ -19,7 +19,7 @@ pub(crate) fn read_file(
 ) -> Result<Vec<u8>, ServerFault>
     requires { most + 1 < 2 ^ 32 }
     ensures most { IfOk result (λ bytes. length bytes.items ≤ most) }
-    ensures output { ended_by_output result ≡ false }
+    ensures end { IsEnd false result }
 {
     let mut input = match open_file(rt, &file) {
         Ok(input) => input,

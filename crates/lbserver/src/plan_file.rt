@@ -1,7 +1,7 @@
 //! Reading a track plan from its file.
-ghost use Rattle.std.specs.Prelude.{◌≡◌, IfErr, IfOk, false};
+ghost use Rattle.std.specs.Prelude.{◌≡◌, ◌<◌, IfErr, IfOk, false};
 ghost use Rattle.roster.specs.Decoders.{entries_of};
-ghost use Rattle.lbserver.specs.Execution.{IsRailwayOf, ended_by_output, is_output};
+ghost use Rattle.lbserver.specs.Execution.{IsRailwayOf, IsEnd, is_output, status_of};
 ghost use Rattle.lbserver.specs.PlanFaults.{HasPlanFault, plan_fault};
 ghost use Rattle.railway_plan.specs.Railways.{IsRailwayIn};
 
@@ -29,7 +29,7 @@ pub(crate) fn read_railway(
     roster: Option<&Roster>,
 ) -> Result<Option<Railway>, ServerFault>
     ensures railway { IfOk result (IsRailwayOf file (entries_of roster.entry)) }
-    ensures output { ended_by_output result ≡ false }
+    ensures end { IsEnd false result }
 {
     let (Some(file), Some(roster)) = (file, roster) else {
         return Ok(None);
@@ -49,7 +49,7 @@ fn railway_of(
 ) -> Result<Railway, ServerFault>
     ensures railway { IfOk result (IsRailwayIn roster.now text.now) }
     ensures fault { IfErr result (HasPlanFault file roster.now text.now) }
-    ensures output { ended_by_output result ≡ false }
+    ensures end { IsEnd false result }
 {
     match railway_plan::read_railway(alloc, text, roster) {
         Ok(railway) => Ok(railway),
@@ -61,6 +61,7 @@ fn railway_of(
 fn fault_of(file: FileName, fault: PlanTextFault) -> ServerFault
     ensures fault { result ≡ plan_fault file fault }
     ensures output { is_output result ≡ false }
+    ensures status { 1 < status_of result }
 {
     if let railway_plan::Why::NoMemory = fault.why {
         return ServerFault::Run(RunFault::NoMemory);

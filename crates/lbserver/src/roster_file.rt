@@ -1,9 +1,9 @@
 //! Reading a roster from its file.
-ghost use Rattle.std.specs.Prelude.{◌≡◌, ◌≢◌, Ok, Err, IfErr, IfOk, false};
+ghost use Rattle.std.specs.Prelude.{◌≡◌, ◌≢◌, ◌<◌, Ok, Err, IfErr, IfOk, false};
 ghost use Rattle.console.specs.Files.{IsRosterOf};
 ghost use Rattle.roster.specs.Format.{roster_in};
 ghost use Rattle.roster.specs.declared.fault.Why.TheVariants.{NoMemory};
-ghost use Rattle.lbserver.specs.Execution.{ended_by_output, is_output};
+ghost use Rattle.lbserver.specs.Execution.{IsEnd, is_output, status_of};
 ghost use Rattle.lbserver.specs.RosterFaults.{HasFault};
 
 use crate::fault::ServerFault;
@@ -24,7 +24,7 @@ pub(crate) fn read_roster(
     file: Option<FileName>,
 ) -> Result<Option<Roster>, ServerFault>
     ensures roster { IfOk result (λ roster. IsRosterOf file roster) }
-    ensures output { ended_by_output result ≡ false }
+    ensures end { IsEnd false result }
 {
     let Some(file) = file else {
         return Ok(None);
@@ -38,7 +38,7 @@ pub(crate) fn read_roster(
 fn roster_of(alloc: Global, file: FileName, text: &[u8]) -> Result<Roster, ServerFault>
     ensures roster { IfOk result (λ roster. roster_in text.now ≡ Ok roster) }
     ensures fault { IfErr result (HasFault file text.now) }
-    ensures output { ended_by_output result ≡ false }
+    ensures end { IsEnd false result }
 {
     match roster::read(alloc, text) {
         Ok(roster) => Ok(roster),
@@ -51,6 +51,7 @@ fn fault_of(alloc: Global, file: FileName, text: &[u8], fault: RosterFault) -> S
     requires { fault.why ≢ NoMemory → roster_in text.now ≡ Err fault }
     ensures fault { HasFault file text.now result }
     ensures output { is_output result ≡ false }
+    ensures status { 1 < status_of result }
 {
     if let roster::Why::NoMemory = fault.why {
         return ServerFault::Run(RunFault::NoMemory);
