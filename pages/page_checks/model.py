@@ -90,15 +90,16 @@ row('a line with markup is no line', readNode('node <b>x</b> module 1 outputs 01
 
 const plan = new Plan();
 const tell = (...lines) => lines.forEach((text) => plan.hear(text));
-tell('BLOCK main 1500 a 300 100 b 700 -100', 'BLOCK siding 1500', 'TRAIN shunter main 6 b main');
+tell('BLOCK main 1500 a 300 100 b 700 -100', 'BLOCK siding 1500', 'TRAIN shunter main 6 b main 125');
 row('a block is drawn from end a to end b', ['a', 'b'].map((end) => plan.blocks.get('main')[end]),
   [{ x: 300, y: 100 }, { x: 700, y: -100 }]);
 row('a plan with an end that has no place is a list', plan.isDrawn, false);
+row('a train has its speed', plan.trains.get('shunter').speed, 125);
 row('a block says which train is in it', ['main', 'siding'].map((block) => plan.wordsOf(block)), ['shunter', 'free']);
-tell('TRAIN express siding 0 a main derailed');
+tell('TRAIN express siding 0 a main 0 derailed');
 row('two trains in a block are a conflict', plan.wordsOf('main'), 'conflict: shunter, express derailed');
 row('a train is in the blocks of both its ends', plan.wordsOf('siding'), 'express derailed');
-tell('TRAIN express siding 0 a siding');
+tell('TRAIN express siding 0 a siding 0');
 row('until its rear has left one', ['main', 'siding'].map((block) => plan.wordsOf(block)), ['shunter', 'express']);
 
 const station = new Station();

@@ -273,15 +273,15 @@ OVAL_PLAN = [
     "JOINT back.b west.a",
     "TURNOUT 1 west.b main.a siding.a",
     "TURNOUT 2 east.a main.b siding.b",
-    "TRAIN shunter main 6 b main",
-    "TRAIN express back 6 b back",
+    "TRAIN shunter main 6 b main 0",
+    "TRAIN express back 6 b back 0",
 ]
 
-# The way of the shunter, 300 mm long: its rear is in east when its front is 300 mm, 2.5 tenths, behind end a.
-ON_MAIN = [f"TRAIN shunter main {tenths} b main" for tenths in (7, 8, 9, 10)]
-INTO_EAST = [f"TRAIN shunter east {tenths} b main" for tenths in (0, 1, 2)]
-ON_EAST = [f"TRAIN shunter east {tenths} b east" for tenths in (2, 3, 4, 5, 6, 7, 8, 9, 10)]
-DERAILED = "TRAIN shunter main 10 b main derailed"
+# The way of the shunter at 125 mm/s, 300 mm long: its rear is in east when its front is 300 mm, 2.5 tenths, behind end a.
+ON_MAIN = [f"TRAIN shunter main {tenths} b main 125" for tenths in (6, 7, 8, 9, 10)]
+INTO_EAST = [f"TRAIN shunter east {tenths} b main 125" for tenths in (0, 1, 2)]
+ON_EAST = [f"TRAIN shunter east {tenths} b east 125" for tenths in (2, 3, 4, 5, 6, 7, 8, 9, 10)]
+DERAILED = "TRAIN shunter main 10 b main 0 derailed"
 
 # Turnout 2 is thrown.
 THROW_2 = "B0 01 10 5E"
@@ -291,7 +291,7 @@ def plans_on_pages():
     """--plan: a page receives the plan once, and each train again when it has moved or derailed; no other client does"""
     # The front is 500 mm before the end of main. 1,150 turns last 6.6 s or more, and with those of messages at most
     # 13.3 s: at 125 mm/s that is 830 to 1,660 mm.
-    check_moves([], ON_MAIN + INTO_EAST + ON_EAST, ON_EAST)
+    check_moves([], ON_MAIN + INTO_EAST + ON_EAST, [line.replace(" 125", " 0") for line in ON_EAST])
     check_moves(send(POWER_ON, THROW_2), [*ON_MAIN, DERAILED], [DERAILED])
     with serve(*OVAL[:2], "--turns", "1", page=True) as server, Page(server) as page:
         same("without a plan", [page.line() for _ in OVAL_PLAN[:4]], OVAL_PLAN[:4])
@@ -311,7 +311,10 @@ def check_moves(first, way, ends):
             client.write(send(text))
             heard += client.lines_until(f"RECEIVE {text}")
         told = [line for line in page.lines_until("RECEIVE 81 7E") if not line.startswith(("RECEIVE ", "NODE "))]
-        holds(f"its trains on their way: {told}", told == [line for line in way if line in told])
+        # Without power it stands, and then runs on.
+        moved = [line for line in told if not line.endswith(" 0")]
+        moved = [line for at, line in enumerate(moved) if line not in moved[:at]]
+        holds(f"its trains on their way: {told}", moved == [line for line in way if line in moved])
         holds(f"the last: {told}", told[-1:] and told[-1] in ends)
         words = {line.split(" ")[0] for line in heard}
         same("another client", words - {"RECEIVE", "SENT", "TURNS"}, set())
@@ -399,7 +402,7 @@ def row_for_page(state, train):
         "JOINT mid.b far.a",
         "TURNOUT 1 tail.a side.b far.b",
         f"TRAIN shunter {train}",
-        "TRAIN express far 5 b far",
+        "TRAIN express far 5 b far 0",
     ]
 
 
@@ -417,7 +420,7 @@ def trains_in_a_row():
             with Page(server) as page:
                 same("a page", [page.line() for _ in wanted], wanted)
 
-        open_page(row_for_page("stop", "near 9 b near"))
+        open_page(row_for_page("stop", "near 9 b near 0"))
         # At a metre a second its front is in mid after 0.1 seconds, in far after 1.1, and at the turnout after 2.1. Its rear
         # leaves each block 0.1 seconds later. 600 turns last 3.4 seconds or more.
         client.write([*send(TAKE_3, USE_1, POWER_ON, "A0 01 7F 21"), "TURNS 600"])
@@ -426,4 +429,4 @@ def trains_in_a_row():
         wanted = [SHUNTER.format("step 126 of 128"), "block mid occupied (shunter)", "block near free"]
         wanted += ["conflict far: shunter, express", "block mid free", "derailed shunter at turnout 1"]
         same("printed", [line for line in printed if not line.startswith(("client ", "message ", "page "))], wanted)
-        open_page(row_for_page("step 126 of 128", "far 10 b far derailed"))
+        open_page(row_for_page("step 126 of 128", "far 10 b far 0 derailed"))

@@ -1,4 +1,4 @@
-"""How trains run: to the picometre, by docs/RAILWAY.md, docs/DCC.md and the turns of idle packets alone.
+"""How trains run: to the femtometre, by docs/RAILWAY.md, docs/DCC.md and the turns of idle packets alone.
 
 While no slot is refreshed each turn has an idle packet: 31 ones of twice 58 microseconds and 11 zeros of twice 100, in all
 5,796. Step n of N at `speed` is n / N * speed * 5,796 nanometres a turn: 46 * n * speed of 126 steps, 207 of 28, 414 of 14.
@@ -276,7 +276,7 @@ STORIES = [
         ],
     ),
     (
-        "ends of blocks, to the picometre",
+        "ends of blocks, to the femtometre",
         [FORWARD],
         [f"{FIRST} main 551 b", f"{SECOND} siding 900 b", f"{THIRD} siding 500 b"],
         [

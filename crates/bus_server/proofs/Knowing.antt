@@ -7,6 +7,7 @@ use Rattle.std.proofs.lemmas.Bool.{and_parts}
 use Rattle.std.proofs.lemmas.List.Concat.{flat_map-append}
 use Rattle.std.proofs.lemmas.List.Folds.{list_all-append}
 use Rattle.layout_core.specs.declared.node.Node.{Node}
+use Rattle.refresh_ring.specs.declared.pick.Power.{Power}
 use Rattle.ln_ops.specs.declared.sensor.SensorReport.{SensorReport}
 use Rattle.ln_ops.specs.Reply.{reply_bytes}
 use Rattle.ln_ops.specs.Sensor.{is_interrogation, is_sensor, report_bytes, report_of}
@@ -33,7 +34,7 @@ use Rattle.bus_server.specs.Known.{ClaimNothing, IsKnown, IsSensorOf, is_no_clai
 use Rattle.bus_server.specs.declared.pace.Pace.{Pace}
 use Rattle.bus_server.specs.Running.{Round, RunsRounds, logged_in}
 use Rattle.bus_server.specs.Placement.{answered, places}
-use Rattle.bus_server.specs.Sensors.{asks_sensors, full_report, railway_elapsed, railway_placed, reports_due, reports_elapsed, running_time}
+use Rattle.bus_server.specs.Sensors.{asks_sensors, full_report, power_of, railway_elapsed, railway_placed, reports_due, reports_elapsed}
 use Rattle.bus_server.specs.TransportEvents.{Accepted, NonePending, PeerClosed, Polled, ReadBlocked, Received, Refused, ServerClosed, TransportEvent, WriteBlocked, Written}
 use Rattle.bus_server.specs.Track.{RunsTrack}
 use Rattle.bus_server.proofs.Rounding.{round_serves}
@@ -89,12 +90,12 @@ happens_known laws block sensor level happening railway new beside unreported wh
       ∙ laws.after railway (happening ∷ []) block sensor whole is.0 is.1,
 )
 
-elapsed_known : SensorLaws → (block sensor micros : ℕ) (level : Bool) (nodes : List Node) (old new : ServerState) → old.unreported ≡ [] → new.railway ≡ railway_elapsed old.railway micros nodes
-    → new.unreported ≡ reports_elapsed old.railway micros nodes → IsKnown block sensor level old → IsKnown block sensor level new
-elapsed_known laws block sensor micros level nodes old new none trains unreported h =
-    happens_known laws block sensor level (TimeElapses micros nodes) h.0 new
-    (trains ∙ ap (λ (r : Option RailwayState). railway_elapsed r micros nodes) h.1)
-    (unreported ∙ ap (λ (r : Option RailwayState). reports_elapsed r micros nodes) h.1)
+elapsed_known : SensorLaws → (block sensor micros : ℕ) (level : Bool) (power : Power) (nodes : List Node) (old new : ServerState) → old.unreported ≡ [] → new.railway ≡ railway_elapsed old.railway micros power nodes
+    → new.unreported ≡ reports_elapsed old.railway micros power nodes → IsKnown block sensor level old → IsKnown block sensor level new
+elapsed_known laws block sensor micros level power nodes old new none trains unreported h =
+    happens_known laws block sensor level (TimeElapses micros power nodes) h.0 new
+    (trains ∙ ap (λ (r : Option RailwayState). railway_elapsed r micros power nodes) h.1)
+    (unreported ∙ ap (λ (r : Option RailwayState). reports_elapsed r micros power nodes) h.1)
     h.2 h.3 (sym (ap (λ (d : List SensorReport). level_after d sensor level) none) ∙ h.4)
 
 asked_level : SensorLaws → (asks level : Bool) (block sensor : ℕ) (railway : RailwayState) → IsTrue (is_railway railway) → IsSensorOf block sensor railway → level ≡ is_occupied railway.trains block
@@ -211,10 +212,10 @@ event_known laws block sensor level (Reports reporting occupied) observed old ne
 event_known laws block sensor level (Elapses micros missed) observed old new runs quiet h =
     known_still block sensor level observed new
     (untold sensor level observed (outcome_in old (Elapses micros missed)) new.nodes new.railway runs.saw (time_tells old.names old.railway (nat_le old.bus.remaining micros) (packet_of_turn old.bus.station) sensor level))
-    (elapsed_known laws block sensor (running_time old.bus micros) level old.nodes old new runs.unreported.0 runs.railway runs.unreported.1 h)
+    (elapsed_known laws block sensor micros level (power_of old.bus) old.nodes old new runs.unreported.0 runs.railway runs.unreported.1 h)
 event_known laws block sensor level (Turn missed) observed old new runs quiet h =
     known_still block sensor level observed new (untold sensor level observed (outcome_in old (Turn missed)) new.nodes new.railway runs.saw refl)
-    (elapsed_known laws block sensor (running_time old.bus old.bus.remaining) level old.nodes old new runs.unreported.0 runs.railway runs.unreported.1 h)
+    (elapsed_known laws block sensor old.bus.remaining level (power_of old.bus) old.nodes old new runs.unreported.0 runs.railway runs.unreported.1 h)
 
 pub becomes_known : SensorLaws → (block sensor client byte : ℕ) (level : Bool) (railway : RailwayState) (observed : Observation) (old new : ServerState) → old.railway ≡ Some railway
     → IsTrue (is_railway railway) → IsSensorOf block sensor railway → asks_sensors (outcome_of old.bus (Receives client byte)) ≡ true → RunsEvent (Receives client byte) observed old new

@@ -14,6 +14,7 @@ use Rattle.ln_ops.specs.declared.reply.Reply.{Reply}
 use Rattle.ln_ops.specs.declared.reply.Reply.TheVariants.{LongAck, SlotData}
 use Rattle.ln_ops.specs.declared.sensor.SensorReport.{SensorReport}
 use Rattle.layout_core.specs.declared.node.Node.{Node}
+use Rattle.refresh_ring.specs.declared.pick.Power.{Power}
 use Rattle.railway.specs.declared.block.Block.{Block}
 use Rattle.railway.specs.declared.train.TrainState.{TrainState}
 use Rattle.railway.specs.Course.{Happening, after}
@@ -41,7 +42,7 @@ use Rattle.bus.specs.Bus.{BusState, client_of, granted, outcome_of_request, repl
 use Rattle.bus_server.specs.Observations.{Observation}
 use Rattle.bus_server.specs.ServerState.{RunsEvent, ServerState}
 use Rattle.bus_server.specs.Placement.{answered, place_answer, places}
-use Rattle.bus_server.specs.Sensors.{full_report, is_report, railway_after, railway_elapsed, railway_placed, reports_after, reports_due, reports_elapsed, running_time}
+use Rattle.bus_server.specs.Sensors.{full_report, is_report, railway_after, railway_elapsed, railway_placed, reports_after, reports_due, reports_elapsed, power_of}
 
 -- What is sent is a whole message, of at most 127 bytes.
 
@@ -184,9 +185,9 @@ changes_most blocks was is few =
 abbrev pub HasFewBlocks : Option RailwayState → Type 0
 HasFewBlocks railway = IfSome railway (λ railway. length railway.network.blocks ≤ 64)
 
-elapsed_most : (railway : Option RailwayState) (micros : ℕ) (nodes : List Node) → HasFewBlocks railway → length (reports_elapsed railway micros nodes) ≤ 128
-elapsed_most None micros nodes few = omega arith
-elapsed_most (Some railway) micros nodes few = changes_most railway.network.blocks railway.trains (elapsed railway micros nodes).trains few
+elapsed_most : (railway : Option RailwayState) (micros : ℕ) (power : Power) (nodes : List Node) → HasFewBlocks railway → length (reports_elapsed railway micros power nodes) ≤ 128
+elapsed_most None micros power nodes few = omega arith
+elapsed_most (Some railway) micros power nodes few = changes_most railway.network.blocks railway.trains (elapsed railway micros power nodes).trains few
 
 full_most : (railway : Option RailwayState) → HasFewBlocks railway → length (full_report railway) ≤ 128
 full_most None few = omega arith
@@ -215,8 +216,8 @@ made_most names bus nodes (Connects client) railway few = omega arith
 made_most names bus nodes (Receives client byte) railway few = requested_most names bus client (request_at (client_of bus client) byte) railway few
 made_most names bus nodes (Disconnects client) railway few = omega arith
 made_most names bus nodes (Reports sensor occupied) railway few = omega arith
-made_most names bus nodes (Elapses micros missed) railway few = elapsed_most railway (running_time bus micros) nodes few
-made_most names bus nodes (Turn missed) railway few = elapsed_most railway (running_time bus bus.remaining) nodes few
+made_most names bus nodes (Elapses micros missed) railway few = elapsed_most railway micros (power_of bus) nodes few
+made_most names bus nodes (Turn missed) railway few = elapsed_most railway bus.remaining (power_of bus) nodes few
 
 -- what a railway promises: whatever happens, its blocks stay
 abbrev pub SameBlocks : Type 0
@@ -225,9 +226,9 @@ SameBlocks = (railway : RailwayState) (happening : Happening) → (after railway
 few_after : SameBlocks → (railway : RailwayState) (happening : Happening) → length railway.network.blocks ≤ 64 → length (after railway happening).network.blocks ≤ 64
 few_after same railway happening few = subst (λ (blocks : List Block). length blocks ≤ 64) (sym (same railway happening)) few
 
-few_elapsed : SameBlocks → (railway : Option RailwayState) (micros : ℕ) (nodes : List Node) → HasFewBlocks railway → HasFewBlocks (railway_elapsed railway micros nodes)
-few_elapsed same None micros nodes few = few
-few_elapsed same (Some railway) micros nodes few = few_after same railway (TimeElapses micros nodes) few
+few_elapsed : SameBlocks → (railway : Option RailwayState) (micros : ℕ) (power : Power) (nodes : List Node) → HasFewBlocks railway → HasFewBlocks (railway_elapsed railway micros power nodes)
+few_elapsed same None micros power nodes few = few
+few_elapsed same (Some railway) micros power nodes few = few_after same railway (TimeElapses micros power nodes) few
 
 few_placed : SameBlocks → (names : List (List ℕ)) (bus : BusState) (client : ℕ) (request : Option Request) (railway : Option RailwayState) → HasFewBlocks railway → HasFewBlocks (railway_placed names (outcome_of_request bus client request) railway)
 few_placed same names bus client None railway few = few
@@ -245,8 +246,8 @@ still_few same names bus nodes (Connects client) railway few = few
 still_few same names bus nodes (Receives client byte) railway few = few_placed same names bus client (request_at (client_of bus client) byte) railway few
 still_few same names bus nodes (Disconnects client) railway few = few
 still_few same names bus nodes (Reports sensor occupied) railway few = few
-still_few same names bus nodes (Elapses micros missed) railway few = few_elapsed same railway (running_time bus micros) nodes few
-still_few same names bus nodes (Turn missed) railway few = few_elapsed same railway (running_time bus bus.remaining) nodes few
+still_few same names bus nodes (Elapses micros missed) railway few = few_elapsed same railway micros (power_of bus) nodes few
+still_few same names bus nodes (Turn missed) railway few = few_elapsed same railway bus.remaining (power_of bus) nodes few
 
 -- What is due before an event that is no report, and after it.
 

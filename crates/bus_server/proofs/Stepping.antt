@@ -15,7 +15,7 @@ use Rattle.bus_server.specs.declared.losses.Losses.{Losses}
 use Rattle.bus_server.specs.ServerState.{IsDrawn, RunsEvent, ServerState, outcome_in}
 use Rattle.bus_server.specs.SendQueues.{queues_after}
 use Rattle.bus_server.specs.Placement.{answered}
-use Rattle.bus_server.specs.Sensors.{IsDue, IsWithinTurn, railway_after, railway_elapsed, railway_placed, reports_after, reports_due, reports_elapsed, running_time}
+use Rattle.bus_server.specs.Sensors.{IsDue, IsWithinTurn, power_of, railway_after, railway_elapsed, railway_placed, reports_after, reports_due, reports_elapsed}
 use Rattle.bus_server.specs.Hub.{RunsOnBus, with_trains_run}
 
 -- the bus runs an event once what decoders miss is drawn and trains have run
@@ -83,8 +83,8 @@ pub elapse_runs : (micros missed : ℕ) (observed : Observation) (losses : Losse
     → drawn ≡ record old { losses = losses } → ready ≡ with_trains_run micros drawn
     → RunsOnBus (Elapses micros missed) observed ready new → RunsEvent (Elapses micros missed) observed old new
 elapse_runs micros missed observed losses old drawn ready new piece none draws is_drawn is_run h =
-    let trains : Option RailwayState = railway_elapsed old.railway (running_time old.bus micros) old.nodes in
-    let reports : List SensorReport = reports_elapsed old.railway (running_time old.bus micros) old.nodes in
+    let trains : Option RailwayState = railway_elapsed old.railway micros (power_of old.bus) old.nodes in
+    let reports : List SensorReport = reports_elapsed old.railway micros (power_of old.bus) old.nodes in
     let on_bus : RunsOnBus (Elapses micros missed) observed (record old { losses = losses; railway = trains; unreported = reports }) new =
     subst (λ (s : ServerState). RunsOnBus (Elapses micros missed) observed s new) (is_run ∙ ap (with_trains_run micros) is_drawn) h in
     let ends : Bool = nat_le old.bus.remaining micros in
@@ -97,8 +97,8 @@ pub turn_runs : (micros missed : ℕ) (observed : Observation) (losses : Losses)
     → drawn ≡ record old { losses = losses } → ready ≡ with_trains_run micros drawn
     → RunsOnBus (Turn missed) observed ready new → RunsEvent (Turn missed) observed old new
 turn_runs micros missed observed losses old drawn ready new lasts none draws is_drawn is_run h =
-    let trains : Option RailwayState = railway_elapsed old.railway (running_time old.bus old.bus.remaining) old.nodes in
-    let reports : List SensorReport = reports_elapsed old.railway (running_time old.bus old.bus.remaining) old.nodes in
+    let trains : Option RailwayState = railway_elapsed old.railway old.bus.remaining (power_of old.bus) old.nodes in
+    let reports : List SensorReport = reports_elapsed old.railway old.bus.remaining (power_of old.bus) old.nodes in
     let on_bus : RunsOnBus (Turn missed) observed (record old { losses = losses; railway = trains; unreported = reports }) new =
     subst (λ (s : ServerState). RunsOnBus (Turn missed) observed s new)
     (is_run ∙ ap (with_trains_run micros) is_drawn ∙ ap (λ (n : ℕ). with_trains_run n (record old { losses = losses })) lasts) h in

@@ -12,14 +12,14 @@ use Rattle.bus_server.specs.Answers.{answers_after}
 use Rattle.bus_server.specs.ServerState.{LoggedEvent, RunsEvents, ServerState, disconnected_after, events_of, first_after, observations_of, outcome_in}
 use Rattle.bus_server.specs.SendQueues.{queues_after}
 use Rattle.bus_server.specs.TrackDue.{due_after}
-use Rattle.bus_server.specs.Sensors.{is_report, railway_elapsed, railway_placed, reports_due, reports_elapsed, running_time}
+use Rattle.bus_server.specs.Sensors.{is_report, power_of, railway_elapsed, railway_placed, reports_due, reports_elapsed}
 
--- Trains have run for a time, as the decoders do, if the track has power, and what sensors report of
--- it is due.
+-- Trains have run for a time, as the decoders do, with the power of the track, and what sensors report
+-- of it is due.
 abbrev pub with_trains_run : (micros : ℕ) → ServerState → ServerState
 with_trains_run micros state = record state {
-  railway = railway_elapsed state.railway (running_time state.bus micros) state.nodes;
-  unreported = reports_elapsed state.railway (running_time state.bus micros) state.nodes;
+  railway = railway_elapsed state.railway micros (power_of state.bus) state.nodes;
+  unreported = reports_elapsed state.railway micros (power_of state.bus) state.nodes;
 }
 
 -- The bus runs an event, once trains have run in its time: a client may put one on the track, or ask

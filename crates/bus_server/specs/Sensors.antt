@@ -1,7 +1,6 @@
 -- The railway beside a bus, and what its sensors report.
 use Rattle.std.specs.Prelude.{ℕ, ◌≡◌, ◌≤◌, Bool, true, false, if◌then◌else◌, List, [], ◌∷◌, Option, Some, None, Ok}
 use Rattle.refresh_ring.specs.declared.pick.Power.{Power}
-use Rattle.refresh_ring.specs.declared.pick.Power.TheVariants.{Off}
 use Rattle.layout_core.specs.declared.node.Node.{Node}
 use Rattle.ln_ops.specs.Sensor.{is_interrogation}
 use Rattle.ln_ops.specs.declared.sensor.SensorReport.{SensorReport}
@@ -15,24 +14,21 @@ use Rattle.bus.specs.declared.event.Event.TheVariants.{Connects, Receives, Disco
 use Rattle.bus.specs.Bus.{BusState, outcome_of}
 use Rattle.bus_server.specs.Placement.{places}
 
--- how long trains run in a time: without power they stand
-abbrev pub powered_time : Power → (micros : ℕ) → ℕ
-powered_time Off micros = 0
-powered_time power micros = micros
-
--- how long they run in a time of the bus
-abbrev pub running_time : BusState → (micros : ℕ) → ℕ
-running_time bus micros = powered_time bus.station.powered.power micros
+-- the power of the track
+abbrev pub power_of : BusState → Power
+power_of bus = bus.station.powered.power
 
 -- the railway, if there is one, after so many microseconds in which the decoders do this
-abbrev pub railway_elapsed : Option RailwayState → (micros : ℕ) → List Node → Option RailwayState
-railway_elapsed None micros nodes = None
-railway_elapsed (Some railway) micros nodes = Some (elapsed railway micros nodes)
+abbrev pub railway_elapsed : Option RailwayState → (micros : ℕ) → Power → List Node
+    → Option RailwayState
+railway_elapsed None micros power nodes = None
+railway_elapsed (Some railway) micros power nodes = Some (elapsed railway micros power nodes)
 
 -- what its sensors report of that
-abbrev pub reports_elapsed : Option RailwayState → (micros : ℕ) → List Node → List SensorReport
-reports_elapsed None micros nodes = []
-reports_elapsed (Some railway) micros nodes = reports_in railway micros nodes
+abbrev pub reports_elapsed : Option RailwayState → (micros : ℕ) → Power → List Node
+    → List SensorReport
+reports_elapsed None micros power nodes = []
+reports_elapsed (Some railway) micros power nodes = reports_in railway micros power nodes
 
 -- a report of each sensor
 abbrev pub full_report : Option RailwayState → List SensorReport
@@ -61,14 +57,14 @@ reports_due names (PlaceRequested client (Ok placement)) (Some railway) unreport
     reports_of railway (places names railway placement)
 reports_due names other railway unreported = unreported
 
--- The railway after an event: in the time of the event trains run as the decoders do before it, if
--- the track has power then.
+-- The railway after an event: in the time of the event trains run as the decoders do before it, with
+-- the power that the track has then.
 abbrev pub railway_after : (names : List (List ℕ)) → BusState → List Node → Event
     → Option RailwayState → Option RailwayState
 railway_after names bus nodes (Elapses micros missed) railway =
-    railway_elapsed railway (running_time bus micros) nodes
+    railway_elapsed railway micros (power_of bus) nodes
 railway_after names bus nodes (Turn missed) railway =
-    railway_elapsed railway (running_time bus bus.remaining) nodes
+    railway_elapsed railway bus.remaining (power_of bus) nodes
 railway_after names bus nodes (Receives client byte) railway =
     railway_placed names (outcome_of bus (Receives client byte)) railway
 railway_after names bus nodes other railway = railway
@@ -82,9 +78,9 @@ reports_after names bus nodes (Reports sensor occupied) railway = []
 reports_after names bus nodes (Receives client byte) railway =
     reports_due names (outcome_of bus (Receives client byte)) railway []
 reports_after names bus nodes (Elapses micros missed) railway =
-    reports_elapsed railway (running_time bus micros) nodes
+    reports_elapsed railway micros (power_of bus) nodes
 reports_after names bus nodes (Turn missed) railway =
-    reports_elapsed railway (running_time bus bus.remaining) nodes
+    reports_elapsed railway bus.remaining (power_of bus) nodes
 
 -- The reports that are due before an event and after it: each is an event, in order, and no other
 -- event happens before. It makes others due.

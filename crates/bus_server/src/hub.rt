@@ -16,7 +16,7 @@ use crate::losses::Losses;
 use crate::named_node::NamedNodes;
 use crate::pace::Pace;
 use crate::send_queues::{SendQueues, empty_queues};
-use crate::sensors::{Sensors, powered_time};
+use crate::sensors::Sensors;
 use crate::track_due::TrackDue;
 use crate::transport::{IoOutcome, Transport};
 use bus::{Bus, Event, Outcome};
@@ -189,9 +189,7 @@ impl Hub {
         requires reported { HasReported self.old }
         ensures { state_of self.new ≡ with_trains_run micros (state_of self.old) }
     {
-        let world = self.bus.world();
-        let micros = powered_time(world.station().power(), micros);
-        self.sensors.elapse(micros, world);
+        self.sensors.elapse(micros, self.bus.world());
     }
 
     /// Draws the decoders that miss the turn that begins within `micros` microseconds; draws nothing if none begins.

@@ -5,7 +5,7 @@ ghost use Rattle.railway.specs.Reports.{is_report};
 ghost use Rattle.bus.specs.declared.outcome.Outcome.TheVariants.{PlaceRequested};
 ghost use Rattle.bus_server.specs.NamedNodes.{names_of};
 ghost use Rattle.bus_server.specs.Placement.{answered, place_answer};
-ghost use Rattle.bus_server.specs.Sensors.{asks_sensors, full_report, powered_time, railway_elapsed, railway_placed, reports_due, reports_elapsed};
+ghost use Rattle.bus_server.specs.Sensors.{asks_sensors, full_report, railway_elapsed, railway_placed, reports_due, reports_elapsed};
 
 use crate::named_node::NamedNodes;
 use crate::placement::place;
@@ -14,7 +14,6 @@ use layout_core::World;
 use ln_ops::{SensorReport, is_interrogation};
 use loconet_tcp::{PlaceError, Placement};
 use railway::{Railway, Reports};
-use station_core::Power;
 
 /// The trains that run beside a bus, if there are any, and what their sensors are still to report.
 #[derive(Drop)]
@@ -37,14 +36,16 @@ impl Sensors {
         }
     }
 
-    /// Lets the trains run for `micros` microseconds, as the decoders do now. What the sensors
-    /// report of it is due.
+    /// Lets the trains run for `micros` microseconds, as the decoders do now; without track power
+    /// they stand. What the sensors report of it is due.
     pub(crate) fn elapse(&mut self, micros: u32, world: &World)
         requires reported { self.old.unreported.items ≡ [] }
         ensures railway { self.new.railway
-            ≡ railway_elapsed self.old.railway micros world.now.nodes }
+            ≡ railway_elapsed self.old.railway micros world.now.station.powered.power
+            world.now.nodes }
         ensures unreported { self.new.unreported.items
-            ≡ reports_elapsed self.old.railway micros world.now.nodes }
+            ≡ reports_elapsed self.old.railway micros world.now.station.powered.power
+            world.now.nodes }
     {
         if let Some(railway) = &mut self.railway {
             self.unreported = railway.elapse(micros, world);
@@ -123,16 +124,6 @@ impl Sensors {
         ensures sensor { IfSome result (λ report. IsTrue (is_report report)) }
     {
         self.unreported.pop_at(0)
-    }
-}
-
-/// How many of `micros` microseconds trains run: without power they stand.
-pub(crate) fn powered_time(power: Power, micros: u32) -> u32
-    ensures { result ≡ powered_time power micros }
-{
-    match power {
-        Power::Off => 0,
-        Power::Running | Power::Paused => micros,
     }
 }
 

@@ -7,8 +7,8 @@ use decoder_node::NodeSpec;
 use layout::{EXPRESS, block, decoders, end_a, end_b, layout, oval, say_missed};
 use layout_core::World;
 use railway::{
-    BlockEnd, Conflict, End, Exit, Joint, Plan, Position, Railway, Reports, SensorReport, Train,
-    TrainState,
+    BlockEnd, Conflict, End, Exit, Joint, Momentum, Plan, Position, Railway, Reports, SensorReport,
+    Train, TrainState,
 };
 use std::process::Abort;
 use std::test::Fail;
@@ -42,9 +42,11 @@ enum Step {
     Place(Position, Rows),
     /// A full report.
     Full(Rows),
-    /// How far front and rear are from end A of their blocks, in nanometres.
+    /// How far front and rear are from end A of their blocks, in femtometres.
     Front(u64),
     Rear(u64),
+    /// Millimetres a second.
+    Speed(u32),
     Derailed(Option<u16>),
     Occupied(u8),
     Exit(BlockEnd, Exit),
@@ -68,6 +70,7 @@ fn is_so(railway: &Railway, step: Step) -> bool {
     match step {
         Step::Full(rows) => are(&railway.report_all(), rows),
         Step::Occupied(block) => railway.is_occupied(usize::from(block)),
+        Step::Speed(speed) => railway.speed(0) == speed && railway.speed(64) == 0,
         Step::Exit(end, exit) => railway.exit(end) == exit,
         Step::Conflicts(conflicts) => railway.conflicts().as_slice() == conflicts,
         step => match railway.trains().get(0) {
@@ -101,7 +104,7 @@ fn carry_out(world: &mut World, railway: &mut Railway, step: Step) -> bool {
 const DRIVE: Step = Step::Say(&[0xA0, 0x01, 0x40]);
 
 /// Two blocks in a line, with sensors 1 and 2, between buffer stops. A train is in the second.
-fn line() -> Result<Plan, Fail> {
+fn line(train: Train) -> Result<Plan, Fail> {
     let mut plan = Plan::default();
     let _ = plan.blocks.try_push(block("yard", 1)?);
     let _ = plan.blocks.try_push(block("pier", 2)?);
@@ -109,7 +112,7 @@ fn line() -> Result<Plan, Fail> {
         one: end_b(0),
         two: end_a(1),
     });
-    let _ = plan.trains.try_push(EXPRESS);
+    let _ = plan.trains.try_push(train);
     Ok(plan)
 }
 
@@ -127,24 +130,40 @@ fn two_trains() -> Result<Plan, Fail> {
     Ok(plan)
 }
 
+/// The express, which gathers speed by 100 and brakes by 50 millimetres a second each second.
+const MOMENTUM: Train = Train {
+    momentum: Some(Momentum {
+        acceleration: 100,
+        braking: 50,
+    }),
+    ..EXPRESS
+};
+
 /// The plan of a story.
 #[derive(Clone, Copy)]
 enum Made {
     Oval,
     Line,
+    Momentum,
     TwoTrains,
 }
 
 fn railway_of(made: Made) -> Result<Railway, Fail> {
     let plan = match made {
         Made::Oval => oval()?,
-        Made::Line => line()?,
+        Made::Line => line(EXPRESS)?,
+        Made::Momentum => line(MOMENTUM)?,
         Made::TwoTrains => two_trains()?,
     };
     let mut nodes = decoders()?;
     let _ = nodes.try_push(NodeSpec::Loco(CvSet::new(4, 0, 0, 6)?));
     Railway::new(plan, &nodes).map_err(|_| "plan".into())
 }
+
+/// Stop, and the emergency stop.
+const STOP: Step = Step::Say(&[0xA0, 0x01, 0x00]);
+
+const EMERGENCY: Step = Step::Say(&[0xA0, 0x01, 0x01]);
 
 /// Where the express is put.
 const MAIN: Position = Position {
@@ -216,7 +235,7 @@ const STORIES: &[(&str, Made, &[Step])] = &[
             Step::Derailed(None),
             Step::Elapse(60_000_000, &[]),
             Step::Derailed(Some(2)),
-            Step::Front(999_999_999_999),
+            Step::Front(999_999_999_999_999),
         ],
     ),
     // And backward, to the other one.
@@ -227,13 +246,91 @@ const STORIES: &[(&str, Made, &[Step])] = &[
             Step::Exit(MAIN_B, Exit::BufferStop),
             DRIVE,
             Step::Elapse(60_000_000, &[]),
-            Step::Front(999_999_999_999),
-            Step::Rear(800_000_000_000),
+            Step::Front(999_999_999_999_999),
+            Step::Rear(800_000_000_000_000),
             Step::Say(&[0xA1, 0x01, 0x20]),
             Step::Elapse(60_000_000, &[(1, true), (2, false)]),
             Step::Rear(0),
-            Step::Front(199_999_999_999),
+            Step::Front(199_999_999_999_999),
             Step::Derailed(None),
+        ],
+    ),
+    // 150 mm/s are 150,000,000 femtometres a microsecond, in 1,500,000 steps of 100, over 50 * 1,500,000 * 1,500,001. It
+    // brakes in 3,000,000 steps of 50, over 25 * 3,000,000 * 2,999,999: these are 337.5 millimetres.
+    (
+        "a train gathers speed and brakes",
+        Made::Momentum,
+        &[
+            DRIVE,
+            Step::Elapse(500_000, &[]),
+            Step::Speed(50),
+            Step::Elapse(1_000_000, &[]),
+            Step::Speed(150),
+            Step::Front(712_500_074_999_999),
+            STOP,
+            Step::Elapse(2_000_000, &[]),
+            Step::Speed(50),
+            Step::Elapse(1_000_000, &[]),
+            Step::Speed(0),
+            Step::Front(937_499_999_999_999),
+            Step::Elapse(60_000_000, &[]),
+            Step::Front(937_499_999_999_999),
+        ],
+    ),
+    // It brakes to the same place, and gathers speed backward: 112.500075 millimetres.
+    (
+        "a train with momentum turns at standstill",
+        Made::Momentum,
+        &[
+            DRIVE,
+            Step::Elapse(1_500_000, &[]),
+            Step::Say(&[0xA1, 0x01, 0x20]),
+            Step::Elapse(3_000_000, &[]),
+            Step::Speed(0),
+            Step::Front(937_499_999_999_999),
+            Step::Elapse(1_500_000, &[]),
+            Step::Speed(150),
+            Step::Front(824_999_924_999_999),
+        ],
+    ),
+    (
+        "an emergency stop is at once",
+        Made::Momentum,
+        &[
+            DRIVE,
+            Step::Elapse(1_500_000, &[]),
+            EMERGENCY,
+            Step::Elapse(1, &[]),
+            Step::Speed(0),
+            Step::Front(712_500_074_999_999),
+        ],
+    ),
+    // Its decoder drives on as power returns, and the train gathers speed again.
+    (
+        "without power a train stands at once",
+        Made::Momentum,
+        &[
+            DRIVE,
+            Step::Elapse(1_500_000, &[]),
+            Step::Say(&[0x82]),
+            Step::Elapse(60_000_000, &[]),
+            Step::Speed(0),
+            Step::Front(712_500_074_999_999),
+            Step::Say(&[0x83]),
+            Step::Elapse(1_500_000, &[]),
+            Step::Speed(150),
+            Step::Front(825_000_149_999_999),
+        ],
+    ),
+    // It reaches the buffer stop at 150 mm/s.
+    (
+        "a train with momentum stands at a buffer stop",
+        Made::Momentum,
+        &[
+            DRIVE,
+            Step::Elapse(60_000_000, &[]),
+            Step::Speed(0),
+            Step::Front(999_999_999_999_999),
         ],
     ),
     (

@@ -11,7 +11,7 @@ use Rattle.railway.specs.declared.joint.Joint.{Joint}
 use Rattle.railway.specs.declared.joint.TurnoutState.{TurnoutState}
 use Rattle.railway.specs.declared.train.TrainState.{TrainState}
 use Rattle.railway.specs.Network.{Network}
-use Rattle.railway.specs.Railway.{RailwayState}
+use Rattle.railway.specs.Railway.{RailwayState, shown_speed}
 use Rattle.roster.specs.Decoders.{decoder_name}
 use Rattle.roster.specs.Entry.{Entry}
 use Rattle.pages.specs.declared.items.ItemState.{ItemState}
@@ -54,7 +54,7 @@ decoder_messages (entry ∷ entries) (node ∷ nodes) =
 abbrev pub message_of_train : List Entry → Network → TrainState → List ℕ
 message_of_train entries network train =
     train_message (decoder_name (slice_get entries train.decoder)) network.blocks
-    (place_of network.blocks train)
+    (place_of network.blocks train (shown_speed network train))
 
 abbrev pub plan_messages : List Entry → RailwayState → List (List ℕ)
 plan_messages entries railway =
@@ -77,7 +77,7 @@ abbrev pub state_of_decoder : Node → ItemState
 state_of_decoder node = Decoder (decoder_state_of node)
 
 abbrev pub state_of_train : Network → TrainState → ItemState
-state_of_train network train = Train (place_of network.blocks train)
+state_of_train network train = Train (place_of network.blocks train (shown_speed network train))
 
 abbrev pub parts_of : Network → ℕ
 parts_of network = length network.blocks + length network.joints + length network.turnouts

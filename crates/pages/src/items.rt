@@ -88,8 +88,12 @@ fn plan_state(railway: &Railway, i: usize) -> Option<ItemState>
     if i < parts {
         return Some(ItemState::Part);
     }
-    match railway.trains().get(i - parts) {
-        Some(train) => Some(ItemState::Train(TrainPlace::of(railway.blocks(), train))),
+    let i = i - parts;
+    match railway.trains().get(i) {
+        Some(train) => {
+            let speed = railway.speed(i);
+            Some(ItemState::Train(TrainPlace::of(railway.blocks(), train, speed)))
+        }
         None => None,
     }
 }
@@ -166,20 +170,25 @@ fn plan_message(roster: Option<&Roster>, railway: &Railway, i: usize) -> Message
         return turnout_message(blocks, &turnouts[i]);
     }
     let i = i - turnouts.len();
-    let trains = railway.trains();
-    if i < trains.len() {
-        return message_of_train(roster, blocks, &trains[i]);
+    match railway.trains().get(i) {
+        Some(train) => message_of_train(roster, blocks, train, railway.speed(i)),
+        None => Message::new(),
     }
-    Message::new()
 }
 
-fn message_of_train(roster: Option<&Roster>, blocks: &[Block], train: &TrainState) -> Message
+/// Returns the message of a train of this speed.
+fn message_of_train(
+    roster: Option<&Roster>,
+    blocks: &[Block],
+    train: &TrainState,
+    speed: u32,
+) -> Message
     ensures { result.bytes
         ≡ train_message (decoder_name (slice_get (entries_of roster.entry) train.now.decoder))
-        blocks.now (place_of blocks.now train.now) }
+        blocks.now (place_of blocks.now train.now speed) }
 {
     let name = decoder_name(roster, usize::from(train.decoder));
-    TrainPlace::of(blocks, train).message(name, blocks)
+    TrainPlace::of(blocks, train, speed).message(name, blocks)
 }
 
 /// Returns `BLOCK NAME LENGTH`, and where its ends are drawn.

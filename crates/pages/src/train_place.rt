@@ -1,12 +1,12 @@
 //! Where a train is, as pages are told of it.
-ghost use Rattle.std.specs.Prelude.{◌≡◌, ◌≤◌, ◌*◌, ◌/◌, length, min, slice_get};
+ghost use Rattle.std.specs.Prelude.{◌≡◌, ◌≤◌, ◌/◌, length, min, slice_get};
 ghost use Rattle.pages.specs.TrainPlace.{place_of, same_train_place, tenths_in, tenths_of, train_message, way_from_a};
 
 use crate::words::{Message, letter_of, push_number};
 use railway::{Block, End, Place, TrainState, block_name};
 
-/// The tenth of a millimetre, in picometres.
-const TENTH: u64 = 100_000_000;
+/// A tenth of a millimetre, in femtometres.
+const TENTH: u64 = 100_000_000_000;
 
 /// The words of a train's message behind its name.
 #[derive(Clone, Copy)]
@@ -19,20 +19,23 @@ pub struct TrainPlace {
     pub facing: End,
     /// The index in the plan of the block of its rear, from 0.
     pub rear: u8,
+    /// How fast it runs, in millimetres a second, rounded down.
+    pub speed: u32,
     /// Whether it is off the rails.
     pub derailed: bool,
 }
 
 impl TrainPlace {
-    /// Returns where a train is on these blocks.
-    pub(crate) fn of(blocks: &[Block], train: &TrainState) -> TrainPlace
-        ensures { result ≡ place_of blocks.now train.now }
+    /// Returns where a train of this speed is on these blocks.
+    pub(crate) fn of(blocks: &[Block], train: &TrainState, speed: u32) -> TrainPlace
+        ensures { result ≡ place_of blocks.now train.now speed }
     {
         TrainPlace {
             front: train.front.block,
             tenths: tenths_of(blocks, train.front),
             facing: train.front.toward,
             rear: train.rear.block,
+            speed,
             derailed: train.is_derailed(),
         }
     }
@@ -45,6 +48,7 @@ impl TrainPlace {
             && self.tenths == place.tenths
             && self.facing.is(place.facing)
             && self.rear == place.rear
+            && self.speed == place.speed
             && self.derailed == place.derailed
     }
 
@@ -64,6 +68,8 @@ impl TrainPlace {
         message.push_str(letter_of(self.facing));
         message.push_str(" ");
         message.push_str(block_name(blocks, usize::from(self.rear)));
+        message.push_str(" ");
+        push_number(&mut message, u64::from(self.speed));
         message.push_str(if self.derailed { " derailed" } else { "" });
         message
     }
@@ -80,7 +86,7 @@ fn tenths_of(blocks: &[Block], front: Place) -> u8
     }
 }
 
-/// Returns how far a front is from end A, in picometres.
+/// Returns how far a front is from end A, in femtometres.
 fn way_from_a(front: Place) -> u64
     ensures { result ≡ way_from_a front.toward front.at }
 {
@@ -92,10 +98,10 @@ fn way_from_a(front: Place) -> u64
 
 /// Returns how many tenths of a block lie on a way, at most ten.
 fn tenths_in(block: &Block, way: u64) -> u8
-    ensures { result ≡ min (way / (block.now.length * 100000000)) 10 }
+    ensures { result ≡ min (way / 100000000000 / block.now.length) 10 }
 {
-    let tenth = u64::from(block.length) * TENTH;
-    match way.checked_div(tenth) {
+    let tenths = way / TENTH;
+    match tenths.checked_div(u64::from(block.length)) {
         Some(tenths) => tenths.min(10) as u8,
         None => 0,
     }

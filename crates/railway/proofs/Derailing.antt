@@ -1,10 +1,13 @@
 -- A train is derailed by a turnout of the plan.
-use Rattle.std.proofs.Common.{◌≡◌, ℕ, zero, suc, ◌-◌, ◌*◌, ◌≤◌, ◌==◌, ◌||◌, Bool, true, false, inl, inr, List, [], ◌∷◌, Option, Some, None, map, refl, ap, sym, subst, ◌∙◌, arith}
+use Rattle.std.proofs.Common.{◌≡◌, ℕ, zero, suc, ◌-◌, ◌≤◌, ◌==◌, ◌||◌, Bool, true, false, inl, inr, List, [], ◌∷◌, Option, Some, None, map, refl, ap, sym, subst, ◌∙◌, arith}
 use Rattle.std.proofs.lemmas.Bool.{and_parts, cases_Bool, cases_lt, eq-eqb, eqb-true}
 use Rattle.std.specs.List.{list_all, list_any, slice_index_or}
 use Rattle.std.specs.Option.{option_or}
 use Rattle.std.specs.Prelude.{if◌then◌else◌, IfSome, is_some, IsTrue, nat_le}
 use Rattle.layout_core.specs.declared.node.Node.{Node}
+use Rattle.motion.specs.Velocity.{next_velocity}
+use Rattle.motion.specs.declared.velocity.Drive.{Drive}
+use Rattle.motion.specs.declared.velocity.Velocity.{Velocity}
 use Rattle.railway.specs.declared.block.Block.{Block}
 use Rattle.railway.specs.declared.block.BlockEnd.{BlockEnd}
 use Rattle.railway.specs.declared.exit.Exit.{Exit}
@@ -18,14 +21,15 @@ use Rattle.railway.specs.Laws.{has_switch}
 use Rattle.railway.specs.Network.{Network, across, as_joint, exit_of, exit_to, is_branch, is_end_of, is_sound, is_whole, joined, off_rails, onward, onward_by, partner, run_on, spans, step, switch_at, way_on}
 use Rattle.railway.specs.Places.{end_ahead, further, is_derailed, span, to_end, turned}
 use Rattle.railway.specs.Railway.{is_train, run_in}
-use Rattle.railway.specs.Running.{run_by}
-use Rattle.railway.specs.Trains.{is_forward, running_in, speed_of}
+use Rattle.railway.specs.Running.{moved_at, ridden, run_by, run_for}
+use Rattle.railway.specs.Trains.{drive_of, running_in}
 use Rattle.railway.specs.Turnouts.{laid, observed}
 use Rattle.railway.proofs.Facts.{or-left, or-left-true, or-right, or-right-true}
 use Rattle.railway.proofs.Joining.{across-none, rest-found}
 use Rattle.railway.proofs.Keeping.{by-step, checked-off, checked-whole, spans-way, way-spans, whole-spans}
 use Rattle.railway.proofs.Leading.{partner-append}
 use Rattle.railway.proofs.Occupying.{entered, left_to-all, no-longer, rest-of}
+use Rattle.railway.proofs.Riding.{moved-by, ridden-keeps}
 use Rattle.railway.proofs.Runs.{on-track, parts-of}
 use Rattle.railway.proofs.Turning.{onward-end}
 use Rattle.railway.proofs.Ways.{way_on-part, way_on-suc, way_on-within}
@@ -187,19 +191,25 @@ thrown-end n nodes t is h rails broken = elim (cases_Bool (list_any (is_end_of (
   both : true ≡ false → ⊥
   both h = cc
 
+moved-named : (n : Network) (v : Velocity) (way : ℕ) (t : TrainState) → Named n t → Named n (moved_at n v way t)
+moved-named n v way t h = moved-by (Named n) n v way t h (λ _. by-named n v.forward way (record t { velocity = v }) h)
+
+ridden-named : (n : Network) (d : Drive) (micros : ℕ) (t : TrainState) → Named n t → Named n (ridden n d micros t)
+ridden-named n d micros t h =
+    ridden-keeps (Named n) n d micros t (λ u g. moved-named n (next_velocity d u.velocity) (next_velocity d u.velocity).speed u g) h
+
 pub derailed-named : (n : Network) (nodes : List Node) (micros : ℕ) (t : TrainState) → IsTrue (is_sound n) → is_train n t ≡ true → is_derailed t ≡ false
     → IfSome (run_in (laid nodes n) micros nodes t).derailed_at (λ switch. has_switch n.turnouts switch ≡ true)
 derailed-named n nodes micros t is h rails =
     let m : Network = laid nodes n in
     let running = running_in nodes t.decoder in
-    let forward : Bool = is_forward running in
-    let run : TrainState → TrainState = λ u. run_by m forward (speed_of u.top running * micros) u in
+    let run : TrainState → TrainState = λ u. run_for m micros running u in
     named n nodes (run_in m micros nodes t).derailed_at (elim (cases_Bool (is_whole m t)) [
-      | inl whole ↦ subst (λ (u : TrainState). Named m (run u)) (sym (checked-whole m t whole)) (by-named m forward (speed_of t.top running * micros) t (on-rails m t.derailed_at rails))
+      | inl whole ↦ subst (λ (u : TrainState). Named m (run u)) (sym (checked-whole m t whole)) (ridden-named m (drive_of t running) micros t (on-rails m t.derailed_at rails))
       | inr broken ↦
           let off : TrainState = off_rails m t.rear t in
           subst (λ (u : TrainState). Named m (run u)) (sym (checked-off m t broken))
-          (by-named m forward (speed_of t.top running * micros) off (switch-found m.turnouts (end_ahead t.rear) (thrown-end n nodes t is h rails broken)))
+          (ridden-named m (drive_of off running) micros off (switch-found m.turnouts (end_ahead t.rear) (thrown-end n nodes t is h rails broken)))
     ]) where
       named : (n : Network) (nodes : List Node) (found : Option ℕ) → IfSome found (λ switch. has_switch (laid nodes n).turnouts switch ≡ true) → IfSome found (λ switch. has_switch n.turnouts switch ≡ true)
       named n nodes None h = tt

@@ -1,11 +1,8 @@
 -- Trains stay on the rails from their rear to their front, or are derailed.
-use Rattle.std.proofs.Common.{◌≡◌, ℕ, zero, suc, ◌*◌, ◌&&◌, ◌||◌, Bool, true, false, inl, inr, List, [], ◌∷◌, Option, Some, None, map, refl, ap, sym, subst, ◌∙◌}
+use Rattle.std.proofs.Common.{◌≡◌, ℕ, zero, suc, ◌&&◌, ◌||◌, Bool, true, false, inl, inr, Option, Some, None, refl, ap, sym, subst, ◌∙◌}
 use Rattle.std.proofs.lemmas.Bool.{and_from, and_parts, cases_Bool, eq-eqb, eqb-true}
-use Rattle.std.specs.List.{list_all}
 use Rattle.std.specs.Option.{option_eq}
 use Rattle.std.specs.Prelude.{if◌then◌else◌, IsTrue, nat_eq}
-use Rattle.layout_core.specs.declared.node.Node.{Node}
-use Rattle.railway.specs.declared.block.Block.{Block}
 use Rattle.railway.specs.declared.exit.Onward.{Onward}
 use Rattle.railway.specs.declared.exit.Onward.TheVariants.{To, BufferStop, Against}
 use Rattle.railway.specs.declared.train.Place.{Place}
@@ -14,9 +11,9 @@ use Rattle.railway.specs.Blocks.{same_end}
 use Rattle.railway.specs.Faults.{is_train_length}
 use Rattle.railway.specs.Network.{Network, checked, is_sound, is_whole, off_rails, onward, run_on, spans, step, stepped, way_on}
 use Rattle.railway.specs.Places.{is_derailed, is_on_track, same_place, span, turned}
-use Rattle.railway.specs.Railway.{is_train, run_in}
+use Rattle.railway.specs.Railway.{is_train}
 use Rattle.railway.specs.Running.{is_within, run_by}
-use Rattle.railway.specs.Trains.{is_forward, running_in, speed_of}
+use Rattle.railway.specs.Trains.{is_movable}
 use Rattle.railway.proofs.Joining.{same_end-self, same_end-true}
 use Rattle.railway.proofs.Turning.{onward-on_track, way-back, way_on-snoc}
 use Rattle.railway.proofs.Ways.{step-derailed, step-onward, way_on-suc}
@@ -53,7 +50,7 @@ whole-spans n t h g = sym (ap (λ (b : Bool). b || spans n t) g) ∙ h
 pub spans-whole : (n : Network) (t : TrainState) → spans n t ≡ true → is_whole n t ≡ true
 spans-whole n t h = or-right-true (is_derailed t) (spans n t) h
 
--- One picometre.
+-- One femtometre.
 
 -- both ends of a train that spans its length go on over it
 pub step-spans : (n : Network) (t : TrainState) (front rear : Place) → spans n t ≡ true → onward n t.front ≡ To front → onward n t.rear ≡ To rear
@@ -95,17 +92,9 @@ unfolding run_on
 run-within n t zero is h = h
 run-within n t (suc way) is h = run-within n (step n t) way is (step-within n t is h)
 
-step-length : (n : Network) (t : TrainState) → (step n t).length ≡ t.length
-step-length n t = by-step (λ (u : TrainState). u.length ≡ t.length) n t refl (λ _. refl) (λ front rear rails f r. refl)
-
-pub run-length : (n : Network) (t : TrainState) (way : ℕ) → (run_on n t way).length ≡ t.length
-unfolding run_on
-run-length n t zero = refl
-run-length n t (suc way) = run-length n (step n t) way ∙ step-length n t
-
 -- With the rear ahead.
 
-turned-within : (n : Network) (t : TrainState) → is_within n.blocks t ≡ true → is_within n.blocks (turned t) ≡ true
+pub turned-within : (n : Network) (t : TrainState) → is_within n.blocks t ≡ true → is_within n.blocks (turned t) ≡ true
 turned-within n t h =
     let parts = and_parts (is_on_track n.blocks t.front) (is_on_track n.blocks t.rear) h in
     and_from (is_on_track n.blocks t.rear) (is_on_track n.blocks t.front) parts.1 parts.0
@@ -136,10 +125,6 @@ run_by-kept n false way t is h =
     let whole : is_whole n back ≡ true = run-whole n (turned t) way (turned-whole n t is h.within h.whole) in
     record { within = turned-within n back within; whole = turned-whole n back is within whole }
 
-pub run_by-length : (n : Network) (forward : Bool) (way : ℕ) (t : TrainState) → (run_by n forward way t).length ≡ t.length
-run_by-length n true way t = run-length n t way
-run_by-length n false way t = run-length n (turned t) way
-
 pub checked-whole : (n : Network) (t : TrainState) → is_whole n t ≡ true → checked n t ≡ t
 checked-whole n t h = ap (λ (b : Bool). if b then t else off_rails n t.rear t) h
 
@@ -157,37 +142,7 @@ pub checked-kept : (n : Network) (t : TrainState) → is_within n.blocks t ≡ t
 checked-kept n t h =
     checked-by (Kept n) n t (λ whole. record { within = h; whole = whole }) (record { within = h; whole = refl })
 
-checked-length : (n : Network) (t : TrainState) → (checked n t).length ≡ t.length
-checked-length n t = checked-by (λ (u : TrainState). u.length ≡ t.length) n t (λ _. refl) refl
-
-pub train-from : (n : Network) (t : TrainState) → is_train_length n.blocks t.length ≡ true → Kept n t → is_train n t ≡ true
-train-from n t length kept =
-    and_from (is_train_length n.blocks t.length && is_within n.blocks t) (is_whole n t) (and_from (is_train_length n.blocks t.length) (is_within n.blocks t) length kept.within) kept.whole
-
--- a train that was one of the railway is one as it ran, however the turnouts were laid
-pub run_in-train : (n m : Network) (micros : ℕ) (nodes : List Node) (t : TrainState) → IsTrue (is_sound m) → n.blocks ≡ m.blocks → is_train n t ≡ true → is_train m (run_in m micros nodes t) ≡ true
-run_in-train n m micros nodes t is same h =
-    let parts = and_parts (is_train_length n.blocks t.length && is_within n.blocks t) (is_whole n t) h in
-    let first = and_parts (is_train_length n.blocks t.length) (is_within n.blocks t) parts.0 in
-    let within : is_within m.blocks t ≡ true = subst (λ (blocks : List Block). is_within blocks t ≡ true) same first.1 in
-    let fits : is_train_length m.blocks t.length ≡ true = subst (λ (blocks : List Block). is_train_length blocks t.length ≡ true) same first.0 in
-    let start : TrainState = checked m t in
-    let running = running_in nodes t.decoder in
-    let forward : Bool = is_forward running in
-    let way : ℕ = speed_of start.top running * micros in
-    let length : (run_by m forward way start).length ≡ t.length = run_by-length m forward way start ∙ checked-length m t in
-    train-from m (run_by m forward way start) (subst (λ (l : ℕ). is_train_length m.blocks l ≡ true) (sym length) fits) (run_by-kept m forward way start is (checked-kept m t within))
-
-pub run_all-trains : (n m : Network) (micros : ℕ) (nodes : List Node) (ts : List TrainState) → IsTrue (is_sound m) → n.blocks ≡ m.blocks → list_all (is_train n) ts ≡ true
-    → list_all (is_train m) (map (run_in m micros nodes) ts) ≡ true
-run_all-trains n m micros nodes [] is same h = refl
-run_all-trains n m micros nodes (t ∷ ts) is same h =
-    let parts = and_parts (is_train n t) (list_all (is_train n) ts) h in
-    and_from (is_train m (run_in m micros nodes t)) (list_all (is_train m) (map (run_in m micros nodes) ts)) (run_in-train n m micros nodes t is same parts.0) (run_all-trains n m micros nodes ts is same parts.1)
-
-pub all-within : (n : Network) (ts : List TrainState) → list_all (is_train n) ts ≡ true → list_all (is_within n.blocks) ts ≡ true
-all-within n [] h = refl
-all-within n (t ∷ ts) h =
-    let parts = and_parts (is_train n t) (list_all (is_train n) ts) h in
-    let first = and_parts (is_train_length n.blocks t.length && is_within n.blocks t) (is_whole n t) parts.0 in
-    and_from (is_within n.blocks t) (list_all (is_within n.blocks) ts) (and_parts (is_train_length n.blocks t.length) (is_within n.blocks t) first.0).1 (all-within n ts parts.1)
+pub train-from : (n : Network) (t : TrainState) → is_train_length n.blocks t.length ≡ true → Kept n t → is_movable t ≡ true → is_train n t ≡ true
+train-from n t length kept movable =
+    and_from (is_train_length n.blocks t.length && is_within n.blocks t && is_whole n t) (is_movable t)
+    (and_from (is_train_length n.blocks t.length && is_within n.blocks t) (is_whole n t) (and_from (is_train_length n.blocks t.length) (is_within n.blocks t) length kept.within) kept.whole) movable

@@ -7,6 +7,8 @@ pub mod Keeping
 pub mod Planning
 pub mod Placing
 pub mod Runs
+pub mod Riding
+pub mod Running
 pub mod Occupying
 pub mod Derailing
 pub mod Changing

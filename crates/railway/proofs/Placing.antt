@@ -1,21 +1,23 @@
 -- A train that is put back makes a railway of a railway.
-use Rattle.std.proofs.Common.{◌≡◌, ℕ, zero, suc, ◌<◌, ◌&&◌, Bool, true, false, List, [], ◌∷◌, Option, Some, None, length, refl, arith}
-use Rattle.std.proofs.lemmas.Bool.{and_from, and_parts, ltb-true}
+use Rattle.std.proofs.Common.{◌≡◌, ℕ, zero, suc, ◌<◌, Bool, true, false, List, [], ◌∷◌, Option, Some, None, length, refl, arith}
+use Rattle.std.proofs.lemmas.Bool.{and_from, and_parts, le-leb, ltb-true}
 use Rattle.std.specs.List.{list_all, slice_index_or}
 use Rattle.std.specs.Option.{option_or}
-use Rattle.std.specs.Prelude.{nat_lt, slice_set}
+use Rattle.std.specs.Prelude.{nat_le, nat_lt, slice_set}
 use Rattle.railway.specs.declared.fault.PlaceFault.{PlaceFault}
 use Rattle.railway.specs.declared.fault.PlaceFault.TheVariants.{UnknownTrain, UnknownBlock, OffTrack}
 use Rattle.railway.specs.declared.train.Position.{Position}
 use Rattle.railway.specs.declared.train.TrainState.{TrainState}
+use Rattle.railway.specs.Blocks.{default_block}
 use Rattle.railway.specs.Course.{Happening, after, unless_refused}
 use Rattle.railway.specs.Course.Happening.{Elapses, Places}
-use Rattle.railway.specs.Faults.{is_train_length}
-use Rattle.railway.specs.Network.{is_sound, is_whole}
-use Rattle.railway.specs.Railway.{RailwayState, fits_in, is_railway, is_train, place_fault, place_unless, placed_in, replaced}
-use Rattle.railway.specs.Running.{is_within}
-use Rattle.railway.specs.Trains.{default_state}
-use Rattle.railway.proofs.Planning.{placed-train}
+use Rattle.railway.specs.Network.{is_sound}
+use Rattle.railway.specs.Railway.{RailwayState, fits_in, is_railway, is_train, place_fault, place_unless, placed_in, replaced, train_at}
+use Rattle.railway.specs.Trains.{default_state, is_placeable}
+use Rattle.railway.proofs.Leading.{sound}
+use Rattle.railway.proofs.Planning.{block-length, fits-small, placed-train}
+use Rattle.railway.proofs.Riding.{movable-of}
+use Rattle.railway.proofs.Runs.{parts-of}
 
 or-none : (one two : Option PlaceFault) → option_or one two ≡ None → (one ≡ None) × (two ≡ None)
 or-none None two h = (refl, h)
@@ -37,6 +39,17 @@ all-at p [] i d h g = absurd (omega (arith, g))
 all-at p (u ∷ ts) zero d h g = (and_parts (p u) (list_all p ts) h).0
 all-at p (u ∷ ts) (suc i) d h g = let rest : i < length ts = omega (arith, g) in all-at p ts i d (and_parts (p u) (list_all p ts) h).1 rest
 
+-- so the train can be placed
+pub placeable-train : (r : RailwayState) (i : ℕ) (position : Position) → is_railway r ≡ true → place_fault r i position ≡ None → is_placeable (train_at (slice_index_or r.trains i default_state) position) ≡ true
+placeable-train r i position is h =
+    let n = r.network in
+    let first = or-none (place_unless (nat_lt i (length r.trains)) UnknownTrain) _ h in
+    let second = or-none (place_unless (nat_lt position.block (length n.blocks)) UnknownBlock) (place_unless (fits_in r i position) OffTrack) first.1 in
+    let lengths = (sound n (and_parts (is_sound n) (list_all (is_train n) r.trains) is).0).lengths in
+    let old : TrainState = slice_index_or r.trains i default_state in
+    let small = fits-small (slice_index_or n.blocks position.block default_block).length old.length position.at position.facing (block-length n.blocks position.block lengths) (unless-none _ _ second.1) in
+    and_from (nat_le old.length 100000) (nat_le position.at 100000) (le-leb old.length 100000 small.0) (le-leb position.at 100000 small.1)
+
 pub placed-railway : (r : RailwayState) (i : ℕ) (position : Position) → is_railway r ≡ true → place_fault r i position ≡ None → is_railway (placed_in r i position) ≡ true
 placed-railway r i position is h =
     let n = r.network in
@@ -44,9 +57,8 @@ placed-railway r i position is h =
     let second = or-none (place_unless (nat_lt position.block (length n.blocks)) UnknownBlock) (place_unless (fits_in r i position) OffTrack) first.1 in
     let parts = and_parts (is_sound n) (list_all (is_train n) r.trains) is in
     let old : TrainState = slice_index_or r.trains i default_state in
-    let was = all-at (is_train n) r.trains i default_state parts.1 (ltb-true i (length r.trains) (unless-none _ _ first.0)) in
-    let fits_all = (and_parts (is_train_length n.blocks old.length) (is_within n.blocks old) (and_parts (is_train_length n.blocks old.length && is_within n.blocks old) (is_whole n old) was).0).0 in
-    let new = placed-train n old.decoder old.top old.length position (ltb-true position.block (length n.blocks) (unless-none _ _ second.0)) fits_all (unless-none _ _ second.1) in
+    let was = parts-of n old (all-at (is_train n) r.trains i default_state parts.1 (ltb-true i (length r.trains) (unless-none _ _ first.0))) in
+    let new = placed-train n (train_at old position) parts.0 (ltb-true position.block (length n.blocks) (unless-none _ _ second.0)) was.size (movable-of old was.movable).rates (unless-none _ _ second.1) in
     and_from (is_sound n) (list_all (is_train n) (slice_set r.trains i (replaced old position))) parts.0 (all-set (is_train n) r.trains i (replaced old position) parts.1 new)
 
 -- so does an attempt to put one back
@@ -58,7 +70,7 @@ places-railway r i position is = either (place_fault r i position) refl where
 
 -- the blocks stay
 pub same-blocks : (r : RailwayState) (happening : Happening) → (after r happening).network.blocks ≡ r.network.blocks
-same-blocks r (Elapses micros nodes) = refl
+same-blocks r (Elapses micros power nodes) = refl
 same-blocks r (Places i position) = either (place_fault r i position) where
   either : (fault : Option PlaceFault) → (unless_refused fault (placed_in r i position) r).network.blocks ≡ r.network.blocks
   either None = refl

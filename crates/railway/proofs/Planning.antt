@@ -1,21 +1,21 @@
 -- A plan without faults is that of a railway.
-use Rattle.std.proofs.Common.{◌≡◌, ℕ, ◌+◌, ◌-◌, ◌*◌, ◌<◌, ◌≤◌, ◌&&◌, Bool, true, false, not, List, [], ◌∷◌, Option, Some, None, length, map, refl, ap, sym, subst, ◌∙◌, arith}
-use Rattle.std.proofs.lemmas.Bool.{and_from, and_parts, leb-true, ltb-true}
+use Rattle.std.proofs.Common.{◌≡◌, ℕ, ◌+◌, ◌-◌, ◌*◌, ◌<◌, ◌≤◌, ◌&&◌, Bool, true, false, not, List, [], ◌∷◌, Option, Some, None, length, map, zero, suc, refl, ap, sym, subst, ◌∙◌, arith}
+use Rattle.std.proofs.lemmas.Bool.{and_from, and_parts, le-leb, leb-true, ltb-true}
 use Rattle.std.specs.List.{list_all, slice_index_or}
 use Rattle.std.specs.Option.{option_map, option_or}
 use Rattle.std.specs.Prelude.{if◌then◌else◌, IsTrue, nat_le, nat_lt, slice_get}
 use Rattle.decoder_node.specs.declared.node.NodeSpec.{NodeSpec}
+use Rattle.motion.specs.Velocity.{is_momentum}
 use Rattle.railway.specs.declared.block.Block.{Block}
 use Rattle.railway.specs.declared.block.BlockEnd.{BlockEnd}
 use Rattle.railway.specs.declared.block.End.{End}
 use Rattle.railway.specs.declared.block.End.TheVariants.{A, B}
 use Rattle.railway.specs.declared.fault.Part.TheVariants.{Joint as JointPart, Turnout as TurnoutPart, Train as TrainPart}
 use Rattle.railway.specs.declared.fault.PlanFault.{PlanFault}
-use Rattle.railway.specs.declared.fault.PlanFault.TheVariants.{BlockLength, NameTwice, Sensor, SensorTwice, UnknownBlock, EndTwice, UnknownDecoder, TrainLength, OffTrack}
+use Rattle.railway.specs.declared.fault.PlanFault.TheVariants.{BlockLength, NameTwice, Sensor, SensorTwice, UnknownBlock, EndTwice, UnknownDecoder, TrainLength, Momentum, OffTrack}
 use Rattle.railway.specs.declared.joint.Joint.{Joint}
 use Rattle.railway.specs.declared.joint.Turnout.{Turnout}
 use Rattle.railway.specs.declared.plan.Plan.{Plan}
-use Rattle.railway.specs.declared.train.Position.{Position}
 use Rattle.railway.specs.declared.train.Train.{Train}
 use Rattle.railway.specs.declared.train.TrainState.{TrainState}
 use Rattle.railway.specs.Blocks.{are_distinct, default_block, is_block, is_block_sensor, is_free, is_length}
@@ -24,9 +24,11 @@ use Rattle.railway.specs.Faults.{fault_of, fault_of_block, fault_of_blocks, faul
 use Rattle.railway.specs.Network.{Network, is_sound, turnouts_of, way_on}
 use Rattle.railway.specs.Places.{left_to, moved_to, span}
 use Rattle.railway.specs.Railway.{is_railway, is_train, planned}
-use Rattle.railway.specs.Trains.{fits, front_at, placed, rear_at, state_of_train}
+use Rattle.railway.specs.Trains.{fits, front_at, is_placeable, rear_at, state_of_train}
 use Rattle.railway.specs.Turnouts.{state_of_turnout}
 use Rattle.railway.proofs.Keeping.{spans-whole, train-from, way-spans}
+use Rattle.railway.proofs.Leading.{sound as sound-of}
+use Rattle.railway.proofs.Riding.{movable-from}
 use Rattle.railway.proofs.Turning.{on_track-from}
 use Rattle.railway.proofs.Ways.{way_on-within}
 
@@ -81,10 +83,10 @@ turnouts-of-states specs (turnout ∷ turnouts) = ap (λ (rest : List Turnout). 
 -- A train that fits into its block.
 
 pub record Fits (block length at : ℕ) (facing : End) : Type 0 where
-  pub front : front_at facing at < block * 1000000000
-  pub rear : rear_at facing at length < block * 1000000000
-  pub ahead : length * 1000000000 - 1 ≤ left_to facing (block * 1000000000) (rear_at facing at length)
-  pub apart : moved_to facing (rear_at facing at length) (length * 1000000000 - 1) ≡ front_at facing at
+  pub front : front_at facing at < block * 1000000000000
+  pub rear : rear_at facing at length < block * 1000000000000
+  pub ahead : length * 1000000000000 - 1 ≤ left_to facing (block * 1000000000000) (rear_at facing at length)
+  pub apart : moved_to facing (rear_at facing at length) (length * 1000000000000 - 1) ≡ front_at facing at
 
 fits-parts : (block length at : ℕ) (facing : End) → 1 ≤ length → fits block length at facing ≡ true → Fits block length at facing
 fits-parts block length at A h g =
@@ -96,29 +98,79 @@ fits-parts block length at B h g =
     let room : at ≤ block = leb-true at block parts.1 in
     record { front = omega (arith, h, behind, room); rear = omega (arith, h, behind, room); ahead = omega (arith, h, behind, room); apart = omega (arith, h, behind, room) }
 
-pub placed-train : (n : Network) (decoder top size : ℕ) (position : Position) → position.block < length n.blocks → is_train_length n.blocks size ≡ true
-    → fits (slice_index_or n.blocks position.block default_block).length size position.at position.facing ≡ true → is_train n (placed decoder top size position) ≡ true
-placed-train n decoder top size position block h g =
-    let train : TrainState = placed decoder top size position in
+-- a block is at most 100 metres long
+pub block-length : (blocks : List Block) (i : ℕ) → list_all is_block blocks ≡ true → (slice_index_or blocks i default_block).length ≤ 100000
+block-length [] i h = omega arith
+block-length (block ∷ blocks) zero h =
+    let parts = and_parts (is_block block) (list_all is_block blocks) h in
+    let length = (and_parts (is_length block.length) (is_block_sensor block.sensor) parts.0).0 in
+    leb-true block.length 100000 (and_parts (nat_le 1 block.length) (nat_le block.length 100000) length).1
+block-length (block ∷ blocks) (suc i) h = block-length blocks i (and_parts (is_block block) (list_all is_block blocks) h).1
+
+-- so a train that fits into one is at most as long, and no further from end A
+pub fits-small : (block length at : ℕ) (facing : End) → block ≤ 100000 → fits block length at facing ≡ true → (length ≤ 100000) × (at ≤ 100000)
+fits-small block length at A most g = let room : at + length ≤ block = leb-true (at + length) block g in (omega (arith, room, most), omega (arith, room, most))
+fits-small block length at B most g =
+    let parts = and_parts (nat_le length at) (nat_le at block) g in
+    let behind : length ≤ at = leb-true length at parts.0 in
+    let room : at ≤ block = leb-true at block parts.1 in
+    (omega (arith, behind, room, most), omega (arith, room, most))
+
+pub placed-train : (n : Network) (train : Train) → IsTrue (is_sound n) → train.position.block < length n.blocks → is_train_length n.blocks train.length ≡ true → is_momentum train.momentum ≡ true
+    → fits_there n.blocks train ≡ true → is_train n (state_of_train train) ≡ true
+placed-train n given sound block h rates g =
+    let train : TrainState = state_of_train given in
+    let position = given.position in
+    let size = given.length in
+    let length = (slice_index_or n.blocks position.block default_block).length in
     let one : 1 ≤ size = leb-true 1 size (and_parts (nat_le 1 size) (list_all (λ block. nat_le size block.length) n.blocks) h).0 in
-    let is = fits-parts (slice_index_or n.blocks position.block default_block).length size position.at position.facing one g in
+    let is = fits-parts length size position.at position.facing one g in
+    let small = (fits-small length size position.at position.facing (block-length n.blocks position.block (sound-of n sound).lengths) g).0 in
     let way : way_on n train.rear (span train) ≡ Some train.front =
     way_on-within n train.rear (span train) is.ahead ∙ ap (λ (at : ℕ). Some (record train.front { at = at })) is.apart in
     train-from n train h (record {
       within = and_from _ _ (on_track-from n.blocks train.front block is.front) (on_track-from n.blocks train.rear block is.rear);
       whole = spans-whole n train (way-spans n train way);
-    })
+    }) (movable-from train (record { small = small; slow = omega arith; rates = rates }))
 
-sound_trains : (specs : List NodeSpec) (n : Network) (i : ℕ) (trains : List Train) → fault_of_trains specs n.blocks i trains ≡ None → list_all (is_train n) (map state_of_train trains) ≡ true
-sound_trains specs n i [] h = refl
-sound_trains specs n i (train ∷ trains) h =
+-- what is right of a train
+record NoFault (blocks : List Block) (train : Train) : Type 0 where
+  block : train.position.block < length blocks
+  size : is_train_length blocks train.length ≡ true
+  rates : is_momentum train.momentum ≡ true
+  fits : fits_there blocks train ≡ true
+
+no-fault : (specs : List NodeSpec) (blocks : List Block) (i : ℕ) (train : Train) → fault_of_train specs blocks i train ≡ None → NoFault blocks train
+no-fault specs blocks i train h =
+    let first = or-none (unless (is_loco (slice_get specs train.decoder)) (UnknownDecoder (TrainPart i))) _ h in
+    let second = or-none (unless (nat_lt train.position.block (length blocks)) (UnknownBlock (TrainPart i))) _ first.1 in
+    let third = or-none (unless (is_train_length blocks train.length) (TrainLength i)) _ second.1 in
+    let fourth = or-none (unless (is_momentum train.momentum) (Momentum i)) (unless (fits_there blocks train) (OffTrack i)) third.1 in
+    record {
+      block = ltb-true train.position.block (length blocks) (unless-none _ _ second.0);
+      size = unless-none _ _ third.0;
+      rates = unless-none _ _ fourth.0;
+      fits = unless-none _ _ fourth.1;
+    }
+
+sound_trains : (specs : List NodeSpec) (n : Network) (i : ℕ) (trains : List Train) → IsTrue (is_sound n) → fault_of_trains specs n.blocks i trains ≡ None → list_all (is_train n) (map state_of_train trains) ≡ true
+sound_trains specs n i [] sound h = refl
+sound_trains specs n i (train ∷ trains) sound h =
     let all = or-none (fault_of_train specs n.blocks i train) (fault_of_trains specs n.blocks (i + 1) trains) h in
-    let first = or-none (unless (is_loco (slice_get specs train.decoder)) (UnknownDecoder (TrainPart i))) _ all.0 in
-    let second = or-none (unless (nat_lt train.position.block (length n.blocks)) (UnknownBlock (TrainPart i))) _ first.1 in
-    let third = or-none (unless (is_train_length n.blocks train.length) (TrainLength i)) (unless (fits_there n.blocks train) (OffTrack i)) second.1 in
+    let is = no-fault specs n.blocks i train all.0 in
     and_from (is_train n (state_of_train train)) (list_all (is_train n) (map state_of_train trains))
-    (placed-train n train.decoder train.top train.length train.position (ltb-true train.position.block (length n.blocks) (unless-none _ _ second.0)) (unless-none _ _ third.0) (unless-none _ _ third.1))
-    (sound_trains specs n (i + 1) trains all.1)
+    (placed-train n train sound is.block is.size is.rates is.fits) (sound_trains specs n (i + 1) trains sound all.1)
+
+-- so its trains can be placed
+pub placeable_trains : (specs : List NodeSpec) (blocks : List Block) (i : ℕ) (trains : List Train) → list_all is_block blocks ≡ true → fault_of_trains specs blocks i trains ≡ None → list_all is_placeable trains ≡ true
+placeable_trains specs blocks i [] sound h = refl
+placeable_trains specs blocks i (train ∷ trains) sound h =
+    let all = or-none (fault_of_train specs blocks i train) (fault_of_trains specs blocks (i + 1) trains) h in
+    let is = no-fault specs blocks i train all.0 in
+    let position = train.position in
+    let small = fits-small (slice_index_or blocks position.block default_block).length train.length position.at position.facing (block-length blocks position.block sound) is.fits in
+    and_from (is_placeable train) (list_all is_placeable trains)
+    (and_from (nat_le train.length 100000) (nat_le position.at 100000) (le-leb train.length 100000 small.0) (le-leb position.at 100000 small.1)) (placeable_trains specs blocks (i + 1) trains sound all.1)
 
 -- The railway.
 
@@ -143,4 +195,14 @@ planned-railway specs plan h =
     let network : Network = (planned specs plan).network in
     let sound : is_sound network ≡ true =
     subst (λ (ts : List Turnout). (a && b && d && list_all (is_turnout n) ts && are_apart (ends_of plan.joints.items ts)) ≡ true) (sym (turnouts-of-states specs plan.turnouts.items)) all in
-    (sound, and_from (is_sound network) (list_all (is_train network) (map state_of_train plan.trains.items)) sound (sound_trains specs network 0 plan.trains.items five.1))
+    (sound, and_from (is_sound network) (list_all (is_train network) (map state_of_train plan.trains.items)) sound (sound_trains specs network 0 plan.trains.items sound five.1))
+
+pub plan-placeable : (specs : List NodeSpec) (plan : Plan) → fault_of specs plan ≡ None → list_all is_placeable plan.trains.items ≡ true
+plan-placeable specs plan h =
+    let n = length plan.blocks.items in
+    let one = or-none (fault_of_blocks 0 plan.blocks.items) _ h in
+    let two = or-none (fault_of_joints n 0 plan.joints.items) _ one.1 in
+    let three = or-none (fault_of_turnouts n 0 plan.turnouts.items) _ two.1 in
+    let four = or-none (option_map EndTwice (named_twice (ends_of plan.joints.items plan.turnouts.items))) _ three.1 in
+    let five = or-none (fault_of_motors specs 0 plan.turnouts.items) (fault_of_trains specs plan.blocks.items 0 plan.trains.items) four.1 in
+    placeable_trains specs plan.blocks.items 0 plan.trains.items (sound_blocks 0 plan.blocks.items one.0).0 five.1

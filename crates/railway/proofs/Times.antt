@@ -1,21 +1,26 @@
 -- Times add up.
-use Rattle.std.proofs.Common.{◌≡◌, ℕ, ◌+◌, ◌*◌, ◌%◌, Bool, true, false, List, [], ◌∷◌, Option, Some, None, map, refl, ap, sym, ◌∙◌, arith}
+use Rattle.std.proofs.Common.{◌≡◌, ℕ, ◌+◌, ◌*◌, ◌%◌, Bool, true, false, List, [], ◌∷◌, Option, Some, None, map, refl, ap, sym, ◌∙◌}
 use Rattle.std.proofs.lemmas.Bool.{and_parts}
 use Rattle.std.specs.List.{list_all}
 use Rattle.std.specs.Prelude.{if◌then◌else◌, IsTrue}
 use Rattle.layout_core.specs.declared.node.Node.{Node}
+use Rattle.motion.specs.declared.velocity.Drive.{Drive}
+use Rattle.refresh_ring.specs.declared.pick.Power.{Power}
+use Rattle.refresh_ring.specs.declared.pick.Power.TheVariants.{Off, Running as PowerOn, Paused}
 use Rattle.railway.specs.declared.joint.TurnoutState.{TurnoutState}
 use Rattle.railway.specs.declared.train.TrainState.{TrainState}
-use Rattle.railway.specs.Network.{Network, checked, is_sound, run_on}
-use Rattle.railway.specs.Places.{turned}
-use Rattle.railway.specs.Railway.{RailwayState, elapsed, is_railway, is_train, run_in}
-use Rattle.railway.specs.Running.{run_by}
-use Rattle.railway.specs.Trains.{is_forward, running_in, speed_of}
+use Rattle.railway.specs.Laws.{asked_of}
+use Rattle.railway.specs.Network.{Network, checked, is_sound}
+use Rattle.railway.specs.Places.{still}
+use Rattle.railway.specs.Railway.{RailwayState, elapsed, is_railway, is_train, run_in, run_under}
+use Rattle.railway.specs.Running.{ridden}
+use Rattle.railway.specs.Trains.{drive_of, running_in}
 use Rattle.railway.specs.Turnouts.{is_on, laid, lies_thrown, observed, outputs_in, pair_of, same_bool}
-use Rattle.railway.proofs.Keeping.{checked-whole, run_in-train}
+use Rattle.railway.proofs.Keeping.{checked-whole}
 use Rattle.railway.proofs.Leading.{laid-sound}
-use Rattle.railway.proofs.Runs.{checked-top, in-decoder, in-top, parts-of, turned-back}
-use Rattle.railway.proofs.Ways.{run_on-add}
+use Rattle.railway.proofs.Riding.{checked-same, ridden-add, ridden-same}
+use Rattle.railway.proofs.Running.{same-drive, under-train}
+use Rattle.railway.proofs.Runs.{parts-of}
 
 -- A turnout that is laid lies so already.
 
@@ -37,11 +42,6 @@ laid-laid nodes n = ap (λ (states : List TurnoutState). record n { turnouts = s
 
 -- A train that ran, and runs on so, ran for all of the time.
 
-by-by : (n : Network) (forward : Bool) (these those : ℕ) (t : TrainState) → run_by n forward those (run_by n forward these t) ≡ run_by n forward (these + those) t
-by-by n true these those t = sym (run_on-add n t these those)
-by-by n false these those t =
-    ap (λ (u : TrainState). turned (run_on n u those)) (turned-back (run_on n (turned t) these)) ∙ ap (λ (u : TrainState). turned u) (sym (run_on-add n (turned t) these those))
-
 -- a train of the railway needs no check
 checked-train : (n : Network) (t : TrainState) → is_train n t ≡ true → checked n t ≡ t
 checked-train n t h = checked-whole n t (parts-of n t h).whole
@@ -50,29 +50,37 @@ in-in : (n m : Network) (nodes : List Node) (these those : ℕ) (t : TrainState)
 in-in n m nodes these those t is same h =
     let first : TrainState = run_in m these nodes t in
     let start : TrainState = checked m t in
-    let running = running_in nodes t.decoder in
-    let forward : Bool = is_forward running in
-    let speed : ℕ = speed_of start.top running in
-    let all : speed * these + speed * those ≡ speed * (these + those) = omega arith in
-    let top : first.top ≡ start.top = in-top m these nodes t ∙ sym (checked-top m t) in
-    ap (λ (d : ℕ). run_by m (is_forward (running_in nodes d)) (speed_of (checked m first).top (running_in nodes d) * those) (checked m first)) (in-decoder m these nodes t)
-    ∙ ap (λ (u : TrainState). run_by m forward (speed_of u.top running * those) u) (checked-train m first (run_in-train n m these nodes t is same h))
-    ∙ ap (λ (top : ℕ). run_by m forward (speed_of top running * those) first) top
-    ∙ by-by m forward (speed * these) (speed * those) start
-    ∙ ap (λ (way : ℕ). run_by m forward way start) all
+    let d : Drive = drive_of start (running_in nodes t.decoder) in
+    let checked-first : checked m first ≡ first = checked-train m first (under-train PowerOn n m these nodes t is same h) in
+    let asked : asked_of nodes first ≡ d =
+    same-drive nodes start first (ridden-same m d these start) ∙ ap (λ (decoder : ℕ). drive_of start (running_in nodes decoder)) (checked-same m t).decoder in
+    ap (λ (u : TrainState). ridden m (drive_of u (running_in nodes first.decoder)) those u) checked-first
+    ∙ ap (λ (e : Drive). ridden m e those first) asked
+    ∙ sym (ridden-add m d start these those)
 
-all-all : (n m : Network) (nodes : List Node) (these those : ℕ) (ts : List TrainState) → IsTrue (is_sound m) → n.blocks ≡ m.blocks → list_all (is_train n) ts ≡ true
-    → map (run_in m those nodes) (map (run_in m these nodes) ts) ≡ map (run_in m (these + those) nodes) ts
-all-all n m nodes these those [] is same h = refl
-all-all n m nodes these those (t ∷ ts) is same h =
+-- and one that stands without power stood for all of it
+stands-stands : (n m : Network) (nodes : List Node) (these : ℕ) (t : TrainState) → IsTrue (is_sound m) → n.blocks ≡ m.blocks → is_train n t ≡ true → still (checked m (still (checked m t))) ≡ still (checked m t)
+stands-stands n m nodes these t is same h =
+    ap (λ (u : TrainState). still u) (checked-train m (still (checked m t)) (under-train Off n m these nodes t is same h))
+
+under-under : (p : Power) (n m : Network) (nodes : List Node) (these those : ℕ) (t : TrainState) → IsTrue (is_sound m) → n.blocks ≡ m.blocks → is_train n t ≡ true
+    → run_under p m those nodes (run_under p m these nodes t) ≡ run_under p m (these + those) nodes t
+under-under Off n m nodes these those t is same h = stands-stands n m nodes these t is same h
+under-under PowerOn n m nodes these those t is same h = in-in n m nodes these those t is same h
+under-under Paused n m nodes these those t is same h = in-in n m nodes these those t is same h
+
+all-all : (p : Power) (n m : Network) (nodes : List Node) (these those : ℕ) (ts : List TrainState) → IsTrue (is_sound m) → n.blocks ≡ m.blocks → list_all (is_train n) ts ≡ true
+    → map (run_under p m those nodes) (map (run_under p m these nodes) ts) ≡ map (run_under p m (these + those) nodes) ts
+all-all p n m nodes these those [] is same h = refl
+all-all p n m nodes these those (t ∷ ts) is same h =
     let parts = and_parts (is_train n t) (list_all (is_train n) ts) h in
-    ap (λ (u : TrainState). u ∷ map (run_in m those nodes) (map (run_in m these nodes) ts)) (in-in n m nodes these those t is same parts.0)
-    ∙ ap (λ (us : List TrainState). run_in m (these + those) nodes t ∷ us) (all-all n m nodes these those ts is same parts.1)
+    ap (λ (u : TrainState). u ∷ map (run_under p m those nodes) (map (run_under p m these nodes) ts)) (under-under p n m nodes these those t is same parts.0)
+    ∙ ap (λ (us : List TrainState). run_under p m (these + those) nodes t ∷ us) (all-all p n m nodes these those ts is same parts.1)
 
-pub elapsed-elapsed : (r : RailwayState) (nodes : List Node) (these those : ℕ) → IsTrue (is_railway r) → elapsed (elapsed r these nodes) those nodes ≡ elapsed r (these + those) nodes
-elapsed-elapsed r nodes these those h =
+pub elapsed-elapsed : (r : RailwayState) (p : Power) (nodes : List Node) (these those : ℕ) → IsTrue (is_railway r) → elapsed (elapsed r these p nodes) those p nodes ≡ elapsed r (these + those) p nodes
+elapsed-elapsed r p nodes these those h =
     let n = r.network in
     let m : Network = laid nodes n in
     let parts = and_parts (is_sound n) (list_all (is_train n) r.trains) h in
-    ap (λ (k : Network). record { network = k; trains = map (run_in k those nodes) (map (run_in m these nodes) r.trains) }) (laid-laid nodes n)
-    ∙ ap (λ (ts : List TrainState). record { network = m; trains = ts }) (all-all n m nodes these those r.trains (laid-sound nodes n parts.0) refl parts.1)
+    ap (λ (k : Network). record { network = k; trains = map (run_under p k those nodes) (map (run_under p m these nodes) r.trains) }) (laid-laid nodes n)
+    ∙ ap (λ (ts : List TrainState). record { network = m; trains = ts }) (all-all p n m nodes these those r.trains (laid-sound nodes n parts.0) refl parts.1)

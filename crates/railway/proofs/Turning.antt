@@ -45,7 +45,7 @@ exit-back n end next apart h =
     ap (λ (found : Option BlockEnd). exit_to found (list_any (is_branch next) n.turnouts))
     (joined-back n end next apart (leads-partner (partner (joined n) end) _ next h))
 
--- One picometre.
+-- One femtometre.
 
 -- what lies ahead after a turn
 behind : (end : End) (length at : ℕ) → at < length → 0 < left_to end length at → 0 < left_to (other end) length (moved_to end at 1)

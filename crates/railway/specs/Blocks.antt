@@ -69,6 +69,6 @@ block_name (Some block) = block.name.bytes
 abbrev pub same_name : Block → Block → Bool
 same_name one two = pointwise nat_eq one.name.bytes two.name.bytes
 
--- the length of a block in picometres
+-- the length of a block in femtometres
 abbrev pub length_of : List Block → (block : ℕ) → ℕ
-length_of blocks block = (slice_index_or blocks block default_block).length * 1000000000
+length_of blocks block = (slice_index_or blocks block default_block).length * 1000000000000

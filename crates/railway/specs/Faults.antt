@@ -5,10 +5,11 @@ use Rattle.std.specs.Option.{option_or, option_map}
 use Rattle.dcc_packet.specs.Sent.{module_of}
 use Rattle.decoder_node.specs.declared.node.NodeSpec.{NodeSpec}
 use Rattle.decoder_node.specs.declared.node.NodeSpec.TheVariants.{Loco, Accessory}
+use Rattle.motion.specs.Velocity.{is_momentum}
 use Rattle.railway.specs.declared.block.Block.{Block}
 use Rattle.railway.specs.declared.fault.Part.TheVariants.{Joint as JointPart, Turnout as TurnoutPart, Train as TrainPart}
 use Rattle.railway.specs.declared.fault.PlanFault.{PlanFault}
-use Rattle.railway.specs.declared.fault.PlanFault.TheVariants.{BlockLength, NameTwice, Sensor, SensorTwice, UnknownBlock, EndTwice, UnknownDecoder, TrainLength, OffTrack}
+use Rattle.railway.specs.declared.fault.PlanFault.TheVariants.{BlockLength, NameTwice, Sensor, SensorTwice, UnknownBlock, EndTwice, UnknownDecoder, TrainLength, Momentum, OffTrack}
 use Rattle.railway.specs.declared.joint.Joint.{Joint}
 use Rattle.railway.specs.declared.joint.Turnout.{Turnout}
 use Rattle.railway.specs.declared.plan.Plan.{Plan}
@@ -96,7 +97,8 @@ fault_of_train specs blocks i train =
     option_or (unless (is_loco (slice_get specs train.decoder)) (UnknownDecoder (TrainPart i)))
     (option_or (unless (nat_lt train.position.block (length blocks)) (UnknownBlock (TrainPart i)))
     (option_or (unless (is_train_length blocks train.length) (TrainLength i))
-    (unless (fits_there blocks train) (OffTrack i))))
+    (option_or (unless (is_momentum train.momentum) (Momentum i))
+    (unless (fits_there blocks train) (OffTrack i)))))
 
 abbrev pub fault_of_trains : List NodeSpec → List Block → (i : ℕ) → List Train → Option PlanFault
 fault_of_trains specs blocks i [] = None

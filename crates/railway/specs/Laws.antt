@@ -1,17 +1,20 @@
 -- What the laws of a railway speak of.
-use Rattle.std.specs.Prelude.{ℕ, ◌≡◌, ◌*◌, ◌<◌, ◌==◌, Bool, false, not, if◌then◌else◌, List, [], ◌∷◌, length, Some, IsTrue}
+use Rattle.std.specs.Prelude.{ℕ, ◌≡◌, ◌*◌, ◌<◌, ◌≤◌, ◌==◌, Bool, false, not, List, [], ◌∷◌, length, Some, IsTrue}
 use Rattle.std.specs.List.{list_any, slice_index_or}
 use Rattle.layout_core.specs.declared.node.Node.{Node}
 use Rattle.ln_ops.specs.declared.sensor.SensorReport.{SensorReport}
+use Rattle.motion.specs.Velocity.{goes_only, velocity_after, way}
+use Rattle.motion.specs.declared.velocity.Drive.{Drive}
+use Rattle.motion.specs.declared.velocity.Velocity.{Velocity}
 use Rattle.railway.specs.declared.block.Block.{Block}
 use Rattle.railway.specs.declared.joint.TurnoutState.{TurnoutState}
 use Rattle.railway.specs.declared.train.Place.{Place}
 use Rattle.railway.specs.declared.train.TrainState.{TrainState}
 use Rattle.railway.specs.Blocks.{default_block, length_of}
 use Rattle.railway.specs.Network.{Network, way_on}
-use Rattle.railway.specs.Places.{is_derailed, span, turned_place}
+use Rattle.railway.specs.Places.{is_derailed, leading_end, span, turned_place}
 use Rattle.railway.specs.Reports.{is_occupied, occupies}
-use Rattle.railway.specs.Trains.{is_forward, running_in, speed_of}
+use Rattle.railway.specs.Trains.{drive_of, is_forward, running_in, speed_of}
 
 -- the place is in a block of the plan, within its length
 pub record IsOnTrack (blocks : List Block) (place : Place) : Type 0 where
@@ -27,17 +30,37 @@ pub record IsOnRails (network : Network) (train : TrainState) : Type 0 where
   pub back : is_derailed train ≡ false
       → way_on network (turned_place train.front) (span train) ≡ Some (turned_place train.rear)
 
--- the end of a train that leads, its front or its rear, with what lies ahead of it
-abbrev pub leading_end : (forward : Bool) → TrainState → Place
-leading_end forward train = if forward then train.front else turned_place train.rear
+-- what a train is asked for by its decoder
+abbrev pub asked_of : List Node → TrainState → Drive
+asked_of nodes train = drive_of train (running_in nodes train.decoder)
 
--- the one that leads as its decoder runs
+-- the velocity of its motor after so many microseconds, one after another
+abbrev pub velocity_of : List Node → (micros : ℕ) → TrainState → Velocity
+velocity_of nodes micros train = velocity_after (asked_of nodes train) micros train.velocity
+
+-- how far its motor runs it in them
+abbrev pub way_of : List Node → (micros : ℕ) → TrainState → ℕ
+way_of nodes micros train = way (asked_of nodes train) micros train.velocity
+
+-- its motor has this direction in each of them
+abbrev pub runs_only : (forward : Bool) → List Node → (micros : ℕ) → TrainState → Bool
+runs_only forward nodes micros train =
+    goes_only forward (asked_of nodes train) micros train.velocity
+
+-- its motor stands at a moment within so many microseconds
+pub record StandsBetween (nodes : List Node) (micros : ℕ) (train : TrainState) : Type 0 where
+  pub moment : ℕ
+  pub within : moment ≤ micros
+  pub stands : (velocity_of nodes moment train).speed ≡ 0
+
+-- the end that leads as its decoder runs
 abbrev pub leading : List Node → TrainState → Place
 leading nodes train = leading_end (is_forward (running_in nodes train.decoder)) train
 
 -- its speed times the time
-abbrev pub way_of : List Node → (micros : ℕ) → TrainState → ℕ
-way_of nodes micros train = speed_of train.top (running_in nodes train.decoder) * micros
+abbrev pub speed_times_time : List Node → (micros : ℕ) → TrainState → ℕ
+speed_times_time nodes micros train =
+    speed_of train.top (running_in nodes train.decoder) * micros
 
 -- one of the turnouts has this switch
 abbrev pub has_switch : List TurnoutState → (switch : ℕ) → Bool

@@ -15,7 +15,7 @@ use Rattle.railway.specs.declared.train.Place.{Place}
 use Rattle.railway.specs.declared.train.TrainState.{TrainState}
 use Rattle.railway.specs.Blocks.{are_distinct, is_block, length_of, same_block_end}
 use Rattle.railway.specs.Ends.{are_apart, ends_of, is_joint, is_turnout}
-use Rattle.railway.specs.Places.{end_ahead, further, is_derailed, same_place, span, start_at, to_end}
+use Rattle.railway.specs.Places.{end_ahead, further, is_derailed, same_place, span, start_at, still, to_end}
 
 -- the blocks of a plan, and what joins their ends
 pub record Network : Type 0 where
@@ -80,7 +80,7 @@ onward_by blocks (Leads end) = To (start_at blocks end)
 onward_by blocks BufferStop = Stopped
 onward_by blocks Against = Derails
 
--- one picometre ahead
+-- one femtometre ahead
 abbrev pub onward : Network → Place → Onward
 onward network place =
     if to_end (length_of network.blocks place.block) place == 0 then
@@ -91,16 +91,16 @@ place_of (To place) = Some place
 place_of Stopped = None
 place_of Derails = None
 
--- so many picometres ahead, one after another, if the track leads so far
+-- so many femtometres ahead, one after another, if the track leads so far
 unfoldable pub way_on : Network → Place → (way : ℕ) → Option Place
 way_on network place zero = Some place
 way_on network place (suc way) =
     option_and_then (λ next. way_on network next way) (place_of (onward network place))
 
--- the train off the rails, where it is, at the turnout ahead of a place
+-- the train off the rails, where it is, at the turnout ahead of a place; it stands
 abbrev pub off_rails : Network → Place → TrainState → TrainState
 off_rails network place train =
-    record train { derailed_at = Some (switch_at network.turnouts (end_ahead place)) }
+    record (still train) { derailed_at = Some (switch_at network.turnouts (end_ahead place)) }
 
 -- Both ends of a train go where the track leads. Its front stops at a buffer stop, and leaves the
 -- rails at a turnout that lies against it.
@@ -111,7 +111,7 @@ stepped network train (To front) Derails = train
 stepped network train Stopped rear = train
 stepped network train Derails rear = off_rails network train.front train
 
--- a train runs forward by one picometre
+-- a train runs forward by one femtometre
 abbrev pub step : Network → TrainState → TrainState
 step network train =
     if is_derailed train then train else

@@ -1,5 +1,5 @@
--- Places on the track. A block of n picometres has the picometres 0 to n - 1, from end A on.
-use Rattle.std.specs.Prelude.{ℕ, ◌+◌, ◌-◌, ◌*◌, ◌==◌, ◌&&◌, Bool, nat_lt, List, length, is_some}
+-- Places on the track. A block of n femtometres has the femtometres 0 to n - 1, from end A on.
+use Rattle.std.specs.Prelude.{ℕ, ◌+◌, ◌-◌, ◌*◌, ◌==◌, ◌&&◌, Bool, nat_lt, if◌then◌else◌, List, length, is_some}
 use Rattle.railway.specs.declared.block.Block.{Block}
 use Rattle.railway.specs.declared.block.BlockEnd.{BlockEnd}
 use Rattle.railway.specs.declared.block.End.{End}
@@ -8,7 +8,7 @@ use Rattle.railway.specs.declared.train.Place.{Place}
 use Rattle.railway.specs.declared.train.TrainState.{TrainState}
 use Rattle.railway.specs.Blocks.{length_of, other, same_end}
 
--- the picometre at an end
+-- the femtometre at an end
 abbrev pub end_at : End → (length : ℕ) → ℕ
 end_at A length = 0
 end_at B length = length - 1
@@ -17,7 +17,7 @@ abbrev pub left_to : End → (length at : ℕ) → ℕ
 left_to A length at = at
 left_to B length at = length - 1 - at
 
--- how many picometres lie ahead in the block
+-- how many femtometres lie ahead in the block
 abbrev pub to_end : (length : ℕ) → Place → ℕ
 to_end length place = left_to place.toward length place.at
 
@@ -25,7 +25,7 @@ abbrev pub moved_to : End → (at way : ℕ) → ℕ
 moved_to A at way = at - way
 moved_to B at way = at + way
 
--- so many picometres ahead, in the same block
+-- so many femtometres ahead, in the same block
 abbrev pub further : Place → (way : ℕ) → Place
 further place way = record place { at = moved_to place.toward place.at way }
 
@@ -37,7 +37,7 @@ turned_place place = record place { toward = other place.toward }
 abbrev pub end_ahead : Place → BlockEnd
 end_ahead place = record { block = place.block; end = place.toward }
 
--- the first picometre beyond an end, for a train that comes in there
+-- the first femtometre beyond an end, for a train that comes in there
 abbrev pub start_at : List Block → BlockEnd → Place
 start_at blocks end = record {
   block = end.block;
@@ -57,14 +57,22 @@ is_on_track blocks place =
 abbrev pub is_derailed : TrainState → Bool
 is_derailed train = is_some train.derailed_at
 
+-- a train that stands where it is
+abbrev pub still : TrainState → TrainState
+still train = record train { velocity = record train.velocity { speed = 0 } }
+
 -- a train seen from behind: its rear leads
 abbrev pub turned : TrainState → TrainState
 turned train = record train { front = turned_place train.rear; rear = turned_place train.front }
 
--- a train so many picometres ahead, with both ends in the same blocks
+-- the end of a train that leads, its front or its rear, with what lies ahead of it
+abbrev pub leading_end : (forward : Bool) → TrainState → Place
+leading_end forward train = if forward then train.front else turned_place train.rear
+
+-- a train so many femtometres ahead, with both ends in the same blocks
 abbrev pub moved : TrainState → (way : ℕ) → TrainState
 moved train way = record train { front = further train.front way; rear = further train.rear way }
 
--- how far the front of a train is from its rear, in picometres
+-- how far the front of a train is from its rear, in femtometres
 abbrev pub span : TrainState → ℕ
-span train = train.length * 1000000000 - 1
+span train = train.length * 1000000000000 - 1

@@ -1,21 +1,27 @@
 -- A railway, and what time makes of it.
-use Rattle.std.specs.Prelude.{ℕ, ◌&&◌, Bool, List, length, map, nat_lt, if◌then◌else◌, Option, Some, None, slice_set}
+use Rattle.std.specs.Prelude.{ℕ, ◌/◌, ◌&&◌, Bool, List, length, map, nat_lt, if◌then◌else◌, Option, Some, None, slice_get, slice_set}
 use Rattle.std.specs.List.{list_all, slice_index_or}
 use Rattle.std.specs.Option.{option_or}
 use Rattle.decoder_node.specs.declared.node.NodeSpec.{NodeSpec}
 use Rattle.layout_core.specs.declared.node.Node.{Node}
+use Rattle.refresh_ring.specs.declared.pick.Power.{Power}
+use Rattle.refresh_ring.specs.declared.pick.Power.TheVariants.{Off, Running, Paused}
 use Rattle.ln_ops.specs.declared.sensor.SensorReport.{SensorReport}
+use Rattle.railway.specs.declared.exit.Onward.{Onward}
+use Rattle.railway.specs.declared.exit.Onward.TheVariants.{To, BufferStop, Against}
 use Rattle.railway.specs.declared.fault.PlaceFault.{PlaceFault}
 use Rattle.railway.specs.declared.fault.PlaceFault.TheVariants.{UnknownTrain, UnknownBlock, OffTrack}
 use Rattle.railway.specs.declared.plan.Plan.{Plan}
 use Rattle.railway.specs.declared.train.Position.{Position}
+use Rattle.railway.specs.declared.train.Train.{Train}
 use Rattle.railway.specs.declared.train.TrainState.{TrainState}
 use Rattle.railway.specs.Blocks.{default_block}
 use Rattle.railway.specs.Faults.{is_train_length}
-use Rattle.railway.specs.Network.{Network, checked, is_sound, is_whole}
+use Rattle.railway.specs.Network.{Network, checked, is_sound, is_whole, onward}
+use Rattle.railway.specs.Places.{leading_end, still}
 use Rattle.railway.specs.Reports.{changes}
 use Rattle.railway.specs.Running.{is_within, run_for}
-use Rattle.railway.specs.Trains.{default_state, fits, placed, running_in, state_of_train}
+use Rattle.railway.specs.Trains.{default_state, fits, is_movable, running_in, state_of_train}
 use Rattle.railway.specs.Turnouts.{laid, state_of_turnout}
 
 -- the track as the turnouts lie, and the trains as they are
@@ -34,12 +40,12 @@ planned specs plan = record {
   trains = map state_of_train plan.trains.items;
 }
 
--- a train is no longer than a block, in blocks of the plan within their lengths, and on the rails
--- from its rear to its front, or derailed
+-- a train is no longer than a block, in blocks of the plan within their lengths, on the rails from
+-- its rear to its front, or derailed, and has a speed that it can have
 abbrev pub is_train : Network → TrainState → Bool
 is_train network train =
     is_train_length network.blocks train.length && is_within network.blocks train
-    && is_whole network train
+    && is_whole network train && is_movable train
 
 -- what holds of every railway
 abbrev pub is_railway : RailwayState → Bool
@@ -51,21 +57,57 @@ abbrev pub run_in : Network → (micros : ℕ) → List Node → TrainState → 
 run_in network micros nodes train =
     run_for network micros (running_in nodes train.decoder) (checked network train)
 
+-- Without track power a train stands at once.
+abbrev pub run_under : Power → Network → (micros : ℕ) → List Node → TrainState → TrainState
+run_under Off network micros nodes train = still (checked network train)
+run_under Running network micros nodes train = run_in network micros nodes train
+run_under Paused network micros nodes train = run_in network micros nodes train
+
 -- so many microseconds pass in which the decoders do this
-abbrev pub elapsed : RailwayState → (micros : ℕ) → List Node → RailwayState
-elapsed railway micros nodes = record {
+abbrev pub elapsed : RailwayState → (micros : ℕ) → Power → List Node → RailwayState
+elapsed railway micros power nodes = record {
   network = laid nodes railway.network;
-  trains = map (run_in (laid nodes railway.network) micros nodes) railway.trains;
+  trains = map (run_under power (laid nodes railway.network) micros nodes) railway.trains;
 }
 
 -- what the sensors report of it
-abbrev pub reports_in : RailwayState → (micros : ℕ) → List Node → List SensorReport
-reports_in railway micros nodes =
-    changes railway.network.blocks railway.trains (elapsed railway micros nodes).trains
+abbrev pub reports_in : RailwayState → (micros : ℕ) → Power → List Node → List SensorReport
+reports_in railway micros power nodes =
+    changes railway.network.blocks railway.trains (elapsed railway micros power nodes).trains
+
+abbrev pub unless_held : Onward → (speed : ℕ) → ℕ
+unless_held (To place) speed = speed
+unless_held Against speed = speed
+unless_held BufferStop speed = 0
+
+-- how fast a train runs, in millimetres a second, rounded down; a buffer stop ahead of the end that
+-- leads holds it
+abbrev pub shown_speed : Network → TrainState → ℕ
+shown_speed network train =
+    unless_held (onward network (leading_end train.velocity.forward train))
+    (train.velocity.speed / 1000000)
+
+abbrev pub speed_or_none : Network → Option TrainState → ℕ
+speed_or_none network None = 0
+speed_or_none network (Some train) = shown_speed network train
+
+-- that of the train of this index, if there is one
+abbrev pub speed_in : RailwayState → (train : ℕ) → ℕ
+speed_in railway train = speed_or_none railway.network (slice_get railway.trains train)
+
+-- a train as one of a plan that has it there
+abbrev pub train_at : TrainState → Position → Train
+train_at train position = record {
+  decoder = train.decoder;
+  top = train.top;
+  length = train.length;
+  momentum = train.momentum;
+  position = position;
+}
 
 -- a train is put back on the track
 abbrev pub replaced : TrainState → Position → TrainState
-replaced train position = placed train.decoder train.top train.length position
+replaced train position = state_of_train (train_at train position)
 
 -- the train of this index, put there
 abbrev pub placed_in : RailwayState → (train : ℕ) → Position → RailwayState

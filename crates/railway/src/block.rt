@@ -13,8 +13,8 @@ pub type Name = ArrayString<LONGEST_NAME>;
 /// The longest block, in millimetres.
 pub const LONGEST_BLOCK: u32 = 100_000;
 
-/// The picometres of a millimetre.
-pub(crate) const MILLIMETRE: u64 = 1_000_000_000;
+/// The femtometres of a millimetre.
+pub(crate) const MILLIMETRE: u64 = 1_000_000_000_000;
 
 /// A point of a drawing of the plan.
 #[derive(Clone, Copy, PartialEq, Eq)]
@@ -54,9 +54,10 @@ pub struct BlockEnd {
 }
 
 impl Block {
-    /// Returns its length in picometres.
-    pub(crate) fn picometres(&self) -> u64
-        ensures { result ≡ self.now.length * 1000000000 }
+    /// Returns its length in femtometres.
+    pub(crate) fn femtometres(&self) -> u64
+        requires { self.now.length ≤ 100000 }
+        ensures { result ≡ self.now.length * 1000000000000 }
     {
         u64::from(self.length) * MILLIMETRE
     }

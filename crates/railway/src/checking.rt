@@ -1,6 +1,7 @@
 //! The first fault of a plan.
 ghost use Rattle.std.specs.Prelude.{◌≡◌, ◌<◌, ◌≤◌, ◌++◌, length, List, IfSome, nat_le, slice_get};
 ghost use Rattle.std.specs.List.{list_all};
+ghost use Rattle.motion.specs.Velocity.{is_momentum};
 ghost use Rattle.railway.specs.Blocks.{has_sensor, is_block_sensor, is_free};
 ghost use Rattle.railway.specs.Ends.{ends_of, ends_of_joints, ends_of_turnouts, has_end, is_end, named_twice};
 ghost use Rattle.railway.specs.Faults.{decoder_of, fault_of, fault_of_block, fault_of_blocks, fault_of_joints, fault_of_motors, fault_of_train, fault_of_trains, fault_of_turnouts, fits_there, is_loco, is_module, is_renamed, is_train_length, module_index};
@@ -13,6 +14,7 @@ use crate::train::{Train, fits};
 use arrayvec::ArrayVec;
 use decoder_node::NodeSpec;
 use ln_ops::LAST_SENSOR;
+use motion::Momentum;
 
 /// The most ends that a plan names.
 const MAX_ENDS: usize = 2 * MAX_JOINTS + 3 * MAX_TURNOUTS;
@@ -248,6 +250,9 @@ fn fault_of_train(
     if !is_train_length(blocks, train.length) {
         return Some(PlanFault::TrainLength(i));
     }
+    if !is_momentum(train.momentum) {
+        return Some(PlanFault::Momentum(i));
+    }
     if !fits_there(blocks, train) {
         return Some(PlanFault::OffTrack(i));
     }
@@ -267,6 +272,16 @@ fn is_train_length(blocks: &[Block], length: u32) -> bool
     ensures { result ≡ is_train_length blocks.now length }
 {
     length >= 1 && is_at_most_each(blocks, length)
+}
+
+/// Whether both rates are at least 1.
+fn is_momentum(momentum: Option<Momentum>) -> bool
+    ensures { result ≡ is_momentum momentum }
+{
+    match momentum {
+        None => true,
+        Some(momentum) => momentum.acceleration >= 1 && momentum.braking >= 1,
+    }
 }
 
 fn is_at_most_each(blocks: &[Block], length: u32) -> bool

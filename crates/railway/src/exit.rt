@@ -13,7 +13,7 @@ pub enum Exit {
     Against,
 }
 
-/// Where the next picometre ahead of a place is.
+/// Where the next femtometre ahead of a place is.
 #[derive(Clone, Copy)]
 pub(crate) enum Onward {
     To(Place),

@@ -28,6 +28,8 @@ pub enum PlanFault {
     UnknownDecoder(Part),
     /// The train is shorter than a millimetre, or longer than a block.
     TrainLength(usize),
+    /// The acceleration or the braking of the train is 0.
+    Momentum(usize),
     /// The train does not fit into its block where it is put.
     OffTrack(usize),
 }

@@ -1,8 +1,14 @@
 //! The laws of a railway, each as a function that does nothing and ensures it: a call hands the
 //! law to a proof.
-ghost use Rattle.std.specs.Prelude.{◌≡◌, ◌≢◌, ℕ, ◌+◌, ◌<◌, ◌≤◌, Bool, List, length, true, false, IfSome, IsTrue, Some, None};
+ghost use Rattle.std.specs.Prelude.{◌≡◌, ◌≢◌, ℕ, ◌+◌, ◌/◌, ◌<◌, ◌≤◌, Bool, List, length, true, false, IfSome, IsTrue, Some, None};
 ghost use Rattle.std.specs.List.{slice_index_or};
+ghost use Rattle.dcc_packet.specs.declared.steps.Motion.TheVariants.{Emergency, Stop};
+ghost use Rattle.decoder_node.specs.declared.running.Running.{Running};
 ghost use Rattle.layout_core.specs.declared.node.Node.{Node};
+ghost use Rattle.motion.specs.Velocity.{braking_way, is_momentum, same_bool, velocity};
+ghost use Rattle.motion.specs.declared.velocity.Momentum.{Momentum};
+ghost use Rattle.refresh_ring.specs.declared.pick.Power.{Power};
+ghost use Rattle.refresh_ring.specs.declared.pick.Power.TheVariants.{Off};
 ghost use Rattle.railway.specs.declared.block.BlockEnd.{BlockEnd};
 ghost use Rattle.railway.specs.declared.conflict.Conflict.{Conflict};
 ghost use Rattle.railway.specs.declared.exit.Exit.TheVariants.{Leads};
@@ -12,11 +18,12 @@ ghost use Rattle.railway.specs.declared.train.TrainState.{TrainState};
 ghost use Rattle.railway.specs.Blocks.{default_block};
 ghost use Rattle.railway.specs.Conflicts.{conflict_in};
 ghost use Rattle.railway.specs.Course.{Happening, after, after_all, reports_of_all};
-ghost use Rattle.railway.specs.Laws.{AreChanges, IsConflict, IsOnRails, has_switch, leading, way_of};
+ghost use Rattle.railway.specs.Laws.{AreChanges, IsConflict, IsOnRails, StandsBetween, has_switch, leading, runs_only, speed_times_time, velocity_of, way_of};
 ghost use Rattle.railway.specs.Network.{Network, exit_of, is_sound, off_rails, onward, switch_at, way_on};
-ghost use Rattle.railway.specs.Places.{end_ahead, is_derailed, span};
-ghost use Rattle.railway.specs.Railway.{RailwayState, elapsed, is_railway, is_train, reports_in, run_in};
+ghost use Rattle.railway.specs.Places.{end_ahead, is_derailed, leading_end, span, still};
+ghost use Rattle.railway.specs.Railway.{RailwayState, elapsed, is_railway, is_train, reports_in, run_in, run_under};
 ghost use Rattle.railway.specs.Reports.{full, is_occupied, level_after, occupies};
+ghost use Rattle.railway.specs.Trains.{is_forward, running_in};
 ghost use Rattle.railway.specs.Turnouts.{laid};
 
 /// Each train is in blocks of the plan, within their lengths. Its ends are as far apart as its
@@ -38,12 +45,13 @@ pub fn trains_are_in_two_blocks()
 /// However a time is cut in which the decoders do the same, it has the same result. What holds of
 /// every railway holds after it.
 pub fn time_adds_up()
-    ensures kept { (railway : RailwayState) (nodes : List Node) (micros : ℕ)
-        → IsTrue (is_railway railway) → IsTrue (is_railway (elapsed railway micros nodes)) }
-    ensures adds { (railway : RailwayState) (nodes : List Node) (these those : ℕ)
+    ensures kept { (railway : RailwayState) (power : Power) (nodes : List Node) (micros : ℕ)
         → IsTrue (is_railway railway)
-        → elapsed (elapsed railway these nodes) those nodes
-        ≡ elapsed railway (these + those) nodes }
+        → IsTrue (is_railway (elapsed railway micros power nodes)) }
+    ensures adds { (railway : RailwayState) (power : Power) (nodes : List Node) (these those : ℕ)
+        → IsTrue (is_railway railway)
+        → elapsed (elapsed railway these power nodes) those power nodes
+        ≡ elapsed railway (these + those) power nodes }
 {}
 
 /// What holds of every railway holds after whatever happens to it, and its blocks stay.
@@ -56,33 +64,110 @@ pub fn railways_are_kept()
     time_adds_up();
 }
 
-/// A train that nothing stops goes as far as its speed times the time, and stays on the rails.
+/// A train that nothing stops goes as far as its motor runs it, and stays on the rails. Its motor
+/// changes its velocity as its momentum says, one microsecond after another, whatever is ahead.
+pub fn ways_are_those_of_momentum()
+    ensures goes { (network : Network) (train : TrainState) (micros : ℕ) (nodes : List Node)
+        (forward : Bool) (place : Place)
+        → IsTrue (is_sound network) → IsTrue (is_train network train) → is_derailed train ≡ false
+        → IsTrue (runs_only forward nodes micros train)
+        → way_on network (leading_end forward train) (way_of nodes micros train) ≡ Some place
+        → leading_end forward (run_in network micros nodes train) ≡ place }
+    ensures rails { (network : Network) (train : TrainState) (micros : ℕ) (nodes : List Node)
+        (forward : Bool) (place : Place)
+        → IsTrue (is_sound network) → IsTrue (is_train network train) → is_derailed train ≡ false
+        → IsTrue (runs_only forward nodes micros train)
+        → way_on network (leading_end forward train) (way_of nodes micros train) ≡ Some place
+        → is_derailed (run_in network micros nodes train) ≡ false }
+    ensures velocity { (network : Network) (train : TrainState) (micros : ℕ) (nodes : List Node)
+        → IsTrue (is_train network train)
+        → is_derailed (run_in network micros nodes train) ≡ false
+        → (run_in network micros nodes train).velocity ≡ velocity_of nodes micros train }
+{}
+
+/// Without momentum a train that nothing stops goes as far as its speed times the time, and stays on
+/// the rails.
 pub fn ways_are_speed_times_time()
+    ensures way { (train : TrainState) (micros : ℕ) (nodes : List Node)
+        → train.momentum ≡ None → way_of nodes micros train ≡ speed_times_time nodes micros train }
+    ensures direction { (train : TrainState) (micros : ℕ) (nodes : List Node)
+        → train.momentum ≡ None
+        → IsTrue (runs_only (is_forward (running_in nodes train.decoder)) nodes micros train) }
     ensures goes { (network : Network) (train : TrainState) (micros : ℕ) (nodes : List Node)
         (place : Place) → IsTrue (is_sound network) → IsTrue (is_train network train)
-        → is_derailed train ≡ false
-        → way_on network (leading nodes train) (way_of nodes micros train) ≡ Some place
+        → is_derailed train ≡ false → train.momentum ≡ None
+        → way_on network (leading nodes train) (speed_times_time nodes micros train) ≡ Some place
         → leading nodes (run_in network micros nodes train) ≡ place }
     ensures rails { (network : Network) (train : TrainState) (micros : ℕ) (nodes : List Node)
         (place : Place) → IsTrue (is_sound network) → IsTrue (is_train network train)
-        → is_derailed train ≡ false
-        → way_on network (leading nodes train) (way_of nodes micros train) ≡ Some place
+        → is_derailed train ≡ false → train.momentum ≡ None
+        → way_on network (leading nodes train) (speed_times_time nodes micros train) ≡ Some place
         → is_derailed (run_in network micros nodes train) ≡ false }
-{}
+{
+    motion::laws::without_momentum_at_once();
+}
+
+/// A train whose decoder is to stop brakes over exactly its braking distance, and then stands; this
+/// takes a microsecond more than its speed over its braking.
+pub fn trains_brake()
+    ensures way { (train : TrainState) (micros : ℕ) (nodes : List Node) (running : Running)
+        (momentum : Momentum) → IsTrue (is_momentum train.momentum)
+        → running_in nodes train.decoder ≡ Some running
+        → running.motion ≡ Stop → train.momentum ≡ Some momentum
+        → train.velocity.speed / momentum.braking < micros
+        → way_of nodes micros train ≡ braking_way train.velocity.speed momentum.braking }
+    ensures stands { (train : TrainState) (micros : ℕ) (nodes : List Node) (running : Running)
+        (momentum : Momentum) → IsTrue (is_momentum train.momentum)
+        → running_in nodes train.decoder ≡ Some running
+        → running.motion ≡ Stop → train.momentum ≡ Some momentum
+        → train.velocity.speed / momentum.braking < micros
+        → (velocity_of nodes micros train).speed ≡ 0 }
+{
+    motion::laws::ways_are_closed_forms();
+}
+
+/// A train stands at once where it is, without braking: after an emergency stop of its decoder, and
+/// without track power.
+pub fn trains_stand_at_once()
+    ensures emergency { (network : Network) (train : TrainState) (micros : ℕ) (nodes : List Node)
+        (running : Running) → IsTrue (is_train network train) → is_derailed train ≡ false
+        → running_in nodes train.decoder ≡ Some running → running.motion ≡ Emergency → 0 < micros
+        → run_in network micros nodes train
+        ≡ record train { velocity = velocity running.forward 0 } }
+    ensures power { (network : Network) (train : TrainState) (micros : ℕ) (nodes : List Node)
+        → IsTrue (is_train network train)
+        → run_under Off network micros nodes train ≡ still train }
+{
+    motion::laws::without_momentum_at_once();
+}
+
+/// With momentum a train that goes the other way stood still between.
+pub fn reversals_stand_still()
+    ensures between { (train : TrainState) (micros : ℕ) (nodes : List Node) (running : Running)
+        → running_in nodes train.decoder ≡ Some running
+        → running.motion ≢ Emergency → train.momentum ≢ None
+        → same_bool train.velocity.forward (velocity_of nodes micros train).forward ≡ false
+        → StandsBetween nodes micros train }
+{
+    motion::laws::reversals_stand_still();
+}
 
 /// A train stops where the track ends. It is derailed by a turnout that lies against it, or that
-/// is thrown under it, and has its switch: that of a turnout of the plan. A derailed train stands.
+/// is thrown under it, and has its switch: that of a turnout of the plan. A derailed train stands. Of
+/// a time in which a motor turns both ways these hold of each part.
 pub fn trains_stop()
     ensures buffer_stop { (network : Network) (train : TrainState) (micros : ℕ)
-        (nodes : List Node) (ahead : ℕ) (place : Place)
+        (nodes : List Node) (forward : Bool) (ahead : ℕ) (place : Place)
         → IsTrue (is_sound network) → IsTrue (is_train network train) → is_derailed train ≡ false
-        → way_on network (leading nodes train) ahead ≡ Some place
+        → IsTrue (runs_only forward nodes micros train)
+        → way_on network (leading_end forward train) ahead ≡ Some place
         → onward network place ≡ BufferStop → ahead ≤ way_of nodes micros train
-        → leading nodes (run_in network micros nodes train) ≡ place }
+        → leading_end forward (run_in network micros nodes train) ≡ place }
     ensures against { (network : Network) (train : TrainState) (micros : ℕ)
-        (nodes : List Node) (ahead : ℕ) (place : Place)
+        (nodes : List Node) (forward : Bool) (ahead : ℕ) (place : Place)
         → IsTrue (is_sound network) → IsTrue (is_train network train) → is_derailed train ≡ false
-        → way_on network (leading nodes train) ahead ≡ Some place
+        → IsTrue (runs_only forward nodes micros train)
+        → way_on network (leading_end forward train) ahead ≡ Some place
         → onward network place ≡ Against → ahead < way_of nodes micros train
         → (run_in network micros nodes train).derailed_at
         ≡ Some (switch_at network.turnouts (end_ahead place)) }
@@ -122,9 +207,9 @@ pub fn observers_know()
 
 /// Nothing is reported without a change.
 pub fn reports_are_changes()
-    ensures changes { (railway : RailwayState) (micros : ℕ) (nodes : List Node)
-        → AreChanges railway.network.blocks railway.trains (elapsed railway micros nodes).trains
-        (reports_in railway micros nodes) }
+    ensures changes { (railway : RailwayState) (micros : ℕ) (power : Power) (nodes : List Node)
+        → AreChanges railway.network.blocks railway.trains
+        (elapsed railway micros power nodes).trains (reports_in railway micros power nodes) }
 {}
 
 /// A conflict is reported of a block exactly if two different trains are in it.

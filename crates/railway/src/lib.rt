@@ -11,9 +11,10 @@
 //! ```
 //!
 //! Trains run as their decoders run, not as they were asked to: speed step n of N is n / N of the
-//! top speed, at once. A train stops at an end that nothing joins. It is derailed by a turnout that
-//! lies against it or is thrown under it, and stands until [`Railway::place`] puts it back. Two
-//! trains in a block are a [`Conflict`].
+//! top speed, at once or as fast as their [`Momentum`] lets them. An emergency stop is at once. A
+//! train stops at an end that nothing joins, and stands without track power. It is derailed by a
+//! turnout that lies against it or is thrown under it, and stands until [`Railway::place`] puts it
+//! back. Two trains in a block are a [`Conflict`].
 //!
 //! The tests are in `layout_tests/src/test_railway.rt`.
 #![tactic(auto)]
@@ -38,6 +39,7 @@ pub use exit::Exit;
 pub use fault::{Part, PlaceFault, PlanFault};
 pub use joint::{Joint, Turnout, TurnoutState};
 pub use ln_ops::{SensorReport, is_interrogation};
+pub use motion::{Momentum, Velocity};
 pub use plan::{MAX_BLOCKS, MAX_JOINTS, MAX_TRAINS, MAX_TURNOUTS, Plan};
 pub use railway::Railway;
 pub use report::{MAX_REPORTS, Reports};

@@ -4,9 +4,9 @@ ghost use Rattle.std.specs.List.{list_all, slice_index_or};
 ghost use Rattle.railway.specs.Conflicts.{conflicts};
 ghost use Rattle.railway.specs.Faults.{fault_of};
 ghost use Rattle.railway.specs.Network.{exit_of};
-ghost use Rattle.railway.specs.Railway.{elapsed, is_railway, place_fault, placed_in, planned, replaced, reports_in};
+ghost use Rattle.railway.specs.Railway.{elapsed, is_railway, place_fault, placed_in, planned, replaced, reports_in, speed_in, train_at};
 ghost use Rattle.railway.specs.Reports.{changes, full, is_occupied, is_report};
-ghost use Rattle.railway.specs.Trains.{default_state, state_of_train};
+ghost use Rattle.railway.specs.Trains.{default_state, is_placeable, state_of_train};
 ghost use Rattle.railway.specs.Turnouts.{state_of_turnout};
 
 use crate::block::{Block, BlockEnd};
@@ -80,11 +80,14 @@ impl Railway {
     /// Lets `micros` microseconds pass in which the decoders of the layout do what they do now.
     ///
     /// Turnouts lie as their decoders move them. A train runs as its decoder runs, up to a buffer
-    /// stop. It is derailed if a turnout is thrown under it or lies against it. Returns the
-    /// reports of the sensors whose blocks became occupied, then of those that became free.
+    /// stop. It is derailed if a turnout is thrown under it or lies against it. Without track power
+    /// trains stand. Returns the reports of the sensors whose blocks became occupied, then of those
+    /// that became free.
     pub fn elapse(&mut self, micros: u32, world: &World) -> Reports
-        ensures railway { self.new ≡ elapsed self.old micros world.now.nodes }
-        ensures reports { result.items ≡ reports_in self.old micros world.now.nodes }
+        ensures railway { self.new
+            ≡ elapsed self.old micros world.now.station.powered.power world.now.nodes }
+        ensures reports { result.items
+            ≡ reports_in self.old micros world.now.station.powered.power world.now.nodes }
         ensures sensors { IsTrue (list_all is_report result.items) }
     {
         self.track.lay(world);
@@ -98,7 +101,7 @@ impl Railway {
 }
 
 impl Railway {
-    /// Puts a train on the track, derailed or not: its front at a position, the rest within the same block.
+    /// Puts a train on the track, derailed or not: its front at a position, the rest within the same block. It is at rest.
     /// Returns the reports of the sensors whose blocks became occupied, then of those that became
     /// free.
     ///
@@ -173,6 +176,14 @@ impl Railway {
         self.trains.as_slice()
     }
 
+    /// Returns how fast a train runs, in millimetres a second, rounded down; 0 if there is no such
+    /// train. At a buffer stop a train stands, whatever its motor does.
+    pub fn speed(&self, train: usize) -> u32
+        ensures speed { result ≡ speed_in self.now train }
+    {
+        self.track.speed_in(self.trains.as_slice(), train)
+    }
+
     /// Returns the turnouts, as they lie: at most 64.
     pub fn turnouts(&self) -> &[TurnoutState]
         ensures turnouts { result.now ≡ self.now.network.turnouts }
@@ -212,12 +223,14 @@ impl Railway {
 fn replaced(trains: &[TrainState], i: usize, position: Position) -> Trains
     requires few { length trains.now ≤ 64 }
     requires train { i < length trains.now }
+    requires placeable { IsTrue (is_placeable
+        (train_at (slice_index_or trains.now i default_state) position)) }
     ensures { result.items ≡ slice_set trains.now i
         (replaced (slice_index_or trains.now i default_state) position) }
 {
     let train = trains[i];
     let mut after = copied(trains);
-    after.as_mut_slice()[i] = placed(train.decoder, train.top, train.length, position);
+    after.as_mut_slice()[i] = placed(&train.at(position));
     after
 }
 
@@ -265,12 +278,13 @@ fn turnout_state(decoders: &[NodeSpec], turnout: &Turnout) -> TurnoutState
 
 /// Returns the trains of a plan, as they are put.
 fn train_states(trains: &[Train]) -> Trains
-    requires { length trains.now ≤ 64 }
+    requires few { length trains.now ≤ 64 }
+    requires placeable { IsTrue (list_all is_placeable trains.now) }
     ensures { result.items ≡ map state_of_train trains.now }
 {
     let mut states = ArrayVec::new();
     for train in trains {
-        states.push(placed(train.decoder, train.top, train.length, train.position));
+        states.push(placed(train));
     }
     states
 }

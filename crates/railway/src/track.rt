@@ -4,16 +4,18 @@ ghost use Rattle.std.specs.List.{list_all, list_any};
 ghost use Rattle.railway.specs.Blocks.{length_of};
 ghost use Rattle.railway.specs.Network.{LeadsToPlan, across, as_joint, exit_of, is_branch, is_end_of, joined, off_rails, onward, partner, place_of, run_on, switch_at, way_on};
 ghost use Rattle.railway.specs.Places.{is_on_track, start_at, to_end};
-ghost use Rattle.railway.specs.Running.{is_within};
+ghost use Rattle.railway.specs.Running.{can_run, is_within};
 
 use crate::block::{Block, BlockEnd, End};
 use crate::exit::{Exit, Onward};
 use crate::joint::{Joint, TurnoutState};
 use crate::plan::{MAX_BLOCKS, MAX_JOINTS, MAX_TURNOUTS};
 use crate::reading::{observed, running};
-use crate::train::{Place, TrainState, Trains, is_forward, speed};
+use crate::train::{MILLIMETRE_A_SECOND, Place, TrainState, Trains, drive};
 use arrayvec::ArrayVec;
 use layout_core::{Running, World};
+use motion::Leg;
+use station_core::Power;
 use std::marker::Model;
 
 /// The track: blocks, and what joins their ends.
@@ -134,14 +136,14 @@ fn is_branch(turnouts: &[TurnoutState], end: BlockEnd) -> bool
 }
 
 impl Track {
-    /// Returns the length of a block in picometres.
+    /// Returns the length of a block in femtometres.
     fn length(&self, block: u8) -> u64
         requires { block < length self.now.blocks }
         ensures length { result ≡ length_of self.now.blocks block }
         ensures shortest { 1 ≤ result }
-        ensures longest { result ≤ 100000000000000 }
+        ensures longest { result ≤ 100000000000000000 }
     {
-        self.blocks.as_slice()[usize::from(block)].picometres()
+        self.blocks.as_slice()[usize::from(block)].femtometres()
     }
 
     /// Returns what lies beyond an end of a block, as the turnouts lie.
@@ -174,7 +176,7 @@ impl Track {
 }
 
 impl Track {
-    /// Returns the first picometre beyond an end.
+    /// Returns the first femtometre beyond an end.
     fn start_at(&self, end: BlockEnd) -> Place
         requires { end.block < length self.now.blocks }
         ensures place { result ≡ start_at self.now.blocks end }
@@ -192,16 +194,16 @@ impl Track {
         }
     }
 
-    /// Returns how many picometres lie ahead in the block.
+    /// Returns how many femtometres lie ahead in the block.
     fn to_end(&self, place: Place) -> u64
         requires { IsTrue (is_on_track self.now.blocks place) }
         ensures ahead { result ≡ to_end (length_of self.now.blocks place.block) place }
-        ensures fits { place.at + result ≤ 200000000000000 }
+        ensures fits { place.at + result ≤ 200000000000000000 }
     {
         place.to_end(self.length(place.block))
     }
 
-    /// Returns the picometre ahead.
+    /// Returns the femtometre ahead.
     fn onward(&self, place: Place) -> Onward
         requires { IsTrue (is_on_track self.now.blocks place) }
         ensures onward { result ≡ onward self.now place }
@@ -240,7 +242,7 @@ impl Track {
         }
     }
 
-    /// Returns the place `way` picometres ahead, or `None` if the track ends before.
+    /// Returns the place `way` femtometres ahead, or `None` if the track ends before.
     fn way_on(&self, place: Place, way: u64) -> Option<Place>
         requires { IsTrue (is_on_track self.now.blocks place) }
         ensures { result ≡ way_on self.now place way }
@@ -253,13 +255,13 @@ impl Track {
         Some(place)
     }
 
-    /// Returns the train where it is, derailed by the turnout ahead of a place.
+    /// Returns the train where it is, derailed by the turnout ahead of a place. It stands.
     fn off_rails(&self, train: &TrainState, place: Place) -> TrainState
         ensures { result ≡ off_rails self.now place train.now }
     {
         TrainState {
             derailed_at: Some(switch_at(self.turnouts.as_slice(), place.end_ahead())),
-            ..*train
+            ..train.still()
         }
     }
 
@@ -297,7 +299,7 @@ impl Track {
         }
     }
 
-    /// Runs a train forward by so many picometres.
+    /// Runs a train forward by so many femtometres.
     fn run_on(&self, train: &TrainState, way: u64) -> TrainState
         requires { IsTrue (is_within self.now.blocks train.now) }
         ensures run { result ≡ run_on self.now train.now way }
@@ -313,14 +315,15 @@ impl Track {
 }
 
 impl Track {
+    ghost use Rattle.std.specs.Prelude.{slice_get};
     ghost use Rattle.railway.specs.Network.{checked, spans};
-    ghost use Rattle.railway.specs.Railway.{run_in};
-    ghost use Rattle.railway.specs.Running.{run_for};
+    ghost use Rattle.railway.specs.Railway.{run_in, run_under, shown_speed, speed_or_none};
+    ghost use Rattle.railway.specs.Running.{moved_at, run_for};
     ghost use Rattle.railway.specs.Turnouts.{laid, observed};
 
     /// Whether the track leads from the rear of a train to its front, over its length.
     fn spans(&self, train: &TrainState) -> bool
-        requires { IsTrue (is_within self.now.blocks train.now) }
+        requires { IsTrue (can_run self.now.blocks train.now) }
         ensures { result ≡ spans self.now train.now }
     {
         match self.way_on(train.rear, train.span()) {
@@ -331,9 +334,9 @@ impl Track {
 
     /// Returns the train, derailed by the turnout that was thrown under it, if one was.
     fn checked(&self, train: &TrainState) -> TrainState
-        requires { IsTrue (is_within self.now.blocks train.now) }
+        requires { IsTrue (can_run self.now.blocks train.now) }
         ensures checked { result ≡ checked self.now train.now }
-        ensures within { IsTrue (is_within self.now.blocks result) }
+        ensures runs { IsTrue (can_run self.now.blocks result) }
         ensures decoder { result.decoder ≡ train.now.decoder }
     {
         if train.is_derailed() || self.spans(train) {
@@ -343,18 +346,42 @@ impl Track {
         }
     }
 
+    /// Returns a train that has run for a part of a time in which it goes in one direction. A derailed
+    /// train stays where it is.
+    fn moved(&self, train: &TrainState, leg: Leg) -> TrainState
+        requires runs { IsTrue (can_run self.now.blocks train.now) }
+        requires slow { leg.velocity.speed ≤ 2199023255552 }
+        ensures moved { result ≡ moved_at self.now leg.velocity leg.way train.now }
+        ensures runs { IsTrue (can_run self.now.blocks result) }
+    {
+        if train.is_derailed() {
+            return *train;
+        }
+        let train = TrainState {
+            velocity: leg.velocity,
+            ..*train
+        };
+        if leg.velocity.forward {
+            self.run_on(&train, leg.way)
+        } else {
+            self.run_on(&train.turned(), leg.way).turned()
+        }
+    }
+
     /// Returns a train that has run for `micros` microseconds as its decoder runs.
     fn run_for(&self, train: &TrainState, micros: u32, running: Option<Running>) -> TrainState
-        requires { IsTrue (is_within self.now.blocks train.now) }
-        ensures run { result ≡ run_for self.now micros running train.now }
-        ensures within { IsTrue (is_within self.now.blocks result) }
+        requires { IsTrue (can_run self.now.blocks train.now) }
+        ensures { result ≡ run_for self.now micros running train.now }
     {
-        let way = speed(train.top, running) * u64::from(micros);
-        if is_forward(running) {
-            self.run_on(train, way)
-        } else {
-            self.run_on(&train.turned(), way).turned()
+        let drive = drive(train, running);
+        let mut train = *train;
+        let mut left = micros;
+        while left > 0 {
+            let leg = train.velocity.leg(drive, left);
+            train = self.moved(&train, leg);
+            left -= leg.micros;
         }
+        train
     }
 
     /// Returns the turnouts as their decoders move them.
@@ -372,23 +399,61 @@ impl Track {
     /// derailed where a turnout was thrown under it.
     pub(crate) fn run_all(&self, trains: &[TrainState], micros: u32, world: &World) -> Trains
         requires few { length trains.now ≤ 64 }
-        requires within { IsTrue (list_all (is_within self.now.blocks) trains.now) }
-        ensures { result.items ≡ map (run_in self.now micros world.now.nodes) trains.now }
+        requires run { IsTrue (list_all (can_run self.now.blocks) trains.now) }
+        ensures { result.items
+            ≡ map (run_under world.now.station.powered.power self.now micros world.now.nodes)
+            trains.now }
     {
         let mut after = ArrayVec::new();
         for train in trains {
-            after.push(self.run_in(train, micros, world));
+            after.push(self.run_under(train, micros, world));
         }
         after
     }
 
+    /// Returns this train after `micros` microseconds. Without track power it stands.
+    fn run_under(&self, train: &TrainState, micros: u32, world: &World) -> TrainState
+        requires { IsTrue (can_run self.now.blocks train.now) }
+        ensures { result
+            ≡ run_under world.now.station.powered.power self.now micros world.now.nodes train.now }
+    {
+        match world.station().power() {
+            Power::Off => self.checked(train).still(),
+            Power::Running | Power::Paused => self.run_in(train, micros, world),
+        }
+    }
+
     /// Returns this train after `micros` microseconds.
     fn run_in(&self, train: &TrainState, micros: u32, world: &World) -> TrainState
-        requires { IsTrue (is_within self.now.blocks train.now) }
+        requires { IsTrue (can_run self.now.blocks train.now) }
         ensures { result ≡ run_in self.now micros world.now.nodes train.now }
     {
         let train = self.checked(train);
         self.run_for(&train, micros, running(world, train.decoder))
+    }
+
+    /// Returns how fast one of some trains runs, as [`Track::shown_speed`]; 0 if there is no such train.
+    pub(crate) fn speed_in(&self, trains: &[TrainState], i: usize) -> u32
+        requires { IsTrue (list_all (can_run self.now.blocks) trains.now) }
+        ensures { result ≡ speed_or_none self.now (slice_get trains.now i) }
+    {
+        match trains.get(i) {
+            Some(train) => self.shown_speed(train),
+            None => 0,
+        }
+    }
+
+    /// Returns how fast a train runs, in millimetres a second, rounded down: not at all where a buffer
+    /// stop holds it.
+    fn shown_speed(&self, train: &TrainState) -> u32
+        requires { IsTrue (can_run self.now.blocks train.now) }
+        ensures { result ≡ shown_speed self.now train.now }
+    {
+        let velocity = train.velocity;
+        match self.onward(train.leading_end(velocity.forward)) {
+            Onward::BufferStop => 0,
+            Onward::To(_) | Onward::Against => (velocity.speed / MILLIMETRE_A_SECOND) as u32,
+        }
     }
 
     /// Lays the turnouts as their decoders move them.

@@ -1,12 +1,14 @@
 //! Trains.
-ghost use Rattle.std.specs.Prelude.{◌≡◌, ◌≤◌, ◌<◌, ◌+◌, ◌^◌, true};
-ghost use Rattle.railway.specs.Places.{end_ahead, further, is_derailed, moved, same_place, span, to_end, turned, turned_place};
-ghost use Rattle.railway.specs.Trains.{default_state, default_train, fits, is_forward, placed, speed_at, speed_of};
+ghost use Rattle.std.specs.Prelude.{◌≡◌, ◌≤◌, ◌<◌, ◌+◌, ◌^◌, IsTrue, true};
+ghost use Rattle.motion.specs.Velocity.{is_drive, is_momentum};
+ghost use Rattle.railway.specs.Places.{end_ahead, further, is_derailed, leading_end, moved, same_place, span, still, to_end, turned, turned_place};
+ghost use Rattle.railway.specs.Trains.{default_state, default_train, drive_of, fits, is_forward, is_placeable, momentum_of, speed_at, speed_of, standstill, state_of_train};
 
 use crate::block::{BlockEnd, End, MILLIMETRE};
 use crate::plan::MAX_TRAINS;
 use arrayvec::ArrayVec;
 use layout_core::{Motion, Running, Steps};
+use motion::{Drive, FASTEST, Momentum, Velocity};
 
 /// Where a train is put: within one block.
 #[derive(Clone, Copy)]
@@ -28,18 +30,29 @@ pub struct Train {
     pub top: u16,
     /// Its length in millimetres: at least 1, and at most that of the shortest block.
     pub length: u32,
+    /// How fast it gathers speed and brakes; `None` for at once.
+    pub momentum: Option<Momentum>,
     pub position: Position,
 }
+
+/// A millimetre a second, in femtometres a microsecond.
+pub(crate) const MILLIMETRE_A_SECOND: u64 = MILLIMETRE / 1_000_000;
+
+/// The velocity of a train at rest.
+const STANDSTILL: Velocity = Velocity {
+    forward: true,
+    speed: 0,
+};
 
 /// The trains of a railway.
 pub(crate) type Trains = ArrayVec<TrainState, MAX_TRAINS>;
 
-/// A picometre of the track, and the end of the block that is ahead there.
+/// A femtometre of the track, and the end of the block that is ahead there.
 #[derive(Clone, Copy)]
 pub struct Place {
     /// The index of the block in the plan, from 0.
     pub block: u8,
-    /// The picometre of the block, counted from 0 at end A.
+    /// The femtometre of the block, counted from 0 at end A.
     pub at: u64,
     /// The end that is ahead.
     pub toward: End,
@@ -54,16 +67,20 @@ pub struct TrainState {
     pub top: u16,
     /// Its length in millimetres.
     pub length: u32,
-    /// The foremost picometre of the train. The end ahead is where it goes if it runs forward.
+    /// How fast it gathers speed and brakes; `None` for at once.
+    pub momentum: Option<Momentum>,
+    /// The foremost femtometre of the train. The end ahead is where it goes if it runs forward.
     pub front: Place,
     /// The rearmost one. The end ahead is the one on the way to the front.
     pub rear: Place,
+    /// How fast its motor runs it, in femtometres a microsecond, and in which direction.
+    pub velocity: Velocity,
     /// The switch of the turnout that derailed it, until it is placed again; `None` on the rails.
     pub derailed_at: Option<u16>,
 }
 
 impl Place {
-    /// Returns how many picometres lie ahead in a block of `length` picometres.
+    /// Returns how many femtometres lie ahead in a block of `length` femtometres.
     pub(crate) fn to_end(self, length: u64) -> u64
         ensures { result ≡ to_end length self }
     {
@@ -73,7 +90,7 @@ impl Place {
         }
     }
 
-    /// Returns the place `way` picometres ahead in the same block.
+    /// Returns the place `way` femtometres ahead in the same block.
     pub(crate) fn further(self, way: u64) -> Place
         requires { self.at + way < 2 ^ 64 }
         ensures { result ≡ further self way }
@@ -114,6 +131,8 @@ impl Place {
 }
 
 impl TrainState {
+    ghost use Rattle.railway.specs.Railway.{train_at};
+
     /// Whether it stands off the rails.
     pub fn is_derailed(&self) -> bool
         ensures derailed { result ≡ is_derailed self.now }
@@ -132,7 +151,7 @@ impl TrainState {
         }
     }
 
-    /// Returns the train `way` picometres ahead, with both ends in the same blocks.
+    /// Returns the train `way` femtometres ahead, with both ends in the same blocks.
     pub(crate) fn moved(&self, way: u64) -> TrainState
         requires front { self.now.front.at + way < 2 ^ 64 }
         requires rear { self.now.rear.at + way < 2 ^ 64 }
@@ -145,8 +164,46 @@ impl TrainState {
         }
     }
 
-    /// Returns how far the front is from the rear, in picometres.
+    /// Returns the train where it is, at rest.
+    pub(crate) fn still(&self) -> TrainState
+        ensures { result ≡ still self.now }
+    {
+        TrainState {
+            velocity: Velocity {
+                speed: 0,
+                ..self.velocity
+            },
+            ..*self
+        }
+    }
+
+    /// Returns the end of the train that leads in a direction, with what lies ahead of it.
+    pub(crate) fn leading_end(&self, forward: bool) -> Place
+        ensures { result ≡ leading_end forward self.now }
+    {
+        if forward {
+            self.front
+        } else {
+            self.rear.turned()
+        }
+    }
+
+    /// Returns the train as one of a plan that has it at a position.
+    pub(crate) fn at(&self, position: Position) -> Train
+        ensures { result ≡ train_at self.now position }
+    {
+        Train {
+            decoder: self.decoder,
+            top: self.top,
+            length: self.length,
+            momentum: self.momentum,
+            position,
+        }
+    }
+
+    /// Returns how far the front is from the rear, in femtometres.
     pub(crate) fn span(&self) -> u64
+        requires { self.now.length ≤ 100000 }
         ensures { result ≡ span self.now }
     {
         (u64::from(self.length) * MILLIMETRE).saturating_sub(1)
@@ -162,6 +219,7 @@ impl Default for Train {
             decoder: 0,
             top: 0,
             length: 1,
+            momentum: None,
             position: Position {
                 block: 0,
                 at: 0,
@@ -174,7 +232,7 @@ impl Default for Train {
 impl Default for TrainState {
     ghost is_default = { λ train. train ≡ default_state };
 
-    /// The default train, where it was put.
+    /// The default train, at rest where it was put.
     fn default() -> TrainState {
         let place = Place {
             block: 0,
@@ -185,8 +243,10 @@ impl Default for TrainState {
             decoder: 0,
             top: 0,
             length: 1,
+            momentum: None,
             front: place,
             rear: place,
+            velocity: STANDSTILL,
             derailed_at: None,
         }
     }
@@ -202,12 +262,14 @@ pub(crate) fn fits(block: u32, length: u32, position: Position) -> bool
     }
 }
 
-/// Returns a train that was put at a position.
-pub(crate) fn placed(decoder: u8, top: u16, length: u32, position: Position) -> TrainState
-    ensures { result ≡ placed decoder top length position }
+/// Returns a train of a plan, at rest where it is put.
+pub(crate) fn placed(train: &Train) -> TrainState
+    requires { IsTrue (is_placeable train.now) }
+    ensures { result ≡ state_of_train train.now }
 {
+    let position = train.position;
     let at = u64::from(position.at);
-    let size = u64::from(length);
+    let size = u64::from(train.length);
     let (front, rear) = match position.facing {
         End::A => (
             at * MILLIMETRE,
@@ -224,19 +286,49 @@ pub(crate) fn placed(decoder: u8, top: u16, length: u32, position: Position) -> 
         toward: position.facing,
     };
     TrainState {
-        decoder,
-        top,
-        length,
+        decoder: train.decoder,
+        top: train.top,
+        length: train.length,
+        momentum: train.momentum,
         front: place(front),
         rear: place(rear),
+        velocity: STANDSTILL,
         derailed_at: None,
     }
 }
 
-/// Returns the speed of a train of this top speed, in micrometres a second, rounded down.
-pub(crate) fn speed(top: u16, running: Option<Running>) -> u64
+/// Returns what a train is asked for by its decoder.
+pub(crate) fn drive(train: &TrainState, running: Option<Running>) -> Drive
+    requires { IsTrue (is_momentum train.now.momentum) }
+    ensures drive { result ≡ drive_of train.now running }
+    ensures is_drive { IsTrue (is_drive result) }
+{
+    Drive {
+        forward: is_forward(running),
+        speed: speed(train.top, running),
+        momentum: momentum(train.momentum, running),
+    }
+}
+
+/// Returns how fast a train of this momentum gathers speed and brakes: an emergency stop is at once.
+fn momentum(momentum: Option<Momentum>, running: Option<Running>) -> Option<Momentum>
+    requires { IsTrue (is_momentum momentum) }
+    ensures momentum { result ≡ momentum_of running momentum }
+    ensures is_momentum { IsTrue (is_momentum result) }
+{
+    match running {
+        Some(running) => match running.motion {
+            Motion::Emergency => None,
+            Motion::Stop | Motion::Step { .. } => momentum,
+        },
+        None => momentum,
+    }
+}
+
+/// Returns the speed of a train of this top speed, in femtometres a microsecond, rounded down.
+fn speed(top: u16, running: Option<Running>) -> u64
     ensures speed { result ≡ speed_of top running }
-    ensures fits { result ≤ 1200000000 }
+    ensures slow { result ≤ 2199023255552 }
 {
     match running {
         None => 0,
@@ -246,7 +338,7 @@ pub(crate) fn speed(top: u16, running: Option<Running>) -> u64
 
 fn speed_at(top: u16, motion: Motion) -> u64
     ensures speed { result ≡ speed_at top motion }
-    ensures fits { result ≤ 1200000000 }
+    ensures slow { result ≤ 2199023255552 }
 {
     match motion {
         Motion::Stop | Motion::Emergency => 0,
@@ -256,13 +348,14 @@ fn speed_at(top: u16, motion: Motion) -> u64
                 Steps::S28 => 28,
                 Steps::S128 => 126,
             };
-            u64::from(top) * 1000 * u64::from(n) / steps
+            let speed = u64::from(top) * MILLIMETRE_A_SECOND * u64::from(n) / steps;
+            speed.min(FASTEST)
         }
     }
 }
 
 /// Whether it runs forward.
-pub(crate) fn is_forward(running: Option<Running>) -> bool
+fn is_forward(running: Option<Running>) -> bool
     ensures { result ≡ is_forward running }
 {
     match running {

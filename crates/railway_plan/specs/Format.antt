@@ -5,6 +5,7 @@ use Rattle.std.specs.List.{list_all}
 use Rattle.std.specs.Str.{bytes_eq}
 use Rattle.toml.specs.Data.{Data, Items, no_items, item, Members, get_member, as_array, as_integer, as_str, as_table}
 use Rattle.ascii_words.specs.Words.{is_name_byte}
+use Rattle.motion.specs.declared.velocity.Momentum.{Momentum}
 use Rattle.roster.specs.Steps.{◌>>=◌, or_fault}
 use Rattle.roster.specs.Toml.{items_len, knows_only, table_in}
 use Rattle.railway.specs.declared.block.BlockEnd.{BlockEnd}
@@ -48,6 +49,8 @@ spelled key.Decoder = codes "decoder"
 spelled key.Front = codes "front"
 spelled key.Facing = codes "facing"
 spelled key.Speed = codes "speed"
+spelled key.Acceleration = codes "acceleration"
+spelled key.Braking = codes "braking"
 
 abbrev pub value_at : Key → Members → Option Data
 value_at k table = get_member (spelled k) table
@@ -197,7 +200,7 @@ turnout_in blocks given = do
   Ok (record { switch = switch; common = common; closed = closed; thrown = thrown })
 
 -- Trains: the decoder by its name in the roster, the block, how far the front is from end A, the
--- end that it faces, the length, and the speed at the last step.
+-- end that it faces, the length, the speed at the last step, and how fast it gathers speed and brakes.
 
 -- the index of the first of these names that is this one; that of the first is `i`
 abbrev pub index_from : ℕ → List Text → Text → Option ℕ
@@ -220,8 +223,32 @@ abbrev pub facing_at : Members → Result End Why
 facing_at table =
     text_at key.Facing table >>= (λ end. or_fault (facing_of end) (BadKey key.Facing))
 
+-- a rate may be left out
+abbrev pub rate_or_none : Key → Option Data → Result (Option ℕ) Why
+rate_or_none k None = Ok None
+rate_or_none k (Some value) = do
+  number ← or_fault (as_integer value) (BadKey k)
+  rate ← in_range k (from_to 1 65535) number
+  Ok (Some rate)
+
+-- both rates, or none
+abbrev pub momentum_of : (acceleration braking : Option ℕ) → Result (Option Momentum) Why
+momentum_of None None = Ok None
+momentum_of (Some acceleration) (Some braking) =
+    Ok (Some (record { acceleration = acceleration; braking = braking }))
+momentum_of None (Some braking) = Err (BadKey key.Acceleration)
+momentum_of (Some acceleration) None = Err (BadKey key.Braking)
+
+abbrev pub momentum_at : Members → Result (Option Momentum) Why
+momentum_at table = do
+  acceleration ← rate_or_none key.Acceleration (value_at key.Acceleration table)
+  braking ← rate_or_none key.Braking (value_at key.Braking table)
+  momentum_of acceleration braking
+
 abbrev pub train_keys : List Key
-train_keys = key.Decoder ∷ key.Block ∷ key.Front ∷ key.Facing ∷ key.Length ∷ key.Speed ∷ []
+train_keys =
+    key.Decoder ∷ key.Block ∷ key.Front ∷ key.Facing ∷ key.Length ∷ key.Speed
+    ∷ key.Acceleration ∷ key.Braking ∷ []
 
 abbrev pub train_in : (decoders blocks : List Text) → Members → Result Train Why
 train_in decoders blocks given = do
@@ -232,10 +259,12 @@ train_in decoders blocks given = do
   facing ← facing_at table
   size ← number_at key.Length (from_to 1 100000) table
   top ← number_at key.Speed (from_to 0 65535) table
+  momentum ← momentum_at table
   Ok (record {
     decoder = decoder;
     top = top;
     length = size;
+    momentum = momentum;
     position = record { block = block; at = at; facing = facing };
   })
 

@@ -13,7 +13,7 @@ use Rattle.railway_plan.specs.declared.fault.Section.{Section}
 use Rattle.railway_plan.specs.declared.fault.Section.TheVariants.{Block, Joint, Turnout, Train}
 use Rattle.railway_plan.specs.declared.fault.Why.{Why}
 use Rattle.railway_plan.specs.declared.fault.Why.TheVariants.{BadKey, UnknownBlock, RepeatedName, RepeatedSensor, RepeatedEnd, NoDecoder, LongTrain, OffTrack}
-use Rattle.railway_plan.specs.declared.key.Key.TheVariants.{Length, Sensor}
+use Rattle.railway_plan.specs.declared.key.Key.TheVariants.{Acceleration, Length, Sensor}
 use Rattle.railway_plan.specs.Entries.{plan_entries}
 use Rattle.railway_plan.specs.Format.{Text, plan_in}
 
@@ -39,6 +39,7 @@ text_fault (bad.UnknownBlock part) = fault_at (section_of part) UnknownBlock
 text_fault (bad.EndTwice end) = fault_at (Block (number_of end.block)) (RepeatedEnd end.end)
 text_fault (bad.UnknownDecoder part) = fault_at (section_of part) NoDecoder
 text_fault (bad.TrainLength i) = fault_at (Train (number_of i)) LongTrain
+text_fault (bad.Momentum i) = fault_at (Train (number_of i)) (BadKey Acceleration)
 text_fault (bad.OffTrack i) = fault_at (Train (number_of i)) OffTrack
 
 -- the text is a plan without a fault, and this is its railway

@@ -38,3 +38,9 @@ pub(crate) const SPEED: Bounds = Bounds {
     least: 0,
     most: 65_535,
 };
+
+/// How fast a train gathers speed or brakes, in millimetres a second each second.
+pub(crate) const RATE: Bounds = Bounds {
+    least: 1,
+    most: 65_535,
+};

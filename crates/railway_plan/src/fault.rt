@@ -2,7 +2,7 @@
 ghost use Rattle.std.specs.Prelude.{◌≡◌};
 ghost use Rattle.railway_plan.specs.Railways.{number_of, section_of, text_fault};
 
-use crate::bounds::{Bounds, FRONT, LENGTH, SENSOR, SPEED, SWITCH};
+use crate::bounds::{Bounds, FRONT, LENGTH, RATE, SENSOR, SPEED, SWITCH};
 use crate::key::Key;
 use railway::{End, Part, PlanFault};
 use std::fmt;
@@ -102,6 +102,7 @@ fn place_of(fault: PlanFault) -> (Section, Why)
         }
         PlanFault::UnknownDecoder(part) => (section_of(part), Why::NoDecoder),
         PlanFault::TrainLength(i) => (Section::Train(number_of(i)), Why::LongTrain),
+        PlanFault::Momentum(i) => { (Section::Train(number_of(i)), Why::BadKey(Key::Acceleration)) }
         PlanFault::OffTrack(i) => (Section::Train(number_of(i)), Why::OffTrack),
     }
 }
@@ -129,6 +130,7 @@ fn write_demand<W: fmt::Write>(key: Key, f: &mut fmt::Formatter<W>) -> fmt::Resu
         Key::Switch => write_bounds(key, SWITCH, f),
         Key::Front => write_bounds(key, FRONT, f),
         Key::Speed => write_bounds(key, SPEED, f),
+        Key::Acceleration | Key::Braking => write_bounds(key, RATE, f),
         Key::A | Key::B => write!(f, "{key} must be two numbers from -10000 to 10000"),
         Key::Ends => f.write_str("ends must be two ends of blocks"),
         Key::Common | Key::Closed | Key::Thrown => write!(f, "{key} must be an end of a block"),

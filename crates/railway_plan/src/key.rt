@@ -26,6 +26,8 @@ pub enum Key {
     Front,
     Facing,
     Speed,
+    Acceleration,
+    Braking,
 }
 
 impl Key {
@@ -53,6 +55,8 @@ impl Key {
             Key::Front => "front",
             Key::Facing => "facing",
             Key::Speed => "speed",
+            Key::Acceleration => "acceleration",
+            Key::Braking => "braking",
         }
     }
 }

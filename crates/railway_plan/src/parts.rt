@@ -2,16 +2,18 @@
 ghost use Rattle.std.specs.Prelude.{◌≡◌, ◌≤◌, Ok, Err, MatchResult, length, map};
 ghost use Rattle.toml.specs.View.{items_view, table_view, view};
 ghost use Rattle.roster.specs.Entry.{name_of};
-ghost use Rattle.railway_plan.specs.Format.{block_at, block_in, decoder_at, end_at, end_of, facing_at, is_block_name, joint_in, joint_of, name_in, part_of, table_of, train_in, turnout_in};
+ghost use Rattle.railway_plan.specs.Format.{block_at, block_in, decoder_at, end_at, end_of, facing_at, is_block_name, joint_in, joint_of, momentum_at, momentum_of, name_in, part_of, table_of, train_in, turnout_in};
 ghost use Rattle.railway_plan.specs.Entries.{block_entry, names_of};
 
 use crate::bounds::{FRONT, LENGTH, SPEED, SWITCH};
 use crate::fault::Why;
 use crate::key::Key;
 use crate::names::{block_end, block_index, decoder_index};
-use crate::table::{number_at, point, sensor, text_at, value_at};
+use crate::table::{number_at, point, rate, sensor, text_at, value_at};
 use ascii_words::are_name_bytes;
-use railway::{Block, BlockEnd, End, Joint, LONGEST_NAME, Name, Position, Train, Turnout};
+use railway::{
+    Block, BlockEnd, End, Joint, LONGEST_NAME, Momentum, Name, Position, Train, Turnout,
+};
 use roster::{Roster, knows_only};
 use toml::{Table, Value};
 
@@ -145,7 +147,16 @@ pub(crate) fn train(roster: &Roster, blocks: &[Block], value: &Value) -> Result<
     let table = table_of(value)?;
     if !knows_only(
         table,
-        &["decoder", "block", "front", "facing", "length", "speed"],
+        &[
+            "decoder",
+            "block",
+            "front",
+            "facing",
+            "length",
+            "speed",
+            "acceleration",
+            "braking",
+        ],
     ) {
         return Err(Why::UnknownKey);
     }
@@ -159,8 +170,33 @@ pub(crate) fn train(roster: &Roster, blocks: &[Block], value: &Value) -> Result<
         decoder,
         length: number_at(table, Key::Length, LENGTH)?,
         top: number_at(table, Key::Speed, SPEED)? as u16,
+        momentum: momentum_at(table)?,
         position,
     })
+}
+
+/// Returns how fast a train gathers speed and brakes, if the table says it.
+fn momentum_at(table: &Table) -> Result<Option<Momentum>, Why>
+    ensures { result ≡ momentum_at (table_view table.now) }
+{
+    let acceleration = rate(Key::Acceleration, value_at(table, Key::Acceleration))?;
+    let braking = rate(Key::Braking, value_at(table, Key::Braking))?;
+    momentum_of(acceleration, braking)
+}
+
+/// Returns the momentum of two rates, both or none.
+fn momentum_of(acceleration: Option<u16>, braking: Option<u16>) -> Result<Option<Momentum>, Why>
+    ensures { result ≡ momentum_of acceleration braking }
+{
+    match (acceleration, braking) {
+        (None, None) => Ok(None),
+        (Some(acceleration), Some(braking)) => Ok(Some(Momentum {
+            acceleration,
+            braking,
+        })),
+        (None, Some(_)) => Err(Why::BadKey(Key::Acceleration)),
+        (Some(_), None) => Err(Why::BadKey(Key::Braking)),
+    }
 }
 
 fn decoder_at(roster: &Roster, table: &Table) -> Result<u8, Why>

@@ -44,10 +44,11 @@ use toml::{Table, Value};
 /// speed = 300
 /// ```
 ///
-/// Lengths are in millimetres, `speed` is that of the last speed step in millimetres a second. An
-/// end is the name of a block with `.a` or `.b`. A `[[turnout]]` has the number of its `switch`, 1
-/// to 2040, and the ends `common`, `closed` and `thrown`. A block may have points `a = [x, y]` and
-/// `b`, where its ends are drawn.
+/// Lengths are in millimetres, `speed` is that of the last speed step in millimetres a second. A
+/// train may have `acceleration` and `braking`, in millimetres a second each second. An end is the
+/// name of a block with `.a` or `.b`. A `[[turnout]]` has the number of its `switch`, 1 to 2040, and
+/// the ends `common`, `closed` and `thrown`. A block may have points `a = [x, y]` and `b`, where its
+/// ends are drawn.
 ///
 /// # Errors
 ///

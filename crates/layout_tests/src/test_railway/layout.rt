@@ -30,6 +30,7 @@ pub(super) const EXPRESS: Train = Train {
     decoder: 0,
     top: 300,
     length: 200,
+    momentum: None,
     position: Position {
         block: 1,
         at: 600,

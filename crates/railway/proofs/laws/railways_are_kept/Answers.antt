@@ -1,15 +1,16 @@
 use Rattle.std.proofs.Common.{List, ℕ}
 use Rattle.std.specs.Prelude.{IsTrue}
 use Rattle.layout_core.specs.declared.node.Node.{Node}
+use Rattle.refresh_ring.specs.declared.pick.Power.{Power}
 use Rattle.railway.specs.Course.{Happening, after}
 use Rattle.railway.specs.Course.Happening.{Elapses, Places}
 use Rattle.railway.specs.Railway.{RailwayState, elapsed, is_railway}
 use Rattle.railway.proofs.Placing.{places-railway, same-blocks}
 use Rattle.railway.proofs.laws.railways_are_kept.Goals as goal
 
-kept : ((railway : RailwayState) (nodes : List Node) (micros : ℕ) → IsTrue (is_railway railway) → IsTrue (is_railway (elapsed railway micros nodes)))
+kept : ((railway : RailwayState) (power : Power) (nodes : List Node) (micros : ℕ) → IsTrue (is_railway railway) → IsTrue (is_railway (elapsed railway micros power nodes)))
     → (railway : RailwayState) (happening : Happening) → IsTrue (is_railway railway) → IsTrue (is_railway (after railway happening))
-kept runs railway (Elapses micros nodes) is = runs railway nodes micros is
+kept runs railway (Elapses micros power nodes) is = runs railway power nodes micros is
 kept runs railway (Places train position) is = places-railway railway train position is
 
 pub returns : goal.returns

@@ -3,4 +3,4 @@ use Rattle.railway.proofs.Changing.{are-changes}
 use Rattle.railway.proofs.laws.reports_are_changes.Goals as goal
 
 pub returns : goal.returns
-returns c = record { changes = λ railway micros nodes. are-changes railway.network.blocks railway.trains (elapsed railway micros nodes).trains }
+returns c = record { changes = λ railway micros power nodes. are-changes railway.network.blocks railway.trains (elapsed railway micros power nodes).trains }

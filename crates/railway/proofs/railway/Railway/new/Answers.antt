@@ -1,4 +1,5 @@
-use Rattle.std.proofs.Common.{◌≡◌, List, None, map, ap, subst, sym, ◌∙◌}
+use Rattle.std.proofs.Common.{◌≡◌, List, None, map, true, ap, subst, sym, ◌∙◌}
+use Rattle.std.specs.List.{list_all}
 use Rattle.std.specs.Prelude.{IsTrue}
 use Rattle.railway.specs.declared.joint.Turnout.{Turnout}
 use Rattle.railway.specs.declared.joint.TurnoutState.{TurnoutState}
@@ -7,9 +8,9 @@ use Rattle.railway.specs.declared.train.TrainState.{TrainState}
 use Rattle.railway.specs.Faults.{fault_of}
 use Rattle.railway.specs.Network.{is_sound}
 use Rattle.railway.specs.Railway.{RailwayState, is_railway, planned}
-use Rattle.railway.specs.Trains.{state_of_train}
+use Rattle.railway.specs.Trains.{is_placeable, state_of_train}
 use Rattle.railway.specs.Turnouts.{state_of_turnout}
-use Rattle.railway.proofs.Planning.{planned-railway}
+use Rattle.railway.proofs.Planning.{plan-placeable, planned-railway}
 use Rattle.railway.proofs.railway.Railway.new.Goals as goal
 
 -- The plan has no fault, and its turnouts and trains are those of the definition.
@@ -41,3 +42,8 @@ invariant_of-result c =
       network = record (plan_of c).network { turnouts = c.turnout_states-turnouts.result.items };
       trains = states;
     }))) (sym (trains c)) with_turnouts
+
+pub train_states-trains-requires-clause-placeable : goal.train_states-trains-requires-clause-placeable
+train_states-trains-requires-clause-placeable c =
+    subst (λ (ts : List Train). list_all is_placeable ts ≡ true) (sym c.as_slice-2.ensures.value)
+    (plan-placeable c.as_slice-decoders.result.now c.args.plan (sym c.fault_of.ensures ∙ c.in-None.is))
