@@ -97,7 +97,7 @@ def write_much(server):
         browser.sendall(b"POST / HTTP/1.1\r\nContent-Length: 100000\r\n\r\n" + 100_000 * b"x")
         time.sleep(0.3)
         found = browser.makefile("rb").read()
-        holds(f"405 before {found[-60:]!r}", found.startswith(b"HTTP/1.1 405 ") and found.endswith(b"Only GET is answered.\n"))
+        holds(f"405 before {found[-60:]!r}", found.startswith(b"HTTP/1.1 405 ") and found.endswith(b"Only GET and HEAD are answered.\n"))
 
 
 def leave_late(server, data):

@@ -36,7 +36,13 @@ REQUESTS = [
     ("POST /x HTTP/1.1\r\n\r\n", 404),
     ("POST / HTTP/1.1\r\n\r\n", 405),
     ("POST / HTTP/1.1\r\nContent-Length: 2\r\n\r\n{}", 405),
-    ("HEAD / HTTP/1.1\r\n\r\n", 405),
+    # HEAD has the response to GET without its content (RFC 9110, section 9.3.2). It asks for no upgrade (RFC 6455, section 4.1).
+    ("HEAD / HTTP/1.1\r\nHost: localhost:8080\r\n\r\n", 200),
+    ("HEAD / HTTP/1.1\r\n\r\n", 400),
+    ("HEAD / HTTP/1.1\r\nHost: station.local:8080\r\n\r\n", 421),
+    ("HEAD /x HTTP/1.1\r\n\r\n", 404),
+    ("HEAD /bus HTTP/1.1\r\nHost: localhost:8080\r\n\r\n", 403),
+    (f"HEAD /bus HTTP/1.1\r\n{PLAIN}{UPGRADE}{KEY}\r\nSec-WebSocket-Version: 13\r\n\r\n", 400),
     # Method names are case-sensitive (RFC 9110, section 9.1).
     ("get / HTTP/1.1\r\n\r\n", 405),
     ("POST /bus HTTP/1.1\r\n\r\n", 405),
@@ -121,9 +127,9 @@ ERRORS = {
     400: ("Bad Request", 41, "", "This is no request that can be answered."),
     403: ("Forbidden", 45, "", "Only a page of this server may join the bus."),
     404: ("Not Found", 31, "", "There is nothing at this path."),
-    405: ("Method Not Allowed", 22, "Allow: GET\r\n", "Only GET is answered."),
+    405: ("Method Not Allowed", 32, "Allow: GET, HEAD\r\n", "Only GET and HEAD are answered."),
     408: ("Request Timeout", 45, "", "The request did not come to its end in time."),
-    421: ("Misdirected Request", None, "", None),
+    421: ("Misdirected Request", 61, "", "This server does not know that name: --host NAME lets it in."),
     431: ("Request Header Fields Too Large", 37, "", "The head of the request is too long."),
 }
 PAGE = b"<!DOCTYPE html><title>A page</title>\n"
@@ -140,17 +146,15 @@ UPGRADED = (
 )
 
 
-def is_response(head, body, status):
+def is_response(head, body, status, has_content=True):
     """Whether a head, and what follows it until the connection ends, are the response with this status."""
     if status == 101:
         return head == UPGRADED
     if status == 200:
-        return (head, body) == (PAGE_HEAD, PAGE)
+        return (head, body) == (PAGE_HEAD, PAGE if has_content else b"")
     name, length, allow, reason = ERRORS[status]
-    # What a browser under another name is told is in `pages.names`.
-    length = len(body) if length is None else length
     wanted = f"HTTP/1.1 {status} {name}\r\nContent-Type: text/plain; charset=utf-8\r\nContent-Length: {length}\r\n"
-    return head == f"{wanted}Connection: close\r\n{allow}\r\n" and body.decode() == (f"{reason}\n" if reason else body.decode())
+    return head == f"{wanted}Connection: close\r\n{allow}\r\n" and body.decode() == (f"{reason}\n" if has_content else "")
 
 
 def check(server, request, status, pieces=None):
@@ -167,7 +171,7 @@ def check(server, request, status, pieces=None):
         stream = browser.makefile("rb")
         head = read_head(stream)
         body = b"" if status == 101 else stream.read()
-        holds(f"{request[-160:]!r}: {head!r}, {body!r}, and not {status}", is_response(head, body, status))
+        holds(f"{request[-160:]!r}: {head!r}, {body!r}, and not {status}", is_response(head, body, status, not request.startswith("HEAD ")))
 
 
 def byte_by_byte(data):

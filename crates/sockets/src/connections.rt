@@ -5,7 +5,7 @@ ghost use Rattle.bus_server.specs.declared.transport.IoOutcome.TheVariants.{Clos
 
 use crate::client::{Client, PageClient, ProgramClient};
 use crate::http_connection::is_retryable;
-use crate::http_server::{HttpServer, MAX_EXCHANGES, page_reply};
+use crate::http_server::{HttpServer, MAX_EXCHANGES};
 use crate::wait_time::{duration_of, sooner};
 use bus_server::{IoOutcome, MAX_CLIENTS};
 use loconet_tcp::{Text, push_server_full};
@@ -17,7 +17,7 @@ use std::io;
 use std::io::{ErrorKind, Write};
 use std::net::SocketAddr;
 use std::os::fd::RawFd;
-use web::Page;
+use web::{Page, PageReply};
 
 /// The ports of a server, and the streams of the accepted clients, by their index, 0 to 7.
 #[derive(Drop)]
@@ -60,7 +60,7 @@ impl Connections {
         page: &[u8],
         names: Vec<String>,
     ) -> io::Result<()> {
-        let reply = page_reply(alloc, page)?;
+        let reply = PageReply::new(alloc, page)?;
         let mut listener = listener;
         register_listener(&mut listener, self.poll.registry(), MAX_CLIENTS + 1)?;
         self.http = Some(HttpServer::new(alloc, listener, reply, names));

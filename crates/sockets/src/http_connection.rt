@@ -11,7 +11,7 @@ use std::alloc::{AllocError, Global};
 use std::io;
 use std::io::{Error, ErrorKind, Read, Write};
 use std::net::Shutdown;
-use web::{HttpExchange, Page, Stage};
+use web::{HttpExchange, Page, PageReply, Stage};
 
 /// The most bytes read at once.
 const READ_SIZE: usize = 1_024;
@@ -72,11 +72,11 @@ impl<S: Stream> HttpConnection<S> {
     }
 
     /// Advances the exchange by at most one read or one write. The server is reached by these names,
-    /// and `page` is the whole response that holds the page.
+    /// and `page` is the response that holds the page.
     ///
     /// Returns `Blocked` only before the deadline; after it, sends status 408 or returns
     /// `Finished`.
-    pub fn advance(&mut self, names: &[String], page: &[u8], now: u64) -> Progress
+    pub fn advance(&mut self, names: &[String], page: &PageReply, now: u64) -> Progress
         ensures in_time { result ≡ Blocked → now < self.new.exchange.deadline }
         ensures upgrades { result ≡ Upgraded → IsUpgraded self.new.exchange.stage }
     {
@@ -137,7 +137,7 @@ impl<S: Stream> HttpConnection<S> {
 
     /// Writes the rest of the response. After it nothing more is sent, except to an upgraded
     /// connection.
-    fn send(&mut self, page: &[u8], now: u64) -> Progress
+    fn send(&mut self, page: &PageReply, now: u64) -> Progress
         ensures { result ≡ Upgraded → IsUpgraded self.new.exchange.stage }
     {
         match self.stream.write(self.exchange.remaining(page)) {

@@ -1,15 +1,13 @@
 //! The HTTP server of the page: exchanges, until the response is sent or the connection is
 //! upgraded.
-ghost use Rattle.std.specs.Prelude.{◌≡◌, ◌<◌, ◌^◌, ◌++◌, IfOk, length};
-ghost use Rattle.web.specs.Replies.{page_head_text};
 
 use crate::http_connection::{HttpConnection, Progress};
 use crate::wait_time::sooner;
 use mio::net::{TcpListener, TcpStream};
 use mio::{Interest, Registry, Token};
-use std::alloc::{AllocError, Global};
+use std::alloc::Global;
 use std::mem;
-use web::{Head, Page, push_page_head};
+use web::{Page, PageReply};
 
 /// The most concurrent HTTP connections. Further ones stay pending until one of these has ended.
 pub(crate) const MAX_EXCHANGES: usize = 16;
@@ -30,8 +28,7 @@ enum HttpSlot {
 pub(crate) struct HttpServer {
     alloc: Global,
     listener: TcpListener,
-    /// The whole response that holds the page.
-    page: Vec<u8>,
+    page: PageReply,
     /// The names by which browsers reach it.
     names: Vec<String>,
     http: [HttpSlot; MAX_EXCHANGES],
@@ -40,12 +37,12 @@ pub(crate) struct HttpServer {
 }
 
 impl HttpServer {
-    /// Creates a server on this listener. `page` is the whole response that holds the page.
-    /// Exchanges allocate no memory.
+    /// Creates a server on this listener, whose page is in this response. Exchanges allocate no
+    /// memory.
     pub(crate) fn new(
         alloc: Global,
         listener: TcpListener,
-        page: Vec<u8>,
+        page: PageReply,
         names: Vec<String>,
     ) -> HttpServer {
         HttpServer {
@@ -106,7 +103,7 @@ impl HttpServer {
                 accept(&self.listener, slot, registry, token, now);
             }
             let names = self.names.as_slice();
-            self.has_backlog |= advance(slot, self.alloc, names, self.page.as_slice(), now);
+            self.has_backlog |= advance(slot, self.alloc, names, &self.page, now);
         }
     }
 
@@ -121,23 +118,6 @@ impl HttpServer {
         }
         None
     }
-}
-
-/// Returns the whole response that holds this page.
-///
-/// # Errors
-///
-/// Out of memory.
-pub fn page_reply(alloc: Global, page: &[u8]) -> Result<Vec<u8>, AllocError>
-    ensures { length page.now < 2 ^ 32
-        → IfOk result (λ reply. reply.items ≡ page_head_text (length page.now) ++ page.now) }
-{
-    let mut head = Head::new();
-    push_page_head(&mut head, u32::try_from(page.len()).unwrap_or(u32::MAX));
-    let mut reply = Vec::new(alloc);
-    reply.extend_from_slice(head.as_slice())?;
-    reply.extend_from_slice(page)?;
-    Ok(reply)
 }
 
 /// Accepts a pending connection in a free slot.
@@ -159,7 +139,13 @@ fn accept(
 }
 
 /// Advances the exchange in a slot. Returns true if there may be more to do.
-fn advance(slot: &mut HttpSlot, alloc: Global, names: &[String], page: &[u8], now: u64) -> bool {
+fn advance(
+    slot: &mut HttpSlot,
+    alloc: Global,
+    names: &[String],
+    page: &PageReply,
+    now: u64,
+) -> bool {
     let HttpSlot::Asked(connection) = slot else {
         return false;
     };

@@ -24,7 +24,6 @@ mod ticking;
 mod wait_time;
 
 pub use http_connection::{HttpConnection, Progress, Stream, is_retryable};
-pub use http_server::page_reply;
 pub use sockets::Sockets;
 pub use stopwatch::Stopwatch;
 pub use ticking::Ticking;

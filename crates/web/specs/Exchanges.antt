@@ -2,12 +2,13 @@
 use Rattle.std.specs.Prelude.{◌≡◌, ℕ, ◌+◌, if◌then◌else◌, min, nat_lt, List, [], ◌++◌, drop, length}
 use Rattle.websocket.specs.Handshake.{response_bytes}
 use Rattle.web.specs.declared.http_response.Response.{Response}
-use Rattle.web.specs.declared.http_response.Response.TheVariants.{Incomplete, Page, Upgrade, Error}
+use Rattle.web.specs.declared.http_response.Response.TheVariants.{Incomplete, Page, PageHead, Upgrade, Error, ErrorHead}
 use Rattle.web.specs.declared.http_response.HttpError.TheVariants.{TimedOut}
 use Rattle.web.specs.declared.exchange.Stage.{Stage}
 use Rattle.web.specs.declared.exchange.Stage.TheVariants.{ReadingRequest, WritingResponse, Upgraded, Draining}
 use Rattle.web.specs.Responses.{IsResponse}
-use Rattle.web.specs.Replies.{error_text}
+use Rattle.web.specs.PageReplies.{PageParts, whole}
+use Rattle.web.specs.Replies.{error_head_text, error_text}
 
 -- the bytes received, the stage, and its deadline in microseconds
 pub record ExchangeState : Type 0 where
@@ -27,8 +28,10 @@ initial_exchange now = record { received = []; stage = ReadingRequest; deadline 
 abbrev pub responded : Response → (now : ℕ) → ExchangeState → ExchangeState
 responded Incomplete now exchange = exchange
 responded Page now exchange = record exchange { stage = WritingResponse Page 0; deadline = deadline_after now 10000000 }
+responded PageHead now exchange = record exchange { stage = WritingResponse PageHead 0; deadline = deadline_after now 10000000 }
 responded (Upgrade upgrade) now exchange = record exchange { stage = WritingResponse (Upgrade upgrade) 0; deadline = deadline_after now 10000000 }
 responded (Error error) now exchange = record exchange { stage = WritingResponse (Error error) 0; deadline = deadline_after now 10000000 }
+responded (ErrorHead error) now exchange = record exchange { stage = WritingResponse (ErrorHead error) 0; deadline = deadline_after now 10000000 }
 
 -- Bytes of the request are received. The response is to all bytes received so far, however they
 -- were divided.
@@ -36,19 +39,21 @@ abbrev pub Receives : (names : List (List ℕ)) → List ℕ → (now : ℕ) →
 Receives names bytes now old new =
     (response : Response) × IsResponse names (old.received ++ bytes) response × (new ≡ responded response now (record old { received = old.received ++ bytes }))
 
--- a response as text; `page` is the whole response that holds the page
-abbrev pub reply_text : (page : List ℕ) → Response → List ℕ
+-- a response as text; `page` is the response that holds the page
+abbrev pub reply_text : (page : PageParts) → Response → List ℕ
 reply_text page Incomplete = []
-reply_text page Page = page
+reply_text page Page = whole page
+reply_text page PageHead = page.head
 reply_text page (Upgrade upgrade) = response_bytes upgrade.accept_key []
 reply_text page (Error error) = error_text error
+reply_text page (ErrorHead error) = error_head_text error
 
 -- the response being written, and the part of it not yet written
-abbrev pub text_of : (page : List ℕ) → Stage → List ℕ
+abbrev pub text_of : (page : PageParts) → Stage → List ℕ
 text_of page (WritingResponse response written) = reply_text page response
 text_of page stage = []
 
-abbrev pub remaining_text : (page : List ℕ) → Stage → List ℕ
+abbrev pub remaining_text : (page : PageParts) → Stage → List ℕ
 remaining_text page (WritingResponse response written) = drop written (reply_text page response)
 remaining_text page stage = []
 
@@ -59,7 +64,7 @@ after_response (Upgrade upgrade) now exchange = record exchange { stage = Upgrad
 after_response response now exchange = record exchange { stage = Draining; deadline = deadline_after now 1000000 }
 
 -- `count` more bytes are written
-abbrev pub after_write : (page : List ℕ) (count now : ℕ) → Stage → ExchangeState → ExchangeState
+abbrev pub after_write : (page : PageParts) (count now : ℕ) → Stage → ExchangeState → ExchangeState
 after_write page count now (WritingResponse response written) exchange =
     if nat_lt count (length (remaining_text page (WritingResponse response written))) then record exchange { stage = WritingResponse response (written + count) } else after_response response now exchange
 after_write page count now stage exchange = exchange

@@ -4,6 +4,7 @@ pub mod Receiving
 pub mod Lines
 pub mod Messages
 pub mod Origins
+pub mod PageReplies
 pub mod Replies
 pub mod Sending
 pub mod ExchangeInvariants

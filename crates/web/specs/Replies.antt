@@ -28,14 +28,14 @@ abbrev pub reason_of : HttpError → List ℕ
 reason_of BadRequest = codes "This is no request that can be answered.\n"
 reason_of Forbidden = codes "Only a page of this server may join the bus.\n"
 reason_of NotFound = codes "There is nothing at this path.\n"
-reason_of MethodNotAllowed = codes "Only GET is answered.\n"
+reason_of MethodNotAllowed = codes "Only GET and HEAD are answered.\n"
 reason_of TimedOut = codes "The request did not come to its end in time.\n"
 reason_of Misdirected = codes "This server does not know that name: --host NAME lets it in.\n"
 reason_of TooLong = codes "The head of the request is too long.\n"
 
 -- a response with status 405 lists the allowed methods (RFC 9110, section 15.5.6)
 abbrev pub allow_of : HttpError → List ℕ
-allow_of MethodNotAllowed = codes "Allow: GET\r\n"
+allow_of MethodNotAllowed = codes "Allow: GET, HEAD\r\n"
 allow_of r = []
 
 abbrev pub version_text : List ℕ
@@ -47,12 +47,15 @@ plain_text = codes "\r\nContent-Type: text/plain; charset=utf-8\r\nContent-Lengt
 abbrev pub connection_close : List ℕ
 connection_close = codes "\r\nConnection: close\r\n"
 
--- a response with its reason, after which the connection is closed
-abbrev pub error_text : HttpError → List ℕ
-error_text r =
+-- the head of a response with a reason, after which the connection is closed
+abbrev pub error_head_text : HttpError → List ℕ
+error_head_text r =
     version_text ++ decimal (status_of r) ++ codes " " ++ name_of r
     ++ plain_text ++ decimal (length (reason_of r))
-    ++ connection_close ++ allow_of r ++ codes "\r\n" ++ reason_of r
+    ++ connection_close ++ allow_of r ++ codes "\r\n"
+
+abbrev pub error_text : HttpError → List ℕ
+error_text r = error_head_text r ++ reason_of r
 
 abbrev pub page_start : List ℕ
 page_start = codes "HTTP/1.1 200 OK\r\nContent-Type: text/html; charset=utf-8\r\nContent-Length: "

@@ -1,10 +1,12 @@
 //! An HTTP exchange: the request received so far and the response still to be written.
-ghost use Rattle.std.specs.Prelude.{◌≡◌, ◌<◌, ◌≤◌, ◌+◌, ◌-◌, ◌↔◌, [], drop, length, map, string_bytes, true};
+ghost use Rattle.std.specs.Prelude.{◌≡◌, ◌<◌, ◌≤◌, ◌+◌, ◌-◌, ◌↔◌, drop, length, map, string_bytes, true};
 ghost use Rattle.web.specs.declared.exchange.Stage.TheVariants.{ReadingRequest};
 ghost use Rattle.web.specs.Exchanges.{Receives, initial_exchange, leftover_of, remaining_text, reply_text, time_out, text_of, after_write};
+ghost use Rattle.web.specs.PageReplies.{no_page};
 
 use crate::http_response::{HttpError, Response};
-use crate::reply::{Head, push_error, push_upgrade};
+use crate::page_reply::PageReply;
+use crate::reply::{Head, push_error, push_error_head, push_upgrade};
 use crate::routing::{MAX_HEAD, response};
 use arrayvec::ArrayVec;
 use std::marker::Model;
@@ -125,9 +127,8 @@ impl HttpExchange {
         }
     }
 
-    /// Returns the part of the response not yet written. `page` is the whole response that holds
-    /// the page.
-    pub fn remaining<'a>(&'a self, page: &'a [u8]) -> &'a [u8]
+    /// Returns the part of the response not yet written. `page` is the response that holds the page.
+    pub fn remaining<'a>(&'a self, page: &'a PageReply) -> &'a [u8]
         ensures { result.now ≡ remaining_text page.now self.now.stage }
     {
         match &self.stage {
@@ -138,7 +139,7 @@ impl HttpExchange {
 
     /// Records that `count` bytes of [`HttpExchange::remaining`] were written. After the last one an upgraded
     /// connection is a WebSocket; any other has one second to be closed by the client.
-    pub fn sent(&mut self, count: usize, page: &[u8], now: u64)
+    pub fn sent(&mut self, count: usize, page: &PageReply, now: u64)
         requires { count ≤ length (remaining_text page.now self.old.stage) }
         ensures { self.new ≡ after_write page.now count now self.old.stage self.old }
     {
@@ -192,26 +193,30 @@ impl HttpExchange {
     }
 
     /// The whole response being written, if there is one.
-    fn text<'a>(&'a self, page: &'a [u8]) -> &'a [u8]
+    fn text<'a>(&'a self, page: &'a PageReply) -> &'a [u8]
         ensures { result.now ≡ text_of page.now self.now.stage }
     {
-        match &self.stage {
-            Stage::WritingResponse { response, .. } if *response == Response::Page => page,
-            Stage::WritingResponse { .. } => self.head.as_slice(),
-            _ => &[],
+        let Stage::WritingResponse { response, .. } = &self.stage else {
+            return &[];
+        };
+        match response {
+            Response::Page => page.whole(),
+            Response::PageHead => page.head(),
+            _ => self.head.as_slice(),
         }
     }
 }
 
 /// A response as text, without the page.
 fn head_of(response: &Response) -> Head
-    ensures { result.items ≡ reply_text [] response.now }
+    ensures { result.items ≡ reply_text no_page response.now }
 {
     let mut head = Head::new();
     match response {
-        Response::Incomplete | Response::Page => {}
+        Response::Incomplete | Response::Page | Response::PageHead => {}
         Response::Upgrade(upgrade) => push_upgrade(&mut head, upgrade),
         Response::Error(error) => push_error(&mut head, *error),
+        Response::ErrorHead(error) => push_error_head(&mut head, *error),
     }
     head
 }

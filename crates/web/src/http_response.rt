@@ -9,10 +9,14 @@ pub enum Response {
     Incomplete,
     /// The page. The connection is closed after it.
     Page,
+    /// The head of the response that holds the page, for `HEAD`. The connection is closed after it.
+    PageHead,
     /// The upgrade: the connection continues as a WebSocket.
     Upgrade(UpgradeRequest),
     /// An error. The connection is closed after the response.
     Error(HttpError),
+    /// The head of the response to an error, for `HEAD`. The connection is closed after it.
+    ErrorHead(HttpError),
 }
 
 /// A valid WebSocket handshake.
@@ -37,7 +41,7 @@ pub enum HttpError {
     NotFound,
     /// 421: the request is for a host that is not this server's.
     Misdirected,
-    /// 405: a method other than `GET`.
+    /// 405: a method other than `GET` and `HEAD`.
     MethodNotAllowed,
     /// 408: the head was not complete in time. [`crate::response`] has no clock and never returns it.
     TimedOut,

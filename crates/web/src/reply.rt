@@ -3,7 +3,7 @@ ghost use Rattle.std.specs.Prelude.{◌≡◌, ◌≤◌, ◌+◌, ◌++◌, [],
 ghost use Rattle.std.specs.Fmt.{decimal};
 ghost use Rattle.arrayvec.specs.ArrayVec.{array_vec_len};
 ghost use Rattle.websocket.specs.Handshake.{response_bytes};
-ghost use Rattle.web.specs.Replies.{allow_of, name_of, page_head_text, reason_of, error_text, status_of};
+ghost use Rattle.web.specs.Replies.{allow_of, error_head_text, name_of, page_head_text, reason_of, error_text, status_of};
 
 use crate::http_response::{HttpError, UpgradeRequest};
 use arrayvec::ArrayVec;
@@ -66,7 +66,7 @@ impl HttpError {
             HttpError::BadRequest => b"This is no request that can be answered.\n",
             HttpError::Forbidden => b"Only a page of this server may join the bus.\n",
             HttpError::NotFound => b"There is nothing at this path.\n",
-            HttpError::MethodNotAllowed => b"Only GET is answered.\n",
+            HttpError::MethodNotAllowed => b"Only GET and HEAD are answered.\n",
             HttpError::TimedOut => b"The request did not come to its end in time.\n",
             HttpError::Misdirected => {
                 b"This server does not know that name: --host NAME lets it in.\n"
@@ -75,13 +75,13 @@ impl HttpError {
         }
     }
 
-    /// The `Allow` field, if the status requires one, at most 12 bytes.
+    /// The `Allow` field, if the status requires one, at most 18 bytes.
     fn allow(self) -> &'static [u8]
         ensures allow { result.now ≡ allow_of self }
-        ensures most { length result.now ≤ 12 }
+        ensures most { length result.now ≤ 18 }
     {
         match self {
-            HttpError::MethodNotAllowed => b"Allow: GET\r\n",
+            HttpError::MethodNotAllowed => b"Allow: GET, HEAD\r\n",
             _ => b"",
         }
     }
@@ -93,6 +93,16 @@ pub fn push_error(head: &mut Head, error: HttpError)
     requires { array_vec_len head.old + 300 ≤ 640 }
     ensures text { head.new.items ≡ head.old.items ++ error_text error }
     ensures len { array_vec_len head.new ≤ array_vec_len head.old + 300 }
+{
+    push_error_head(head, error);
+    push_text(head, error.reason());
+}
+
+/// Appends the head of that response alone, for `HEAD`, at most 239 bytes.
+pub fn push_error_head(head: &mut Head, error: HttpError)
+    requires { array_vec_len head.old + 239 ≤ 640 }
+    ensures text { head.new.items ≡ head.old.items ++ error_head_text error }
+    ensures len { array_vec_len head.new ≤ array_vec_len head.old + 239 }
 {
     let reason = error.reason();
     push_text(head, b"HTTP/1.1 ");
@@ -107,7 +117,6 @@ pub fn push_error(head: &mut Head, error: HttpError)
     push_text(head, CONNECTION_CLOSE);
     push_text(head, error.allow());
     push_text(head, b"\r\n");
-    push_text(head, reason);
 }
 
 /// Appends the head of the response that holds a page of `length` bytes, at most 500 bytes. The

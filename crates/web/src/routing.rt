@@ -4,7 +4,7 @@ ghost use Rattle.httparse.specs.Spans.{IsRequestWithin, span_bytes};
 ghost use Rattle.websocket.specs.Headers.{fields_of};
 ghost use Rattle.web.specs.declared.http_response.Response.TheVariants.{Incomplete};
 ghost use Rattle.web.specs.Responses.{IsResponse, unfinished};
-ghost use Rattle.web.specs.Heads.{IsResponseTo, IsResponseToHost, HasUpgraded};
+ghost use Rattle.web.specs.Heads.{HasUpgraded, IsFullResponseTo, IsResponseTo, IsResponseToHost, is_get, is_head, without_content};
 ghost use Rattle.web.specs.Lines.{whole_lines};
 
 use crate::http_response::{HttpError, Response, UpgradeRequest};
@@ -80,12 +80,60 @@ fn route(names: &[String], lines: &[u8], request: &RequestSpans, spans: &[Header
         request.now.len result }
     ensures now { result ≢ Incomplete }
 {
+    let response = full_response(names, lines, request, spans);
+    if is_head(request.method.of(lines)) {
+        without_content(response)
+    } else {
+        response
+    }
+}
+
+/// Returns a response without its content (RFC 9110, section 9.3.2).
+fn without_content(response: Response) -> Response
+    ensures { result ≡ without_content response }
+{
+    match response {
+        Response::Page => Response::PageHead,
+        Response::Error(error) => Response::ErrorHead(error),
+        response => response,
+    }
+}
+
+/// Whether a method is `GET`.
+fn is_get(method: &[u8]) -> bool
+    ensures { result ≡ is_get method.now }
+{
+    method == b"GET".as_slice()
+}
+
+/// Whether a method is `HEAD`.
+fn is_head(method: &[u8]) -> bool
+    ensures { result ≡ is_head method.now }
+{
+    method == b"HEAD".as_slice()
+}
+
+/// The response to a whole head, with its content.
+fn full_response(
+    names: &[String],
+    lines: &[u8],
+    request: &RequestSpans,
+    spans: &[HeaderSpan],
+) -> Response
+    requires { IsRequestWithin lines.now spans.now request.now }
+    ensures response { IsFullResponseTo (map (λ name. string_bytes name) names.now)
+        (span_bytes lines.now request.now.method)
+        (span_bytes lines.now request.now.path)
+        request.now.version (fields_of lines.now (take request.now.headers spans.now))
+        request.now.len result }
+    ensures now { result ≢ Incomplete }
+{
     let path = request.path.of(lines);
     if request.headers > MAX_FIELDS {
         Response::Error(HttpError::TooLong)
     } else if path != b"/".as_slice() && path != b"/bus".as_slice() {
         Response::Error(HttpError::NotFound)
-    } else if request.method.of(lines) != b"GET".as_slice() {
+    } else if !is_get(request.method.of(lines)) && !is_head(request.method.of(lines)) {
         Response::Error(HttpError::MethodNotAllowed)
     } else {
         route_host(names, lines, request, spans)

@@ -2,7 +2,7 @@ use Rattle.std.proofs.Common.{◌++◌, ap, length, ◌∙◌, codes}
 use Rattle.std.specs.Fmt.{decimal}
 use Rattle.web.specs.Replies.{allow_of, connection_close, name_of, plain_text, reason_of, status_of, version_text}
 use Rattle.web.proofs.Pieces.{next}
-use Rattle.web.proofs.reply.push_error.Goals as goal
+use Rattle.web.proofs.reply.push_error_head.Goals as goal
 
 pub returns-clause-text : goal.returns-clause-text
 returns-clause-text c =
@@ -23,6 +23,4 @@ returns-clause-text c =
     let before-eighth = before-seventh ++ connection_close in
     let at-eighth = next old c.push_text-5.new.head.items c.push_text-6.new.head.items before-eighth (allow_of r) at-seventh (c.push_text-6.ensures.text ∙ ap (λ t. c.push_text-5.new.head.items ++ t) c.allow.ensures.allow) in
     let before-ninth = before-eighth ++ allow_of r in
-    let at-ninth = next old c.push_text-6.new.head.items c.push_text-7.new.head.items before-ninth (codes "\r\n") at-eighth c.push_text-7.ensures.text in
-    let before-tenth = before-ninth ++ codes "\r\n" in
-    next old c.push_text-7.new.head.items c.push_text-8.new.head.items before-tenth (reason_of r) at-ninth (c.push_text-8.ensures.text ∙ ap (λ t. c.push_text-7.new.head.items ++ t) c.reason-reason.ensures.reason)
+    next old c.push_text-6.new.head.items c.push_text-7.new.head.items before-ninth (codes "\r\n") at-eighth c.push_text-7.ensures.text
