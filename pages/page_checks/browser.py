@@ -184,9 +184,9 @@ class Browser:
         return self.run("return document.activeElement.id || document.activeElement.tagName")
 
     def labels(self):
-        """The names of the controls, as those hear them who do not see the page."""
-        controls = "button:not([hidden]), input, select, [tabindex]"
-        found = self.ask("POST", "/elements", {"using": "css selector", "value": controls})
+        """The names of the controls that are shown, as those hear them who do not see the page."""
+        controls = "[...document.querySelectorAll('button, input, select, [tabindex]')]"
+        found = self.run(f"return {controls}.filter((one) => one.checkVisibility())")
         return [self.ask("GET", f"/element/{one[ELEMENT]}/computedlabel") for one in found]
 
     def faults(self):

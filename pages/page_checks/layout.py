@@ -55,7 +55,7 @@ def try_bars(browser):
 def try_outputs(browser, other):
     """Both outputs of a turnout on, and which lies last."""
     for number, first, second, last in ((1, "thrown", "closed", "closed"), (2, "closed", "thrown", "thrown")):
-        path = f"[aria-label=yard] .turnout:nth-child({number + 1})"
+        path = f"[aria-label=yard] .turnout:nth-child({number})"
         at = number - 1
         bits = {"thrown": 0x10, "closed": 0x30}
         other.send(0xB0, at, bits[first])
@@ -72,7 +72,7 @@ def try_outputs(browser, other):
 
 def try_refused_off(browser, other):
     """A request to go off that is refused takes nothing back. Without power requests wait, 32 at most."""
-    path = "[aria-label=yard] .turnout:nth-child(2)"
+    path = "[aria-label=yard] .turnout:nth-child(1)"
     browser.click("#off")
     browser.until("#track", "Track: off")
     other.send(0xB0, 0, 0x10)  # thrown: it lies closed

@@ -49,6 +49,8 @@ def stop_answering(browser, server):
     browser.click("#on")
     since = browser.run("return page.talk.waiting[0].since")
     browser.until("#connection", "No connection", 10)
+    words = "No answer (the connection was lost): track power on"
+    check("its message may have been sent", browser.until("#said", words), words)
     seconds = (browser.run("return connection.end") - since) / 1000
     check("a server that answers nothing is lost after three seconds", 3 < seconds < 5)
     server.process.send_signal(signal.SIGCONT)

@@ -95,10 +95,21 @@ row('a block is drawn from end a to end b', ['a', 'b'].map((end) => plan.blocks.
   [{ x: 300, y: 100 }, { x: 700, y: -100 }]);
 row('a plan with an end that has no place is a list', plan.isDrawn, false);
 row('a train has its speed', plan.trains.get('shunter').speed, 125);
+row('which says whose', plan.reason, 'No drawing: the plan gives no place to siding.a, siding.b.');
 row('a block says which train is in it', ['main', 'siding'].map((block) => plan.wordsOf(block)), ['shunter', 'free']);
 tell('TRAIN express siding 0 a main 0 derailed');
 row('two trains in a block are a conflict', plan.wordsOf('main'), 'conflict: shunter, express derailed');
 row('a train is in the blocks of both its ends', plan.wordsOf('siding'), 'express derailed');
+tell('TRAIN express siding 0 a siding 0');
+tell('TURNOUT 7 main.a siding.a siding.b');
+const derailment = (words) => {
+  plan.hear(`TRAIN express ${words} 0 derailed`);
+  return Object.values(plan.derailment(plan.trains.get('express')));
+};
+row('a train whose front is at its end derailed ahead', derailment('main 0 a main'), ['at turnout 7', 'it lay against the train']);
+row('or behind, in reverse', derailment('siding 3 b siding'), ['at turnout 7', 'it lay against the train']);
+row('in two blocks on the turnout between them', derailment('main 2 b siding'), ['at turnout 7', 'it was thrown under the train']);
+row('a block without a turnout is named', derailment('main 10 b main'), ['in main', '']);
 tell('TRAIN express siding 0 a siding 0');
 row('until its rear has left one', ['main', 'siding'].map((block) => plan.wordsOf(block)), ['shunter', 'express']);
 
@@ -150,15 +161,22 @@ const refused = new Talk(() => {}, { message: (bytes, own) => told.push([hexOf(b
 refused.send(turnoutRequest(2048, true, true));
 ['RECEIVE B0 7F 3F 0F', 'SENT OK', 'RECEIVE B4 30 00 7B', 'RECEIVE 83 7C'].forEach((text) => refused.hear(text));
 row('whose messages these are', told, [['B0 7F 3F 0F', true], ['B4 30 00 7B', true], ['83 7C', false]]);
+const places = [talk.place('express', 'back', '1500', 'a'), talk.place('express', 'back', '10', 'b')];
+row('a train is put back by', put.slice(-2), ['PLACE express back 1500 a', 'PLACE express back 10 b']);
+['PLACE OK', 'PLACE ERROR the train does not fit there'].forEach((text) => talk.hear(text));
+places.push(talk.place('express', 'main', '700', 'a'));
 const wrong = talk.send([0x83, 0x7D]);
 talk.hear('SENT ERROR wrong check byte');
 const late = talk.send(ask.powerOn());
 talk.end();
-Promise.all([answer, wrong, late]).then(([first, second, third]) => {
+Promise.all([answer, wrong, late, ...places]).then(([first, second, third, ...placed]) => {
+  row('which is done, is refused, or may be done', placed.map(({ error, mayBeSent }) => [error, mayBeSent ?? false]),
+    [['', false], ['the train does not fit there', false], ['the connection was lost', true]]);
   row('the line that is sent', put[0], 'SEND BF 00 03 43');
   row('the reply behind the own message', hexOf(first.reply), 'B4 3F 00 74');
   row('a message that is refused', second.error, 'ERROR wrong check byte');
   row('a message under way when the connection ends', third.error, 'the connection was lost');
+  row('that may have been sent', [second, third].map(({ mayBeSent }) => mayBeSent ?? false), [false, true]);
   console.log(JSON.stringify(rows));
 });
 """
