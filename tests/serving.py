@@ -171,6 +171,13 @@ class Page:
         return data
 
     def line(self):
+        """The next line for any client, or item of the page. Behind a message have to come its words, which are left out."""
+        line = self.text()
+        if line.startswith("RECEIVE ") and not self.text().startswith("WORDS "):
+            raise ConnectionError(f"no words behind {line}")
+        return line
+
+    def text(self):
         """The next text message. Pings before it are answered."""
         while True:
             opcode, is_last, payload = self.frame()

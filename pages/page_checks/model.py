@@ -12,7 +12,7 @@ from .common import PAGE, check
 MODEL_CHECKS = r"""
 const rows = [];
 const row = (name, found, wanted) => rows.push({ name, found: JSON.stringify(found), wanted: JSON.stringify(wanted) });
-const sent = (name, bytes, wanted) => row(`sends ${name}`, hexOf(bytes), wanted);
+const sent = (name, { bytes }, wanted) => row(`sends ${name}`, hexOf(bytes), wanted);
 sent('power on', ask.powerOn(), '83 7C');
 sent('power off', ask.powerOff(), '82 7D');
 sent('stop of all', ask.stopAll(), '85 7A');
@@ -34,34 +34,6 @@ sent('F9 of address 128', groupThree(128, 1), 'ED 0B 7F 33 27 40 00 21 00 00 13'
 sent('F9 of address 1025', groupThree(1025, 1), 'ED 0B 7F 33 25 44 01 21 00 00 14');
 sent('F10 of address 3', groupThree(3, 2), 'ED 0B 7F 23 22 03 22 00 00 00 46');
 sent('F12 of address 1234', groupThree(1234, 8), 'ED 0B 7F 33 27 44 52 28 00 00 4C');
-
-const tells = (text, words) => row(`tells ${text}`, wordsOf(bytesOf(text)), words);
-tells('E7 0E 01 33 03 00 00 07 00 00 00 00 00 20', 'slot 1: locomotive 3, in use, 128 steps, stop, forward; track on');
-tells('E7 0E 01 23 03 00 00 06 00 00 00 00 00 31', 'slot 1: locomotive 3, idle, 128 steps, stop, forward; track off');
-tells('A0 01 40 1E', 'slot 1: speed 63 of 126');
-tells('A1 01 30 6F', 'slot 1: F0 to F4: F0 on, reverse');
-[['01 5E', 1], ['02 5D', 2], ['04 5B', 3], ['08 57', 4]].forEach(([bytes, number]) =>
-  tells(`A1 01 ${bytes}`, `slot 1: F0 to F4: F${number} on, forward`));
-tells('A2 01 00 5C', 'slot 1: F5 to F8: all off');
-[['01 5D', 5], ['02 5E', 6], ['04 58', 7], ['08 54', 8]].forEach(([bytes, number]) =>
-  tells(`A2 01 ${bytes}`, `slot 1: F5 to F8: F${number} on`));
-tells('B0 04 10 5B', 'turnout 5 thrown, on');
-tells('B4 3F 00 74', 'no free slot for the locomotive');
-tells('B4 3B 00 70', 'message BB refused');
-tells('B5 01 13 58', 'slot 1: common, 128 steps');
-tells('B5 01 3B 70', 'slot 1: in use, 128 steps, top of a consist');
-tells('B5 01 73 38', 'slot 1: in use, 128 steps, end of a consist');
-tells('B5 01 7B 30', 'slot 1: in use, 128 steps, inside a consist');
-tells('B2 00 50 1D', 'sensor 1 high');
-tells('B2 00 60 2D', 'sensor 2 low');
-tells('BA 01 01 45', 'use slot 1');
-tells('ED 0B 7F 23 22 03 21 00 00 00 45', 'send to the track: locomotive 3: F9 to F12: F9 on');
-tells('ED 0B 7F 23 22 03 22 00 00 00 46', 'send to the track: locomotive 3: F9 to F12: F10 on');
-tells('81 7E', 'busy');
-tells('83 7D', 'wrong check');
-tells('83', 'wrong length');
-tells('A0 01 83 7C', 'data above 7F');
-tells('7C', 'no opcode');
 
 // S-9.2.1: two of the 128 codes are stops, so the steps are 1 to 126; the others round down.
 const steps = (spd, kind, motion) => row(`SPD ${spd} of type ${kind}`, motionOf(spd, kind), motion);
@@ -144,8 +116,8 @@ hear('B0 04 10 5B');
 hear('B4 30 00 7B');
 row('a turnout that is refused', station.turnoutOf(5).refused > 0, true);
 row('and not as it was asked', station.turnoutOf(5).asked, null);
-row('the words of a refusal', refusalWords(bytesOf('B0 04 10 5B'), bytesOf('B4 30 00 7B')), 'Refused: turnout 5 thrown, on');
-row('with the reason', refusalWords(bytesOf('BF 00 4D 0D'), bytesOf('B4 3F 00 74')),
+row('the words of a refusal', refusalWords('turnout 5 thrown, on', 'turnout refused'), 'Refused: turnout 5 thrown, on');
+row('with the reason', refusalWords('take locomotive 77', 'no free slot for the locomotive'),
   'Refused: take locomotive 77 (no free slot for the locomotive)');
 station.forgetRefusals(Date.now() - 60000);
 row('its refusal is remembered for a minute', station.turnoutOf(5).refused > 0, true);
@@ -155,17 +127,20 @@ row('and then forgotten', station.turnoutOf(5).refused, 0);
 const put = [];
 const talk = new Talk((text) => put.push(text), { message() {}, node() {}, joined() {}, refused() {} });
 const answer = talk.send(ask.address(3));
-['RECEIVE 83 7C', 'RECEIVE BF 00 03 43', 'SENT OK', 'RECEIVE B4 3F 00 74'].forEach((text) => talk.hear(text));
+['RECEIVE 83 7C', 'WORDS on', 'RECEIVE BF 00 03 43', 'WORDS take', 'SENT OK', 'RECEIVE B4 3F 00 74', 'WORDS none free']
+  .forEach((text) => talk.hear(text));
 const told = [];
-const refused = new Talk(() => {}, { message: (bytes, own) => told.push([hexOf(bytes), own]) });
+const refused = new Talk(() => {}, { message: (bytes, words, own) => told.push([hexOf(bytes), words, own]) });
 refused.send(turnoutRequest(2048, true, true));
-['RECEIVE B0 7F 3F 0F', 'SENT OK', 'RECEIVE B4 30 00 7B', 'RECEIVE 83 7C'].forEach((text) => refused.hear(text));
-row('whose messages these are', told, [['B0 7F 3F 0F', true], ['B4 30 00 7B', true], ['83 7C', false]]);
+['RECEIVE B0 7F 3F 0F', 'WORDS ours', 'SENT OK', 'RECEIVE B4 30 00 7B', 'WORDS refused', 'RECEIVE 83 7C', 'WORDS of another']
+  .forEach((text) => refused.hear(text));
+row('whose messages these are, and their words', told,
+  [['B0 7F 3F 0F', 'ours', true], ['B4 30 00 7B', 'refused', true], ['83 7C', 'of another', false]]);
 const places = [talk.place('express', 'back', '1500', 'a'), talk.place('express', 'back', '10', 'b')];
 row('a train is put back by', put.slice(-2), ['PLACE express back 1500 a', 'PLACE express back 10 b']);
 ['PLACE OK', 'PLACE ERROR the train does not fit there'].forEach((text) => talk.hear(text));
 places.push(talk.place('express', 'main', '700', 'a'));
-const wrong = talk.send([0x83, 0x7D]);
+const wrong = talk.send({ words: '', bytes: [0x83, 0x7D] });
 talk.hear('SENT ERROR wrong check byte');
 const late = talk.send(ask.powerOn());
 talk.end();
@@ -173,7 +148,7 @@ Promise.all([answer, wrong, late, ...places]).then(([first, second, third, ...pl
   row('which is done, is refused, or may be done', placed.map(({ error, mayBeSent }) => [error, mayBeSent ?? false]),
     [['', false], ['the train does not fit there', false], ['the connection was lost', true]]);
   row('the line that is sent', put[0], 'SEND BF 00 03 43');
-  row('the reply behind the own message', hexOf(first.reply), 'B4 3F 00 74');
+  row('the reply behind the own message, and its words', [hexOf(first.reply), first.words], ['B4 3F 00 74', 'none free']);
   row('a message that is refused', second.error, 'ERROR wrong check byte');
   row('a message under way when the connection ends', third.error, 'the connection was lost');
   row('that may have been sent', [second, third].map(({ mayBeSent }) => mayBeSent ?? false), [false, true]);

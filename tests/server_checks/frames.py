@@ -20,7 +20,7 @@ def told(*lines):
     return b"".join(bytes([0x81, len(line)]) + line.encode() for line in lines)
 
 
-TURNED_ON = told(f"RECEIVE {POWER_ON}", "SENT OK")
+TURNED_ON = told(f"RECEIVE {POWER_ON}", "WORDS track power on", "SENT OK")
 TOO_LONG = told("SENT ERROR line too long")
 LONGEST = ON.ljust(512)
 
@@ -38,7 +38,7 @@ FRAMES = [
     # A pong that nobody has asked for; an empty message; one of two lines.
     (plain(0x8A, b"") + plain(0x81, ON), TURNED_ON, False),
     (plain(0x81, b"") + plain(0x81, ON), TURNED_ON, False),
-    (plain(0x81, ON + b"\r\n" + OFF), TURNED_ON + told(f"RECEIVE {POWER_OFF}", "SENT OK"), False),
+    (plain(0x81, ON + b"\r\n" + OFF), TURNED_ON + told(f"RECEIVE {POWER_OFF}", "WORDS track power off", "SENT OK"), False),
     # A close with the code 1000 is answered, and nothing is read behind it.
     (plain(0x88, b"\x03\xe8"), b"\x88\x02\x03\xe8", True),
     (plain(0x88, b"\x03\xe8") + plain(0x81, ON), b"\x88\x02\x03\xe8", True),
@@ -84,7 +84,7 @@ def check(server, other, row, pieces):
             same(name, answered.read(len(answer)), answer)
             if not has_ended:
                 other.send(0x81)
-                wanted = told(*receive(BUSY))
+                wanted = told(*receive(BUSY), "WORDS busy")
                 same(f"{name}, and then", answered.read(len(wanted)), wanted)
                 stream.shutdown(socket.SHUT_WR)
             same(f"{name}: the end", answered.read(), b"")

@@ -134,6 +134,38 @@ def pages():
             same("after a handshake", [client.line() for _ in range(2)], receive(POWER_ON, SPEED_63))
 
 
+# Messages, and their words by LocoNet Personal Use Edition 1.0, in those of docs/EXPLAIN.md.
+WORDS = [
+    (TAKE_3, "take locomotive 3"),
+    (SLOT_1_IDLE, "slot 1: locomotive 3, idle, 128 steps, stop, forward; track off"),
+    (USE_1, "use slot 1"),
+    ("E7 0E 01 33 03 00 00 06 00 00 00 00 00 21", "slot 1: locomotive 3, in use, 128 steps, stop, forward; track off"),
+    (SPEED_63, "slot 1: speed 63 of 126"),
+    ("B0 04 10 5B", "turnout 5 thrown, on"),
+    ("BB 00 00 44", "read slot 0"),
+    ("B4 3B 00 70", "message BB refused"),
+    ("81 7E", "busy"),
+]
+
+
+def words_on_pages():
+    """behind each message a page receives its words, those of the log, at once; no other client does"""
+    replies = (SLOT_1_IDLE, WORDS[3][0], "B4 3B 00 70")
+    with serve("--turns", "1", page=True) as server, Client(server) as client, Page(server).accepted() as page:
+        for text, _ in WORDS:
+            if text not in replies:
+                client.write(send(text))
+        wanted = [line for text, words in WORDS for line in (f"RECEIVE {text}", f"WORDS {words}")]
+        same("a page", [page.text() for _ in wanted], wanted)
+        same("another client", {client.line().split()[0] for _ in range(2 * len(WORDS) - len(replies))}, {"RECEIVE", "SENT"})
+        for text, words in WORDS:
+            # The log leaves out reads of slots, but for those that are refused.
+            holds(f"{words} is printed", server.until_printed(f"message {text}  {words}"))
+        page.write(send(SPEED_63))
+        wanted = [f"RECEIVE {SPEED_63}", "WORDS slot 1: speed 63 of 126", "SENT OK"]
+        same("its own message", [page.text() for _ in wanted], wanted)
+
+
 def messages_in_pieces():
     """a page's message is carried out once it is whole: in fragments, after pings, and in several writes"""
     with serve(*LAYOUT, "--turns", "20", page=True) as server, Page(server) as page:
@@ -224,7 +256,8 @@ def silent_pages():
         # More than the 40 seconds after which a silent page leaves.
         new = stack.enter_context(Page(server)).accepted()
         new.stream.sendall(client_frame(Page.TEXT, b"SEND 83 7C"))
-        same("a new page", [new.frame()[2] for _ in range(2)], [b"RECEIVE 83 7C", b"SENT OK"])
+        wanted = [b"RECEIVE 83 7C", b"WORDS track power on", b"SENT OK"]
+        same("a new page", [new.frame()[2] for _ in wanted], wanted)
         for page in (*others, eighth):
             same("another", page.line(), "RECEIVE 83 7C")
         expected = [f"client {i} joins" for i in range(1, 9)] + ["client 1 leaves", "client 1 joins", "message 83 7C  track power on"]

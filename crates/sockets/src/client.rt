@@ -6,6 +6,7 @@ ghost use Rattle.std.specs.Io.{ReadsAtMost, WritesAtMost};
 
 use crate::silence::{Action, Silence};
 use mio::net::TcpStream;
+use pages::PageText;
 use std::alloc::Global;
 use std::io;
 use std::io::{BufReader, ErrorKind, Read, Write};
@@ -100,6 +101,8 @@ impl ProgramClient {
 #[derive(Drop)]
 pub(crate) struct PageClient {
     page: Page<TcpStream>,
+    /// What the page has not taken of the text of the bus.
+    text: PageText,
     /// True until `take_just_opened` is first called.
     is_just_opened: bool,
     /// Text of the bus was sent. The first is the version, before which no message is sent.
@@ -119,6 +122,7 @@ impl PageClient {
     {
         PageClient {
             page,
+            text: PageText::new(),
             is_just_opened: true,
             has_version: false,
             silence: Silence::new(now),
@@ -161,17 +165,18 @@ impl PageClient {
         is_just_opened
     }
 
-    /// Whether messages between lines may be sent: the version was sent before. Writes queued bytes
-    /// first, until the stream would block.
+    /// Whether messages between lines may be sent: the version was sent before, and the words of each
+    /// message. Writes queued bytes first, until the stream would block.
     pub(crate) fn is_writable(&mut self) -> bool {
         // A page that has disconnected is removed at its next read.
         let _ = self.page.flush();
-        self.has_version
+        let _ = self.write_text();
+        self.has_version && self.text.queued().is_empty()
     }
 
     /// Sends one message between lines, whole or not at all. Returns false if it was not sent.
     pub(crate) fn send(&mut self, message: &str) -> bool {
-        self.page.send(message).is_ok()
+        self.text.queued().is_empty() && self.page.send(message).is_ok()
     }
 
     /// Reads from the page, as `Read` does. Sets `has_backlog` if it may have sent more and none of
@@ -197,12 +202,33 @@ impl PageClient {
         Err(io::Error::from(ErrorKind::WouldBlock))
     }
 
-    /// Writes text of the bus to the page, as `Write` does.
+    /// Writes text of the bus to the page, as `Write` does, and the words of its messages.
     fn write(&mut self, bytes: &[u8]) -> io::Result<usize>
         ensures { WritesAtMost result bytes.now }
     {
         self.has_version = true;
-        self.page.write_lines(bytes)
+        self.write_text()?;
+        let taken = self.text.push(bytes);
+        self.write_text()?;
+        if taken == 0 && !bytes.is_empty() {
+            return Err(io::Error::from(ErrorKind::WouldBlock));
+        }
+        Ok(taken)
+    }
+
+    /// Writes what is queued of the text, as far as the page takes it.
+    fn write_text(&mut self) -> io::Result<()> {
+        if self.text.queued().is_empty() {
+            return Ok(());
+        }
+        match self.page.write_lines(self.text.queued()) {
+            Ok(taken) => {
+                self.text.consume(taken);
+                Ok(())
+            }
+            Err(error) if error.kind() == ErrorKind::WouldBlock => Ok(()),
+            Err(error) => Err(error),
+        }
     }
 }
 
