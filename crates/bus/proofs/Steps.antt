@@ -11,7 +11,7 @@ use Rattle.loconet_tcp.specs.declared.request.PlaceError.TheVariants as place_er
 use Rattle.loconet_tcp.specs.declared.request.Placement.{Placement}
 use Rattle.loconet_tcp.specs.declared.request.Request.TheVariants.{Send, Invalid, Turns, Nodes, Place}
 use Rattle.loconet_tcp.specs.declared.request.Reason.TheVariants.{TooLong, NoMessage, WrongCheck}
-use Rattle.ascii_words.specs.Words.{is_blank, words_of}
+use Rattle.text.specs.Words.{is_blank, words_of}
 use Rattle.loconet_tcp.specs.Requests.{parse_place, parse_send, request_of, bytes_of, is_nodes, is_place, is_send, is_turns, turns_of}
 use Rattle.loconet_tcp.specs.Text.{is_end}
 use Rattle.station_core.specs.Seen.{Seen}

@@ -14,7 +14,7 @@ use Rattle.show_text.specs.Lines.{track_text}
 use Rattle.describe.specs.Messages.{message_words}
 use Rattle.bus.specs.declared.outcome.Outcome.{Outcome}
 use Rattle.bus.specs.declared.outcome.Outcome.TheVariants.{Nothing, Connected, Disconnected, Rejected, Reported, Sent, TurnBegan, TurnsRequested, NodesRequested, PlaceRequested, Placed}
-use Rattle.loconet_tcp.specs.ClientLines.{hex_words}
+use Rattle.text.specs.Hex.{hex_words}
 use Rattle.bus.specs.Outcome.{messages_in}
 
 -- The state of a printer: the turns, the state of each decoder when it was last printed, or at the

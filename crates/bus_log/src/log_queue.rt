@@ -6,13 +6,13 @@ ghost use Rattle.bus_log.specs.LogQueues.{after_byte, after_lines, after_text, e
 
 use crate::line_queue::{LOG_CAPACITY, LineQueue};
 use arrayvec::{ArrayString, ArrayVec};
-use ascii_words::decimal;
 use show_text::Line;
 use std::alloc::{AllocError, Global};
 use std::fmt::Write as _;
 use std::io;
 use std::io::Write;
 use std::marker::Model;
+use text::decimal_digits;
 
 /// The longest line that is queued, in bytes, including its line feed.
 const LONGEST_LINE: usize = 1_024;
@@ -122,7 +122,7 @@ impl LogQueue {
             ≡ after_lines self.old ((before.now ++ decimal number ++ behind.now) ∷ []) }
     {
         self.print(before.as_bytes());
-        self.print(decimal(number).as_slice());
+        self.print(decimal_digits(number).as_slice());
         self.print(behind.as_bytes());
         self.print(b"\n");
     }

@@ -1,15 +1,14 @@
 //! The line of a message.
 ghost use Rattle.std.specs.Prelude.{◌≡◌, ◌+◌, ◌*◌, ◌≤◌, ◌++◌, ◌∷◌, [], length};
 ghost use Rattle.arrayvec.specs.ArrayVec.{array_vec_len};
-ghost use Rattle.loconet_tcp.specs.ClientLines.{hex_word, hex_words};
 ghost use Rattle.bus_log.specs.Lines.{sent_line, set_off};
 ghost use Rattle.bus_log.specs.LogQueues.{after_lines};
 
 use crate::log_queue::LogQueue;
 use arrayvec::ArrayVec;
-use ascii_words::hex_char;
 use describe::message_words;
 use ln_frame::Msg;
+use text::{push_bytes, push_hex_words};
 
 /// The line of a message, at most 7 bytes for its first word, 381 for the bytes of the message, two
 /// spaces and 400 bytes of explanation: it always fits into a line of the log.
@@ -29,8 +28,8 @@ fn message_line(message: &Msg) -> MessageLine
     ensures { result.items ≡ sent_line message.now }
 {
     let mut line = MessageLine::new();
-    push_text(&mut line, b"message");
-    push_bytes(&mut line, message.bytes());
+    push_bytes(&mut line, b"message");
+    push_hex_words(&mut line, message.bytes());
     push_explanation(&mut line, message_words(message.bytes()).as_slice());
     line
 }
@@ -43,36 +42,6 @@ fn push_explanation(line: &mut MessageLine, explanation: &[u8])
     if explanation.is_empty() {
         return;
     }
-    push_text(line, b"  ");
-    push_text(line, explanation);
-}
-
-/// Appends each byte as a space and two hexadecimal digits.
-fn push_bytes(line: &mut MessageLine, bytes: &[u8])
-    requires { array_vec_len line.old + 3 * length bytes.now ≤ 790 }
-    ensures text { line.new.items ≡ line.old.items ++ hex_words bytes.now }
-    ensures len { array_vec_len line.new ≡ array_vec_len line.old + 3 * length bytes.now }
-{
-    for byte in bytes {
-        push_byte(line, *byte);
-    }
-}
-
-fn push_byte(line: &mut MessageLine, byte: u8)
-    requires { array_vec_len line.old + 3 ≤ 790 }
-    ensures text { line.new.items ≡ line.old.items ++ hex_word byte }
-    ensures len { array_vec_len line.new ≡ array_vec_len line.old + 3 }
-{
-    line.push(b' ');
-    line.push(hex_char(byte / 16));
-    line.push(hex_char(byte % 16));
-}
-
-/// Appends a text.
-fn push_text(line: &mut MessageLine, text: &[u8])
-    requires { array_vec_len line.old + length text.now ≤ 790 }
-    ensures text { line.new.items ≡ line.old.items ++ text.now }
-    ensures len { array_vec_len line.new ≡ array_vec_len line.old + length text.now }
-{
-    let _fits = line.try_extend_from_slice(text);
+    push_bytes(line, b"  ");
+    push_bytes(line, explanation);
 }

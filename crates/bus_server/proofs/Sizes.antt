@@ -6,7 +6,7 @@ use Rattle.std.specs.Option.{option_map}
 use Rattle.std.proofs.lemmas.Bool.{and_parts}
 use Rattle.std.proofs.lemmas.Bool.Decides.{nat_tests}
 use Rattle.std.proofs.lemmas.List.{length-append}
-use Rattle.ascii_words.specs.Words.{is_blank, words_of}
+use Rattle.text.specs.Words.{is_blank, words_of}
 use Rattle.ln_frame.specs.Message.{IsWhole, are_data, has_form, is_len, is_whole, message_len}
 use Rattle.ln_ops.specs.Reply.{reply_bytes}
 use Rattle.ln_ops.specs.Sensor.{is_interrogation, report_bytes}
@@ -21,7 +21,8 @@ use Rattle.railway.specs.Course.{Happening, after}
 use Rattle.railway.specs.Course.Happening.{Elapses as TimeElapses}
 use Rattle.railway.specs.Railway.{RailwayState, elapsed}
 use Rattle.railway.specs.Reports.{change_of, changes, changes_from, full_from, is_occupied, level_of, onto}
-use Rattle.loconet_tcp.specs.ClientLines.{hex_words, line_end, place_text, receive_text, sent_error_text, sent_ok_text, turns_text}
+use Rattle.text.specs.Hex.{hex_words}
+use Rattle.loconet_tcp.specs.ClientLines.{line_end, place_text, receive_text, sent_error_text, sent_ok_text, turns_text}
 use Rattle.loconet_tcp.specs.Requests.{bytes_of, is_nodes, is_place, is_send, is_turns, parse_place, parse_send, request_of, turns_of}
 use Rattle.loconet_tcp.specs.Text.{is_end}
 use Rattle.bus.specs.Outcome.{reply_text, text_for}

@@ -3,9 +3,9 @@ use Rattle.std.specs.Prelude.{ℕ, ◌==◌, Bool, true, false, List, Result, Ok
 use Rattle.show_text.specs.declared.command.Why.{Why as ScriptWhy}
 use Rattle.show_text.specs.declared.command.Why.TheVariants as script
 use Rattle.show_text.specs.declared.command.ScriptFault.{ScriptFault}
-use Rattle.show_text.specs.declared.hex.HexWhy.{HexWhy}
-use Rattle.show_text.specs.declared.hex.HexWhy.TheVariants as hex
-use Rattle.show_text.specs.declared.hex.HexFault.{HexFault}
+use Rattle.text.specs.declared.hex_text.HexWhy.{HexWhy}
+use Rattle.text.specs.declared.hex_text.HexWhy.TheVariants as hex
+use Rattle.text.specs.declared.hex_text.HexFault.{HexFault}
 use Rattle.roster.specs.declared.fault.Why.{Why as RosterWhy}
 use Rattle.roster.specs.declared.fault.Why.TheVariants as roster
 use Rattle.roster.specs.declared.fault.RosterFault.{RosterFault}

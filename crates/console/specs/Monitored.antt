@@ -2,8 +2,8 @@
 use Rattle.std.specs.Prelude.{ℕ, ◌≡◌, ◌⊎◌, List, Option, Ok, Err}
 use Rattle.std.specs.Io.KnownBytes.{Consumes, IsAtEnd}
 use Rattle.input_text.specs.Read.{ReadsMost}
-use Rattle.show_text.specs.Hex.{hex_of}
-use Rattle.show_text.specs.declared.hex.HexFault.{HexFault}
+use Rattle.text.specs.HexText.{hex_of}
+use Rattle.text.specs.declared.hex_text.HexFault.{HexFault}
 use Rattle.console.specs.declared.fault.RunFault.{RunFault}
 use Rattle.console.specs.declared.fault.RunFault.TheVariants.{Unreadable, Output, NoMemory}
 use Rattle.console.specs.Fault.{of_hex}

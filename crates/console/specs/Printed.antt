@@ -2,7 +2,7 @@
 use Rattle.std.specs.Prelude.{ℕ, ◌≡◌, List, [], ◌∷◌, ◌++◌, Option, Ok}
 use Rattle.std.specs.Io.KnownBytes.{Appends}
 use Rattle.ln_frame.specs.Stream.{messages_of}
-use Rattle.show_text.specs.Hex.{hex_of}
+use Rattle.text.specs.HexText.{hex_of}
 use Rattle.show_text.specs.Messages.{message_text}
 
 -- a line, and its line feed

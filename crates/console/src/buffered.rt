@@ -5,6 +5,7 @@ ghost use Rattle.input_text.specs.Write.{failed_after};
 
 use arrayvec::ArrayVec;
 use input_text::{Broken, Output, Sink};
+use text::push_bytes;
 
 /// The capacity of the buffer in bytes.
 const ROOM: usize = 8192;
@@ -18,14 +19,6 @@ pub struct Buffered<'a, O> {
     /// How many of the buffered bytes are already written.
     written: usize,
     ghost within: { written ≤ length waiting.items },
-}
-
-/// Appends bytes for which there is room.
-fn append(waiting: &mut ArrayVec<u8, ROOM>, bytes: &[u8])
-    requires { length waiting.old.items + length bytes.now ≤ 8192 }
-    ensures { waiting.new.items ≡ waiting.old.items ++ bytes.now }
-{
-    let _ = waiting.try_extend_from_slice(bytes);
 }
 
 impl<'a, O: Output> Buffered<'a, O> {
@@ -89,7 +82,7 @@ impl<O: Output> Sink for Buffered<'_, O> {
             self.write_out()?;
         }
         let count = bytes.len().min(ROOM - self.waiting.len());
-        append(&mut self.waiting, &bytes[..count]);
+        push_bytes(&mut self.waiting, &bytes[..count]);
         Ok(count)
     }
 }

@@ -1,7 +1,7 @@
 -- Numbers, and lists of functions, as text.
 use Rattle.std.specs.Prelude.{ℕ, ◌+◌, ◌/◌, ◌%◌, ◌==◌, Bool, if◌then◌else◌, List, [], ◌∷◌, ◌++◌, codes}
 use Rattle.std.specs.Fmt.{decimal}
-use Rattle.ascii_words.specs.Words.{hex_char}
+use Rattle.text.specs.Hex.{hex_char}
 
 -- two digits
 abbrev pub hex_pair : ℕ → List ℕ

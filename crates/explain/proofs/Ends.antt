@@ -2,7 +2,8 @@
 use Rattle.std.proofs.Common.{◌≡◌, ℕ, ◌+◌, ◌≤◌, ◌==◌, true, false, List, [], ◌∷◌, ◌++◌, suc, length, not, append_assoc, append-nil, refl, ap, ap₂, sym, inl, inr, ◌∙◌, arith}
 use Rattle.std.proofs.lemmas.Bool.{and_parts, not-true, cases_Bool}
 use Rattle.explain.specs.Explained.{shown}
-use Rattle.explain.specs.Lines.{body_of, end_of, is_end, is_open}
+use Rattle.explain.specs.Lines.{body_of, end_of, is_end}
+use Rattle.text.specs.Lines.{is_open}
 use Rattle.explain.specs.LineKinds.{note_of}
 
 -- what ends no line ends none in its parts

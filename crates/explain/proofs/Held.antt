@@ -2,10 +2,11 @@
 use Rattle.std.proofs.Common.{◌≡◌, ℕ, ◌+◌, ◌<◌, Bool, true, false, List, [], ◌∷◌, ◌++◌, length, length-append, append_assoc, append-nil, refl, ap, sym, ◌∙◌, arith}
 use Rattle.std.specs.Prelude.{flat_map}
 use Rattle.std.proofs.lemmas.Bool.{lt-ltb}
-use Rattle.ascii_words.specs.Words.{words_of}
+use Rattle.text.specs.Words.{words_of}
 use Rattle.loconet_tcp.specs.Requests.{are_pairs, bytes_of, leading_bytes}
 use Rattle.explain.specs.Explained.{explained, shown}
-use Rattle.explain.specs.Lines.{body_of, end_of, is_open, lines_of, onto_line}
+use Rattle.explain.specs.Lines.{body_of, end_of, lines_of, onto_line}
+use Rattle.text.specs.Lines.{is_open}
 use Rattle.explain.specs.LineKinds.{message_in, note_of}
 use Rattle.explain.specs.Unfinished.{copied, to_write}
 use Rattle.explain.proofs.Ends.{body-front, first-open, open-both, rest-open, shown-last, whole}

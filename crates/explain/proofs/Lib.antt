@@ -1,7 +1,6 @@
 mod Ends
 mod Held
 mod Copying
-mod Pieces
 mod Messages
 mod LogLines
 mod Printed

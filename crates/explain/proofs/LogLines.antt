@@ -1,9 +1,10 @@
 -- The hex text of a log, line by line.
 use Rattle.std.proofs.Common.{◌≡◌, ℕ, true, List, [], ◌∷◌, ◌++◌, append-nil, append_assoc, refl, ap, sym, ◌∙◌}
-use Rattle.ascii_words.specs.Words.{words_of}
+use Rattle.text.specs.Words.{words_of}
 use Rattle.loconet_tcp.specs.Requests.{are_pairs, bytes_of, leading_bytes}
 use Rattle.explain.specs.HexText.{hex_line_of, hex_text}
-use Rattle.explain.specs.Lines.{body_of, is_open}
+use Rattle.explain.specs.Lines.{body_of}
+use Rattle.text.specs.Lines.{is_open}
 use Rattle.explain.proofs.Ends.{body-open}
 use Rattle.explain.proofs.Held.{lines-ended, lines-last}
 

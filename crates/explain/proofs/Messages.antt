@@ -2,12 +2,11 @@
 use Rattle.std.proofs.Common.{◌≡◌, ℕ, ◌/◌, ◌%◌, Bool, true, false, List, [], ◌∷◌, ◌++◌, length, Option, Some, None, nat_lt, if◌then◌else◌, ap}
 use Rattle.std.specs.Prelude.{codes}
 use Rattle.ln_frame.specs.Message.{has_form, is_whole}
-use Rattle.ascii_words.specs.Words.{hex_char}
+use Rattle.text.specs.Hex.{hex_char, hex_words}
 use Rattle.loconet_tcp.specs.declared.request.Request.TheVariants.{Send, Invalid}
 use Rattle.loconet_tcp.specs.declared.request.Reason.TheVariants.{TooLong, NoMessage, WrongCheck}
-use Rattle.ascii_words.specs.Words.{words_of}
+use Rattle.text.specs.Words.{words_of}
 use Rattle.loconet_tcp.specs.Requests.{are_pairs, parse_send, request_of, bytes_of, leading_bytes}
-use Rattle.loconet_tcp.specs.ClientLines.{hex_words}
 use Rattle.describe.specs.Messages.{message_words}
 use Rattle.explain.specs.LineKinds.{message_in, said_by, words_about}
 

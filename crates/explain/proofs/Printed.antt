@@ -10,7 +10,8 @@ use Rattle.std.proofs.lemmas.Bool.{and_parts}
 use Rattle.std.proofs.lemmas.Bool.Decides.{nat_tests}
 use Rattle.std.proofs.lemmas.Fmt.{digits_decimal}
 use Rattle.std.proofs.lemmas.Str.Parse.{IsNumeralModel, numerals_by_value, tells_all_ascii_digits}
-use Rattle.ascii_words.specs.Words.{hex_char, is_blank, words_of}
+use Rattle.text.specs.Hex.{hex_char, hex_words, hex_words as printed_words}
+use Rattle.text.specs.Words.{is_blank, words_of}
 use Rattle.ln_frame.specs.Message.{IsWhole}
 use Rattle.ln_ops.specs.Message.{op_of}
 use Rattle.ln_ops.specs.Reply.{reply_bytes}
@@ -18,9 +19,8 @@ use Rattle.ln_ops.specs.declared.op.Op.{Op}
 use Rattle.ln_ops.specs.declared.op.Op.TheVariants.{PowerOff, PowerOn, ForceIdle, Speed, Dirf, Snd, SwReq, SwAck, LongAck, SlotStat, Move, SlotRead, LocoAddr, SlotData, SlotWrite, Imm, Other}
 use Rattle.ln_ops.specs.declared.reply.Reply.{Reply}
 use Rattle.ln_ops.specs.declared.reply.Reply.TheVariants as reply
-use Rattle.loconet_tcp.specs.ClientLines.{hex_words}
 use Rattle.loconet_tcp.specs.Requests.{bytes_of, leading_bytes}
-use Rattle.show_text.specs.Lines.{hex_words as printed_words, off_text, reply_text, track_text}
+use Rattle.show_text.specs.Lines.{off_text, reply_text, track_text}
 use Rattle.show_text.specs.Messages.{message_text, op_text}
 use Rattle.describe.specs.Messages.{message_words}
 use Rattle.describe.specs.Packets.{packet_words}

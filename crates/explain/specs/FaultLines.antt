@@ -2,7 +2,7 @@
 use Rattle.std.specs.Prelude.{ℕ, Bool, if◌then◌else◌, List, [], codes}
 use Rattle.std.specs.List.{before_first, after_first}
 use Rattle.std.specs.Str.{bytes_eq}
-use Rattle.ascii_words.specs.Words.{is_blank}
+use Rattle.text.specs.Words.{is_blank}
 use Rattle.roster.specs.declared.fault.Why.TheVariants.{NotToml, BadShape, TooMany, BadName, BadCv, BadModule, Empty, BadCvList}
 use Rattle.roster.specs.FaultWords.{words_of}
 

@@ -1,9 +1,9 @@
 -- The hex text of a log: its whole messages, one a line (own).
 use Rattle.std.specs.Prelude.{ℕ, ◌/◌, ◌%◌, ◌==◌, ◌||◌, if◌then◌else◌, nat_lt, List, [], ◌∷◌, ◌++◌, length, flat_map, Option, Some, None, codes}
 use Rattle.std.specs.List.{starts_with}
-use Rattle.ascii_words.specs.Words.{hex_char, words_of}
+use Rattle.text.specs.Hex.{hex_char, hex_words}
+use Rattle.text.specs.Words.{words_of}
 use Rattle.ln_frame.specs.Message.{is_whole}
-use Rattle.loconet_tcp.specs.ClientLines.{hex_words}
 use Rattle.loconet_tcp.specs.Requests.{bytes_of, leading_bytes}
 use Rattle.explain.specs.Lines.{body_of, lines_of}
 use Rattle.explain.specs.LineKinds.{begins_with, rest_after}

@@ -1,11 +1,6 @@
 -- The lines of a text, each with its end.
-use Rattle.std.specs.Prelude.{ℕ, Bool, ◌==◌, ◌||◌, if◌then◌else◌, List, [], ◌∷◌, not}
-use Rattle.std.specs.List.{list_all}
+use Rattle.std.specs.Prelude.{ℕ, Bool, ◌==◌, ◌||◌, if◌then◌else◌, List, [], ◌∷◌}
 use Rattle.std.specs.Str.{bytes_eq}
-
--- no line ends here
-abbrev pub is_open : List ℕ → Bool
-is_open = list_all (λ b. not (b == 10))
 
 -- a byte before the first line
 abbrev pub onto_line : ℕ → List (List ℕ) → List (List ℕ)

@@ -1,13 +1,14 @@
 //! Explaining a text, piece by piece.
 ghost use Rattle.std.specs.Prelude.{ℕ, ◌≡◌, ◌∷◌, ◌++◌, [], List, IsTrue, OnOk, false};
-ghost use Rattle.explain.specs.Lines.{is_open};
+ghost use Rattle.text.specs.Lines.{is_open};
 ghost use Rattle.explain.specs.Unfinished.{to_write};
 
-use crate::lines::{cut_line, push_ended, push_line};
+use crate::lines::{push_ended, push_line};
 use arrayvec::ArrayVec;
 use describe::Words;
 use loconet_tcp::LONGEST_KEPT;
 use std::alloc::AllocError;
+use text::split_at_line_feed;
 
 /// Explains a text, piece by piece. It holds the beginning of the unfinished line, and nothing of a
 /// line that is too long.
@@ -50,7 +51,7 @@ impl Explainer {
         ensures open { IsTrue (is_open self.new.line.items) }
     {
         let mut rest = bytes;
-        while let Some((piece, rest_after)) = cut_line(rest) {
+        while let Some((piece, rest_after)) = split_at_line_feed(rest) {
             self.push_line_piece(piece, text)?;
             rest = rest_after;
         }

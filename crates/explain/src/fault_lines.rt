@@ -2,8 +2,8 @@
 ghost use Rattle.std.specs.Prelude.{◌≡◌, ◌≤◌, length};
 ghost use Rattle.explain.specs.FaultLines.{fault_in, fault_words, hex_fault, names_program, roster_fault, script_fault, serve_fault};
 
-use ascii_words::cut_piece;
 use roster::Why;
+use text::cut_piece;
 
 /// Returns the fault of this number of a roster.
 #[tactic(auto, unfolding(crate::specs::FaultLines::roster_fault))]

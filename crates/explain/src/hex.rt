@@ -1,13 +1,17 @@
 //! The messages of a log as hex text.
 ghost use Rattle.std.specs.Prelude.{◌≡◌, ◌≤◌, ◌++◌, IfOk, OnOk, length};
 ghost use Rattle.explain.specs.HexText.{before_two_spaces, bytes_in, hex_line, hex_line_of, hex_text, message_in_line, message_in_text, pairs_in, without_explanation};
-ghost use Rattle.loconet_tcp.specs.ClientLines.{hex_words};
+ghost use Rattle.text.specs.Hex.{hex_words};
 
-use crate::lines::{body_and_end, cut_line};
-use ascii_words::{cut_piece, hex_char};
+use crate::lines::body_and_end;
+use arrayvec::ArrayVec;
 use ln_frame::Msg;
 use loconet_tcp::{Bytes, LONGEST_LINE, bytes_of, leading_bytes};
 use std::alloc::{AllocError, Global};
+use text::{cut_piece, push_hex_words, split_at_line_feed};
+
+/// The bytes of a message, each as a space and two digits.
+type HexWords = ArrayVec<u8, 381>;
 
 /// Returns the bytes of a text whose words are all pairs of digits; otherwise none.
 fn pairs_in(text: &[u8]) -> Bytes
@@ -79,28 +83,13 @@ fn message_in_line(line: &[u8]) -> Option<Msg>
     message_in_text(without_explanation(line))
 }
 
-/// Appends bytes, each as a space and two digits.
-fn push_words(bytes: &[u8], text: &mut Vec<u8>) -> Result<(), AllocError>
-    ensures { OnOk result (text.new.items ≡ text.old.items ++ hex_words bytes.now) }
-{
-    for byte in bytes {
-        text.push(b' ')?;
-        text.push(hex_char(*byte / 16))?;
-        text.push(hex_char(*byte % 16))?;
-    }
-    Ok(())
-}
-
 /// Appends a message as a line of pairs of digits.
 fn push_message(message: &Msg, text: &mut Vec<u8>) -> Result<(), AllocError>
     ensures { OnOk result (text.new.items ≡ text.old.items ++ hex_line message.now) }
 {
-    let [first, rest @ ..] = message.bytes() else {
-        return Ok(());
-    };
-    text.push(hex_char(*first / 16))?;
-    text.push(hex_char(*first % 16))?;
-    push_words(rest, text)?;
+    let mut words = HexWords::new();
+    push_hex_words(&mut words, message.bytes());
+    text.extend_from_slice(&words.as_slice()[1..])?;
     text.push(b'\n')?;
     Ok(())
 }
@@ -127,7 +116,7 @@ pub fn hex_text(alloc: Global, log: &[u8]) -> Result<Vec<u8>, AllocError>
 {
     let mut text = Vec::new(alloc);
     let mut rest = log;
-    while let Some((line, behind)) = cut_line(rest) {
+    while let Some((line, behind)) = split_at_line_feed(rest) {
         push_line(body_and_end(line).0, &mut text)?;
         rest = behind;
     }

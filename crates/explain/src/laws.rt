@@ -5,7 +5,7 @@ ghost use Rattle.ln_ops.specs.Reply.{reply_bytes};
 ghost use Rattle.ln_ops.specs.declared.reply.Reply.{Reply as ReplyOf};
 ghost use Rattle.show_text.specs.Lines.{off_text, reply_text, track_text};
 ghost use Rattle.show_text.specs.Messages.{message_text};
-ghost use Rattle.loconet_tcp.specs.ClientLines.{hex_words};
+ghost use Rattle.text.specs.Hex.{hex_words};
 ghost use Rattle.describe.specs.Messages.{message_words};
 ghost use Rattle.describe.specs.Packets.{packet_words};
 ghost use Rattle.explain.specs.LineKinds.{words_about};

@@ -1,14 +1,14 @@
 //! The subject of a line, and its explanation.
 ghost use Rattle.std.specs.Prelude.{◌≡◌, ◌≤◌, length, Option, Some, None, MatchOption};
-ghost use Rattle.ascii_words.specs.Words.{words_of};
+ghost use Rattle.text.specs.Words.{words_of};
 ghost use Rattle.describe.specs.Messages.{message_words};
 ghost use Rattle.loconet_tcp.specs.Requests.{leading_bytes};
 ghost use Rattle.explain.specs.LineKinds.{message_in, monitored_in, said_by, turn_in, words_about};
 
 use crate::fault_lines::{fault_in, names_program};
-use ascii_words::cut_piece;
 use describe::{Words, describe_message, describe_packet};
 use loconet_tcp::{Bytes, bytes_of, leading_bytes};
+use text::{cut_piece, push_bytes};
 
 /// Explains words that are a message and nothing else.
 #[tactic(auto, unfolding(crate::specs::LineKinds::message_in))]
@@ -54,7 +54,7 @@ fn write_text(text: &[u8], words: &mut Words)
     ensures { words.new.items ≡ text.now }
 {
     words.clear();
-    let _fits = words.try_extend_from_slice(text);
+    push_bytes(words, text);
 }
 
 /// Explains a message followed by words that describe it.

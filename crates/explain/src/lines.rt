@@ -1,26 +1,14 @@
 //! Lines, and the output for them.
 ghost use Rattle.std.specs.Prelude.{◌≡◌, ◌<◌, ◌∷◌, ◌++◌, [], IsTrue, IfSome, OnOk, Some, None, length};
 ghost use Rattle.explain.specs.Explained.{shown};
-ghost use Rattle.explain.specs.Lines.{body_of, end_of, is_open};
+ghost use Rattle.explain.specs.Lines.{body_of, end_of};
+ghost use Rattle.text.specs.Lines.{is_open};
 ghost use Rattle.explain.specs.LineKinds.{note_of};
 
 use crate::line_kinds::describe_line;
-use ascii_words::line_feed_at;
 use describe::Words;
 use loconet_tcp::LONGEST_LINE;
 use std::alloc::AllocError;
-
-/// Splits a text at its first line feed: the bytes before it, and the bytes after it.
-#[tactic(auto, using(crate::proofs::Pieces::cuts))]
-pub(crate) fn cut_line(text: &[u8]) -> Option<(&[u8], &[u8])>
-    ensures none { result ≡ None → IsTrue (is_open text.now) }
-    ensures line { IfSome result (λ cut. IsTrue (is_open cut.0.now)) }
-    ensures parts { IfSome result (λ cut. text.now ≡ cut.0.now ++ 10 ∷ cut.1.now) }
-    ensures shorter { IfSome result (λ cut. length cut.1.now < length text.now) }
-{
-    let at = line_feed_at(text)?;
-    Some((&text[..at], &text[at + 1..]))
-}
 
 /// Splits a line that a line feed follows into its text and its end.
 #[tactic(auto, using(crate::proofs::Ends::ends))]

@@ -3,8 +3,6 @@
 #![tactic(auto)]
 
 #[cfg(test)]
-mod test_ascii_words;
-#[cfg(test)]
 mod test_dcc_packet;
 #[cfg(test)]
 mod test_dcc_packet_steps;
@@ -34,3 +32,5 @@ mod test_show_text;
 mod test_slot_table;
 #[cfg(test)]
 mod test_station_core;
+#[cfg(test)]
+mod test_text;

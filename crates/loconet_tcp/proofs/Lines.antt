@@ -14,9 +14,9 @@ use Rattle.loconet_tcp.specs.declared.request.Request.TheVariants.{Invalid, Turn
 use Rattle.loconet_tcp.specs.declared.request.PlaceError.TheVariants as place_error
 use Rattle.loconet_tcp.specs.declared.request.Reason.TheVariants.{TooLong}
 use Rattle.loconet_tcp.specs.Text.{is_end, is_open, onto_line, lines_of}
-use Rattle.ascii_words.specs.Words.{words_of, is_blank}
+use Rattle.text.specs.Words.{words_of, is_blank}
 use Rattle.loconet_tcp.specs.Requests.{request_of, parse_place, parse_send, bytes_of, in_range, is_nodes, is_place, is_send, is_turns, turns_of}
-use Rattle.show_text.specs.Words.{decimal_of}
+use Rattle.text.specs.Decimal.{decimal_of}
 use Rattle.loconet_tcp.specs.Reading.{requests_in, requests_of, request_of_byte, kept_after, requests_along}
 
 -- bytes before the first line; nothing if there is no line

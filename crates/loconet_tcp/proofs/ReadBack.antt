@@ -7,13 +7,12 @@ use Rattle.std.proofs.lemmas.Bool.{and_parts, le-ltb}
 use Rattle.std.proofs.lemmas.Bool.Decides.{nat_tests}
 use Rattle.std.proofs.lemmas.List.Splits.{slice_split-cons_no}
 use Rattle.ln_frame.specs.Message.{message_len, are_data, is_len, has_form, IsWhole}
-use Rattle.ascii_words.specs.Words.{hex_char}
+use Rattle.text.specs.Hex.{hex_char, digit_of, both, pair_of, hex_words}
 use Rattle.loconet_tcp.specs.declared.request.Request.{Request}
 use Rattle.loconet_tcp.specs.declared.request.Request.TheVariants.{Send, Invalid}
 use Rattle.loconet_tcp.specs.declared.request.Reason.TheVariants.{TooLong}
-use Rattle.ascii_words.specs.Words.{is_blank, is_word, words_of, digit_of, both, pair_of}
+use Rattle.text.specs.Words.{is_blank, is_word, words_of}
 use Rattle.loconet_tcp.specs.Requests.{led_by, leading_bytes, are_pairs, bytes_of, parse_send, request_of}
-use Rattle.loconet_tcp.specs.ClientLines.{hex_words}
 
 -- A digit is read as the value that it was written for, and is no blank.
 

@@ -1,21 +1,13 @@
 -- The lines sent to a client, in LocoNet over TCP. The words after SENT ERROR, VERSION and ERROR,
 -- and the lines that begin with TURNS, PLACE or NODE, are this project's own.
-use Rattle.std.specs.Prelude.{ℕ, ◌/◌, ◌%◌, List, [], ◌∷◌, ◌++◌, codes, Result, Ok, Err}
-use Rattle.std.specs.List.{flat_map}
-use Rattle.ascii_words.specs.Words.{hex_char}
+use Rattle.std.specs.Prelude.{ℕ, List, [], ◌∷◌, ◌++◌, codes, Result, Ok, Err}
+use Rattle.text.specs.Hex.{hex_words}
 use Rattle.loconet_tcp.specs.declared.request.Reason.{Reason}
 use Rattle.loconet_tcp.specs.declared.request.PlaceError.{PlaceError}
 use Rattle.loconet_tcp.specs.declared.request.PlaceError.TheVariants as place_error
 use Rattle.loconet_tcp.specs.declared.request.TurnsError.{TurnsError}
 use Rattle.loconet_tcp.specs.declared.request.TurnsError.TheVariants.{RealTime, NoNumber}
 use Rattle.loconet_tcp.specs.declared.request.Reason.TheVariants.{TooLong, NotHex, NoMessage, WrongCheck}
-
--- a space and two digits
-abbrev pub hex_word : ℕ → List ℕ
-hex_word byte = 32 ∷ hex_char (byte / 16) ∷ hex_char (byte % 16) ∷ []
-
-abbrev pub hex_words : List ℕ → List ℕ
-hex_words bytes = flat_map hex_word bytes
 
 -- a carriage return and a line feed
 abbrev pub line_end : List ℕ

@@ -5,7 +5,8 @@ use Rattle.std.specs.Prelude.{ℕ, Bool, ◌&&◌, if◌then◌else◌, nat_le, 
 use Rattle.std.specs.List.{list_all, before_first, after_first}
 use Rattle.std.specs.Option.{is_some}
 use Rattle.std.specs.Str.{bytes_eq}
-use Rattle.ascii_words.specs.Words.{is_blank, words_of, pair_of}
+use Rattle.text.specs.Words.{is_blank, words_of}
+use Rattle.text.specs.Hex.{pair_of}
 use Rattle.ln_frame.specs.Message.{has_form, is_whole}
 use Rattle.loconet_tcp.specs.declared.request.Request.{Request}
 use Rattle.loconet_tcp.specs.declared.request.Request.TheVariants.{Send, Invalid, Turns, Nodes, Place}
@@ -14,7 +15,7 @@ use Rattle.loconet_tcp.specs.declared.request.Facing.TheVariants.{A, B}
 use Rattle.loconet_tcp.specs.declared.request.PlaceError.{PlaceError}
 use Rattle.loconet_tcp.specs.declared.request.PlaceError.TheVariants as place_error
 use Rattle.loconet_tcp.specs.declared.request.Placement.{Placement}
-use Rattle.show_text.specs.Words.{decimal_of}
+use Rattle.text.specs.Decimal.{decimal_of}
 use Rattle.loconet_tcp.specs.declared.request.Reason.TheVariants.{TooLong, NotHex, NoMessage, WrongCheck}
 
 -- a pair of hexadecimal digits

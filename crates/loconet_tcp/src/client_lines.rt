@@ -1,12 +1,12 @@
 //! The lines sent to a client. Each ends with a carriage return and a line feed.
 ghost use Rattle.std.specs.Prelude.{◌≡◌, ◌+◌, ◌*◌, ◌<◌, ◌≤◌, ◌++◌, codes, length, Err};
 ghost use Rattle.arrayvec.specs.ArrayVec.{array_vec_len};
-ghost use Rattle.loconet_tcp.specs.ClientLines.{hex_word, hex_words, line_end, receive_text, sent_ok_text, reason_text, sent_error_text, place_error_text, place_text, turns_error_text, turns_ok_text, turns_text, node_text, nodes_ok_text, version_text, server_full_text};
+ghost use Rattle.loconet_tcp.specs.ClientLines.{line_end, receive_text, sent_ok_text, reason_text, sent_error_text, place_error_text, place_text, turns_error_text, turns_ok_text, turns_text, node_text, nodes_ok_text, version_text, server_full_text};
 
 use crate::request::{PlaceError, Reason, TurnsError};
 use arrayvec::ArrayVec;
-use ascii_words::hex_char;
 use ln_frame::Msg;
+use text::{push_bytes, push_hex_words};
 
 /// Lines for one client, at most 800 bytes together.
 pub type Text = ArrayVec<u8, 800>;
@@ -18,9 +18,9 @@ pub fn push_receive(text: &mut Text, message: &Msg)
     ensures len { array_vec_len text.new ≡ array_vec_len text.old + 9 + 3 * length message.now }
     ensures most { array_vec_len text.new ≤ array_vec_len text.old + 390 }
 {
-    push_all(text, b"RECEIVE");
-    push_words(text, message.bytes());
-    push_all(text, b"\r\n");
+    push_bytes(text, b"RECEIVE");
+    push_hex_words(text, message.bytes());
+    push_bytes(text, b"\r\n");
 }
 
 /// Appends `SENT OK`: the message requested by the client was sent.
@@ -29,7 +29,7 @@ pub fn push_sent_ok(text: &mut Text)
     ensures text { text.new.items ≡ text.old.items ++ sent_ok_text }
     ensures len { array_vec_len text.new ≡ array_vec_len text.old + 9 }
 {
-    push_all(text, b"SENT OK\r\n");
+    push_bytes(text, b"SENT OK\r\n");
 }
 
 /// Appends `SENT ERROR` and the reason in plain words, at most 43 bytes in all: nothing was sent.
@@ -40,9 +40,9 @@ pub fn push_sent_error(text: &mut Text, reason: Reason)
         ≡ array_vec_len text.old + length (sent_error_text reason) }
     ensures most { array_vec_len text.new ≤ array_vec_len text.old + 43 }
 {
-    push_all(text, b"SENT ERROR ");
-    push_all(text, words_of(reason));
-    push_all(text, b"\r\n");
+    push_bytes(text, b"SENT ERROR ");
+    push_bytes(text, words_of(reason));
+    push_bytes(text, b"\r\n");
 }
 
 /// Appends `TURNS OK`: the turns requested by the client have passed.
@@ -51,7 +51,7 @@ pub fn push_turns_ok(text: &mut Text)
     ensures text { text.new.items ≡ text.old.items ++ turns_ok_text }
     ensures len { array_vec_len text.new ≡ array_vec_len text.old + 10 }
 {
-    push_all(text, b"TURNS OK\r\n");
+    push_bytes(text, b"TURNS OK\r\n");
 }
 
 /// Appends `TURNS ERROR` and the reason in plain words, if no turns follow the request. At most 43
@@ -72,9 +72,9 @@ fn push_turns_error(text: &mut Text, error: TurnsError)
     ensures text { text.new.items ≡ text.old.items ++ turns_text (Err error) }
     ensures most { array_vec_len text.new ≤ array_vec_len text.old + 43 }
 {
-    push_all(text, b"TURNS ERROR ");
-    push_all(text, words_of_turns(error));
-    push_all(text, b"\r\n");
+    push_bytes(text, b"TURNS ERROR ");
+    push_bytes(text, words_of_turns(error));
+    push_bytes(text, b"\r\n");
 }
 
 /// Appends `PLACE OK`: the train was put where the client requested it; or `PLACE ERROR` and the
@@ -85,7 +85,7 @@ pub fn push_place(text: &mut Text, answer: &Result<(), PlaceError>)
     ensures most { array_vec_len text.new ≤ array_vec_len text.old + 43 }
 {
     match answer {
-        Ok(()) => push_all(text, b"PLACE OK\r\n"),
+        Ok(()) => push_bytes(text, b"PLACE OK\r\n"),
         Err(error) => push_place_error(text, *error),
     }
 }
@@ -97,9 +97,9 @@ fn push_place_error(text: &mut Text, error: PlaceError)
         ≡ text.old.items ++ (codes "PLACE ERROR " ++ place_error_text error ++ line_end) }
     ensures most { array_vec_len text.new ≤ array_vec_len text.old + 43 }
 {
-    push_all(text, b"PLACE ERROR ");
-    push_all(text, words_of_place(error));
-    push_all(text, b"\r\n");
+    push_bytes(text, b"PLACE ERROR ");
+    push_bytes(text, words_of_place(error));
+    push_bytes(text, b"\r\n");
 }
 
 /// Appends `NODE` and the line of a decoder, 7 bytes longer than the line.
@@ -108,9 +108,9 @@ pub fn push_node(text: &mut Text, line: &[u8])
     ensures text { text.new.items ≡ text.old.items ++ node_text line.now }
     ensures len { array_vec_len text.new ≡ array_vec_len text.old + length line.now + 7 }
 {
-    push_all(text, b"NODE ");
-    push_all(text, line);
-    push_all(text, b"\r\n");
+    push_bytes(text, b"NODE ");
+    push_bytes(text, line);
+    push_bytes(text, b"\r\n");
 }
 
 /// Appends `NODES OK`: the lines of all decoders were sent.
@@ -119,7 +119,7 @@ pub fn push_nodes_ok(text: &mut Text)
     ensures text { text.new.items ≡ text.old.items ++ nodes_ok_text }
     ensures len { array_vec_len text.new ≡ array_vec_len text.old + 10 }
 {
-    push_all(text, b"NODES OK\r\n");
+    push_bytes(text, b"NODES OK\r\n");
 }
 
 /// Appends the greeting of a client: `VERSION` and the name of the server.
@@ -128,7 +128,7 @@ pub fn push_version(text: &mut Text)
     ensures text { text.new.items ≡ text.old.items ++ version_text }
     ensures len { array_vec_len text.new ≡ array_vec_len text.old + 26 }
 {
-    push_all(text, b"VERSION lbserver station\r\n");
+    push_bytes(text, b"VERSION lbserver station\r\n");
 }
 
 /// Appends `ERROR no place`: the maximum number of clients is connected.
@@ -137,7 +137,7 @@ pub fn push_server_full(text: &mut Text)
     ensures text { text.new.items ≡ text.old.items ++ server_full_text }
     ensures len { array_vec_len text.new ≡ array_vec_len text.old + 16 }
 {
-    push_all(text, b"ERROR no place\r\n");
+    push_bytes(text, b"ERROR no place\r\n");
 }
 
 /// The reason in plain words, at most 30 bytes.
@@ -178,35 +178,4 @@ fn words_of_place(error: PlaceError) -> &'static [u8]
         PlaceError::UnknownBlock => b"no such block",
         PlaceError::OffTrack => b"the train does not fit there",
     }
-}
-
-fn push_all(text: &mut Text, bytes: &[u8])
-    requires { array_vec_len text.old + length bytes.now ≤ 800 }
-    ensures text { text.new.items ≡ text.old.items ++ bytes.now }
-    ensures len { array_vec_len text.new ≡ array_vec_len text.old + length bytes.now }
-{
-    for byte in bytes {
-        text.push(*byte);
-    }
-}
-
-/// Appends each byte as a space and two hexadecimal digits.
-fn push_words(text: &mut Text, bytes: &[u8])
-    requires { array_vec_len text.old + 3 * length bytes.now ≤ 800 }
-    ensures text { text.new.items ≡ text.old.items ++ hex_words bytes.now }
-    ensures len { array_vec_len text.new ≡ array_vec_len text.old + 3 * length bytes.now }
-{
-    for byte in bytes {
-        push_word(text, *byte);
-    }
-}
-
-fn push_word(text: &mut Text, byte: u8)
-    requires { array_vec_len text.old + 3 ≤ 800 }
-    ensures text { text.new.items ≡ text.old.items ++ hex_word byte }
-    ensures len { array_vec_len text.new ≡ array_vec_len text.old + 3 }
-{
-    text.push(b' ');
-    text.push(hex_char(byte / 16));
-    text.push(hex_char(byte % 16));
 }

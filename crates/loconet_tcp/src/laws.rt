@@ -1,12 +1,12 @@
 //! Laws of the lines received and sent. They have no code: a call gives the law to its caller's
 //! proof.
 ghost use Rattle.std.specs.Prelude.{◌≡◌, ℕ, ◌<◌, List, [], ◌∷◌, ◌++◌, Some, slice_index, codes};
-ghost use Rattle.ascii_words.specs.Words.{words_of};
+ghost use Rattle.text.specs.Words.{words_of};
 ghost use Rattle.ln_frame.specs.Message.{IsWhole};
 ghost use Rattle.loconet_tcp.specs.declared.request.Request.TheVariants.{Send};
 ghost use Rattle.loconet_tcp.specs.Requests.{bytes_of, leading_bytes, request_of};
 ghost use Rattle.loconet_tcp.specs.Reading.{requests_of, requests_along};
-ghost use Rattle.loconet_tcp.specs.ClientLines.{hex_words};
+ghost use Rattle.text.specs.Hex.{hex_words};
 
 /// A text makes the same requests however it is divided into pieces, down to single bytes.
 pub fn any_cut()

@@ -1,13 +1,12 @@
 //! Parsing a line.
 ghost use Rattle.std.specs.Prelude.{◌≡◌, ◌≤◌, [], if◌then◌else◌, length, nat_lt, take, None, Some, Err, MatchOption};
-ghost use Rattle.ascii_words.specs.Words.{with_piece, words_of};
+ghost use Rattle.text.specs.Words.{with_piece, words_of};
 ghost use Rattle.loconet_tcp.specs.Requests.{are_pairs, bytes_of, end_named, facing_of, leading_bytes, parse_place, parse_send, placement_of, request_of, turns_of};
 
 use crate::request::{Facing, LONGEST_WORD, PlaceError, Placement, Reason, Request, Word};
 use arrayvec::ArrayVec;
-use ascii_words::{cut_piece, hex_pair};
 use ln_frame::Msg;
-use show_text::decimal;
+use text::{Words, cut_piece, push_bytes, read_decimal, read_hex_pair};
 
 /// The most characters of a valid `SEND` line.
 pub const LONGEST_LINE: usize = 400;
@@ -65,7 +64,7 @@ fn parse_place(words: &[u8]) -> Result<Placement, PlaceError>
     let (train, rest) = next_word(words);
     let (block, rest) = next_word(rest);
     let (front, rest) = next_word(rest);
-    placement_of(train, block, decimal(front), facing_of(rest))
+    placement_of(train, block, read_decimal(front), facing_of(rest))
 }
 
 /// Returns where a train is put, or the first reason why the line does not say it.
@@ -108,9 +107,7 @@ fn copied(word: &[u8]) -> Word
     ensures { result.items ≡ word.now }
 {
     let mut copy = Word::new();
-    for byte in word {
-        copy.push(*byte);
-    }
+    push_bytes(&mut copy, word);
     copy
 }
 
@@ -147,22 +144,18 @@ fn next_word(text: &[u8]) -> (&[u8], &[u8])
     ensures words { words_of text.now ≡ with_piece result.0.now (words_of result.1.now) }
     ensures none { result.0.now ≡ [] → words_of result.1.now ≡ [] }
 {
-    let mut rest = text;
-    while !rest.is_empty() {
-        let (piece, behind) = cut_piece(rest);
-        if !piece.is_empty() {
-            return (piece, behind);
-        }
-        rest = behind;
+    let mut words = Words(text);
+    match words.next_word() {
+        Some(word) => (word, words.0),
+        None => (&[], &[]),
     }
-    (&[], &[])
 }
 
 /// Returns the number of turns that a text writes in decimal digits, 1 to 10,000.
 fn turns_of(text: &[u8]) -> Option<u16>
     ensures { result ≡ turns_of text.now }
 {
-    match decimal(text) {
+    match read_decimal(text) {
         Some(count) if 1 <= count && count <= MOST_TURNS => Some(count as u16),
         _ => None,
     }
@@ -212,16 +205,12 @@ fn read_pairs(text: &[u8]) -> (Bytes, bool)
     ensures all { result.1 ≡ are_pairs (words_of text.now) }
 {
     let mut bytes = Bytes::new();
-    let mut rest = text;
-    while !rest.is_empty() {
-        let (piece, behind) = cut_piece(rest);
-        if !piece.is_empty() {
-            let Some(byte) = hex_pair(piece) else {
-                return (bytes, false);
-            };
-            bytes.push(byte);
-        }
-        rest = behind;
+    let mut words = Words(text);
+    while let Some(word) = words.next_word() {
+        let Some(byte) = read_hex_pair(word) else {
+            return (bytes, false);
+        };
+        bytes.push(byte);
     }
     (bytes, true)
 }

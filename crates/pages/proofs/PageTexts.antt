@@ -1,13 +1,14 @@
 -- The text of the bus with the words of its messages: in pieces, and behind one message.
-use Rattle.std.proofs.Common.{◌≡◌, ℕ, ◌+◌, ◌*◌, ◌/◌, ◌%◌, ◌<◌, ◌≤◌, ◌==◌, ◌&&◌, Bool, true, false, List, [], ◌∷◌, ◌++◌, suc, length, take, append_assoc, length-append, slice_index, not, refl, ap, sym, ◌∙◌, arith, Option, Some}
-use Rattle.std.specs.Prelude.{if◌then◌else◌, codes}
+use Rattle.std.proofs.Common.{◌≡◌, ℕ, ◌+◌, ◌*◌, ◌/◌, ◌%◌, ◌<◌, ◌≤◌, ◌==◌, ◌&&◌, Bool, true, false, List, [], ◌∷◌, ◌++◌, zero, suc, length, take, append_assoc, length-append, slice_index, not, refl, ap, sym, ◌∙◌, inl, inr, arith, Option, Some}
+use Rattle.std.specs.Prelude.{if◌then◌else◌, nat_lt, codes}
 use Rattle.std.specs.List.{list_all}
 use Rattle.std.proofs.lemmas.Bool.{and_parts, lt-ltb, not-true}
 use Rattle.std.proofs.lemmas.Bool.Decides.{nat_tests}
 use Rattle.std.proofs.lemmas.List.{append-nil, take_more}
-use Rattle.ascii_words.specs.Words.{hex_char, words_of}
+use Rattle.text.specs.Hex.{hex_char, hex_words}
+use Rattle.text.specs.Words.{words_of}
 use Rattle.ln_frame.specs.Message.{IsWhole, are_data, has_form, is_len, message_len}
-use Rattle.loconet_tcp.specs.ClientLines.{hex_words, line_end, receive_text}
+use Rattle.loconet_tcp.specs.ClientLines.{line_end, receive_text}
 use Rattle.loconet_tcp.specs.Requests.{bytes_of}
 use Rattle.pages.specs.PageText.{line_after, line_along, page_text, received, with_words, words_line}
 

@@ -3,7 +3,7 @@
 use Rattle.std.specs.Prelude.{ℕ, ◌==◌, if◌then◌else◌, nat_lt, List, [], ◌∷◌, ◌++◌, length, Option, Some, None, codes}
 use Rattle.std.specs.List.{after_first, before_first}
 use Rattle.std.specs.Str.{bytes_eq}
-use Rattle.ascii_words.specs.Words.{is_blank, words_of}
+use Rattle.text.specs.Words.{is_blank, words_of}
 use Rattle.describe.specs.Messages.{message_words}
 use Rattle.loconet_tcp.specs.ClientLines.{line_end}
 use Rattle.loconet_tcp.specs.Requests.{bytes_of}

@@ -6,11 +6,11 @@ ghost use Rattle.loconet_tcp.specs.ClientLines.{receive_text};
 ghost use Rattle.pages.specs.PageText.{line_after, line_along, page_text, received, with_words, words_line};
 
 use arrayvec::ArrayVec;
-use ascii_words::cut_piece;
 use describe::message_words;
 use loconet_tcp::laws::written_bytes_are_read;
 use loconet_tcp::{Bytes, LONGEST_LINE, bytes_of};
 use std::marker::Model;
+use text::cut_piece;
 
 /// The most bytes that are queued.
 const CAPACITY: usize = 4_096;

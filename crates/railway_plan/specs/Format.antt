@@ -4,8 +4,8 @@ use Rattle.std.specs.Prelude.{ℕ, ℤ, pos, negsuc, ◌+◌, ◌++◌, ◌&&◌
 use Rattle.std.specs.List.{list_all}
 use Rattle.std.specs.Str.{bytes_eq}
 use Rattle.toml.specs.Data.{Data, Items, no_items, item, Members, get_member, as_array, as_integer, as_str, as_table}
-use Rattle.ascii_words.specs.Words.{is_name_byte}
 use Rattle.motion.specs.declared.velocity.Momentum.{Momentum}
+use Rattle.text.specs.Names.{is_name_byte}
 use Rattle.roster.specs.Steps.{◌>>=◌, or_fault}
 use Rattle.roster.specs.Toml.{items_len, knows_only, table_in}
 use Rattle.railway.specs.declared.block.BlockEnd.{BlockEnd}

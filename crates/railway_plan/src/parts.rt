@@ -10,11 +10,11 @@ use crate::fault::Why;
 use crate::key::Key;
 use crate::names::{block_end, block_index, decoder_index};
 use crate::table::{number_at, point, rate, sensor, text_at, value_at};
-use ascii_words::are_name_bytes;
 use railway::{
     Block, BlockEnd, End, Joint, LONGEST_NAME, Momentum, Name, Position, Train, Turnout,
 };
 use roster::{Roster, knows_only};
+use text::are_name_bytes;
 use toml::{Table, Value};
 
 /// Returns the block that a table says.

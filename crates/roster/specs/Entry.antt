@@ -2,7 +2,7 @@
 use Rattle.std.specs.Prelude.{ℕ, ◌≤◌, ◌&&◌, nat_le, Bool, not, IsTrue, List, All, length, map}
 use Rattle.std.specs.List.{IsDistinct, list_all, list_any}
 use Rattle.std.specs.Str.{bytes_eq}
-use Rattle.ascii_words.specs.Words.{is_name_byte}
+use Rattle.text.specs.Names.{is_name_byte}
 use Rattle.decoder_node.specs.declared.node.NodeSpec.{NodeSpec}
 
 -- the name of a decoder, and what it is

@@ -9,9 +9,9 @@ use crate::fault::Why;
 use crate::table::text_at;
 use crate::version::Version;
 use arrayvec::ArrayString;
-use ascii_words::are_name_bytes;
 use decoder_node::NodeSpec;
 use std::marker::Model;
+use text::are_name_bytes;
 use toml::Value;
 
 /// The longest name, in bytes.

@@ -2,7 +2,7 @@
 use Rattle.std.proofs.Common.{◌≡◌, [], ◌∷◌, ◌++◌, Ok, Err, codes, refl}
 use Rattle.show_text.specs.declared.command.Command.TheVariants.{Byte, Turns, Show}
 use Rattle.show_text.specs.declared.command.Why.TheVariants.{BadLine, BadWord, BadNode}
-use Rattle.ascii_words.specs.Words.{words_of}
+use Rattle.text.specs.Words.{words_of}
 use Rattle.show_text.specs.Script.{bytes_of, nodes_of, commands_of, script_of, fault_at}
 
 commands : script_of 8 4 (codes "line 7 83 7c" ++ 13 ∷ 10 ∷ codes "# rest" ++ 10 ∷ codes "line 0 bF") ≡ Ok (Byte 7 131 ∷ Byte 7 124 ∷ Byte 0 191 ∷ [])

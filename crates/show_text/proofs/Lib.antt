@@ -1,11 +1,9 @@
+pub mod Bits
 pub mod Cuts
-pub mod Decimals
-pub mod FirstWord
-pub mod HexPieces
-pub mod NodeSets
-pub mod Reading
-pub mod Sequences
 pub mod Examples
-pub mod Texts
+pub mod FirstWord
+pub mod NodeSets
 pub mod OnLines
 pub mod ReadBack
+pub mod Reading
+pub mod Sequences

@@ -1,7 +1,7 @@
 -- The set of the named nodes, node by node.
 use Rattle.std.proofs.Common.{◌≡◌, ℕ, List, [], ◌∷◌, Result, Ok, Err, refl}
 use Rattle.show_text.specs.declared.command.Why.{Why}
-use Rattle.show_text.specs.Sequence.{followed_by}
+use Rattle.text.specs.Sequence.{followed_by}
 use Rattle.show_text.specs.Script.{with_node, set_with}
 
 pub one_more : (set i : ℕ) (more : Result (List ℕ) Why) → set_with set (followed_by (Ok (i ∷ [])) more) ≡ set_with (with_node set i) more

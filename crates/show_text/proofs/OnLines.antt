@@ -9,9 +9,8 @@ use Rattle.show_text.specs.declared.command.Command.{Command}
 use Rattle.show_text.specs.declared.command.Command.TheVariants.{Byte, Turns, Show}
 use Rattle.show_text.specs.declared.command.Why.{Why}
 use Rattle.show_text.specs.declared.command.Why.TheVariants.{BadWord, BadNumber, BadLine, TooLong}
-use Rattle.show_text.specs.Sequence.{followed_by}
-use Rattle.ascii_words.specs.Words.{words_of}
-use Rattle.show_text.specs.Words.{is_empty}
+use Rattle.text.specs.Sequence.{followed_by}
+use Rattle.text.specs.Words.{words_of, is_empty}
 use Rattle.show_text.specs.Script.{◌>>=◌, number_of, below, is_count, count_of, byte_of, byte_command, bytes_of, some_bytes, line_of, missed_of, turn_of, show_of, after_word, command_of, line_commands, fault_at, at_line, commands_of, script_of, is_on_line, AreOnLines, is_counted, AreCounted}
 
 -- what each kind of command is to pass

@@ -1,5 +1,5 @@
 -- What is written in the plainest form is read back.
-use Rattle.std.proofs.Common.{◌≡◌, ℕ, zero, suc, ◌+◌, ◌-◌, ◌*◌, ◌/◌, ◌%◌, ◌^◌, ◌<◌, ◌≤◌, ◌==◌, nat_lt, nat_le, Bool, true, false, if◌then◌else◌, List, [], ◌∷◌, ◌++◌, length, get_or, map, fold, filter, codes, Option, Some, Ok, Err, Result, refl, ap, ap₂, sym, ◌∙◌, arith, append-nil, ne_eqb, bit_or}
+use Rattle.std.proofs.Common.{◌≡◌, ℕ, zero, suc, ◌+◌, ◌-◌, ◌*◌, ◌/◌, ◌%◌, ◌^◌, ◌<◌, ◌≤◌, ◌==◌, ◌&&◌, nat_lt, nat_le, Bool, true, false, if◌then◌else◌, List, [], ◌∷◌, ◌++◌, length, get_or, map, fold, filter, codes, Option, Some, Ok, Err, Result, refl, ap, ap₂, sym, ◌∙◌, arith, append-nil, ne_eqb, bit_or}
 use Rattle.std.specs.Char.{is_ascii_digit}
 use Rattle.std.specs.Fmt.{decimal}
 use Rattle.std.specs.Int.{bit_at}
@@ -14,22 +14,20 @@ use Rattle.std.proofs.lemmas.List.Splits.{slice_split-cons_no, slice_split-cons_
 use Rattle.std.proofs.lemmas.Nat.{mod-pow-add, or_block, pow_pos}
 use Rattle.std.proofs.lemmas.Nat.Bits.{bit_at-lt}
 use Rattle.std.proofs.Math.Nat.{mod-eq_of_lt, mod-lt}
-use Rattle.ascii_words.specs.Words.{hex_char}
+use Rattle.text.specs.Hex.{hex_char, both, digit_of, pair_of}
 use Rattle.show_text.specs.declared.command.Command.{Command}
 use Rattle.show_text.specs.declared.command.Command.TheVariants.{Byte, Turns, Show}
 use Rattle.show_text.specs.declared.command.ScriptFault.{ScriptFault}
 use Rattle.show_text.specs.declared.command.Why.{Why}
 use Rattle.show_text.specs.declared.command.Why.TheVariants.{BadNumber, BadNode, BadLine}
-use Rattle.show_text.specs.Hex.{hex_of, is_space, one_byte, pieces_of}
-use Rattle.show_text.specs.Lines.{hex_words}
 use Rattle.show_text.specs.Script.{◌>>=◌, at_line, below, bytes_of, command_of, commands_of, count_of, is_count, line_commands, missed_of, nodes_of, or_fault, script_of, set_with, some_nodes, with_node}
-use Rattle.show_text.specs.Sequence.{followed_by}
-use Rattle.ascii_words.specs.Words.{both, digit_of, is_blank, is_word, pair_of, words_of}
-use Rattle.show_text.specs.Words.{decimal_of}
+use Rattle.text.specs.Sequence.{followed_by}
+use Rattle.text.specs.Words.{is_blank, is_word, words_of}
+use Rattle.text.specs.Decimal.{decimal_of}
 use Rattle.show_text.specs.Written.{can_be_asked, command_text, missed_text, named_below, number_words, script_text}
 use Rattle.show_text.proofs.Cuts.{parts_after}
-use Rattle.show_text.proofs.Decimals.{all_digits, own}
-use Rattle.show_text.proofs.HexPieces.{hex_within}
+use Rattle.std.proofs.lemmas.Str.Parse.{IsNumeralModel, numerals_by_value, tells_all_ascii_digits}
+use Rattle.std.specs.Str.{all_ascii_digits}
 
 -- ---- cutting where the first element passes
 
@@ -59,9 +57,6 @@ IsWord word = (is_word word ≡ true) × (list_all is_mark word ≡ true)
 
 mark-not_blank : (b : ℕ) → is_mark b ≡ true → is_blank b ≡ false
 mark-not_blank b h = grind (arith, nat_tests)
-
-mark-not_space : (b : ℕ) → is_mark b ≡ true → is_space b ≡ false
-mark-not_space b h = grind (arith, nat_tests)
 
 shown-no_feed : (b : ℕ) → is_shown b ≡ true → (b == 10) ≡ false
 shown-no_feed b h = grind (arith, nat_tests)
@@ -147,6 +142,13 @@ digit-mark b h = grind (arith, nat_tests)
 digits-marks : (xs : List ℕ) → list_all is_ascii_digit xs ≡ true → list_all is_mark xs ≡ true
 digits-marks = all-weaker is_ascii_digit is_mark digit-mark
 
+own : IsNumeralModel (λ ds. all_ascii_digits ds ≡ true) (digits_value 10)
+own = numerals_by_value _ tells_all_ascii_digits
+
+all_digits : (word : List ℕ) → list_all is_ascii_digit word ≡ all_ascii_digits word
+all_digits [] = refl
+all_digits (b ∷ bs) = ap (λ rest. is_ascii_digit b && rest) (all_digits bs)
+
 decimal-digits : (n : ℕ) → n < 2 ^ 64 → list_all is_ascii_digit (decimal n) ≡ true
 decimal-digits n h = all_digits (decimal n) ∙ digits_decimal own n h
 
@@ -194,41 +196,6 @@ pair-word b h =
     let high : b / 16 < 16 = omega arith in
     let low : b % 16 < 16 = omega arith in
     (refl, and_from (is_mark (hex_char (b / 16))) _ (hex-mark (b / 16) high) (and_from (is_mark (hex_char (b % 16))) true (hex-mark (b % 16) low) refl))
-
--- ---- hex text
-
-piece-back : (b : ℕ) (rest : List ℕ) (parts : List (List ℕ)) → b < 256 → slice_split is_space rest ≡ [] ∷ parts → slice_split is_space (hex_char (b / 16) ∷ hex_char (b % 16) ∷ rest) ≡ two b ∷ parts
-piece-back b rest parts h e =
-    let high : b / 16 < 16 = omega arith in
-    let low : b % 16 < 16 = omega arith in
-    slice_split-cons_no is_space (hex_char (b / 16)) (hex_char (b % 16) ∷ rest) (mark-not_space (hex_char (b / 16)) (hex-mark (b / 16) high))
-    ∙ ap (onto_first (hex_char (b / 16))) (slice_split-cons_no is_space (hex_char (b % 16)) rest (mark-not_space (hex_char (b % 16)) (hex-mark (b % 16) low)) ∙ ap (onto_first (hex_char (b % 16))) e)
-
-abbrev AreBytes : List ℕ → Type 0
-AreBytes bytes = list_all (λ byte. nat_lt byte 256) bytes ≡ true
-
-each : (b : ℕ) (bytes : List ℕ) → AreBytes (b ∷ bytes) → (b < 256) × AreBytes bytes
-each b bytes h = let p = and_parts (nat_lt b 256) (list_all (λ byte. nat_lt byte 256) bytes) h in (ltb-true b 256 p.0, p.1)
-
-pieces : (bytes : List ℕ) → AreBytes bytes → slice_split is_space (hex_words bytes) ≡ [] ∷ map two bytes
-pieces [] h = refl
-pieces (b ∷ bytes) h =
-    let k = each b bytes h in
-    ap (λ (parts : List (List ℕ)). [] ∷ parts) (piece-back b (hex_words bytes) (map two bytes) k.0 (pieces bytes k.1))
-
-pieces-back : (at : ℕ) (bytes : List ℕ) → AreBytes bytes → pieces_of at (map two bytes) ≡ Ok bytes
-unfolding pieces_of
-pieces-back at [] h = refl
-pieces-back at (b ∷ bytes) h =
-    let k = each b bytes h in
-    ap₂ (λ (o : Option ℕ) r. followed_by (one_byte at o) r) (pair-back b k.0) (pieces-back (at + 2 + 1) bytes k.1)
-
-first_piece : (bytes : List ℕ) → AreBytes bytes → pieces_of 0 ([] ∷ map two bytes) ≡ Ok bytes
-unfolding pieces_of
-first_piece bytes h = ap (followed_by (Ok [])) (pieces-back 1 bytes h)
-
-pub hex-back : (bytes : List ℕ) → AreBytes bytes → length (hex_words bytes) ≤ 1048576 → hex_of (hex_words bytes) ≡ Ok bytes
-hex-back bytes h short = hex_within (hex_words bytes) short ∙ ap (pieces_of 0) (pieces bytes h) ∙ first_piece bytes h
 
 -- ---- the nodes of a set
 

@@ -8,7 +8,7 @@ use Rattle.show_text.specs.declared.command.Command.TheVariants.{Byte}
 use Rattle.show_text.specs.declared.command.Why.{Why}
 use Rattle.show_text.specs.declared.command.Why.TheVariants.{NoMemory, TooLong}
 use Rattle.show_text.specs.declared.command.ScriptFault.{ScriptFault}
-use Rattle.show_text.specs.Sequence.{before, followed_by}
+use Rattle.text.specs.Sequence.{before, followed_by}
 use Rattle.show_text.proofs.Cuts.{few_lines}
 use Rattle.show_text.proofs.Sequences.{after_none, goes_on, stops, ends}
 use Rattle.show_text.specs.Script.{◌>>=◌, byte_of, first_byte_of, bytes_of, line_commands, at_line, fault_at, commands_of, script_of}

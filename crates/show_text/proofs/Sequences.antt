@@ -1,7 +1,7 @@
 -- Reading from left to right, one part after the other.
 use Rattle.std.proofs.Common.{◌≡◌, List, [], ◌++◌, Result, Ok, Err, refl, sym, ap}
 use Rattle.std.proofs.lemmas.List.{append-nil, append_assoc}
-use Rattle.show_text.specs.Sequence.{before, followed_by}
+use Rattle.text.specs.Sequence.{before, followed_by}
 
 -- once the first part is read, the rest is read after it
 pub goes_on : {A E : Type 0} (old mid : List A) (first more : Result (List A) E) → before old first ≡ Ok mid → before old (followed_by first more) ≡ before mid more

@@ -1,20 +1,11 @@
--- The texts of lines of traffic, and of what lines hold.
-use Rattle.std.specs.Prelude.{ℕ, ◌+◌, ◌-◌, ◌/◌, ◌%◌, List, [], ◌∷◌, ◌++◌, if◌then◌else◌, codes, map}
+-- The texts of lines of traffic.
+use Rattle.std.specs.Prelude.{ℕ, ◌+◌, List, ◌++◌, codes, map}
 use Rattle.std.specs.Fmt.{decimal}
 use Rattle.std.specs.Int.{bit_at}
 use Rattle.std.specs.List.{range_with_len}
-use Rattle.ascii_words.specs.Words.{hex_char}
+use Rattle.text.specs.Hex.{hex_words}
 use Rattle.ln_ops.specs.declared.reply.Reply.{Reply}
 use Rattle.ln_ops.specs.Reply.{reply_bytes}
-
--- a space and two digits
-abbrev pub hex_word : ℕ → List ℕ
-hex_word b = 32 ∷ hex_char (b / 16) ∷ hex_char (b % 16) ∷ []
-
--- each byte after a space
-abbrev pub hex_words : List ℕ → List ℕ
-hex_words [] = []
-hex_words (b ∷ bs) = hex_word b ++ hex_words bs
 
 -- the lowest `count` bits of a number, each as a digit, bit 0 first
 unfoldable pub bits_text : ℕ → ℕ → List ℕ

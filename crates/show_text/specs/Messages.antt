@@ -6,7 +6,7 @@ use Rattle.ln_ops.specs.Message.{op_of}
 use Rattle.ln_ops.specs.Slot.{address_with, address_of}
 use Rattle.ln_ops.specs.declared.op.Op.{Op}
 use Rattle.ln_ops.specs.declared.op.Op.TheVariants.{PowerOff, PowerOn, ForceIdle, Speed, Dirf, Snd, SwReq, SwAck, LongAck, SlotStat, Move, SlotRead, LocoAddr, SlotData, SlotWrite, Imm, Other}
-use Rattle.show_text.specs.Lines.{hex_words}
+use Rattle.text.specs.Hex.{hex_words}
 
 -- two labels, each with a number after it
 abbrev pub pair_text : List ℕ → ℕ → List ℕ → ℕ → List ℕ

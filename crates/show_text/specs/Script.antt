@@ -8,9 +8,10 @@ use Rattle.show_text.specs.declared.command.Command.TheVariants.{Byte, Turns, Sh
 use Rattle.show_text.specs.declared.command.Why.{Why}
 use Rattle.show_text.specs.declared.command.Why.TheVariants.{BadWord, BadHex, BadNumber, BadLine, BadNode, TooLong, NoMemory}
 use Rattle.show_text.specs.declared.command.ScriptFault.{ScriptFault}
-use Rattle.show_text.specs.Sequence.{before, followed_by}
-use Rattle.ascii_words.specs.Words.{words_of, pair_of}
-use Rattle.show_text.specs.Words.{is_empty, decimal_of}
+use Rattle.text.specs.Sequence.{before, followed_by}
+use Rattle.text.specs.Words.{words_of, is_empty}
+use Rattle.text.specs.Hex.{pair_of}
+use Rattle.text.specs.Decimal.{decimal_of}
 
 infixl 10 ◌>>=◌
 abbrev pub ◌>>=◌ : {A B : Type 0} → Result A Why → (A → Result B Why) → Result B Why

@@ -1,4 +1,4 @@
-//! The texts of the programs: scripts and hex text to read, and lines to print.
+//! The texts of `station`: scripts to read, and lines to print.
 //!
 //! [`read_script`] parses a script into [`Command`]s, [`read_hex`] parses hex text into bytes. A
 //! [`Line`] is a line of output; [`message_line`], [`reply_line`], [`track_line`] and [`node_line`]
@@ -13,23 +13,18 @@
 #![tactic(auto)]
 
 mod command;
-mod cursors;
-mod hex;
 pub mod laws;
 mod line;
 mod messages;
 mod nodes;
 mod script;
 mod traffic;
-mod words;
 
 pub use command::{Command, ScriptFault, Why};
-pub use cursors::cut_line;
-pub use hex::{HexFault, HexWhy, read_hex};
 pub use laws::written_is_read;
 pub use line::Line;
 pub use messages::message_line;
 pub use nodes::node_line;
-pub use script::{LONGEST_TEXT, read_script};
+pub use script::read_script;
+pub use text::{HexFault, HexWhy, LONGEST_TEXT, read_hex};
 pub use traffic::{off_line, push_off, push_track, reply_line, track_line};
-pub use words::decimal;

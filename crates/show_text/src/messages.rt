@@ -5,9 +5,10 @@ ghost use Rattle.arrayvec.specs.ArrayString.{array_string_len};
 ghost use Rattle.ln_ops.specs.Slot.{address_with};
 ghost use Rattle.show_text.specs.Messages.{switch_text, fields_text, packet_text, pair_text, is_pair, op_text, message_text};
 
-use crate::line::{Line, push_bytes, push_field};
+use crate::line::{Line, push_field};
 use ln_frame::Msg;
 use ln_ops::{Op, SlotFields, read};
+use text::push_hex_words;
 
 /// A label and a byte after it.
 fn push_byte_field(line: &mut Line, label: &str, n: u8)
@@ -73,7 +74,7 @@ fn push_packet(line: &mut Line, count: u8, bytes: [u8; 5])
     ensures { line.new.bytes ≡ line.old.bytes ++ packet_text count bytes }
 {
     push_byte_field(line, "imm ", count);
-    push_bytes(line, &bytes);
+    push_hex_words(line, &bytes);
 }
 
 /// Appends the text of an operation of two numbers.
@@ -134,7 +135,7 @@ pub fn message_line(message: &Msg) -> Line
 {
     let mut line = Line::new();
     line.push_str("msg");
-    push_bytes(&mut line, message.bytes());
+    push_hex_words(&mut line, message.bytes());
     line.push_str(" ");
     push_op(&mut line, read(message));
     line

@@ -1,16 +1,12 @@
 //! Scripts, line by line.
-ghost use Rattle.std.specs.Prelude.{◌≡◌, ◌≢◌, ◌≤◌, ◌∷◌, [], IfOk, IfErr, Ok, Err, if◌then◌else◌, nat_lt};
+ghost use Rattle.std.specs.Prelude.{◌≡◌, ◌≢◌, ◌≤◌, ◌∷◌, [], IfOk, IfErr, Ok, Err, drop, if◌then◌else◌, nat_lt};
 ghost use Rattle.show_text.specs.declared.command.Why.TheVariants.{NoMemory};
-ghost use Rattle.ascii_words.specs.Words.{words_of};
-ghost use Rattle.show_text.specs.Script.{Adds, AreCounted, AreOnLines, below, is_count, bytes_of, some_bytes, line_of, nodes_of, set_with, missed_of, turn_of, show_of, command_of, line_commands, fault_at, script_of};
+ghost use Rattle.text.specs.Words.{words_of};
+ghost use Rattle.show_text.specs.Script.{Adds, AreCounted, AreOnLines, below, first_byte_of, first_number_of, is_count, bytes_of, some_bytes, line_of, nodes_of, set_with, missed_of, turn_of, show_of, command_of, line_commands, fault_at, script_of};
 
 use crate::command::{Command, ScriptFault, Why};
-use crate::cursors::{Lines, Words};
-use crate::words::decimal;
 use std::alloc::Global;
-
-/// The longest script or hex text, in bytes.
-pub const LONGEST_TEXT: usize = 1_048_576;
+use text::{LONGEST_TEXT, Lines, WordError, Words, read_decimal};
 
 /// The most turns that one line may request.
 const MOST_TURNS: u32 = 1_000_000;
@@ -40,10 +36,34 @@ fn number_below(number: u32, limit: u8, why: Why) -> Result<u8, Why>
 fn node_number(word: &[u8], nodes: u8) -> Result<u8, Why>
     ensures { result ≡ below nodes Why.BadNode word.now }
 {
-    let Some(number) = decimal(word) else {
+    let Some(number) = read_decimal(word) else {
         return Err(Why::BadNumber);
     };
     number_below(number, nodes, Why::BadNode)
+}
+
+/// Takes the next word as a number.
+fn next_number(words: &mut Words<'_>) -> Result<u32, Why>
+    ensures number { result ≡ first_number_of (words_of words.old.0.now) }
+    ensures rest { words_of words.new.0.now ≡ drop 1 (words_of words.old.0.now) }
+{
+    match words.next_number() {
+        Ok(number) => Ok(number),
+        Err(WordError::Missing) => Err(Why::BadWord),
+        Err(WordError::Invalid) => Err(Why::BadNumber),
+    }
+}
+
+/// Takes the next word as a byte, or returns `None` after the last word.
+fn next_byte(words: &mut Words<'_>) -> Result<Option<u8>, Why>
+    ensures byte { result ≡ first_byte_of (words_of words.old.0.now) }
+    ensures rest { words_of words.new.0.now ≡ drop 1 (words_of words.old.0.now) }
+{
+    match words.next_byte() {
+        Ok(byte) => Ok(Some(byte)),
+        Err(WordError::Missing) => Ok(None),
+        Err(WordError::Invalid) => Err(Why::BadHex),
+    }
 }
 
 /// Appends a command.
@@ -59,7 +79,7 @@ fn push_bytes(line: u8, mut words: Words<'_>, commands: &mut Vec<Command>) -> Re
     ensures { Adds commands.old.items commands.new.items result
         (bytes_of line (words_of words.entry.0.now)) }
 {
-    while let Some(byte) = words.next_byte()? {
+    while let Some(byte) = next_byte(&mut words)? {
         push_command(commands, Command::Byte { line, byte })?;
     }
     Ok(())
@@ -82,7 +102,7 @@ fn push_line(mut words: Words<'_>, lines: u8, commands: &mut Vec<Command>) -> Re
     ensures { Adds commands.old.items commands.new.items result
         (line_of lines (words_of words.entry.0.now)) }
 {
-    let line = number_below(words.next_number()?, lines, Why::BadLine)?;
+    let line = number_below(next_number(&mut words)?, lines, Why::BadLine)?;
     push_some_bytes(line, words, commands)
 }
 
@@ -122,7 +142,7 @@ fn push_turns(mut words: Words<'_>, nodes: u8, commands: &mut Vec<Command>) -> R
     ensures { Adds commands.old.items commands.new.items result
         (turn_of nodes (words_of words.entry.0.now)) }
 {
-    let number = words.next_number()?;
+    let number = next_number(&mut words)?;
     match (count(number), missing_nodes(words, nodes)) {
         (Ok(count), Ok(missed)) => push_command(commands, Command::Turns { count, missed }),
         (Err(why), _) | (_, Err(why)) => Err(why),

@@ -5,9 +5,10 @@ ghost use Rattle.arrayvec.specs.ArrayString.{array_string_len};
 ghost use Rattle.ln_ops.specs.Reply.{IsSendable};
 ghost use Rattle.show_text.specs.Lines.{reply_text, track_text, off_text};
 
-use crate::line::{Line, push_bytes, push_count, push_field};
+use crate::line::{Line, push_count, push_field};
 use dcc_packet::Packet;
 use ln_ops::{Reply, to_msg};
+use text::push_hex_words;
 
 /// `reply L` and the bytes of the reply, in upper-case hexadecimal digits.
 pub fn reply_line(line: u8, reply: &Reply) -> Line
@@ -17,7 +18,7 @@ pub fn reply_line(line: u8, reply: &Reply) -> Line
     let message = to_msg(reply);
     let mut text = Line::new();
     push_field(&mut text, "reply ", u16::from(line));
-    push_bytes(&mut text, message.bytes());
+    push_hex_words(&mut text, message.bytes());
     text
 }
 
@@ -39,7 +40,7 @@ pub fn push_track(text: &mut Line, turn: u64, packet: &Packet)
     ensures len { array_string_len text.new ≤ array_string_len text.old + 44 }
 {
     push_turn(text, turn);
-    push_bytes(text, packet.bytes());
+    push_hex_words(text, packet.bytes());
 }
 
 /// `track T` and the bytes of the packet that turn T sent, in upper-case hexadecimal digits.

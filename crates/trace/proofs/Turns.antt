@@ -10,8 +10,8 @@ use Rattle.std.proofs.lemmas.Fmt.{decimal_is_IsNumeral}
 use Rattle.std.proofs.lemmas.List.{append-nil, take_all}
 use Rattle.std.proofs.lemmas.List.Folds.{list_all-append}
 use Rattle.dcc_packet.specs.Packet.{IsPacket, has_packet_length, is_checked}
-use Rattle.ascii_words.specs.Words.{hex_char}
-use Rattle.show_text.specs.Lines.{hex_word, hex_words, off_text, track_text}
+use Rattle.text.specs.Hex.{hex_char, hex_word, hex_words}
+use Rattle.show_text.specs.Lines.{off_text, track_text}
 use Rattle.trace.specs.Traffic.{Parses, is_of_turn}
 
 not_space : (digit : ℕ) → digit_value digit < 10 → (digit == 32) ≡ false

@@ -10,8 +10,8 @@ use Rattle.dcc_packet.specs.declared.steps.Steps.{Steps}
 use Rattle.dcc_packet.specs.declared.steps.Steps.TheVariants.{S14, S28, S128}
 use Rattle.dcc_packet.specs.declared.steps.Motion.{Motion}
 use Rattle.dcc_packet.specs.declared.steps.Motion.TheVariants.{Stop, Emergency, Step}
-use Rattle.ascii_words.specs.Words.{is_name_byte}
-use Rattle.show_text.specs.Words.{decimal_of}
+use Rattle.text.specs.Names.{is_name_byte}
+use Rattle.text.specs.Decimal.{decimal_of}
 use Rattle.trace.specs.declared.reported_state.ReportedState.{ReportedState}
 use Rattle.trace.specs.declared.reported_state.ReportedState.TheVariants.{Loco, Accessory}
 use Rattle.trace.specs.declared.reported_state.Seen.{Seen}

@@ -2,14 +2,14 @@
 ghost use Rattle.std.specs.Prelude.{ℕ, ◌≡◌, ◌==◌, ◌<◌, ◌^◌, ◌∷◌, ◌++◌, ◌/◌, ◌%◌, ◌↔◌, List, Option, Some, Ok, IfOk, IfSome, IsTrue, MatchOption, codes, length, position};
 ghost use Rattle.std.specs.Fmt.{decimal};
 ghost use Rattle.dcc_packet.specs.Packet.{IsPacket};
-ghost use Rattle.ascii_words.specs.Words.{hex_char};
-ghost use Rattle.show_text.specs.Lines.{hex_word, hex_words};
+ghost use Rattle.text.specs.Hex.{hex_char, hex_word, hex_words};
 ghost use Rattle.trace.specs.Traffic.{Parses, is_of_turn};
 
 use arrayvec::ArrayVec;
 use dcc_packet::Packet;
 use show_text::{Line, off_line, track_line};
 use std::str;
+use text::{read_hex_digits, space_at};
 
 /// The fault of a line that begins like the line of a turn and is not one.
 #[derive(Clone, Copy, Debug, PartialEq, Eq)]
@@ -32,12 +32,6 @@ fn number_of(digits: &[u8]) -> Option<u64>
     }
 }
 
-fn space_at(text: &[u8]) -> Option<usize>
-    ensures { result ≡ position (λ b. b == 32) text.now }
-{
-    text.iter().position(|byte| *byte == b' ')
-}
-
 /// Splits off the number of a turn; the rest begins with the space after it.
 fn cut_turn(line: &[u8]) -> Option<(u64, &[u8])>
     ensures { (turn : ℕ) (rest : List ℕ) → turn < 2 ^ 64
@@ -50,26 +44,6 @@ fn cut_turn(line: &[u8]) -> Option<(u64, &[u8])>
     Some((turn, &text[end..]))
 }
 
-/// Returns the value of an upper-case hexadecimal digit.
-fn digit_of(byte: u8) -> Option<u8>
-    ensures below { (n : ℕ) → result ≡ Some n → n < 16 }
-    ensures value { (n : ℕ) → n < 16 → byte ≡ hex_char n → result ≡ Some n }
-{
-    match byte {
-        b'0'..=b'9' => Some(byte - b'0'),
-        b'A'..=b'F' => Some(byte - b'A' + 10),
-        _ => None,
-    }
-}
-
-/// Returns the byte written by two upper-case hexadecimal digits, the high one first.
-fn byte_of(high: u8, low: u8) -> Option<u8>
-    ensures { (byte : ℕ) → byte < 256 → high ≡ hex_char (byte / 16) → low ≡ hex_char (byte % 16)
-        → result ≡ Some byte }
-{
-    Some(16 * digit_of(high)? + digit_of(low)?)
-}
-
 /// Returns the byte at the beginning of the words, a space and two digits, and the text after it.
 fn cut_byte(words: &[u8]) -> Option<(u8, &[u8])>
     ensures byte { (byte : ℕ) (rest : List ℕ) → byte < 256 → words.now ≡ hex_word byte ++ rest
@@ -77,7 +51,7 @@ fn cut_byte(words: &[u8]) -> Option<(u8, &[u8])>
     ensures shorter { IfSome result (λ cut. length cut.1.now < length words.now) }
 {
     match words {
-        [b' ', high, low, rest @ ..] => Some((byte_of(*high, *low)?, rest)),
+        [b' ', high, low, rest @ ..] => Some((read_hex_digits(*high, *low)?, rest)),
         _ => None,
     }
 }

@@ -6,8 +6,8 @@ ghost use Rattle.trace.specs.Text.{TextParses};
 
 use crate::drawing::Drawing;
 use crate::fault::DrawFault;
-use show_text::cut_line;
 use std::alloc::Global;
+use text::cut_line;
 
 /// The most bytes of an input.
 pub const LONGEST_TEXT: usize = 16_777_216;

@@ -7,15 +7,8 @@ ghost use Rattle.trace.specs.Node.{address_of, rest_after, direction_of, is_bit,
 
 use crate::reported_state::{Name, Switches};
 use arrayvec::ArrayVec;
-use ascii_words::are_name_bytes;
 use dcc_packet::{Address, Module, Steps};
-use show_text::decimal;
-
-fn space_at(text: &[u8]) -> Option<usize>
-    ensures { result ≡ position (λ b. b == 32) text.now }
-{
-    text.iter().position(|byte| *byte == b' ')
-}
+use text::{are_name_bytes, push_bytes, read_decimal, space_at};
 
 /// The first word.
 #[tactic(auto, using(crate::proofs::FirstWords::word_cuts))]
@@ -60,7 +53,11 @@ fn is_plain(word: &[u8]) -> bool
 pub(crate) fn number(word: &[u8]) -> Option<u32>
     ensures { result ≡ number_of word.now }
 {
-    if is_plain(word) { decimal(word) } else { None }
+    if is_plain(word) {
+        read_decimal(word)
+    } else {
+        None
+    }
 }
 
 fn is_bit(byte: u8) -> bool
@@ -84,9 +81,7 @@ pub(crate) fn switches(count: usize, text: &[u8]) -> Option<Switches>
         return None;
     }
     let mut digits = ArrayVec::new();
-    for digit in text {
-        digits.push(*digit);
-    }
+    push_bytes(&mut digits, text);
     Some(Switches { digits })
 }
 
@@ -98,9 +93,7 @@ pub(crate) fn name(word: &[u8]) -> Option<Name>
         return None;
     }
     let mut bytes = ArrayVec::new();
-    for byte in word {
-        bytes.push(*byte);
-    }
+    push_bytes(&mut bytes, word);
     Some(Name { bytes })
 }
 

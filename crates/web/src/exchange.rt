@@ -10,6 +10,7 @@ use crate::reply::{Head, push_error, push_error_head, push_upgrade};
 use crate::routing::{MAX_HEAD, response};
 use arrayvec::ArrayVec;
 use std::marker::Model;
+use text::push_bytes;
 
 /// The time for a complete request head, in microseconds.
 const REQUEST_TIMEOUT: u64 = 5_000_000;
@@ -113,7 +114,7 @@ impl HttpExchange {
         ensures { Receives (map (λ name. string_bytes name) names.now) bytes.now now self.old
             self.new }
     {
-        let _has_room = self.received.try_extend_from_slice(bytes);
+        push_bytes(&mut self.received, bytes);
         match response(names, self.received.as_slice()) {
             Response::Incomplete => {}
             response => {

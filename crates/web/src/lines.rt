@@ -5,6 +5,7 @@ ghost use Rattle.web.specs.Messages.{held_after, without_return};
 
 use arrayvec::ArrayVec;
 use std::marker::Model;
+use text::push_bytes;
 
 /// The most bytes of a line in either direction.
 pub const LONGEST_LINE: usize = 512;
@@ -49,7 +50,7 @@ impl ReceivedLine {
     {
         self.line.clear();
         self.at = 0;
-        let _fits = self.line.try_extend_from_slice(message);
+        push_bytes(&mut self.line, message);
         self.line.push(b'\n');
     }
 

@@ -11,6 +11,7 @@ ghost use Rattle.web.specs.Origins.{IsOwnHost, IsSameOrigin, host_of, is_name, i
 
 use httparse::spans::HeaderSpan;
 use std::net::{Ipv4Addr, SocketAddrV4};
+use text::are_digits;
 
 /// Returns the host of a request, if it has exactly one `Host`.
 pub(crate) fn host<'b>(buf: &'b [u8], spans: &[HeaderSpan]) -> Option<&'b [u8]>
@@ -111,11 +112,5 @@ fn may_be_port(text: &[u8]) -> bool
 fn is_port(digits: &[u8]) -> bool
     ensures { result ≡ is_port digits.now }
 {
-    !digits.is_empty() && digits.len() <= 5 && all_digits(digits)
-}
-
-fn all_digits(bytes: &[u8]) -> bool
-    ensures { result ≡ list_all is_ascii_digit bytes.now }
-{
-    bytes.iter().all(|byte| byte.is_ascii_digit())
+    !digits.is_empty() && digits.len() <= 5 && are_digits(digits)
 }

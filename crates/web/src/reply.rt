@@ -8,6 +8,7 @@ ghost use Rattle.web.specs.Replies.{allow_of, error_head_text, name_of, page_hea
 use crate::http_response::{HttpError, UpgradeRequest};
 use arrayvec::ArrayVec;
 use std::io::Cursor;
+use text::{decimal_digits, push_bytes};
 use websocket::handshake::server::write_response;
 
 /// A response, or the head of one, at most 640 bytes.
@@ -95,7 +96,7 @@ pub fn push_error(head: &mut Head, error: HttpError)
     ensures len { array_vec_len head.new ≤ array_vec_len head.old + 300 }
 {
     push_error_head(head, error);
-    push_text(head, error.reason());
+    push_bytes(head, error.reason());
 }
 
 /// Appends the head of that response alone, for `HEAD`, at most 239 bytes.
@@ -105,18 +106,18 @@ pub fn push_error_head(head: &mut Head, error: HttpError)
     ensures len { array_vec_len head.new ≤ array_vec_len head.old + 239 }
 {
     let reason = error.reason();
-    push_text(head, b"HTTP/1.1 ");
+    push_bytes(head, b"HTTP/1.1 ");
     push_number(head, u32::from(error.status()));
-    push_text(head, b" ");
-    push_text(head, error.name());
-    push_text(
+    push_bytes(head, b" ");
+    push_bytes(head, error.name());
+    push_bytes(
         head,
         b"\r\nContent-Type: text/plain; charset=utf-8\r\nContent-Length: ",
     );
     push_number(head, reason.len() as u32);
-    push_text(head, CONNECTION_CLOSE);
-    push_text(head, error.allow());
-    push_text(head, b"\r\n");
+    push_bytes(head, CONNECTION_CLOSE);
+    push_bytes(head, error.allow());
+    push_bytes(head, b"\r\n");
 }
 
 /// Appends the head of the response that holds a page of `length` bytes, at most 500 bytes. The
@@ -126,14 +127,14 @@ pub fn push_page_head(head: &mut Head, length: u32)
     ensures text { head.new.items ≡ head.old.items ++ page_head_text length }
     ensures len { array_vec_len head.new ≤ array_vec_len head.old + 500 }
 {
-    push_text(
+    push_bytes(
         head,
         b"HTTP/1.1 200 OK\r\nContent-Type: text/html; charset=utf-8\r\nContent-Length: ",
     );
     push_number(head, length);
-    push_text(head, CONNECTION_CLOSE);
-    push_text(head, PAGE_RULES);
-    push_text(head, PAGE_POLICY);
+    push_bytes(head, CONNECTION_CLOSE);
+    push_bytes(head, PAGE_RULES);
+    push_bytes(head, PAGE_POLICY);
 }
 
 /// Appends the response to a valid handshake, 129 bytes. The WebSocket follows.
@@ -147,15 +148,7 @@ pub fn push_upgrade(head: &mut Head, upgrade: &UpgradeRequest)
     // There is room, and the key contains no blank and no control character.
     let _fits = write_response(&upgrade.accept_key, &[], &mut reply);
     let end = (reply.position() as usize).min(reply.get_ref().len());
-    push_text(head, &reply.get_ref()[..end]);
-}
-
-fn push_text(head: &mut Head, text: &[u8])
-    requires { array_vec_len head.old + length text.now ≤ 640 }
-    ensures text { head.new.items ≡ head.old.items ++ text.now }
-    ensures len { array_vec_len head.new ≡ array_vec_len head.old + length text.now }
-{
-    let _fits = head.try_extend_from_slice(text);
+    push_bytes(head, &reply.get_ref()[..end]);
 }
 
 /// Appends a number in decimal digits, at most 10.
@@ -164,5 +157,5 @@ fn push_number(head: &mut Head, n: u32)
     ensures text { head.new.items ≡ head.old.items ++ decimal n }
     ensures len { array_vec_len head.new ≤ array_vec_len head.old + 10 }
 {
-    push_text(head, ascii_words::decimal(u64::from(n)).as_slice());
+    push_bytes(head, decimal_digits(u64::from(n)).as_slice());
 }

@@ -1,7 +1,7 @@
 use Rattle.std.proofs.Common.{rules, ◌≡◌, ◌++◌}
 use Rattle.std.specs.Prelude.{IsTrue}
 use Rattle.explain.specs.HexText.{hex_line_of, hex_text}
-use Rattle.explain.specs.Lines.{is_open}
+use Rattle.text.specs.Lines.{is_open}
 use Rattle.explain.proofs.LogLines.{last}
 use Rattle.explain.proofs.hex.hex_text.Goals as goal
 

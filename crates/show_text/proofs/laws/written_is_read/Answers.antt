@@ -1,5 +1,5 @@
-use Rattle.show_text.proofs.ReadBack.{hex-back, script-back}
+use Rattle.show_text.proofs.ReadBack.{script-back}
 use Rattle.show_text.proofs.laws.written_is_read.Goals as goal
 
 pub returns : goal.returns
-returns c = record { script = script-back; hex = hex-back }
+returns c = record { script = script-back }

@@ -3,9 +3,9 @@ use Rattle.std.specs.Fmt.{decimal}
 use Rattle.std.proofs.lemmas.Fmt.{length-decimal-le}
 use Rattle.show_text.proofs.line.push_count.Goals as goal
 
-pub push_digits-requires : goal.push_digits-requires
-push_digits-requires c = omega (arith, length-decimal-le 20 c.args.n (omega arith) (omega arith) (omega arith))
+pub push_decimal-requires : goal.push_decimal-requires
+push_decimal-requires c = omega (arith, length-decimal-le 20 c.args.n (omega arith) (omega arith) (omega arith))
 
 pub returns-clause-len : goal.returns-clause-len
 returns-clause-len c =
-    omega (arith, length-decimal-le 20 c.args.n (omega arith) (omega arith) (omega arith), ap length c.push_digits.ensures, length-append c.args.line.now.bytes (decimal c.args.n))
+    omega (arith, length-decimal-le 20 c.args.n (omega arith) (omega arith) (omega arith), ap length c.push_decimal.ensures, length-append c.args.line.now.bytes (decimal c.args.n))

@@ -1,5 +1,5 @@
 use Rattle.std.proofs.Common.{◌≡◌}
-use Rattle.ascii_words.specs.Words.{words_of}
+use Rattle.text.specs.Words.{words_of}
 use Rattle.show_text.specs.Script.{nodes_of, set_with}
 use Rattle.show_text.proofs.script.named_nodes.Given as goal
 

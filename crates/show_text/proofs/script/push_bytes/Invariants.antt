@@ -1,6 +1,6 @@
 use Rattle.std.proofs.Common.{◌≡◌, length}
-use Rattle.ascii_words.specs.Words.{words_of}
-use Rattle.show_text.specs.Sequence.{before}
+use Rattle.text.specs.Words.{words_of}
+use Rattle.text.specs.Sequence.{before}
 use Rattle.show_text.specs.Script.{bytes_of}
 use Rattle.show_text.proofs.script.push_bytes.Given as goal
 

@@ -1,6 +1,6 @@
 use Rattle.std.proofs.Common.{◌≡◌, ◌+◌, length}
 use Rattle.std.specs.Str.Lines.{lines}
-use Rattle.show_text.specs.Sequence.{before}
+use Rattle.text.specs.Sequence.{before}
 use Rattle.show_text.specs.Script.{commands_of}
 use Rattle.show_text.proofs.script.read_script.Given as goal
 

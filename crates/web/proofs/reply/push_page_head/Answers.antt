@@ -8,10 +8,10 @@ pub returns-clause-text : goal.returns-clause-text
 returns-clause-text c =
     let old = c.args.head.now.items in
     let before-second = page_start in
-    let at-second = next old c.push_text.new.head.items c.push_number.new.head.items before-second (decimal c.args.length) c.push_text.ensures.text c.push_number.ensures.text in
+    let at-second = next old c.push_bytes.new.text.items c.push_number.new.head.items before-second (decimal c.args.length) c.push_bytes.ensures.text c.push_number.ensures.text in
     let before-third = before-second ++ decimal c.args.length in
-    let at-third = next old c.push_number.new.head.items c.push_text-2.new.head.items before-third (connection_close) at-second c.push_text-2.ensures.text in
+    let at-third = next old c.push_number.new.head.items c.push_bytes-2.new.text.items before-third (connection_close) at-second c.push_bytes-2.ensures.text in
     let before-fourth = before-third ++ connection_close in
-    let at-fourth = next old c.push_text-2.new.head.items c.push_text-3.new.head.items before-fourth (page_rules) at-third c.push_text-3.ensures.text in
+    let at-fourth = next old c.push_bytes-2.new.text.items c.push_bytes-3.new.text.items before-fourth (page_rules) at-third c.push_bytes-3.ensures.text in
     let before-fifth = before-fourth ++ page_rules in
-    next old c.push_text-3.new.head.items c.push_text-4.new.head.items before-fifth (page_policy) at-fourth c.push_text-4.ensures.text
+    next old c.push_bytes-3.new.text.items c.push_bytes-4.new.text.items before-fifth (page_policy) at-fourth c.push_bytes-4.ensures.text

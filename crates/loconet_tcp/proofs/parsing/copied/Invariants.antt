@@ -1,8 +1,0 @@
-use Rattle.std.proofs.Common.{◌≡◌, ◌≤◌, length, take}
-use Rattle.loconet_tcp.proofs.parsing.copied.Given as goal
-
-abbrev pub invariant-loop-byte : goal.invariant-loop-byte
-invariant-loop-byte l = record {
-  copied : l.copy.items ≡ take l.byte-index l.word;
-  few : length l.copy.items ≤ l.byte-index;
-}

@@ -1,8 +1,0 @@
-use Rattle.std.proofs.Common.{◌<◌, arith}
-use Rattle.std.proofs.lemmas.Str.{encode_ascii}
-use Rattle.show_text.proofs.line.push_byte.Goals as goal
-
-pub push-requires : goal.push-requires
-push-requires c =
-    let small : c.from.result < 128 = omega arith in
-    (omega arith, rw (encode_ascii c.from.result small) (omega arith))

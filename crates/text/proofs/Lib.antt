@@ -1,0 +1,9 @@
+pub mod Cuts
+pub mod Decimals
+pub mod FirstWord
+pub mod Fits
+pub mod HexBack
+pub mod HexPieces
+pub mod LineFeeds
+pub mod Sequences
+pub mod Writing
