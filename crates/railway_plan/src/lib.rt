@@ -11,6 +11,7 @@ mod bounds;
 mod fault;
 mod key;
 mod laying;
+mod members;
 mod names;
 mod parts;
 mod reading;

@@ -5,21 +5,19 @@ ghost use Rattle.roster.specs.Entry.{name_of};
 ghost use Rattle.roster.specs.Toml.{table_in};
 ghost use Rattle.railway_plan.specs.declared.fault.Section.TheVariants.{Whole as WholeSection};
 ghost use Rattle.railway_plan.specs.declared.fault.Why.TheVariants.{NoMemory, NotToml};
-ghost use Rattle.railway_plan.specs.Format.{blocks_in, in_section, items_at, joints_in, plan_in, plan_of, plan_with, trains_in, turnouts_in, version_in};
-ghost use Rattle.railway_plan.specs.Entries.{block_entry, names_of, plan_entries};
+ghost use Rattle.railway_plan.specs.Format.{blocks_in, in_section, items_at, plan_in, plan_of, plan_with, version_in};
+ghost use Rattle.railway_plan.specs.Entries.{block_entry, plan_entries};
 
 use crate::bounds::VERSION;
 use crate::fault::{PlanTextFault, Section, Why};
 use crate::key::Key;
-use crate::parts::{block, joint, train, turnout};
+use crate::members::read_members;
+use crate::parts::block;
 use crate::table::{array, number_at, value_at};
 use arrayvec::ArrayVec;
-use railway::{
-    Block, Joint, MAX_BLOCKS, MAX_JOINTS, MAX_TRAINS, MAX_TURNOUTS, Plan, Train, Turnout,
-};
-use roster::{Roster, knows_only};
+use railway::{Block, MAX_BLOCKS, MAX_JOINTS, MAX_TRAINS, MAX_TURNOUTS, Plan};
+use roster::{Roster, knows_only, read_toml};
 use std::alloc::Global;
-use std::str;
 use toml::{Table, Value};
 
 /// Reads a track plan, a text in TOML of any length, for the decoders of a roster.
@@ -63,7 +61,7 @@ pub fn read(alloc: Global, text: &[u8], roster: &Roster) -> Result<Plan, PlanTex
     ensures fault { IfErr result
         (λ fault. fault.why ≢ NoMemory → plan_in (map name_of roster.now) text.now ≡ Err fault) }
 {
-    match read_toml(alloc, text) {
+    match table_of(alloc, text) {
         Ok(table) => read_table(&table, roster),
         Err(why) => Err(of_whole(why)),
     }
@@ -83,18 +81,14 @@ fn fault(section: Section, why: Why) -> PlanTextFault
 }
 
 /// Returns the table of a text, or `NotToml` or `NoMemory`.
-fn read_toml(alloc: Global, text: &[u8]) -> Result<Table, Why>
+fn table_of(alloc: Global, text: &[u8]) -> Result<Table, Why>
     ensures ok { IfOk result (λ table. table_in text.now ≡ Some (table_view table)) }
     ensures refused { IfErr result
         (λ why. why ≢ NoMemory → (why ≡ NotToml) × (table_in text.now ≡ None)) }
 {
-    let text = match str::from_utf8(text) {
-        Ok(text) => text,
-        Err(_) => return Err(Why::NotToml),
-    };
-    match toml::table_from_str(alloc, text) {
+    match read_toml(alloc, text) {
         Ok(table) => Ok(table),
-        Err(error) if error.is_memory() => Err(Why::NoMemory),
+        Err(roster::Why::NoMemory) => Err(Why::NoMemory),
         Err(_) => Err(Why::NotToml),
     }
 }
@@ -110,7 +104,7 @@ fn read_table(table: &Table, roster: &Roster) -> Result<Plan, PlanTextFault>
     let joints = members(table, Key::Joint, MAX_JOINTS)?;
     let turnouts = members(table, Key::Turnout, MAX_TURNOUTS)?;
     let trains = members(table, Key::Train, MAX_TRAINS)?;
-    read_members(roster, blocks, joints, turnouts, trains)
+    read_parts(roster, blocks, joints, turnouts, trains)
 }
 
 /// Checks the keys of the whole, and its version.
@@ -129,7 +123,7 @@ fn read_version(table: &Table) -> Result<(), PlanTextFault>
 }
 
 /// Returns the members of the array at a key of the whole, at most this many.
-#[tactic(auto, using(crate::proofs::Members::items_len_view))]
+#[tactic(auto, using(crate::proofs::Lengths::items_len_view))]
 fn members(table: &Table, key: Key, most: usize) -> Result<&[Value], PlanTextFault>
     ensures members { MatchResult result
         (λ values. in_section WholeSection (items_at most key (table_view table.now))
@@ -146,7 +140,7 @@ fn members(table: &Table, key: Key, most: usize) -> Result<&[Value], PlanTextFau
 }
 
 /// Returns the plan of the members of its arrays.
-fn read_members(
+fn read_parts(
     roster: &Roster,
     blocks: &[Value],
     joints: &[Value],
@@ -164,9 +158,10 @@ fn read_members(
         (items_view joints.now) (items_view turnouts.now) (items_view trains.now) ≡ Err fault) }
 {
     let blocks = read_blocks(blocks)?;
-    let joints = read_joints(blocks.as_slice(), joints)?;
-    let turnouts = read_turnouts(blocks.as_slice(), turnouts)?;
-    let trains = read_trains(roster, blocks.as_slice(), trains)?;
+    let names = blocks.as_slice();
+    let joints = read_members(roster, names, joints)?;
+    let turnouts = read_members(roster, names, turnouts)?;
+    let trains = read_members(roster, names, trains)?;
     Ok(Plan {
         blocks,
         joints,
@@ -186,69 +181,6 @@ fn read_blocks(values: &[Value]) -> Result<ArrayVec<Block, MAX_BLOCKS>, PlanText
         match block(value) {
             Ok(part) => parts.push(part),
             Err(why) => return Err(fault(Section::Block(i + 1), why)),
-        }
-    }
-    Ok(parts)
-}
-
-fn read_joints(
-    blocks: &[Block],
-    values: &[Value],
-) -> Result<ArrayVec<Joint, MAX_JOINTS>, PlanTextFault>
-    requires few { length values.now ≤ 128 }
-    requires blocks { length blocks.now ≤ 64 }
-    ensures { MatchResult result
-        (λ parts. joints_in (names_of blocks.now) (items_view values.now) ≡ Ok parts.items)
-        (λ fault. joints_in (names_of blocks.now) (items_view values.now) ≡ Err fault) }
-{
-    let mut parts = ArrayVec::new();
-    for (i, value) in values.iter().enumerate() {
-        match joint(blocks, value) {
-            Ok(part) => parts.push(part),
-            Err(why) => return Err(fault(Section::Joint(i + 1), why)),
-        }
-    }
-    Ok(parts)
-}
-
-fn read_turnouts(
-    blocks: &[Block],
-    values: &[Value],
-) -> Result<ArrayVec<Turnout, MAX_TURNOUTS>, PlanTextFault>
-    requires few { length values.now ≤ 64 }
-    requires blocks { length blocks.now ≤ 64 }
-    ensures { MatchResult result
-        (λ parts. turnouts_in (names_of blocks.now) (items_view values.now) ≡ Ok parts.items)
-        (λ fault. turnouts_in (names_of blocks.now) (items_view values.now) ≡ Err fault) }
-{
-    let mut parts = ArrayVec::new();
-    for (i, value) in values.iter().enumerate() {
-        match turnout(blocks, value) {
-            Ok(part) => parts.push(part),
-            Err(why) => return Err(fault(Section::Turnout(i + 1), why)),
-        }
-    }
-    Ok(parts)
-}
-
-fn read_trains(
-    roster: &Roster,
-    blocks: &[Block],
-    values: &[Value],
-) -> Result<ArrayVec<Train, MAX_TRAINS>, PlanTextFault>
-    requires few { length values.now ≤ 64 }
-    requires blocks { length blocks.now ≤ 64 }
-    ensures { MatchResult result
-        (λ parts. trains_in (map name_of roster.now) (names_of blocks.now) (items_view values.now)
-        ≡ Ok parts.items)
-        (λ fault. trains_in (map name_of roster.now) (names_of blocks.now) (items_view values.now)
-        ≡ Err fault) }
-{
-    let mut parts = ArrayVec::new();
-    for (i, value) in values.iter().enumerate() {
-        match train(roster, blocks, value) {
-            Ok(part) => parts.push(part),
-            Err(why) => return Err(fault(Section::Train(i + 1), why)),
         }
     }
     Ok(parts)

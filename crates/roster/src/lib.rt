@@ -19,6 +19,6 @@ mod version;
 pub use details::FaultDetails;
 pub use fault::{RosterFault, Why};
 pub use locating::fault_details;
-pub use reading::read;
+pub use reading::{read, read_toml};
 pub use roster::{Roster, decoder_name};
 pub use table::{knows_only, value_at};

@@ -65,8 +65,12 @@ pub fn read(alloc: Global, text: &[u8]) -> Result<Roster, RosterFault>
     }
 }
 
-/// The table of a text, or `NotToml` or `NoMemory`.
-fn read_toml(alloc: Global, text: &[u8]) -> Result<Table, Why>
+/// Returns the table of a text in TOML.
+///
+/// # Errors
+///
+/// `NotToml`; `NoMemory` if out of memory.
+pub fn read_toml(alloc: Global, text: &[u8]) -> Result<Table, Why>
     ensures ok { IfOk result (λ table. table_in text.now ≡ Some (table_view table)) }
     ensures refused { IfErr result
         (λ why. why ≢ NoMemory → (why ≡ NotToml) × (table_in text.now ≡ None)) }
@@ -78,7 +82,7 @@ fn read_toml(alloc: Global, text: &[u8]) -> Result<Table, Why>
     };
     match toml::table_from_str(alloc, text) {
         Ok(table) => Ok(table),
-        Err(e) if e.is_memory() => Err(Why::NoMemory),
+        Err(error) if error.is_memory() => Err(Why::NoMemory),
         Err(_) => Err(Why::NotToml),
     }
 }

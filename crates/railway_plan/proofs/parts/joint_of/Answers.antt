@@ -3,7 +3,7 @@ use Rattle.railway_plan.specs.declared.fault.Why.TheVariants.{BadKey}
 use Rattle.railway_plan.specs.declared.key.Key.TheVariants.{Ends}
 use Rattle.railway_plan.specs.Entries.{names_of}
 use Rattle.railway_plan.specs.Format.{joint_of}
-use Rattle.railway_plan.proofs.Members.{fewer, more}
+use Rattle.railway_plan.proofs.Lengths.{fewer, more}
 use Rattle.railway_plan.proofs.parts.joint_of.Goals as goal
 
 pub returns-in_default : goal.returns-in_default

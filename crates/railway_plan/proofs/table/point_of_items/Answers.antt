@@ -1,6 +1,6 @@
 use Rattle.std.proofs.Common.{None, refl}
 use Rattle.railway_plan.specs.Format.{point_of_items}
-use Rattle.railway_plan.proofs.Members.{fewer, more}
+use Rattle.railway_plan.proofs.Lengths.{fewer, more}
 use Rattle.railway_plan.proofs.table.point_of_items.Goals as goal
 
 pub returns-in_default : goal.returns-in_default
