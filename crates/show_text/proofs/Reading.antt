@@ -1,54 +1,57 @@
 -- Reading from left to right, one command after the other.
-use Rattle.std.proofs.Common.{◌≡◌, ◌≢◌, ℕ, ◌+◌, ◌<◌, ◌≤◌, ◌++◌, Fits, w64, length, drop, arith, List, [], ◌∷◌, Some, None, Result, Ok, Err, refl, sym, ap, ◌∙◌}
+use Rattle.std.proofs.Common.{◌≡◌, ◌≢◌, ℕ, ◌+◌, ◌<◌, ◌≤◌, ◌++◌, Fits, w64, length, drop, arith, List, [], ◌∷◌, Option, Some, None, Result, Ok, Err, refl, sym, ap, ◌∙◌}
 use Rattle.std.specs.Str.Lines.{lines}
 use Rattle.std.proofs.lemmas.Bool.{lt-ltb}
 use Rattle.std.proofs.lemmas.Bool.Decides.{nat_tests}
 use Rattle.show_text.specs.declared.command.Command.{Command}
 use Rattle.show_text.specs.declared.command.Command.TheVariants.{Byte}
 use Rattle.show_text.specs.declared.command.Why.{Why}
-use Rattle.show_text.specs.declared.command.Why.TheVariants.{NoMemory, TooLong}
+use Rattle.show_text.specs.declared.command.Why.TheVariants.{BadHex, NoMemory, TooLong}
 use Rattle.show_text.specs.declared.command.ScriptFault.{ScriptFault}
 use Rattle.text.specs.Sequence.{before, followed_by}
 use Rattle.show_text.proofs.Cuts.{few_lines}
 use Rattle.show_text.proofs.Sequences.{after_none, goes_on, stops, ends}
-use Rattle.show_text.specs.Script.{◌>>=◌, byte_of, first_byte_of, bytes_of, line_commands, at_line, fault_at, commands_of, script_of}
+use Rattle.text.specs.Hex.{pair_of}
+use Rattle.text.specs.Words.{first_value, value_or_invalid}
+use Rattle.text.specs.declared.words.WordError.TheVariants.{Invalid, Missing}
+use Rattle.show_text.specs.Script.{◌>>=◌, or_fault, bytes_of, line_commands, at_line, fault_at, commands_of, script_of}
 
-read_to : (line byte : ℕ) (old : List Command) (r : Result ℕ Why) (more : Result (List Command) Why) → (r >>= (λ b. Ok (Some b))) ≡ Ok (Some byte)
-    → before old (followed_by (r >>= (λ b. Ok (Byte line b ∷ []))) more) ≡ before (old ++ Byte line byte ∷ []) more
-read_to line byte old (Ok b) more h =
+pair_read : (line byte : ℕ) (old : List Command) (pair : Option ℕ) (more : Result (List Command) Why) → value_or_invalid pair ≡ Ok byte
+    → before old (followed_by (or_fault pair BadHex >>= (λ b. Ok (Byte line b ∷ []))) more) ≡ before (old ++ Byte line byte ∷ []) more
+pair_read line byte old (Some b) more h =
     let same : b ≡ byte = cc in
     rw same (goes_on old (old ++ Byte line byte ∷ []) (Ok (Byte line byte ∷ [])) more refl)
-read_to line byte old (Err why) more h = cc
+pair_read line byte old None more h = cc
 
-not_told : (line : ℕ) (old : List Command) (why : Why) (r : Result ℕ Why) (more : Result (List Command) Why) → (r >>= (λ b. Ok (Some b))) ≡ Err why
-    → before old (followed_by (r >>= (λ b. Ok (Byte line b ∷ []))) more) ≡ Err why
-not_told line old why (Ok b) more h = cc
-not_told line old why (Err e) more h = cc
+no_pair : (line : ℕ) (old : List Command) (pair : Option ℕ) (more : Result (List Command) Why) → value_or_invalid pair ≡ Err Invalid
+    → before old (followed_by (or_fault pair BadHex >>= (λ b. Ok (Byte line b ∷ []))) more) ≡ Err BadHex
+no_pair line old (Some b) more h = cc
+no_pair line old None more h = refl
 
 -- one more byte is read
-pub byte_goes_on : (line byte : ℕ) (old : List Command) (words : List (List ℕ)) → first_byte_of words ≡ Ok (Some byte)
+pub byte_goes_on : (line byte : ℕ) (old : List Command) (words : List (List ℕ)) → first_value pair_of words ≡ Ok byte
     → before old (bytes_of line words) ≡ before (old ++ Byte line byte ∷ []) (bytes_of line (drop 1 words))
 unfolding bytes_of
 byte_goes_on line byte old [] h = cc
-byte_goes_on line byte old (word ∷ words) h = read_to line byte old (byte_of word) (bytes_of line words) h
+byte_goes_on line byte old (word ∷ words) h = pair_read line byte old (pair_of word) (bytes_of line words) h
 
 -- the first fault is that of this byte
-pub byte_stops : (line : ℕ) (old : List Command) (words : List (List ℕ)) (why : Why) → first_byte_of words ≡ Err why → before old (bytes_of line words) ≡ Err why
+pub byte_stops : (line : ℕ) (old : List Command) (words : List (List ℕ)) → first_value pair_of words ≡ Err Invalid → before old (bytes_of line words) ≡ Err BadHex
 unfolding bytes_of
-byte_stops line old [] why h = cc
-byte_stops line old (word ∷ words) why h = not_told line old why (byte_of word) (bytes_of line words) h
+byte_stops line old [] h = cc
+byte_stops line old (word ∷ words) h = no_pair line old (pair_of word) (bytes_of line words) h
+
+missing : (pair : Option ℕ) → value_or_invalid pair ≡ Err Missing → ⊥
+missing (Some b) h = cc
+missing None h = cc
 
 -- no byte is left
-pub bytes_end : (line : ℕ) (old : List Command) (words : List (List ℕ)) → first_byte_of words ≡ Ok None → before old (bytes_of line words) ≡ Ok old
+pub bytes_end : (line : ℕ) (old : List Command) (words : List (List ℕ)) → first_value pair_of words ≡ Err Missing → before old (bytes_of line words) ≡ Ok old
 unfolding bytes_of
 bytes_end line old [] h = ends old
-bytes_end line old (word ∷ words) h = none (byte_of word) h
-  where
-    none : (r : Result ℕ Why) → (r >>= (λ b. Ok (Some b))) ≡ Ok None → before old (followed_by (r >>= (λ b. Ok (Byte line b ∷ []))) (bytes_of line words)) ≡ Ok old
-    none (Ok b) h = cc
-    none (Err why) h = cc
+bytes_end line old (word ∷ words) h = absurd (missing (pair_of word) h)
 
-pub fewer_words : (byte : ℕ) (words : List (List ℕ)) → first_byte_of words ≡ Ok (Some byte) → length (drop 1 words) < length words
+pub fewer_words : (byte : ℕ) (words : List (List ℕ)) → first_value pair_of words ≡ Ok byte → length (drop 1 words) < length words
 fewer_words byte [] h = cc
 fewer_words byte (word ∷ words) h = omega arith
 

@@ -56,13 +56,6 @@ byte_command l word = do
   b ← byte_of word
   Ok (Byte l b ∷ [])
 
--- the byte of the first word, if there is a word
-abbrev pub first_byte_of : List (List ℕ) → Result (Option ℕ) Why
-first_byte_of [] = Ok None
-first_byte_of (word ∷ words) = do
-  b ← byte_of word
-  Ok (Some b)
-
 unfoldable pub bytes_of : ℕ → List (List ℕ) → Result (List Command) Why
 bytes_of l [] = Ok []
 bytes_of l (word ∷ words) = followed_by (byte_command l word) (bytes_of l words)

@@ -2,7 +2,7 @@
 ghost use Rattle.std.specs.Prelude.{◌≡◌, ◌≢◌, ◌≤◌, ◌∷◌, [], IfOk, IfErr, Ok, Err, drop, if◌then◌else◌, nat_lt};
 ghost use Rattle.show_text.specs.declared.command.Why.TheVariants.{NoMemory};
 ghost use Rattle.text.specs.Words.{words_of};
-ghost use Rattle.show_text.specs.Script.{Adds, AreCounted, AreOnLines, below, first_byte_of, first_number_of, is_count, bytes_of, some_bytes, line_of, nodes_of, set_with, missed_of, turn_of, show_of, command_of, line_commands, fault_at, script_of};
+ghost use Rattle.show_text.specs.Script.{Adds, AreCounted, AreOnLines, below, first_number_of, is_count, bytes_of, some_bytes, line_of, nodes_of, set_with, missed_of, turn_of, show_of, command_of, line_commands, fault_at, script_of};
 
 use crate::command::{Command, ScriptFault, Why};
 use std::alloc::Global;
@@ -54,18 +54,6 @@ fn next_number(words: &mut Words<'_>) -> Result<u32, Why>
     }
 }
 
-/// Takes the next word as a byte, or returns `None` after the last word.
-fn next_byte(words: &mut Words<'_>) -> Result<Option<u8>, Why>
-    ensures byte { result ≡ first_byte_of (words_of words.old.0.now) }
-    ensures rest { words_of words.new.0.now ≡ drop 1 (words_of words.old.0.now) }
-{
-    match words.next_byte() {
-        Ok(byte) => Ok(Some(byte)),
-        Err(WordError::Missing) => Ok(None),
-        Err(WordError::Invalid) => Err(Why::BadHex),
-    }
-}
-
 /// Appends a command.
 fn push_command(commands: &mut Vec<Command>, command: Command) -> Result<(), Why>
     ensures { Adds commands.old.items commands.new.items result (Ok (command ∷ [])) }
@@ -79,10 +67,13 @@ fn push_bytes(line: u8, mut words: Words<'_>, commands: &mut Vec<Command>) -> Re
     ensures { Adds commands.old.items commands.new.items result
         (bytes_of line (words_of words.entry.0.now)) }
 {
-    while let Some(byte) = next_byte(&mut words)? {
-        push_command(commands, Command::Byte { line, byte })?;
+    loop {
+        match words.next_byte() {
+            Ok(byte) => push_command(commands, Command::Byte { line, byte })?,
+            Err(WordError::Missing) => return Ok(()),
+            Err(WordError::Invalid) => return Err(Why::BadHex),
+        }
     }
-    Ok(())
 }
 
 /// The bytes of a line, one or more.
