@@ -1,6 +1,6 @@
 -- The text of the bus with the words of its messages: in pieces, and behind one message.
-use Rattle.std.proofs.Common.{◌≡◌, ℕ, ◌+◌, ◌*◌, ◌/◌, ◌%◌, ◌<◌, ◌≤◌, ◌==◌, ◌&&◌, Bool, true, false, List, [], ◌∷◌, ◌++◌, zero, suc, length, take, append_assoc, length-append, slice_index, not, refl, ap, sym, ◌∙◌, inl, inr, arith, Option, Some}
-use Rattle.std.specs.Prelude.{if◌then◌else◌, nat_lt, codes}
+use Rattle.std.proofs.Common.{◌≡◌, ℕ, ◌+◌, ◌*◌, ◌/◌, ◌%◌, ◌<◌, ◌≤◌, ◌==◌, ◌&&◌, Bool, true, false, List, [], ◌∷◌, ◌++◌, suc, length, take, append_assoc, length-append, slice_index, not, refl, ap, sym, ◌∙◌, arith, Option, Some}
+use Rattle.std.specs.Prelude.{if◌then◌else◌, codes}
 use Rattle.std.specs.List.{list_all}
 use Rattle.std.proofs.lemmas.Bool.{and_parts, lt-ltb, not-true}
 use Rattle.std.proofs.lemmas.Bool.Decides.{nat_tests}

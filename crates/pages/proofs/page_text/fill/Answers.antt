@@ -1,4 +1,4 @@
-use Rattle.std.proofs.Common.{◌≡◌, ◌++◌, ◌∙◌, append_assoc, List, ℕ, ap, ap₂, arith, slice_index, sym, take}
+use Rattle.std.proofs.Common.{◌++◌, ◌∙◌, append_assoc, List, ℕ, ap, ap₂, arith, slice_index, sym, take}
 use Rattle.pages.specs.PageText.{line_after, line_along, page_text, with_words}
 use Rattle.pages.proofs.PageTexts.{along-more, text-more}
 use Rattle.pages.proofs.page_text.fill.Goals as goal
