@@ -148,10 +148,11 @@ def reads_late():
         # Less than the 20 seconds after which the server wakes to ping a page.
         with Page(server, seconds=10, room=4096) as late:
             late.lines_until("NODE node yard module 1 outputs 00000000")
-            # What a page's WebSocket keeps, and then what is queued after that.
+            # What a page's WebSocket keeps, and then what is queued after that: with the words of its messages the WebSocket is
+            # full after two batches.
             sent = fill(sender, late.stream, server.page_port, 2)
             same("what it receives", [late.line() for _ in range(2 * sent)], sent * text)
-            sent = fill(sender, late.stream, server.page_port, 6)
+            sent = fill(sender, late.stream, server.page_port, 5)
             sender.take(3)
             sender.send(0xA0, 1, 0x40)
             sender.send(0x83)
