@@ -157,4 +157,7 @@ def reads_late():
             sender.send(0xA0, 1, 0x40)
             sender.send(0x83)
             lines = late.lines_until(f"NODE {SHUNTER.format('step 63 of 128')}")
+            # As soon as the WebSocket has room, the decoder is sent between lines that the page has not read yet.
+            lines = [line for line in lines if not line.startswith("NODE ")]
+            lines += [late.line() for _ in range(2 * sent - len(lines))]
             same("what it receives", lines[: 2 * sent], sent * text)

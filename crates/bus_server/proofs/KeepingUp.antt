@@ -630,16 +630,21 @@ all_served same client first handled old new among all up h =
 round_keeps : SameBlocks → (client : ℕ) (handled : List Handled) (old new : ServerState) → client < 8 → IsRound handled old new → KeepsUp client (transport_events handled) → Within client 57617 old → StaysUp client 3477 (transport_events handled) new
 round_keeps same client handled old new among round up h =
     let early = transport_events round.0 in
-    let served = transport_events round.1 in
-    let joined = transport_events round.2 in
-    let log : transport_events handled ≡ early ++ (served ++ joined) =
-    ap transport_events round.5 ∙ log-append round.0 (round.1 ++ round.2) ∙ ap (λ (rest : List TransportEvent). early ++ rest) (log-append round.1 round.2) in
-    let up_log : KeepsUp client (early ++ (served ++ joined)) = subst (KeepsUp client) log up in
-    let begun = unread_all client 57617 round.0 old round.3 (early_applies round.0 old round.3 round.6) (early_unread round.0 old round.3 round.6) (omega arith) (omega arith) h in
-    let read = all_served same client round.3.first_client round.1 round.3 round.4 among round.7 (up_before client served joined (up_behind client early (served ++ joined) up_log)) begun.0 in
-    let accepted = unread_all client 3477 round.2 round.4 new (accepts_apply round.2 round.4 new round.8) (accepts_unread round.2 round.4 new round.8) (omega arith) (omega arith) read.0 in
+    let written = transport_events round.1 in
+    let served = transport_events round.2 in
+    let joined = transport_events round.3 in
+    let log : transport_events handled ≡ early ++ (written ++ (served ++ joined)) =
+    ap transport_events round.7 ∙ log-append round.0 (round.1 ++ (round.2 ++ round.3))
+    ∙ ap (λ (rest : List TransportEvent). early ++ rest) (log-append round.1 (round.2 ++ round.3) ∙ ap (λ (rest : List TransportEvent). written ++ rest) (log-append round.2 round.3)) in
+    let up_log : KeepsUp client (early ++ (written ++ (served ++ joined))) = subst (KeepsUp client) log up in
+    let up_rest = up_behind client written (served ++ joined) (up_behind client early (written ++ (served ++ joined)) up_log) in
+    let begun = unread_all client 57617 round.0 old round.4 (early_applies round.0 old round.4 round.8) (early_unread round.0 old round.4 round.8) (omega arith) (omega arith) h in
+    let told = unread_all client 57617 round.1 round.4 round.5 round.9.0 round.9.1 (omega arith) (omega arith) begun.0 in
+    let read = all_served same client round.5.first_client round.2 round.5 round.6 among round.10 (up_before client served joined up_rest) told.0 in
+    let accepted = unread_all client 3477 round.3 round.6 new (accepts_apply round.3 round.6 new round.11) (accepts_unread round.3 round.6 new round.11) (omega arith) (omega arith) read.0 in
     subst (λ (all : List TransportEvent). StaysUp client 3477 all new) (sym log)
-    (both_stay client 3477 early (served ++ joined) new begun.1 (both_stay client 3477 served joined new read.1 accepted))
+    (both_stay client 3477 early (written ++ (served ++ joined)) new begun.1
+    (both_stay client 3477 written (served ++ joined) new told.1 (both_stay client 3477 served joined new read.1 accepted)))
 
 -- A round starts: a line of an answer has at most 647 bytes, and that turns have passed is told in 10.
 

@@ -250,9 +250,10 @@ accepts_unread handled old new h = elim h [
 
 pub round_serves : (handled : List Handled) (old new : ServerState) → IsRound handled old new → AppliesAll handled old new
 round_serves handled old new round =
-    subst (λ (all : List Handled). AppliesAll all old new) (sym round.5)
-    (serves_more round.0 (round.1 ++ round.2) old round.3 new (early_applies round.0 old round.3 round.6)
-    (serves_more round.1 round.2 round.3 round.4 new (turns_serve round.3.first_client 8 round.1 round.3 round.4 round.7) (accepts_apply round.2 round.4 new round.8)))
+    subst (λ (all : List Handled). AppliesAll all old new) (sym round.7)
+    (serves_more round.0 (round.1 ++ (round.2 ++ round.3)) old round.4 new (early_applies round.0 old round.4 round.8)
+    (serves_more round.1 (round.2 ++ round.3) round.4 round.5 new round.9.0
+    (serves_more round.2 round.3 round.5 round.6 new (turns_serve round.5.first_client 8 round.2 round.5 round.6 round.10) (accepts_apply round.3 round.6 new round.11))))
 
 pub lets_in_behind : (first second : List TransportEvent) → AcceptsPending second → AcceptsPending (first ++ second)
 lets_in_behind first second last = (

@@ -144,10 +144,18 @@ Accepts handled old new =
     ⊎ ((has_turns_to_follow old ≡ false) × AppliesAll handled old new × IsUnread (transport_events handled)
     × AcceptsPending (transport_events handled))
 
--- A round: all eight are served, beginning behind the one that sent the last message, and then pending clients are accepted.
+-- All are written to, and none is read.
+abbrev pub WritesToAll : List Handled → ServerState → ServerState → Type 0
+WritesToAll handled old new =
+    AppliesAll handled old new × IsUnread (transport_events handled) × AllWrittenTo 8 (transport_events handled) new
+    × IsFair (transport_events handled)
+
+-- A round: all eight are written to, and then served, beginning behind the one that sent the last message, and then pending
+-- clients are accepted.
 abbrev pub IsRound : List Handled → ServerState → ServerState → Type 0
 IsRound handled old new =
-    (early served joined : List Handled) × (start mid : ServerState) × (handled ≡ early ++ (served ++ joined)) × AcceptsFirst early old start
+    (early written served joined : List Handled) × (begun start mid : ServerState)
+    × (handled ≡ early ++ (written ++ (served ++ joined))) × AcceptsFirst early old begun × WritesToAll written begun start
     × ServesClients start.first_client 8 served start mid × Accepts joined mid new
 
 -- What the parts of a round promise one another.

@@ -104,7 +104,8 @@ impl Server {
         self.hub.has_backlog
     }
 
-    /// Serves one round, which [`Server::run`] starts: reads each client, writing to all after each, and accepts pending clients.
+    /// Serves one round, which [`Server::run`] starts: writes to all, reads each client, writing to all after each, and accepts
+    /// pending clients.
     /// While turns are left that follow a message, nobody is read or accepted.
     ///
     /// # Errors
@@ -128,6 +129,8 @@ impl Server {
             (snapshot (W.log transport.new) (P.observed observer.new) self.new.hub)) }
     {
         self.accept_first(transport, observer)?;
+        // Before any is read, so that one that was accepted and closes at once has the version.
+        self.write_all(transport, observer)?;
         self.serve_all(transport, observer)?;
         // Last, so that the index of a client that has disconnected meanwhile is free.
         self.accept_pending(transport, observer)
