@@ -57,7 +57,8 @@ ends = ["east.b", "back.a"]
 ends = ["back.b", "west.a"]
 """
 TRAIN = '[[train]]\ndecoder = "express"\nblock = "main"\nfront = 600\nfacing = "b"\nlength = 200\nspeed = 300\n'
-LONG_TRAIN, BLOCK_6 = TRAIN.replace("200", "1001"), '[[block]]\nname = "x"\nlength = '
+# Behind a front in the siding the track ends after 600 mm: turnout 1 is closed.
+LONG_TRAIN, BLOCK_6 = TRAIN.replace("main", "siding").replace("200", "601"), '[[block]]\nname = "x"\nlength = '
 BLOCKS_6_AND_7 = BLOCK_6 + "1000\n" + BLOCK_6.replace("x", "y") + "1000\n"
 LONE_TURNOUT = '[[turnout]]\nswitch = 5\ncommon = "x.a"\nclosed = "x.b"\nthrown = "y.a"\n'
 
@@ -66,6 +67,11 @@ TEXTS = [
     ("version = 1", ""),
     (TRACK, ""),
     (TRACK + TRAIN, ""),
+    # Round the oval.
+    (TRACK + TRAIN.replace("200", "3999"), ""),
+    (TRACK + LONG_TRAIN.replace("601", "600"), ""),
+    (TRACK + TRAIN.replace("600", "1"), ""),
+    (TRACK + TRAIN.replace("600", "1000"), ""),
     ("x", "the plan: it is not TOML"),
     ("version =", "the plan: it is not TOML"),
     ("", "the plan: version must be 1"),
@@ -91,7 +97,7 @@ RING_TRAIN = train("express", RING[63], 100, "b", 100, 1000)
 # Numbers of parts of a plan, and the words of its fault: too many, or more than there are ends.
 ONE_TURNOUT = f'[[turnout]]\nswitch = 1\ncommon = "{RING[0]}.b"\nclosed = "{RING[1]}.a"\nthrown = "{RING[2]}.a"\n'
 COUNTS = [
-    ((RING_BLOCKS, RING_JOINTS, 64 * [RING_TRAIN]), ""),
+    ((RING_BLOCKS, RING_JOINTS, 64 * [RING_TRAIN]), "train 1: another train has this decoder"),
     ((RING_BLOCKS, [block("x", 100, 1)]), "the plan: there are too many blocks"),
     ((RING_BLOCKS, 128 * RING_JOINTS[:1]), "block 1: end b is named twice"),
     ((RING_BLOCKS, 129 * RING_JOINTS[:1]), "the plan: there are too many joints"),
@@ -136,7 +142,8 @@ PARTS = [
     ('[[train]]\ndecoder = "express"\nblock = "main"\nfront = -1', "train 1: front must be 0 to 100000"),
     (TRAIN.replace("600", "100001"), "train 1: front must be 0 to 100000"),
     ('[[train]]\ndecoder = "express"\nblock = "main"\nfront = 1\nfacing = "c"', "train 1: facing must be a or b"),
-    (TRAIN.replace("length = 200", "length = 0"), "train 1: length must be 1 to 100000"),
+    (TRAIN.replace("length = 200", "length = 0"), "train 1: length must be 1 to 65535"),
+    (TRAIN.replace("length = 200", "length = 65536"), "train 1: length must be 1 to 65535"),
     (TRAIN.replace("speed = 300", ""), "train 1: speed must be 0 to 65535"),
     (TRAIN.replace("300", "-1"), "train 1: speed must be 0 to 65535"),
     (TRAIN.replace("300", "65536"), "train 1: speed must be 0 to 65535"),
@@ -150,8 +157,11 @@ PARTS = [
     ('[[joint]]\nends = ["siding.a", "siding.a"]', "block 3: end a is named twice"),
     (BLOCKS_6_AND_7 + LONE_TURNOUT, "turnout 3: the roster has no decoder for it"),
     (TRAIN.replace("express", "turnouts"), "train 1: the roster has no decoder for it"),
-    (TRAIN.replace("200", "1001"), "train 1: the train is longer than a block"),
-    (TRAIN.replace("600", "100"), "train 1: the train does not fit into its block there"),
+    (TRAIN + TRAIN.replace("main", "siding"), "train 1: another train has this decoder"),
+    (TRAIN.replace("600", "0"), "train 1: its front is not in its block"),
+    (TRAIN.replace("600", "1001"), "train 1: its front is not in its block"),
+    (TRAIN.replace("600", "1000").replace('"b"', '"a"'), "train 1: its front is not in its block"),
+    (LONG_TRAIN, "train 1 (express): longer than the track behind it (block siding)"),
 ]
 
 
@@ -172,7 +182,7 @@ TWO_FAULTS = [
     (TRAIN.replace("main", "loop").replace("600", "-1"), "train 1: no block has this name"),
     (TRAIN.replace("600", "-1").replace('"b"', '"c"'), "train 1: front must be 0 to 100000"),
     (TRAIN.replace('"b"', '"c"').replace("200", "0"), "train 1: facing must be a or b"),
-    (TRAIN.replace("200", "0").replace("300", "-1"), "train 1: length must be 1 to 100000"),
+    (TRAIN.replace("200", "0").replace("300", "-1"), "train 1: length must be 1 to 65535"),
     (TRAIN + TRAIN.replace("300", "-1") + TRAIN.replace("600", "-1"), "train 2: speed must be 0 to 65535"),
     # Parts that do not fit the others.
     (BLOCK_6.replace("x", "west") + "1000\nsensor = 1", "block 1: another block has this name"),
@@ -181,8 +191,8 @@ TWO_FAULTS = [
     (BLOCK_6 + "1000\n" + LONE_TURNOUT.replace("y.a", "west.b"), "block 1: end b is named twice"),
     (BLOCKS_6_AND_7 + LONE_TURNOUT + LONG_TRAIN, "turnout 3: the roster has no decoder for it"),
     (LONG_TRAIN.replace("express", "turnouts"), "train 1: the roster has no decoder for it"),
-    (LONG_TRAIN.replace("600", "1001"), "train 1: the train is longer than a block"),
-    (TRAIN.replace("600", "1001") + LONG_TRAIN, "train 1: the train does not fit into its block there"),
+    (LONG_TRAIN.replace("600", "1001"), "train 1: its front is not in its block"),
+    (TRAIN.replace("600", "1001") + LONG_TRAIN, "train 1: another train has this decoder"),
 ]
 
 

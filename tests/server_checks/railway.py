@@ -134,7 +134,7 @@ def placements():
                 ("shunter yard 1000", "ERROR no such block"),
                 ("shunter siding 299", "ERROR the train does not fit there"),
                 ("shunter siding 1501 b", "ERROR the train does not fit there"),
-                ("shunter siding 1201 a", "ERROR the train does not fit there"),
+                ("shunter main 1201 a", "ERROR the train does not fit there"),
                 ("shunter siding far", "ERROR no number of millimetres"),
                 ("shunter siding 1000 c", "ERROR no end a or b"),
                 ("shunter siding 1000", "OK"),

@@ -362,7 +362,7 @@ def stories():
 
 FITS, BEYOND, NO_NUMBER = "OK", "ERROR the train does not fit there", "ERROR no number of millimetres"
 
-# Places of a train of 200 mm in blocks of 1000 mm, one after another, and the answers. It faces end a at first.
+# Places of a train of 200 mm in blocks of 1000 mm, one after another, and the answers. It faces end a at first. No turnout leads to the siding.
 PLACES = [
     (f"{FIRST} siding 800", FITS),
     (f"{FIRST} siding 801", BEYOND),
@@ -379,7 +379,12 @@ PLACES = [
     (f"{FIRST} siding 801", FITS),
     (f"{FIRST} {WEST} 1000 b", FITS),
     (f"{FIRST} {WEST} 800 a", FITS),
-    (f"{FIRST} {WEST} 801 a", BEYOND),
+    # Over turnout 1, which is closed: a part of it is in main.
+    (f"{FIRST} {WEST} 801 a", FITS),
+    (f"{FIRST} {WEST} 999 a", FITS),
+    (f"{FIRST} {WEST} 1000 a", BEYOND),
+    (f"{FIRST} main 1 b", FITS),
+    (f"{FIRST} main 0 b", BEYOND),
     (f"{FIRST} {WEST} 0 a", FITS),
     # One to seven digits.
     (f"{FIRST} siding 0000800 a", FITS),

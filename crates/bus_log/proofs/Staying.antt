@@ -1,6 +1,9 @@
 -- Nothing is printed of trains that stay where they are.
-use Rattle.std.proofs.Common.{◌≡◌, ◌<◌, ◌≤◌, ◌+◌, ◌-◌, ◌∙◌, ℕ, zero, suc, Bool, true, false, if◌then◌else◌, inl, inr, List, [], ◌∷◌, ◌++◌, length, Option, Some, None, refl, ap, ap₂, subst, arith, eqb-true}
-use Rattle.std.specs.Prelude.{◌==◌, ◌&&◌, ◌||◌, is_some, not, slice_get}
+use Rattle.std.proofs.Common.{◌≡◌, ◌<◌, ◌≤◌, ◌+◌, ◌-◌, ◌∙◌, ℕ, zero, suc, Bool, true, false, if◌then◌else◌, inl, inr, List, [], ◌∷◌, ◌++◌, length, Option, Some, None, refl, ap, ap₂, subst, arith}
+use Rattle.std.specs.Prelude.{◌&&◌, is_some, nat_lt, not, slice_get}
+use Rattle.std.specs.Bool.{beq}
+use Rattle.std.specs.Cmp.Lexicographic.{pointwise}
+use Rattle.std.specs.List.{slice_index_or}
 use Rattle.std.proofs.lemmas.Bool.{and_parts, cases_lt}
 use Rattle.railway.specs.declared.block.Block.{Block}
 use Rattle.railway.specs.declared.conflict.Conflict.{Conflict}
@@ -8,6 +11,7 @@ use Rattle.railway.specs.declared.train.TrainState.{TrainState}
 use Rattle.railway.specs.Blocks.{block_name}
 use Rattle.railway.specs.Conflicts.{first_in}
 use Rattle.railway.specs.Places.{is_derailed}
+use Rattle.railway.specs.Reports.{same_blocks}
 use Rattle.railway.specs.Turnouts.{same_bool}
 use Rattle.roster.specs.Entry.{Entry}
 use Rattle.bus_log.specs.RailwayLines.{AllStay, are_in, block_lines, change_lines, conflict_line, conflict_lines, derailed_at, derailed_lines, derailing_lines, is_in, meeting_lines, moved_lines, pair_lines, stays, train_name}
@@ -25,21 +29,34 @@ and_not false = refl
 
 -- a train in the same blocks
 
+same_mark : (one two : Bool) → beq one two ≡ true → one ≡ two
+same_mark true true h = refl
+same_mark true false h = cc
+same_mark false true h = cc
+same_mark false false h = refl
+
+same_marks : (one two : List Bool) → pointwise beq one two ≡ true → one ≡ two
+same_marks [] [] h = refl
+same_marks [] (y ∷ ys) h = cc
+same_marks (x ∷ xs) [] h = cc
+same_marks (x ∷ xs) (y ∷ ys) h =
+    let parts = and_parts (beq x y) (pointwise beq xs ys) h in
+    ap₂ (λ (b : Bool) (rest : List Bool). b ∷ rest) (same_mark x y parts.0) (same_marks xs ys parts.1)
+
 stays_in : (block : ℕ) (before now : Option TrainState) → stays before now ≡ true → is_in block before ≡ is_in block now
 stays_in block None None h = refl
 stays_in block None (Some now) h = cc
 stays_in block (Some before) None h = cc
 stays_in block (Some before) (Some now) h =
-    let ends = (and_parts (before.front.block == now.front.block && before.rear.block == now.rear.block) (same_bool (is_derailed before) (is_derailed now)) h).0 in
-    let both = and_parts (before.front.block == now.front.block) (before.rear.block == now.rear.block) ends in
-    ap₂ (λ (front rear : ℕ). front == block || rear == block) (eqb-true before.front.block now.front.block both.0) (eqb-true before.rear.block now.rear.block both.1)
+    let blocks = (and_parts (same_blocks before now) (same_bool (is_derailed before) (is_derailed now)) h).0 in
+    ap (λ (under : List Bool). nat_lt block 64 && slice_index_or under block false) (same_marks before.under now.under blocks)
 
 stays_derailed : (before now : Option TrainState) → stays before now ≡ true → is_some (derailed_at before) ≡ is_some (derailed_at now)
 stays_derailed None None h = refl
 stays_derailed None (Some now) h = cc
 stays_derailed (Some before) None h = cc
 stays_derailed (Some before) (Some now) h =
-    same (is_derailed before) (is_derailed now) (and_parts (before.front.block == now.front.block && before.rear.block == now.rear.block) (same_bool (is_derailed before) (is_derailed now)) h).1
+    same (is_derailed before) (is_derailed now) (and_parts (same_blocks before now) (same_bool (is_derailed before) (is_derailed now)) h).1
 
 stays_first : (block i : ℕ) (before now : List TrainState) → AllStay before now → first_in block i before ≡ first_in block i now
 stays_first block i [] [] all = refl

@@ -9,7 +9,7 @@ use Rattle.railway.specs.Blocks.{block_name}
 use Rattle.railway.specs.Conflicts.{first_in}
 use Rattle.railway.specs.Places.{is_derailed}
 use Rattle.railway.specs.Railway.{RailwayState}
-use Rattle.railway.specs.Reports.{occupies}
+use Rattle.railway.specs.Reports.{occupies, same_blocks}
 use Rattle.railway.specs.Turnouts.{same_bool}
 use Rattle.roster.specs.Decoders.{decoder_name}
 use Rattle.roster.specs.Entry.{Entry}
@@ -124,12 +124,11 @@ railway_lines entries before None = []
 railway_lines entries before (Some railway) =
     moved_lines entries railway.network.blocks before railway.trains
 
--- both ends of a train are in the same blocks as before, and it is derailed if it was
+-- a train is in the same blocks as before, and is derailed if it was
 abbrev pub stays : (before now : Option TrainState) → Bool
 stays None None = true
 stays (Some before) (Some now) =
-    (before.front.block == now.front.block && before.rear.block == now.rear.block)
-    && same_bool (is_derailed before) (is_derailed now)
+    same_blocks before now && same_bool (is_derailed before) (is_derailed now)
 stays before now = false
 
 -- each train does, so that no line is printed

@@ -92,9 +92,7 @@ fn stays(before: &[TrainState], after: &[TrainState], i: usize) -> bool
     match (before.get(i), after.get(i)) {
         (None, None) => true,
         (Some(before), Some(after)) => {
-            before.front.block == after.front.block
-                && before.rear.block == after.rear.block
-                && before.is_derailed() == after.is_derailed()
+            before.is_in_blocks_of(after) && before.is_derailed() == after.is_derailed()
         }
         _ => false,
     }

@@ -1,15 +1,16 @@
 -- Trains stay on the rails from their rear to their front, or are derailed.
-use Rattle.std.proofs.Common.{◌≡◌, ℕ, zero, suc, ◌&&◌, ◌||◌, Bool, true, false, inl, inr, Option, Some, None, refl, ap, sym, subst, ◌∙◌}
+use Rattle.std.proofs.Common.{◌≡◌, ℕ, zero, suc, ◌&&◌, ◌||◌, Bool, true, false, inl, inr, List, [], ◌∷◌, Option, Some, None, refl, ap, sym, subst, ◌∙◌}
 use Rattle.std.proofs.lemmas.Bool.{and_from, and_parts, cases_Bool, eq-eqb, eqb-true}
+use Rattle.std.specs.Bool.{beq}
+use Rattle.std.specs.Cmp.Lexicographic.{pointwise}
 use Rattle.std.specs.Option.{option_eq}
-use Rattle.std.specs.Prelude.{if◌then◌else◌, IsTrue, nat_eq}
+use Rattle.std.specs.Prelude.{IsTrue, nat_eq, nat_le}
 use Rattle.railway.specs.declared.exit.Onward.{Onward}
 use Rattle.railway.specs.declared.exit.Onward.TheVariants.{To, BufferStop, Against}
 use Rattle.railway.specs.declared.train.Place.{Place}
 use Rattle.railway.specs.declared.train.TrainState.{TrainState}
 use Rattle.railway.specs.Blocks.{same_end}
-use Rattle.railway.specs.Faults.{is_train_length}
-use Rattle.railway.specs.Network.{Network, checked, is_sound, is_whole, off_rails, onward, run_on, spans, step, stepped, way_on}
+use Rattle.railway.specs.Network.{Network, is_sound, is_whole, marked, off_rails, onward, run_on, spans, step, stepped, under, way_on}
 use Rattle.railway.specs.Places.{is_derailed, is_on_track, same_place, span, turned}
 use Rattle.railway.specs.Railway.{is_train}
 use Rattle.railway.specs.Running.{is_within, run_by}
@@ -44,11 +45,15 @@ spans-way n t h = reaches (way_on n t.rear (span t)) t.front h
 pub way-spans : (n : Network) (t : TrainState) → way_on n t.rear (span t) ≡ Some t.front → spans n t ≡ true
 way-spans n t h = ap (λ (o : Option Place). option_eq same_place o (Some t.front)) h ∙ same_place-self t.front
 
-pub whole-spans : (n : Network) (t : TrainState) → is_whole n t ≡ true → is_derailed t ≡ false → spans n t ≡ true
-whole-spans n t h g = sym (ap (λ (b : Bool). b || spans n t) g) ∙ h
+-- it does, or the train is derailed
+abbrev pub is_spanned : Network → TrainState → Bool
+is_spanned n t = is_derailed t || spans n t
 
-pub spans-whole : (n : Network) (t : TrainState) → spans n t ≡ true → is_whole n t ≡ true
-spans-whole n t h = or-right-true (is_derailed t) (spans n t) h
+pub spanned-spans : (n : Network) (t : TrainState) → is_spanned n t ≡ true → is_derailed t ≡ false → spans n t ≡ true
+spanned-spans n t h g = sym (ap (λ (b : Bool). b || spans n t) g) ∙ h
+
+pub spans-spanned : (n : Network) (t : TrainState) → spans n t ≡ true → is_spanned n t ≡ true
+spans-spanned n t h = or-right-true (is_derailed t) (spans n t) h
 
 -- One femtometre.
 
@@ -71,15 +76,15 @@ by-step P n t stands derails goes = elim (cases_Bool (is_derailed t)) [
   ends BufferStop rear f r rails = stands
   ends Against rear f r rails = derails f
 
-step-whole : (n : Network) (t : TrainState) → is_whole n t ≡ true → is_whole n (step n t) ≡ true
-step-whole n t h =
-    by-step (λ (u : TrainState). is_whole n u ≡ true) n t h (λ _. refl)
-    (λ front rear rails f r. spans-whole n (record t { front = front; rear = rear }) (way-spans n (record t { front = front; rear = rear }) (step-spans n t front rear (whole-spans n t h rails) f r)))
+step-spanned : (n : Network) (t : TrainState) → is_spanned n t ≡ true → is_spanned n (step n t) ≡ true
+step-spanned n t h =
+    by-step (λ (u : TrainState). is_spanned n u ≡ true) n t h (λ _. refl)
+    (λ front rear rails f r. spans-spanned n (record t { front = front; rear = rear }) (way-spans n (record t { front = front; rear = rear }) (step-spans n t front rear (spanned-spans n t h rails) f r)))
 
-run-whole : (n : Network) (t : TrainState) (way : ℕ) → is_whole n t ≡ true → is_whole n (run_on n t way) ≡ true
+run-spanned : (n : Network) (t : TrainState) (way : ℕ) → is_spanned n t ≡ true → is_spanned n (run_on n t way) ≡ true
 unfolding run_on
-run-whole n t zero h = h
-run-whole n t (suc way) h = run-whole n (step n t) way (step-whole n t h)
+run-spanned n t zero h = h
+run-spanned n t (suc way) h = run-spanned n (step n t) way (step-spanned n t h)
 
 step-within : (n : Network) (t : TrainState) → IsTrue (is_sound n) → is_within n.blocks t ≡ true → is_within n.blocks (step n t) ≡ true
 step-within n t is h =
@@ -104,45 +109,83 @@ turned-spans n t is h g =
     let parts = and_parts (is_on_track n.blocks t.front) (is_on_track n.blocks t.rear) h in
     way-spans n (turned t) (way-back n t.rear t.front (span t) is parts.1 (spans-way n t g))
 
-turned-whole : (n : Network) (t : TrainState) → IsTrue (is_sound n) → is_within n.blocks t ≡ true → is_whole n t ≡ true → is_whole n (turned t) ≡ true
-turned-whole n t is h g = elim (cases_Bool (is_derailed t)) [
+turned-spanned : (n : Network) (t : TrainState) → IsTrue (is_sound n) → is_within n.blocks t ≡ true → is_spanned n t ≡ true → is_spanned n (turned t) ≡ true
+turned-spanned n t is h g = elim (cases_Bool (is_derailed t)) [
   | inl derailed ↦ or-left-true (is_derailed t) (spans n (turned t)) derailed
-  | inr rails ↦ spans-whole n (turned t) (turned-spans n t is h (whole-spans n t g rails))
+  | inr rails ↦ spans-spanned n (turned t) (turned-spans n t is h (spanned-spans n t g rails))
 ]
 
 -- A train as its decoder runs.
 
--- what stays of a train while it runs
+-- what stays of a train while it runs, beside the blocks that it knows
 pub record Kept (n : Network) (t : TrainState) : Type 0 where
   pub within : is_within n.blocks t ≡ true
-  pub whole : is_whole n t ≡ true
+  pub spanned : is_spanned n t ≡ true
 
 pub run_by-kept : (n : Network) (forward : Bool) (way : ℕ) (t : TrainState) → IsTrue (is_sound n) → Kept n t → Kept n (run_by n forward way t)
-run_by-kept n true way t is h = record { within = run-within n t way is h.within; whole = run-whole n t way h.whole }
+run_by-kept n true way t is h = record { within = run-within n t way is h.within; spanned = run-spanned n t way h.spanned }
 run_by-kept n false way t is h =
     let back : TrainState = run_on n (turned t) way in
     let within : is_within n.blocks back ≡ true = run-within n (turned t) way is (turned-within n t h.within) in
-    let whole : is_whole n back ≡ true = run-whole n (turned t) way (turned-whole n t is h.within h.whole) in
-    record { within = turned-within n back within; whole = turned-whole n back is within whole }
+    let spanned : is_spanned n back ≡ true = run-spanned n (turned t) way (turned-spanned n t is h.within h.spanned) in
+    record { within = turned-within n back within; spanned = turned-spanned n back is within spanned }
 
-pub checked-whole : (n : Network) (t : TrainState) → is_whole n t ≡ true → checked n t ≡ t
-checked-whole n t h = ap (λ (b : Bool). if b then t else off_rails n t.rear t) h
+-- The blocks that a train knows.
 
-pub checked-off : (n : Network) (t : TrainState) → is_whole n t ≡ false → checked n t ≡ off_rails n t.rear t
-checked-off n t h = ap (λ (b : Bool). if b then t else off_rails n t.rear t) h
+same-bool : (one two : Bool) → beq one two ≡ true → one ≡ two
+same-bool true true h = refl
+same-bool true false h = cc
+same-bool false true h = cc
+same-bool false false h = refl
 
--- a train is checked by whether it is whole
-pub checked-by : (P : TrainState → Type 0) (n : Network) (t : TrainState) → (is_whole n t ≡ true → P t) → P (off_rails n t.rear t) → P (checked n t)
-checked-by P n t whole broken = elim (cases_Bool (is_whole n t)) [
-  | inl h ↦ subst P (sym (checked-whole n t h)) (whole h)
-  | inr h ↦ subst P (sym (checked-off n t h)) broken
+same-bool-self : (b : Bool) → beq b b ≡ true
+same-bool-self true = refl
+same-bool-self false = refl
+
+pub same-marks : (one two : List Bool) → pointwise beq one two ≡ true → one ≡ two
+same-marks [] [] h = refl
+same-marks [] (y ∷ ys) h = cc
+same-marks (x ∷ xs) [] h = cc
+same-marks (x ∷ xs) (y ∷ ys) h =
+    let parts = and_parts (beq x y) (pointwise beq xs ys) h in
+    ap (λ (b : Bool). b ∷ xs) (same-bool x y parts.0) ∙ ap (λ (m : List Bool). y ∷ m) (same-marks xs ys parts.1)
+
+marks-self : (m : List Bool) → pointwise beq m m ≡ true
+marks-self [] = refl
+marks-self (x ∷ xs) = and_from (beq x x) (pointwise beq xs xs) (same-bool-self x) (marks-self xs)
+
+-- a train on the rails that is whole spans its length, and knows the blocks under it
+pub record Whole (n : Network) (t : TrainState) : Type 0 where
+  pub spanned : spans n t ≡ true
+  pub knows : t.under ≡ under n t
+
+pub whole-of : (n : Network) (t : TrainState) → is_whole n t ≡ true → is_derailed t ≡ false → Whole n t
+whole-of n t h rails =
+    let parts = and_parts (spans n t) (pointwise beq (under n t) t.under) (sym (ap (λ (b : Bool). b || (spans n t && pointwise beq (under n t) t.under)) rails) ∙ h) in
+    record { spanned = parts.0; knows = sym (same-marks (under n t) t.under parts.1) }
+
+pub whole-from : (n : Network) (t : TrainState) → Whole n t → is_whole n t ≡ true
+whole-from n t h =
+    or-right-true (is_derailed t) (spans n t && pointwise beq (under n t) t.under)
+    (and_from (spans n t) (pointwise beq (under n t) t.under) h.spanned (ap (λ (m : List Bool). pointwise beq (under n t) m) h.knows ∙ marks-self (under n t)))
+
+pub derailed-whole : (n : Network) (t : TrainState) → is_derailed t ≡ true → is_whole n t ≡ true
+derailed-whole n t h = or-left-true (is_derailed t) (spans n t && pointwise beq (under n t) t.under) h
+
+pub whole-spanned : (n : Network) (t : TrainState) → is_whole n t ≡ true → is_spanned n t ≡ true
+whole-spanned n t h = elim (cases_Bool (is_derailed t)) [
+  | inl derailed ↦ or-left-true (is_derailed t) (spans n t) derailed
+  | inr rails ↦ spans-spanned n t (whole-of n t h rails).spanned
 ]
 
-pub checked-kept : (n : Network) (t : TrainState) → is_within n.blocks t ≡ true → Kept n (checked n t)
-checked-kept n t h =
-    checked-by (Kept n) n t (λ whole. record { within = h; whole = whole }) (record { within = h; whole = refl })
+-- it is whole when it knows them
+pub marked-whole : (n : Network) (t : TrainState) → is_spanned n t ≡ true → is_whole n (marked n t) ≡ true
+marked-whole n t h = elim (cases_Bool (is_derailed t)) [
+  | inl derailed ↦ derailed-whole n (marked n t) derailed
+  | inr rails ↦ whole-from n (marked n t) (record { spanned = spanned-spans n t h rails; knows = refl })
+]
 
-pub train-from : (n : Network) (t : TrainState) → is_train_length n.blocks t.length ≡ true → Kept n t → is_movable t ≡ true → is_train n t ≡ true
-train-from n t length kept movable =
-    and_from (is_train_length n.blocks t.length && is_within n.blocks t && is_whole n t) (is_movable t)
-    (and_from (is_train_length n.blocks t.length && is_within n.blocks t) (is_whole n t) (and_from (is_train_length n.blocks t.length) (is_within n.blocks t) length kept.within) kept.whole) movable
+pub train-from : (n : Network) (t : TrainState) → nat_le 1 t.length ≡ true → is_within n.blocks t ≡ true → is_whole n t ≡ true → is_movable t ≡ true → is_train n t ≡ true
+train-from n t length within whole movable =
+    and_from (nat_le 1 t.length && is_within n.blocks t && is_whole n t) (is_movable t)
+    (and_from (nat_le 1 t.length && is_within n.blocks t) (is_whole n t) (and_from (nat_le 1 t.length) (is_within n.blocks t) length within) whole) movable

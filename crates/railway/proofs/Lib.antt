@@ -9,7 +9,9 @@ pub mod Placing
 pub mod Runs
 pub mod Riding
 pub mod Running
-pub mod Occupying
+pub mod Covering
+pub mod Returning
+pub mod Throwing
 pub mod Derailing
 pub mod Changing
 pub mod Meeting

@@ -1,9 +1,9 @@
 -- A plan without faults is that of a railway.
-use Rattle.std.proofs.Common.{◌≡◌, ℕ, ◌+◌, ◌-◌, ◌*◌, ◌<◌, ◌≤◌, ◌&&◌, Bool, true, false, not, List, [], ◌∷◌, Option, Some, None, length, map, zero, suc, refl, ap, sym, subst, ◌∙◌, arith}
-use Rattle.std.proofs.lemmas.Bool.{and_from, and_parts, le-leb, leb-true, ltb-true}
+use Rattle.std.proofs.Common.{◌≡◌, ℕ, ◌+◌, ◌*◌, ◌<◌, ◌≤◌, ◌&&◌, Bool, true, false, not, List, [], ◌∷◌, Option, Some, None, length, map, zero, suc, refl, ap, sym, subst, ◌∙◌, arith}
+use Rattle.std.proofs.lemmas.Bool.{and_from, and_parts, leb-true, lt-ltb, ltb-true}
 use Rattle.std.specs.List.{list_all, slice_index_or}
 use Rattle.std.specs.Option.{option_map, option_or}
-use Rattle.std.specs.Prelude.{if◌then◌else◌, IsTrue, nat_le, nat_lt, slice_get}
+use Rattle.std.specs.Prelude.{if◌then◌else◌, is_some, IsTrue, nat_le, nat_lt, slice_get}
 use Rattle.decoder_node.specs.declared.node.NodeSpec.{NodeSpec}
 use Rattle.motion.specs.Velocity.{is_momentum}
 use Rattle.railway.specs.declared.block.Block.{Block}
@@ -12,25 +12,26 @@ use Rattle.railway.specs.declared.block.End.{End}
 use Rattle.railway.specs.declared.block.End.TheVariants.{A, B}
 use Rattle.railway.specs.declared.fault.Part.TheVariants.{Joint as JointPart, Turnout as TurnoutPart, Train as TrainPart}
 use Rattle.railway.specs.declared.fault.PlanFault.{PlanFault}
-use Rattle.railway.specs.declared.fault.PlanFault.TheVariants.{BlockLength, NameTwice, Sensor, SensorTwice, UnknownBlock, EndTwice, UnknownDecoder, TrainLength, Momentum, OffTrack}
+use Rattle.railway.specs.declared.fault.PlanFault.TheVariants.{BlockLength, NameTwice, Sensor, SensorTwice, UnknownBlock, EndTwice, UnknownDecoder, DecoderTwice, TrainLength, Momentum, OffTrack, LongTrain}
 use Rattle.railway.specs.declared.joint.Joint.{Joint}
 use Rattle.railway.specs.declared.joint.Turnout.{Turnout}
 use Rattle.railway.specs.declared.plan.Plan.{Plan}
+use Rattle.railway.specs.declared.train.Place.{Place}
+use Rattle.railway.specs.declared.train.Position.{Position}
 use Rattle.railway.specs.declared.train.Train.{Train}
 use Rattle.railway.specs.declared.train.TrainState.{TrainState}
 use Rattle.railway.specs.Blocks.{are_distinct, default_block, is_block, is_block_sensor, is_free, is_length}
 use Rattle.railway.specs.Ends.{are_apart, ends_of, has_end, is_joint, is_turnout, named_twice}
-use Rattle.railway.specs.Faults.{fault_of, fault_of_block, fault_of_blocks, fault_of_joints, fault_of_motors, fault_of_train, fault_of_trains, fault_of_turnouts, fits_there, is_loco, is_renamed, is_train_length, unless}
-use Rattle.railway.specs.Network.{Network, is_sound, turnouts_of, way_on}
-use Rattle.railway.specs.Places.{left_to, moved_to, span}
+use Rattle.railway.specs.Decoders.{is_loco}
+use Rattle.railway.specs.Faults.{block_behind, fault_of_block, fault_of_blocks, fault_of_joints, fault_of_motors, fault_of_track, fault_of_train, fault_of_trains, fault_of_turnouts, has_decoder, is_renamed, unless}
+use Rattle.railway.specs.Network.{Network, is_sound, marked, spans, turnouts_of, way_on}
+use Rattle.railway.specs.Placement.{back_of, front_at, front_of, has_front, is_front, is_in_block, is_room, place_or, span_of, state_of_train, state_to}
+use Rattle.railway.specs.Places.{is_on_track, turned_place}
 use Rattle.railway.specs.Railway.{is_railway, is_train, planned}
-use Rattle.railway.specs.Trains.{fits, front_at, is_placeable, rear_at, state_of_train}
-use Rattle.railway.specs.Turnouts.{state_of_turnout}
-use Rattle.railway.proofs.Keeping.{spans-whole, train-from, way-spans}
-use Rattle.railway.proofs.Leading.{sound as sound-of}
+use Rattle.railway.specs.Turnouts.{network_of, state_of_turnout}
+use Rattle.railway.proofs.Keeping.{marked-whole, spans-spanned, train-from, way-spans}
 use Rattle.railway.proofs.Riding.{movable-from}
-use Rattle.railway.proofs.Turning.{on_track-from}
-use Rattle.railway.proofs.Ways.{way_on-within}
+use Rattle.railway.proofs.Turning.{on_track-from, turned-turned, way-back, way-on_track}
 
 or-none : (one two : Option PlanFault) → option_or one two ≡ None → (one ≡ None) × (two ≡ None)
 or-none None two h = (refl, h)
@@ -80,26 +81,26 @@ turnouts-of-states : (specs : List NodeSpec) (turnouts : List Turnout) → turno
 turnouts-of-states specs [] = refl
 turnouts-of-states specs (turnout ∷ turnouts) = ap (λ (rest : List Turnout). turnout ∷ rest) (turnouts-of-states specs turnouts)
 
--- A train that fits into its block.
+-- A train whose front is in its block.
 
-pub record Fits (block length at : ℕ) (facing : End) : Type 0 where
-  pub front : front_at facing at < block * 1000000000000
-  pub rear : rear_at facing at length < block * 1000000000000
-  pub ahead : length * 1000000000000 - 1 ≤ left_to facing (block * 1000000000000) (rear_at facing at length)
-  pub apart : moved_to facing (rear_at facing at length) (length * 1000000000000 - 1) ≡ front_at facing at
+front-within : (length at : ℕ) (facing : End) → is_front length at facing ≡ true → front_at facing at < length * 1000000000000
+front-within length at A h = let less : at < length = ltb-true at length h in omega (arith, less)
+front-within length at B h =
+    let parts = and_parts (nat_le 1 at) (nat_le at length) h in
+    let one : 1 ≤ at = leb-true 1 at parts.0 in
+    let most : at ≤ length = leb-true at length parts.1 in
+    omega (arith, one, most)
 
-fits-parts : (block length at : ℕ) (facing : End) → 1 ≤ length → fits block length at facing ≡ true → Fits block length at facing
-fits-parts block length at A h g =
-    let room : at + length ≤ block = leb-true (at + length) block g in
-    record { front = omega (arith, h, room); rear = omega (arith, h, room); ahead = omega (arith, h, room); apart = omega (arith, h, room) }
-fits-parts block length at B h g =
-    let parts = and_parts (nat_le length at) (nat_le at block) g in
-    let behind : length ≤ at = leb-true length at parts.0 in
-    let room : at ≤ block = leb-true at block parts.1 in
-    record { front = omega (arith, h, behind, room); rear = omega (arith, h, behind, room); ahead = omega (arith, h, behind, room); apart = omega (arith, h, behind, room) }
+front-most : (length at : ℕ) (facing : End) → is_front length at facing ≡ true → at ≤ length
+front-most length at A h = let less : at < length = ltb-true at length h in omega (arith, less)
+front-most length at B h = leb-true at length (and_parts (nat_le 1 at) (nat_le at length) h).1
+
+pub front-on_track : (blocks : List Block) (position : Position) → position.block < length blocks → has_front blocks position ≡ true → is_on_track blocks (front_of position) ≡ true
+front-on_track blocks position h g =
+    on_track-from blocks (front_of position) h (front-within (slice_index_or blocks position.block default_block).length position.at position.facing g)
 
 -- a block is at most 100 metres long
-pub block-length : (blocks : List Block) (i : ℕ) → list_all is_block blocks ≡ true → (slice_index_or blocks i default_block).length ≤ 100000
+block-length : (blocks : List Block) (i : ℕ) → list_all is_block blocks ≡ true → (slice_index_or blocks i default_block).length ≤ 100000
 block-length [] i h = omega arith
 block-length (block ∷ blocks) zero h =
     let parts = and_parts (is_block block) (list_all is_block blocks) h in
@@ -107,81 +108,86 @@ block-length (block ∷ blocks) zero h =
     leb-true block.length 100000 (and_parts (nat_le 1 block.length) (nat_le block.length 100000) length).1
 block-length (block ∷ blocks) (suc i) h = block-length blocks i (and_parts (is_block block) (list_all is_block blocks) h).1
 
--- so a train that fits into one is at most as long, and no further from end A
-pub fits-small : (block length at : ℕ) (facing : End) → block ≤ 100000 → fits block length at facing ≡ true → (length ≤ 100000) × (at ≤ 100000)
-fits-small block length at A most g = let room : at + length ≤ block = leb-true (at + length) block g in (omega (arith, room, most), omega (arith, room, most))
-fits-small block length at B most g =
-    let parts = and_parts (nat_le length at) (nat_le at block) g in
-    let behind : length ≤ at = leb-true length at parts.0 in
-    let room : at ≤ block = leb-true at block parts.1 in
-    (omega (arith, behind, room, most), omega (arith, room, most))
+-- so a front in it is no further from end A
+pub front-small : (blocks : List Block) (position : Position) → list_all is_block blocks ≡ true → has_front blocks position ≡ true → position.at ≤ 100000
+front-small blocks position h g =
+    let most : position.at ≤ (slice_index_or blocks position.block default_block).length = front-most (slice_index_or blocks position.block default_block).length position.at position.facing g in
+    let length : (slice_index_or blocks position.block default_block).length ≤ 100000 = block-length blocks position.block h in
+    omega (arith, most, length)
 
-pub placed-train : (n : Network) (train : Train) → IsTrue (is_sound n) → train.position.block < length n.blocks → is_train_length n.blocks train.length ≡ true → is_momentum train.momentum ≡ true
-    → fits_there n.blocks train ≡ true → is_train n (state_of_train train) ≡ true
-placed-train n given sound block h rates g =
-    let train : TrainState = state_of_train given in
-    let position = given.position in
-    let size = given.length in
-    let length = (slice_index_or n.blocks position.block default_block).length in
-    let one : 1 ≤ size = leb-true 1 size (and_parts (nat_le 1 size) (list_all (λ block. nat_le size block.length) n.blocks) h).0 in
-    let is = fits-parts length size position.at position.facing one g in
-    let small = (fits-small length size position.at position.facing (block-length n.blocks position.block (sound-of n sound).lengths) g).0 in
-    let way : way_on n train.rear (span train) ≡ Some train.front =
-    way_on-within n train.rear (span train) is.ahead ∙ ap (λ (at : ℕ). Some (record train.front { at = at })) is.apart in
-    train-from n train h (record {
-      within = and_from _ _ (on_track-from n.blocks train.front block is.front) (on_track-from n.blocks train.rear block is.rear);
-      whole = spans-whole n train (way-spans n train way);
-    }) (movable-from train (record { small = small; slow = omega arith; rates = rates }))
+-- A train whose track is as long behind it.
+
+some-back : (found : Option Place) → is_some found ≡ true → (back : Place) × (found ≡ Some back)
+some-back None h = cc
+some-back (Some back) h = (back, refl)
+
+pub placed-train : (n : Network) (train : Train) → IsTrue (is_sound n) → train.position.block < length n.blocks → nat_le 1 train.length ≡ true → is_momentum train.momentum ≡ true
+    → has_front n.blocks train.position ≡ true → is_room n train ≡ true → is_train n (state_of_train n train) ≡ true
+placed-train n train sound block size rates front room =
+    let start : Place = front_of train.position in
+    let found = some-back (back_of n train) room in
+    let back = found.0 in
+    let on_start : is_on_track n.blocks start ≡ true = front-on_track n.blocks train.position block front in
+    let on_back : is_on_track n.blocks back ≡ true = way-on_track n (turned_place start) back (span_of train) sound on_start found.1 in
+    let there : TrainState = state_to train back in
+    let way : way_on n (turned_place back) (span_of train) ≡ Some start =
+    way-back n (turned_place start) back (span_of train) sound on_start found.1 ∙ ap (λ (p : Place). Some p) (turned-turned start) in
+    let spanned : spans n there ≡ true = way-spans n there way in
+    let is : is_train n (marked n there) ≡ true =
+    train-from n (marked n there) size (and_from (is_on_track n.blocks start) (is_on_track n.blocks back) on_start on_back) (marked-whole n there (spans-spanned n there spanned))
+    (movable-from (marked n there) (record { slow = omega arith; rates = rates })) in
+    subst (λ (found : Option Place). is_train n (marked n (state_to train (place_or (turned_place start) found))) ≡ true) (sym found.1) is
 
 -- what is right of a train
-record NoFault (blocks : List Block) (train : Train) : Type 0 where
-  block : train.position.block < length blocks
-  size : is_train_length blocks train.length ≡ true
+record NoFault (n : Network) (train : Train) : Type 0 where
+  block : train.position.block < length n.blocks
+  size : nat_le 1 train.length ≡ true
   rates : is_momentum train.momentum ≡ true
-  fits : fits_there blocks train ≡ true
+  front : has_front n.blocks train.position ≡ true
+  room : is_room n train ≡ true
 
-no-fault : (specs : List NodeSpec) (blocks : List Block) (i : ℕ) (train : Train) → fault_of_train specs blocks i train ≡ None → NoFault blocks train
-no-fault specs blocks i train h =
+no-fault : (specs : List NodeSpec) (n : Network) (i : ℕ) (train : Train) (rest : List Train) → fault_of_train specs n i train rest ≡ None → NoFault n train
+no-fault specs n i train rest h =
     let first = or-none (unless (is_loco (slice_get specs train.decoder)) (UnknownDecoder (TrainPart i))) _ h in
-    let second = or-none (unless (nat_lt train.position.block (length blocks)) (UnknownBlock (TrainPart i))) _ first.1 in
-    let third = or-none (unless (is_train_length blocks train.length) (TrainLength i)) _ second.1 in
-    let fourth = or-none (unless (is_momentum train.momentum) (Momentum i)) (unless (fits_there blocks train) (OffTrack i)) third.1 in
+    let again = or-none (unless (not (has_decoder train.decoder rest)) (DecoderTwice i)) _ first.1 in
+    let second = or-none (unless (nat_lt train.position.block (length n.blocks)) (UnknownBlock (TrainPart i))) _ again.1 in
+    let third = or-none (unless (nat_le 1 train.length) (TrainLength i)) _ second.1 in
+    let fourth = or-none (unless (is_momentum train.momentum) (Momentum i)) _ third.1 in
+    let fifth = or-none (unless (has_front n.blocks train.position) (OffTrack i)) (unless (is_room n train) (LongTrain i train.decoder (block_behind n train).name)) fourth.1 in
     record {
-      block = ltb-true train.position.block (length blocks) (unless-none _ _ second.0);
+      block = ltb-true train.position.block (length n.blocks) (unless-none _ _ second.0);
       size = unless-none _ _ third.0;
       rates = unless-none _ _ fourth.0;
-      fits = unless-none _ _ fourth.1;
+      front = unless-none _ _ fifth.0;
+      room = unless-none _ _ fifth.1;
     }
 
-sound_trains : (specs : List NodeSpec) (n : Network) (i : ℕ) (trains : List Train) → IsTrue (is_sound n) → fault_of_trains specs n.blocks i trains ≡ None → list_all (is_train n) (map state_of_train trains) ≡ true
+pub sound_trains : (specs : List NodeSpec) (n : Network) (i : ℕ) (trains : List Train) → IsTrue (is_sound n) → fault_of_trains specs n i trains ≡ None → list_all (is_train n) (map (state_of_train n) trains) ≡ true
 sound_trains specs n i [] sound h = refl
 sound_trains specs n i (train ∷ trains) sound h =
-    let all = or-none (fault_of_train specs n.blocks i train) (fault_of_trains specs n.blocks (i + 1) trains) h in
-    let is = no-fault specs n.blocks i train all.0 in
-    and_from (is_train n (state_of_train train)) (list_all (is_train n) (map state_of_train trains))
-    (placed-train n train sound is.block is.size is.rates is.fits) (sound_trains specs n (i + 1) trains sound all.1)
+    let all = or-none (fault_of_train specs n i train trains) (fault_of_trains specs n (i + 1) trains) h in
+    let is = no-fault specs n i train trains all.0 in
+    and_from (is_train n (state_of_train n train)) (list_all (is_train n) (map (state_of_train n) trains))
+    (placed-train n train sound is.block is.size is.rates is.front is.room) (sound_trains specs n (i + 1) trains sound all.1)
 
--- so its trains can be placed
-pub placeable_trains : (specs : List NodeSpec) (blocks : List Block) (i : ℕ) (trains : List Train) → list_all is_block blocks ≡ true → fault_of_trains specs blocks i trains ≡ None → list_all is_placeable trains ≡ true
-placeable_trains specs blocks i [] sound h = refl
-placeable_trains specs blocks i (train ∷ trains) sound h =
-    let all = or-none (fault_of_train specs blocks i train) (fault_of_trains specs blocks (i + 1) trains) h in
-    let is = no-fault specs blocks i train all.0 in
-    let position = train.position in
-    let small = fits-small (slice_index_or blocks position.block default_block).length train.length position.at position.facing (block-length blocks position.block sound) is.fits in
-    and_from (is_placeable train) (list_all is_placeable trains)
-    (and_from (nat_le train.length 100000) (nat_le position.at 100000) (le-leb train.length 100000 small.0) (le-leb position.at 100000 small.1)) (placeable_trains specs blocks (i + 1) trains sound all.1)
+-- so its trains have their fronts in blocks
+pub trains_in_blocks : (specs : List NodeSpec) (n : Network) (i : ℕ) (trains : List Train) → fault_of_trains specs n i trains ≡ None → list_all (is_in_block n.blocks) trains ≡ true
+trains_in_blocks specs n i [] h = refl
+trains_in_blocks specs n i (train ∷ trains) h =
+    let all = or-none (fault_of_train specs n i train trains) (fault_of_trains specs n (i + 1) trains) h in
+    let is = no-fault specs n i train trains all.0 in
+    and_from (is_in_block n.blocks train) (list_all (is_in_block n.blocks) trains)
+    (and_from (nat_lt train.position.block (length n.blocks)) (has_front n.blocks train.position) (lt-ltb train.position.block (length n.blocks) is.block) is.front) (trains_in_blocks specs n (i + 1) trains all.1)
 
--- The railway.
+-- The track.
 
-pub planned-railway : (specs : List NodeSpec) (plan : Plan) → fault_of specs plan ≡ None → (IsTrue (is_sound (planned specs plan).network)) × (IsTrue (is_railway (planned specs plan)))
-planned-railway specs plan h =
+pub planned-sound : (specs : List NodeSpec) (plan : Plan) → fault_of_track specs plan ≡ None → IsTrue (is_sound (network_of specs plan))
+planned-sound specs plan h =
     let n = length plan.blocks.items in
     let one = or-none (fault_of_blocks 0 plan.blocks.items) _ h in
     let two = or-none (fault_of_joints n 0 plan.joints.items) _ one.1 in
     let three = or-none (fault_of_turnouts n 0 plan.turnouts.items) _ two.1 in
-    let four = or-none (option_map EndTwice (named_twice (ends_of plan.joints.items plan.turnouts.items))) _ three.1 in
-    let five = or-none (fault_of_motors specs 0 plan.turnouts.items) (fault_of_trains specs plan.blocks.items 0 plan.trains.items) four.1 in
+    let four = or-none (option_map EndTwice (named_twice (ends_of plan.joints.items plan.turnouts.items))) (fault_of_motors specs 0 plan.turnouts.items) three.1 in
     let blocks = sound_blocks 0 plan.blocks.items one.0 in
     let joints = sound_joints n 0 plan.joints.items two.0 in
     let turnouts = sound_turnouts n 0 plan.turnouts.items three.0 in
@@ -192,17 +198,17 @@ planned-railway specs plan h =
     let e : Bool = list_all (is_turnout n) plan.turnouts.items in
     let f : Bool = are_apart (ends_of plan.joints.items plan.turnouts.items) in
     let all : (a && b && d && e && f) ≡ true = and_from (a && b && d && e) f (and_from (a && b && d) e (and_from (a && b) d (and_from a b blocks.0 blocks.1) joints) turnouts) ends in
-    let network : Network = (planned specs plan).network in
-    let sound : is_sound network ≡ true =
-    subst (λ (ts : List Turnout). (a && b && d && list_all (is_turnout n) ts && are_apart (ends_of plan.joints.items ts)) ≡ true) (sym (turnouts-of-states specs plan.turnouts.items)) all in
-    (sound, and_from (is_sound network) (list_all (is_train network) (map state_of_train plan.trains.items)) sound (sound_trains specs network 0 plan.trains.items sound five.1))
+    subst (λ (ts : List Turnout). (a && b && d && list_all (is_turnout n) ts && are_apart (ends_of plan.joints.items ts)) ≡ true) (sym (turnouts-of-states specs plan.turnouts.items)) all
 
-pub plan-placeable : (specs : List NodeSpec) (plan : Plan) → fault_of specs plan ≡ None → list_all is_placeable plan.trains.items ≡ true
-plan-placeable specs plan h =
-    let n = length plan.blocks.items in
-    let one = or-none (fault_of_blocks 0 plan.blocks.items) _ h in
-    let two = or-none (fault_of_joints n 0 plan.joints.items) _ one.1 in
-    let three = or-none (fault_of_turnouts n 0 plan.turnouts.items) _ two.1 in
-    let four = or-none (option_map EndTwice (named_twice (ends_of plan.joints.items plan.turnouts.items))) _ three.1 in
-    let five = or-none (fault_of_motors specs 0 plan.turnouts.items) (fault_of_trains specs plan.blocks.items 0 plan.trains.items) four.1 in
-    placeable_trains specs plan.blocks.items 0 plan.trains.items (sound_blocks 0 plan.blocks.items one.0).0 five.1
+-- and the railway
+pub planned-railway : (specs : List NodeSpec) (plan : Plan) → fault_of_track specs plan ≡ None → fault_of_trains specs (network_of specs plan) 0 plan.trains.items ≡ None → IsTrue (is_railway (planned specs plan))
+planned-railway specs plan h g =
+    let n : Network = network_of specs plan in
+    let sound = planned-sound specs plan h in
+    and_from (is_sound n) (list_all (is_train n) (map (state_of_train n) plan.trains.items)) sound (sound_trains specs n 0 plan.trains.items sound g)
+
+pub both-none : (one two : Option PlanFault) → one ≡ None → two ≡ None → option_or one two ≡ None
+both-none one two h g = ap (λ (o : Option PlanFault). option_or o two) h ∙ g
+
+pub first-some : (one two : Option PlanFault) (fault : PlanFault) → one ≡ Some fault → option_or one two ≡ Some fault
+first-some one two fault h = ap (λ (o : Option PlanFault). option_or o two) h

@@ -1,5 +1,5 @@
 -- Trains run one microsecond after another, and by parts of a time in one direction.
-use Rattle.std.proofs.Common.{◌≡◌, ◌⊎◌, ℕ, zero, suc, ◌+◌, ◌-◌, ◌≤◌, ◌&&◌, Bool, true, false, inl, inr, Option, Some, None, refl, ap, sym, subst, ◌∙◌, arith}
+use Rattle.std.proofs.Common.{◌≡◌, ◌⊎◌, ℕ, zero, suc, ◌+◌, ◌-◌, ◌≤◌, Bool, true, false, inl, inr, List, Option, Some, None, refl, ap, sym, subst, ◌∙◌, arith}
 use Rattle.std.proofs.lemmas.Bool.{and_from, and_parts, cases_Bool, le-leb, leb-true}
 use Rattle.std.proofs.lemmas.Bool.Decides.{nat_tests}
 use Rattle.std.specs.Prelude.{if◌then◌else◌, IsTrue, nat_le}
@@ -11,11 +11,11 @@ use Rattle.motion.specs.declared.velocity.Velocity.{Velocity}
 use Rattle.railway.specs.declared.exit.Onward.{Onward}
 use Rattle.railway.specs.declared.exit.Onward.TheVariants.{To, BufferStop, Against}
 use Rattle.railway.specs.declared.train.TrainState.{TrainState}
-use Rattle.railway.specs.Network.{Network, checked, is_sound, onward, run_on, step, stepped, switch_at}
+use Rattle.railway.specs.Network.{Network, is_sound, onward, run_on, step, stepped, switch_at}
 use Rattle.railway.specs.Places.{end_ahead, is_derailed, still, turned}
 use Rattle.railway.specs.Running.{moved_at, ridden, rode, run_by}
 use Rattle.railway.specs.Trains.{is_movable}
-use Rattle.railway.proofs.Keeping.{Kept, by-step, checked-by, run_by-kept}
+use Rattle.railway.proofs.Keeping.{Kept, by-step, run_by-kept}
 use Rattle.railway.proofs.Runs.{by-derailed, turned-back}
 use Rattle.railway.proofs.Ways.{run_on-add, step-derailed, step-onward}
 
@@ -70,7 +70,7 @@ pub record Same (t u : TrainState) : Type 0 where
   pub length : u.length ≡ t.length
   pub momentum : u.momentum ≡ t.momentum
 
-same-self : (t : TrainState) → Same t t
+pub same-self : (t : TrainState) → Same t t
 same-self t = record { decoder = refl; top = refl; length = refl; momentum = refl }
 
 same-same : (t u w : TrainState) → Same t u → Same u w → Same t w
@@ -103,9 +103,6 @@ ridden-same n d k t =
     ridden-keeps (λ (u : TrainState). Same t u) n d k t
     (λ u h. same-same t u (rode n d u) h (moved-same n (next_velocity d u.velocity) (next_velocity d u.velocity).speed u)) (same-self t)
 
-pub checked-same : (n : Network) (t : TrainState) → Same t (checked n t)
-checked-same n t = checked-by (λ (u : TrainState). Same t u) n t (λ _. same-self t) (record { decoder = refl; top = refl; length = refl; momentum = refl })
-
 -- A speed that a train can have.
 
 step-slow : (n : Network) (t : TrainState) (most : ℕ) → t.velocity.speed ≤ most → (step n t).velocity.speed ≤ most
@@ -121,25 +118,21 @@ by-slow n true way most t h = run-slow n t way most h
 by-slow n false way most t h = run-slow n (turned t) way most h
 
 pub record Movable (t : TrainState) : Type 0 where
-  pub small : t.length ≤ 100000
   pub slow : t.velocity.speed ≤ 2199023255552
   pub rates : is_momentum t.momentum ≡ true
 
 pub movable-of : (t : TrainState) → is_movable t ≡ true → Movable t
 movable-of t h =
-    let all = and_parts (nat_le t.length 100000 && nat_le t.velocity.speed 2199023255552) (is_momentum t.momentum) h in
-    let first = and_parts (nat_le t.length 100000) (nat_le t.velocity.speed 2199023255552) all.0 in
-    record { small = leb-true t.length 100000 first.0; slow = leb-true t.velocity.speed 2199023255552 first.1; rates = all.1 }
+    let all = and_parts (nat_le t.velocity.speed 2199023255552) (is_momentum t.momentum) h in
+    record { slow = leb-true t.velocity.speed 2199023255552 all.0; rates = all.1 }
 
 pub movable-from : (t : TrainState) → Movable t → is_movable t ≡ true
 movable-from t h =
-    and_from (nat_le t.length 100000 && nat_le t.velocity.speed 2199023255552) (is_momentum t.momentum)
-    (and_from (nat_le t.length 100000) (nat_le t.velocity.speed 2199023255552) (le-leb t.length 100000 h.small) (le-leb t.velocity.speed 2199023255552 h.slow)) h.rates
+    and_from (nat_le t.velocity.speed 2199023255552) (is_momentum t.momentum) (le-leb t.velocity.speed 2199023255552 h.slow) h.rates
 
 -- a train with the fields of another, and slow
 same-movable : (t u : TrainState) → Same t u → Movable t → u.velocity.speed ≤ 2199023255552 → Movable u
 same-movable t u same h slow = record {
-  small = subst (λ (l : ℕ). l ≤ 100000) (sym same.length) h.small;
   slow = slow;
   rates = ap (λ (m : Option Momentum). is_momentum m) same.momentum ∙ h.rates;
 }
@@ -150,21 +143,18 @@ run-movable n t way h =
     movable-from (run_on n t way) (same-movable t (run_on n t way) (run-same n t way) is (run-slow n t way 2199023255552 is.slow))
 
 pub set-movable : (v : Velocity) (t : TrainState) → v.speed ≤ 2199023255552 → is_movable t ≡ true → is_movable (with_velocity v t) ≡ true
-set-movable v t slow h = let is = movable-of t h in movable-from (with_velocity v t) (record { small = is.small; slow = slow; rates = is.rates })
+set-movable v t slow h = let is = movable-of t h in movable-from (with_velocity v t) (record { slow = slow; rates = is.rates })
 
 pub moved-movable : (n : Network) (v : Velocity) (way : ℕ) (t : TrainState) → v.speed ≤ 2199023255552 → is_movable t ≡ true → is_movable (moved_at n v way t) ≡ true
 moved-movable n v way t slow h =
     let is = movable-of t h in
     moved-by (λ (u : TrainState). is_movable u ≡ true) n v way t h
     (λ _. let u : TrainState = record t { velocity = v } in
-    let there : Movable u = record { small = is.small; slow = slow; rates = is.rates } in
+    let there : Movable u = record { slow = slow; rates = is.rates } in
     movable-from (run_by n v.forward way u) (same-movable u (run_by n v.forward way u) (by-same n v.forward way u) there (by-slow n v.forward way 2199023255552 u slow)))
 
 pub still-movable : (t : TrainState) → is_movable t ≡ true → is_movable (still t) ≡ true
-still-movable t h = let is = movable-of t h in movable-from (still t) (record { small = is.small; slow = omega arith; rates = is.rates })
-
-pub checked-movable : (n : Network) (t : TrainState) → is_movable t ≡ true → is_movable (checked n t) ≡ true
-checked-movable n t h = checked-by (λ (u : TrainState). is_movable u ≡ true) n t (λ _. h) (still-movable t h)
+still-movable t h = let is = movable-of t h in movable-from (still t) (record { slow = omega arith; rates = is.rates })
 
 toward-slow : (a b s t : ℕ) → s ≤ 2199023255552 → t ≤ 2199023255552 → toward a b s t ≤ 2199023255552
 toward-slow a b s t h g = grind (arith, nat_tests)
@@ -188,7 +178,7 @@ pub record Runs (n : Network) (t : TrainState) : Type 0 where
 
 moved-runs : (n : Network) (v : Velocity) (way : ℕ) (t : TrainState) → IsTrue (is_sound n) → v.speed ≤ 2199023255552 → Runs n t → Runs n (moved_at n v way t)
 moved-runs n v way t is slow h =
-    let there : Kept n (record t { velocity = v }) = record { within = h.kept.within; whole = h.kept.whole } in
+    let there : Kept n (record t { velocity = v }) = record { within = h.kept.within; spanned = h.kept.spanned } in
     record {
       kept = moved-by (Kept n) n v way t h.kept (λ _. run_by-kept n v.forward way (record t { velocity = v }) is there);
       movable = moved-movable n v way t slow h.movable;
@@ -198,6 +188,47 @@ pub ridden-runs : (n : Network) (d : Drive) (k : ℕ) (t : TrainState) → IsTru
 ridden-runs n d k t is slow h =
     ridden-keeps (Runs n) n d k t
     (λ u g. moved-runs n (next_velocity d u.velocity) (next_velocity d u.velocity).speed u is (next-slow d u.velocity slow (movable-of u g.movable).slow) g) h
+
+-- What a train knows of its blocks does not change how it runs.
+
+abbrev pub with_under : List Bool → TrainState → TrainState
+with_under m t = record t { under = m }
+
+stepped-under : (n : Network) (t : TrainState) (m : List Bool) (front rear : Onward) → stepped n (with_under m t) front rear ≡ with_under m (stepped n t front rear)
+stepped-under n t m (To front) (To rear) = refl
+stepped-under n t m (To front) BufferStop = refl
+stepped-under n t m (To front) Against = refl
+stepped-under n t m BufferStop rear = refl
+stepped-under n t m Against rear = refl
+
+either-under : (b : Bool) (t u : TrainState) (m : List Bool) → (if b then with_under m t else with_under m u) ≡ with_under m (if b then t else u)
+either-under true t u m = refl
+either-under false t u m = refl
+
+step-under : (n : Network) (t : TrainState) (m : List Bool) → step n (with_under m t) ≡ with_under m (step n t)
+step-under n t m =
+    ap (λ (u : TrainState). if is_derailed t then with_under m t else u) (stepped-under n t m (onward n t.front) (onward n t.rear))
+    ∙ either-under (is_derailed t) t (stepped n t (onward n t.front) (onward n t.rear)) m
+
+run-under : (n : Network) (t : TrainState) (m : List Bool) (way : ℕ) → run_on n (with_under m t) way ≡ with_under m (run_on n t way)
+unfolding run_on
+run-under n t m zero = refl
+run-under n t m (suc way) = ap (λ (u : TrainState). run_on n u way) (step-under n t m) ∙ run-under n (step n t) m way
+
+pub by-under : (n : Network) (f : Bool) (way : ℕ) (t : TrainState) (m : List Bool) → run_by n f way (with_under m t) ≡ with_under m (run_by n f way t)
+by-under n true way t m = run-under n t m way
+by-under n false way t m = ap (λ (u : TrainState). turned u) (run-under n (turned t) m way)
+
+moved-under : (n : Network) (v : Velocity) (way : ℕ) (t : TrainState) (m : List Bool) → moved_at n v way (with_under m t) ≡ with_under m (moved_at n v way t)
+moved-under n v way t m =
+    ap (λ (u : TrainState). if is_derailed t then with_under m t else u) (by-under n v.forward way (with_velocity v t) m)
+    ∙ either-under (is_derailed t) t (run_by n v.forward way (with_velocity v t)) m
+
+pub ridden-under : (n : Network) (d : Drive) (k : ℕ) (t : TrainState) (m : List Bool) → ridden n d k (with_under m t) ≡ with_under m (ridden n d k t)
+unfolding ridden
+ridden-under n d zero t m = refl
+ridden-under n d (suc k) t m =
+    ap (λ (u : TrainState). ridden n d k u) (moved-under n (next_velocity d t.velocity) (next_velocity d t.velocity).speed t m) ∙ ridden-under n d k (rode n d t) m
 
 -- Two trains that differ in their speed alone, or are the same derailed train.
 

@@ -1,8 +1,8 @@
 -- Trains of a railway, as their decoders run.
-use Rattle.std.proofs.Common.{◌≡◌, ◌≢◌, ℕ, ◌<◌, ◌≤◌, Bool, true, false, List, [], ◌∷◌, Option, Some, None, map, refl, ap, sym, subst, ◌∙◌, arith}
-use Rattle.std.proofs.lemmas.Bool.{and_from, and_parts, leb-true}
+use Rattle.std.proofs.Common.{◌≡◌, ◌≢◌, ℕ, ◌<◌, ◌≤◌, Bool, true, false, inl, inr, List, [], ◌∷◌, Option, Some, None, map, refl, ap, sym, subst, ◌∙◌, arith}
+use Rattle.std.proofs.lemmas.Bool.{and_from, and_parts, cases_Bool, leb-true}
 use Rattle.std.specs.List.{list_all}
-use Rattle.std.specs.Prelude.{IsTrue, nat_le}
+use Rattle.std.specs.Prelude.{if◌then◌else◌, IsTrue, nat_le}
 use Rattle.dcc_packet.specs.declared.steps.Motion.{Motion}
 use Rattle.dcc_packet.specs.declared.steps.Motion.TheVariants.{Stop, Emergency, Step}
 use Rattle.decoder_node.specs.declared.running.Running.{Running}
@@ -12,20 +12,17 @@ use Rattle.motion.specs.declared.velocity.Momentum.{Momentum}
 use Rattle.motion.specs.declared.velocity.Velocity.{Velocity}
 use Rattle.refresh_ring.specs.declared.pick.Power.{Power}
 use Rattle.refresh_ring.specs.declared.pick.Power.TheVariants.{Off, Running as PowerOn, Paused}
-use Rattle.railway.specs.declared.block.Block.{Block}
 use Rattle.railway.specs.declared.exit.Onward.TheVariants.{BufferStop, Against}
 use Rattle.railway.specs.declared.train.Place.{Place}
 use Rattle.railway.specs.declared.train.TrainState.{TrainState}
-use Rattle.railway.specs.Faults.{is_train_length}
 use Rattle.railway.specs.Laws.{asked_of, runs_only, velocity_of, way_of}
-use Rattle.railway.specs.Network.{Network, checked, is_sound, off_rails, onward, spans, switch_at, way_on}
+use Rattle.railway.specs.Network.{Network, is_sound, marked, onward, switch_at, way_on}
 use Rattle.railway.specs.Places.{end_ahead, is_derailed, leading_end, still}
 use Rattle.railway.specs.Railway.{is_train, run_in, run_under}
 use Rattle.railway.specs.Running.{can_run, is_within, ridden, run_by, run_for}
 use Rattle.railway.specs.Trains.{drive_of, is_forward, is_movable, momentum_at, momentum_of, running_in, speed_at, speed_of}
-use Rattle.railway.proofs.Facts.{or-left-true, or-none}
-use Rattle.railway.proofs.Keeping.{checked-kept, checked-off, checked-whole, train-from}
-use Rattle.railway.proofs.Riding.{Runs, Same, checked-movable, checked-same, ridden-derailed, ridden-rails, ridden-runs, ridden-same, ridden-velocity, still-movable, with_velocity}
+use Rattle.railway.proofs.Keeping.{Kept, marked-whole, train-from, whole-spanned}
+use Rattle.railway.proofs.Riding.{Runs, Same, ridden-rails, ridden-runs, ridden-same, ridden-velocity, same-self, still-movable, with_velocity}
 use Rattle.railway.proofs.Runs.{Placed, by-derails, by-reaches, by-stops, parts-of}
 
 -- What a decoder asks for is a speed that a train can have.
@@ -93,52 +90,66 @@ keeps-momentum nodes t running runs other some =
       by (Step steps n) None h g = absurd (g refl)
       by (Step steps n) (Some m) h g = (m, refl)
 
--- A train that was one of the railway is one as it ran, however the turnouts were laid.
+-- A train of a railway is one as it ran.
 
-pub in-runs : (m : Network) (micros : ℕ) (nodes : List Node) (t : TrainState) → IsTrue (is_sound m) → is_within m.blocks t ≡ true → is_movable t ≡ true → Runs m (run_in m micros nodes t)
-in-runs m micros nodes t is within movable =
-    let start : TrainState = checked m t in
-    let running = running_in nodes t.decoder in
-    ridden-runs m (drive_of start running) micros start is (asked-slow start.top running) (record { kept = checked-kept m t within; movable = checked-movable m t movable })
+for-derailed : (n : Network) (micros : ℕ) (running : Option Running) (t : TrainState) → is_derailed t ≡ true → run_for n micros running t ≡ t
+for-derailed n micros running t h = ap (λ (b : Bool). if b then t else marked n (ridden n (drive_of t running) micros t)) h
 
-pub in-same : (m : Network) (micros : ℕ) (nodes : List Node) (t : TrainState) → Same t (run_in m micros nodes t)
-in-same m micros nodes t =
-    let start : TrainState = checked m t in
-    let one = checked-same m t in
-    let two = ridden-same m (drive_of start (running_in nodes t.decoder)) micros start in
-    record { decoder = two.decoder ∙ one.decoder; top = two.top ∙ one.top; length = two.length ∙ one.length; momentum = two.momentum ∙ one.momentum }
+for-rails : (n : Network) (micros : ℕ) (running : Option Running) (t : TrainState) → is_derailed t ≡ false → run_for n micros running t ≡ marked n (ridden n (drive_of t running) micros t)
+for-rails n micros running t h = ap (λ (b : Bool). if b then t else marked n (ridden n (drive_of t running) micros t)) h
+
+-- a derailed train stands
+pub in-derailed : (n : Network) (micros : ℕ) (nodes : List Node) (t : TrainState) → is_derailed t ≡ true → run_in n micros nodes t ≡ t
+in-derailed n micros nodes t h = for-derailed n micros (running_in nodes t.decoder) t h
+
+pub in-itself : (n : Network) (micros : ℕ) (nodes : List Node) (t : TrainState) → is_derailed t ≡ false → run_in n micros nodes t ≡ marked n (ridden n (asked_of nodes t) micros t)
+in-itself n micros nodes t h = for-rails n micros (running_in nodes t.decoder) t h
+
+pub in-same : (n : Network) (micros : ℕ) (nodes : List Node) (t : TrainState) → Same t (run_in n micros nodes t)
+in-same n micros nodes t = elim (cases_Bool (is_derailed t)) [
+  | inl derailed ↦ subst (λ (u : TrainState). Same t u) (sym (in-derailed n micros nodes t derailed)) (same-self t)
+  | inr rails ↦
+      let there = ridden-same n (asked_of nodes t) micros t in
+      let same : Same t (marked n (ridden n (asked_of nodes t) micros t)) = record { decoder = there.decoder; top = there.top; length = there.length; momentum = there.momentum } in
+      subst (λ (u : TrainState). Same t u) (sym (in-itself n micros nodes t rails)) same
+]
+
+in-train : (n : Network) (micros : ℕ) (nodes : List Node) (t : TrainState) → IsTrue (is_sound n) → is_train n t ≡ true → is_train n (run_in n micros nodes t) ≡ true
+in-train n micros nodes t is h = elim (cases_Bool (is_derailed t)) [
+  | inl derailed ↦ subst (λ (u : TrainState). is_train n u ≡ true) (sym (in-derailed n micros nodes t derailed)) h
+  | inr rails ↦
+      let parts = parts-of n t h in
+      let there : TrainState = ridden n (asked_of nodes t) micros t in
+      let within : is_within n.blocks t ≡ true = and_from _ _ parts.front parts.rear in
+      let kept : Kept n t = record { within = within; spanned = whole-spanned n t parts.whole } in
+      let start : Runs n t = record { kept = kept; movable = parts.movable } in
+      let runs = ridden-runs n (asked_of nodes t) micros t is (asked-slow t.top (running_in nodes t.decoder)) start in
+      let size : nat_le 1 there.length ≡ true = ap (λ (l : ℕ). nat_le 1 l) (ridden-same n (asked_of nodes t) micros t).length ∙ parts.size in
+      subst (λ (u : TrainState). is_train n u ≡ true) (sym (in-itself n micros nodes t rails))
+      (train-from n (marked n there) size runs.kept.within (marked-whole n there runs.kept.spanned) runs.movable)
+]
 
 -- without power it stands
-stands-runs : (m : Network) (t : TrainState) → is_within m.blocks t ≡ true → is_movable t ≡ true → Runs m (still (checked m t))
-stands-runs m t within movable =
-    let kept = checked-kept m t within in
-    record { kept = record { within = kept.within; whole = kept.whole }; movable = still-movable (checked m t) (checked-movable m t movable) }
-
-under-runs : (p : Power) (m : Network) (micros : ℕ) (nodes : List Node) (t : TrainState) → IsTrue (is_sound m) → is_within m.blocks t ≡ true → is_movable t ≡ true → Runs m (run_under p m micros nodes t)
-under-runs Off m micros nodes t is within movable = stands-runs m t within movable
-under-runs PowerOn m micros nodes t is within movable = in-runs m micros nodes t is within movable
-under-runs Paused m micros nodes t is within movable = in-runs m micros nodes t is within movable
-
-under-length : (p : Power) (m : Network) (micros : ℕ) (nodes : List Node) (t : TrainState) → (run_under p m micros nodes t).length ≡ t.length
-under-length Off m micros nodes t = (checked-same m t).length
-under-length PowerOn m micros nodes t = (in-same m micros nodes t).length
-under-length Paused m micros nodes t = (in-same m micros nodes t).length
-
-pub under-train : (p : Power) (n m : Network) (micros : ℕ) (nodes : List Node) (t : TrainState) → IsTrue (is_sound m) → n.blocks ≡ m.blocks → is_train n t ≡ true → is_train m (run_under p m micros nodes t) ≡ true
-under-train p n m micros nodes t is same h =
+still-train : (n : Network) (t : TrainState) → is_train n t ≡ true → is_train n (still t) ≡ true
+still-train n t h =
     let parts = parts-of n t h in
-    let within : is_within m.blocks t ≡ true =
-    subst (λ (blocks : List Block). is_within blocks t ≡ true) same (and_from _ _ parts.front parts.rear) in
-    let fits : is_train_length m.blocks t.length ≡ true = subst (λ (blocks : List Block). is_train_length blocks t.length ≡ true) same parts.size in
-    let runs = under-runs p m micros nodes t is within parts.movable in
-    train-from m (run_under p m micros nodes t) (subst (λ (l : ℕ). is_train_length m.blocks l ≡ true) (sym (under-length p m micros nodes t)) fits) runs.kept runs.movable
+    train-from n (still t) parts.size (and_from _ _ parts.front parts.rear) parts.whole (still-movable t parts.movable)
 
-pub run_all-trains : (p : Power) (n m : Network) (micros : ℕ) (nodes : List Node) (ts : List TrainState) → IsTrue (is_sound m) → n.blocks ≡ m.blocks → list_all (is_train n) ts ≡ true
-    → list_all (is_train m) (map (run_under p m micros nodes) ts) ≡ true
-run_all-trains p n m micros nodes [] is same h = refl
-run_all-trains p n m micros nodes (t ∷ ts) is same h =
+pub under-train : (p : Power) (n : Network) (micros : ℕ) (nodes : List Node) (t : TrainState) → IsTrue (is_sound n) → is_train n t ≡ true → is_train n (run_under p n micros nodes t) ≡ true
+under-train Off n micros nodes t is h = still-train n t h
+under-train PowerOn n micros nodes t is h = in-train n micros nodes t is h
+under-train Paused n micros nodes t is h = in-train n micros nodes t is h
+
+pub under-length : (p : Power) (n : Network) (micros : ℕ) (nodes : List Node) (t : TrainState) → (run_under p n micros nodes t).length ≡ t.length
+under-length Off n micros nodes t = refl
+under-length PowerOn n micros nodes t = (in-same n micros nodes t).length
+under-length Paused n micros nodes t = (in-same n micros nodes t).length
+
+pub run_all-trains : (p : Power) (n : Network) (micros : ℕ) (nodes : List Node) (ts : List TrainState) → IsTrue (is_sound n) → list_all (is_train n) ts ≡ true → list_all (is_train n) (map (run_under p n micros nodes) ts) ≡ true
+run_all-trains p n micros nodes [] is h = refl
+run_all-trains p n micros nodes (t ∷ ts) is h =
     let parts = and_parts (is_train n t) (list_all (is_train n) ts) h in
-    and_from (is_train m (run_under p m micros nodes t)) (list_all (is_train m) (map (run_under p m micros nodes) ts)) (under-train p n m micros nodes t is same parts.0) (run_all-trains p n m micros nodes ts is same parts.1)
+    and_from (is_train n (run_under p n micros nodes t)) (list_all (is_train n) (map (run_under p n micros nodes) ts)) (under-train p n micros nodes t is parts.0) (run_all-trains p n micros nodes ts is parts.1)
 
 pub all-run : (n : Network) (ts : List TrainState) → list_all (is_train n) ts ≡ true → list_all (can_run n.blocks) ts ≡ true
 all-run n [] h = refl
@@ -147,40 +158,23 @@ all-run n (t ∷ ts) h =
     let parts = parts-of n t all.0 in
     and_from (can_run n.blocks t) (list_all (can_run n.blocks) ts) (and_from (is_within n.blocks t) (is_movable t) (and_from _ _ parts.front parts.rear) parts.movable) (all-run n ts all.1)
 
--- A derailed train stands.
-
-pub in-derailed : (n : Network) (micros : ℕ) (nodes : List Node) (t : TrainState) → is_derailed t ≡ true → run_in n micros nodes t ≡ t
-in-derailed n micros nodes t h =
-    ap (λ (u : TrainState). run_for n micros (running_in nodes t.decoder) u) (checked-whole n t (or-left-true (is_derailed t) (spans n t) h))
-    ∙ ridden-derailed n (drive_of t (running_in nodes t.decoder)) micros t h
-
--- a train with a turnout thrown under it
-pub in-thrown : (n : Network) (micros : ℕ) (nodes : List Node) (t : TrainState) → is_derailed t ≡ false → spans n t ≡ false → run_in n micros nodes t ≡ off_rails n t.rear t
-in-thrown n micros nodes t rails h =
-    let off : TrainState = off_rails n t.rear t in
-    ap (λ (u : TrainState). run_for n micros (running_in nodes t.decoder) u) (checked-off n t (or-none (is_derailed t) (spans n t) rails h))
-    ∙ ridden-derailed n (drive_of off (running_in nodes t.decoder)) micros off refl
-
--- A train of a railway needs no check.
-
-pub in-itself : (n : Network) (micros : ℕ) (nodes : List Node) (t : TrainState) → is_train n t ≡ true → run_in n micros nodes t ≡ ridden n (asked_of nodes t) micros t
-in-itself n micros nodes t h = ap (λ (u : TrainState). run_for n micros (running_in nodes t.decoder) u) (checked-whole n t (parts-of n t h).whole)
+-- A train on the rails.
 
 -- a time in which its motor has one direction
-pub in-one-way : (n : Network) (forward : Bool) (micros : ℕ) (nodes : List Node) (t : TrainState) → is_train n t ≡ true → is_derailed t ≡ false → runs_only forward nodes micros t ≡ true
-    → run_in n micros nodes t ≡ run_by n forward (way_of nodes micros t) (with_velocity (velocity_of nodes micros t) t)
-in-one-way n forward micros nodes t h rails only = in-itself n micros nodes t h ∙ ridden-rails n (asked_of nodes t) forward micros t rails only
+pub in-one-way : (n : Network) (forward : Bool) (micros : ℕ) (nodes : List Node) (t : TrainState) → is_derailed t ≡ false → runs_only forward nodes micros t ≡ true
+    → run_in n micros nodes t ≡ marked n (run_by n forward (way_of nodes micros t) (with_velocity (velocity_of nodes micros t) t))
+in-one-way n forward micros nodes t rails only = in-itself n micros nodes t rails ∙ ap (λ (u : TrainState). marked n u) (ridden-rails n (asked_of nodes t) forward micros t rails only)
 
 -- the end that leads then
 with-placed : (n : Network) (v : Velocity) (t : TrainState) → is_train n t ≡ true → Placed n (with_velocity v t)
-with-placed n v t h = let parts = parts-of n t h in record { front = parts.front; rear = parts.rear; whole = parts.whole }
+with-placed n v t h = let parts = parts-of n t h in record { front = parts.front; rear = parts.rear; spanned = whole-spanned n t parts.whole }
 
 pub in-reaches : (n : Network) (forward : Bool) (micros : ℕ) (nodes : List Node) (t : TrainState) (p : Place) → IsTrue (is_sound n) → is_train n t ≡ true → is_derailed t ≡ false → runs_only forward nodes micros t ≡ true
     → way_on n (leading_end forward t) (way_of nodes micros t) ≡ Some p → (leading_end forward (run_in n micros nodes t) ≡ p) × (is_derailed (run_in n micros nodes t) ≡ false)
 in-reaches n forward micros nodes t p is h rails only g =
     let v = velocity_of nodes micros t in
     let there = by-reaches n forward (with_velocity v t) p (way_of nodes micros t) is (with-placed n v t h) rails (leads forward v g) in
-    let ran = in-one-way n forward micros nodes t h rails only in
+    let ran = in-one-way n forward micros nodes t rails only in
     (ap (λ (u : TrainState). leading_end forward u) ran ∙ there.0, ap (λ (u : TrainState). is_derailed u) ran ∙ there.1) where
       leads : (f : Bool) (v : Velocity) → way_on n (leading_end f t) (way_of nodes micros t) ≡ Some p → way_on n (leading_end f (with_velocity v t)) (way_of nodes micros t) ≡ Some p
       leads true v g = g
@@ -190,7 +184,7 @@ pub in-stops : (n : Network) (forward : Bool) (micros : ℕ) (nodes : List Node)
     → way_on n (leading_end forward t) ahead ≡ Some p → onward n p ≡ BufferStop → ahead ≤ way_of nodes micros t → leading_end forward (run_in n micros nodes t) ≡ p
 in-stops n forward micros nodes t ahead p is h rails only g stop less =
     let v = velocity_of nodes micros t in
-    ap (λ (u : TrainState). leading_end forward u) (in-one-way n forward micros nodes t h rails only)
+    ap (λ (u : TrainState). leading_end forward u) (in-one-way n forward micros nodes t rails only)
     ∙ by-stops n forward (with_velocity v t) p ahead (way_of nodes micros t) is (with-placed n v t h) rails (leads forward v g) stop less where
       leads : (f : Bool) (v : Velocity) → way_on n (leading_end f t) ahead ≡ Some p → way_on n (leading_end f (with_velocity v t)) ahead ≡ Some p
       leads true v g = g
@@ -200,13 +194,18 @@ pub in-derails : (n : Network) (forward : Bool) (micros : ℕ) (nodes : List Nod
     → way_on n (leading_end forward t) ahead ≡ Some p → onward n p ≡ Against → ahead < way_of nodes micros t → (run_in n micros nodes t).derailed_at ≡ Some (switch_at n.turnouts (end_ahead p))
 in-derails n forward micros nodes t ahead p is h rails only g against less =
     let v = velocity_of nodes micros t in
-    ap (λ (u : TrainState). u.derailed_at) (in-one-way n forward micros nodes t h rails only)
+    ap (λ (u : TrainState). u.derailed_at) (in-one-way n forward micros nodes t rails only)
     ∙ by-derails n forward (with_velocity v t) p ahead (way_of nodes micros t) is (with-placed n v t h) rails (leads forward v g) against less where
       leads : (f : Bool) (v : Velocity) → way_on n (leading_end f t) ahead ≡ Some p → way_on n (leading_end f (with_velocity v t)) ahead ≡ Some p
       leads true v g = g
       leads false v g = g
 
-pub in-velocity : (n : Network) (micros : ℕ) (nodes : List Node) (t : TrainState) → is_train n t ≡ true → is_derailed (run_in n micros nodes t) ≡ false → (run_in n micros nodes t).velocity ≡ velocity_of nodes micros t
-in-velocity n micros nodes t h rails =
-    let ran = in-itself n micros nodes t h in
-    ap (λ (u : TrainState). u.velocity) ran ∙ ridden-velocity n (asked_of nodes t) micros t (sym (ap (λ (u : TrainState). is_derailed u) ran) ∙ rails)
+pub in-velocity : (n : Network) (micros : ℕ) (nodes : List Node) (t : TrainState) → is_derailed (run_in n micros nodes t) ≡ false → (run_in n micros nodes t).velocity ≡ velocity_of nodes micros t
+in-velocity n micros nodes t h = elim (cases_Bool (is_derailed t)) [
+  | inl derailed ↦ absurd (never (sym (ap (λ (u : TrainState). is_derailed u) (in-derailed n micros nodes t derailed) ∙ derailed) ∙ h))
+  | inr rails ↦
+      let ran = in-itself n micros nodes t rails in
+      ap (λ (u : TrainState). u.velocity) ran ∙ ridden-velocity n (asked_of nodes t) micros t (sym (ap (λ (u : TrainState). is_derailed u) ran) ∙ h)
+] where
+  never : true ≡ false → ⊥
+  never e = cc

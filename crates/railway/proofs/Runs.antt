@@ -1,21 +1,20 @@
 -- Where trains get to.
 use Rattle.std.proofs.Common.{◌≡◌, ℕ, zero, suc, ◌+◌, ◌-◌, ◌<◌, ◌≤◌, ◌&&◌, Bool, true, false, inl, inr, List, Some, length, refl, ap, sym, subst, ◌∙◌, arith}
 use Rattle.std.proofs.lemmas.Bool.{and_from, and_parts, ltb-true}
-use Rattle.std.specs.Prelude.{IsTrue, nat_lt}
+use Rattle.std.specs.Prelude.{IsTrue, nat_le, nat_lt}
 use Rattle.railway.specs.declared.block.Block.{Block}
 use Rattle.railway.specs.declared.block.End.{End}
 use Rattle.railway.specs.declared.exit.Onward.TheVariants.{To, BufferStop, Against}
 use Rattle.railway.specs.declared.train.Place.{Place}
 use Rattle.railway.specs.declared.train.TrainState.{TrainState}
 use Rattle.railway.specs.Blocks.{length_of, other}
-use Rattle.railway.specs.Faults.{is_train_length}
 use Rattle.railway.specs.Laws.{IsOnRails, IsOnTrack}
 use Rattle.railway.specs.Network.{Network, is_sound, is_whole, off_rails, onward, run_on, spans, step, switch_at, way_on}
 use Rattle.railway.specs.Places.{end_ahead, is_derailed, is_on_track, leading_end, span, turned, turned_place}
 use Rattle.railway.specs.Railway.{is_train}
 use Rattle.railway.specs.Running.{is_within, run_by}
 use Rattle.railway.specs.Trains.{is_movable}
-use Rattle.railway.proofs.Keeping.{spans-way, step-spans, turned-spans, way-spans, whole-spans}
+use Rattle.railway.proofs.Keeping.{is_spanned, spanned-spans, spans-way, step-spans, turned-spans, way-spans, whole-of}
 use Rattle.railway.proofs.Turning.{onward-cases, way-back, way_on-snoc}
 use Rattle.railway.proofs.Ways.{run_on-add, run_on-derailed, run_on-stands, run_on-step, step-onward, way_on-ends, way_on-suc}
 use Rattle.railway.proofs.Facts.{none-some, other-other, some-same}
@@ -23,7 +22,7 @@ use Rattle.railway.proofs.Facts.{none-some, other-other, some-same}
 -- What a train of a railway is.
 
 pub record Parts (n : Network) (t : TrainState) : Type 0 where
-  pub size : is_train_length n.blocks t.length ≡ true
+  pub size : nat_le 1 t.length ≡ true
   pub front : is_on_track n.blocks t.front ≡ true
   pub rear : is_on_track n.blocks t.rear ≡ true
   pub whole : is_whole n t ≡ true
@@ -33,16 +32,16 @@ pub record Parts (n : Network) (t : TrainState) : Type 0 where
 pub record Placed (n : Network) (t : TrainState) : Type 0 where
   pub front : is_on_track n.blocks t.front ≡ true
   pub rear : is_on_track n.blocks t.rear ≡ true
-  pub whole : is_whole n t ≡ true
+  pub spanned : is_spanned n t ≡ true
 
 pub within-parts : (n : Network) (t : TrainState) → is_within n.blocks t ≡ true → (is_on_track n.blocks t.front ≡ true) × (is_on_track n.blocks t.rear ≡ true)
 within-parts n t h = and_parts (is_on_track n.blocks t.front) (is_on_track n.blocks t.rear) h
 
 pub parts-of : (n : Network) (t : TrainState) → is_train n t ≡ true → Parts n t
 parts-of n t h =
-    let all = and_parts (is_train_length n.blocks t.length && is_within n.blocks t && is_whole n t) (is_movable t) h in
-    let rails = and_parts (is_train_length n.blocks t.length && is_within n.blocks t) (is_whole n t) all.0 in
-    let first = and_parts (is_train_length n.blocks t.length) (is_within n.blocks t) rails.0 in
+    let all = and_parts (nat_le 1 t.length && is_within n.blocks t && is_whole n t) (is_movable t) h in
+    let rails = and_parts (nat_le 1 t.length && is_within n.blocks t) (is_whole n t) all.0 in
+    let first = and_parts (nat_le 1 t.length) (is_within n.blocks t) rails.0 in
     let ends = within-parts n t first.1 in
     record { size = first.0; front = ends.0; rear = ends.1; whole = rails.1; movable = all.1 }
 
@@ -57,14 +56,14 @@ on-rails n t is h =
     record {
       front = on-track n.blocks t.front parts.front;
       rear = on-track n.blocks t.rear parts.rear;
-      apart = λ rails. spans-way n t (whole-spans n t parts.whole rails);
-      back = λ rails. way-back n t.rear t.front (span t) is parts.rear (spans-way n t (whole-spans n t parts.whole rails));
+      apart = λ rails. spans-way n t (whole-of n t parts.whole rails).spanned;
+      back = λ rails. way-back n t.rear t.front (span t) is parts.rear (spans-way n t (whole-of n t parts.whole rails).spanned);
     }
 
 -- Where nothing stops it.
 
 -- the rear of a train goes on where its front does
-rear-goes : (n : Network) (t : TrainState) (front : Place) → spans n t ≡ true → onward n t.front ≡ To front → (rear : Place) × (onward n t.rear ≡ To rear)
+pub rear-goes : (n : Network) (t : TrainState) (front : Place) → spans n t ≡ true → onward n t.front ≡ To front → (rear : Place) × (onward n t.rear ≡ To rear)
 rear-goes n t front h f = elim (onward-cases (onward n t.rear)) [
   | inl found ↦ found
   | inr ends ↦ absurd (none-some front (sym (way_on-ends n t.rear (suc (span t)) (omega arith) ends) ∙ way_on-snoc n t.rear t.front front (span t) (spans-way n t h) f))
@@ -128,25 +127,25 @@ turned-rear t = ap (λ (e : End). record t.front { toward = e }) (other-other t.
 pub by-reaches : (n : Network) (forward : Bool) (t : TrainState) (p : Place) (way : ℕ) → IsTrue (is_sound n) → Placed n t → is_derailed t ≡ false → way_on n (leading_end forward t) way ≡ Some p
     → (leading_end forward (run_by n forward way t) ≡ p) × (is_derailed (run_by n forward way t) ≡ false)
 by-reaches n true t p way is parts rails g =
-    let there = run-reaches n t p way (whole-spans n t parts.whole rails) rails g in
+    let there = run-reaches n t p way (spanned-spans n t parts.spanned rails) rails g in
     (there.front, there.rails)
 by-reaches n false t p way is parts rails g =
-    let spanned = turned-spans n t is (and_from (is_on_track n.blocks t.front) (is_on_track n.blocks t.rear) parts.front parts.rear) (whole-spans n t parts.whole rails) in
+    let spanned = turned-spans n t is (and_from (is_on_track n.blocks t.front) (is_on_track n.blocks t.rear) parts.front parts.rear) (spanned-spans n t parts.spanned rails) in
     let there = run-reaches n (turned t) p way spanned rails g in
     (turned-rear (run_on n (turned t) way) ∙ there.front, there.rails)
 
 pub by-stops : (n : Network) (forward : Bool) (t : TrainState) (p : Place) (ahead way : ℕ) → IsTrue (is_sound n) → Placed n t → is_derailed t ≡ false → way_on n (leading_end forward t) ahead ≡ Some p
     → onward n p ≡ BufferStop → ahead ≤ way → leading_end forward (run_by n forward way t) ≡ p
-by-stops n true t p ahead way is parts rails g stop less = run-stops n t p ahead way (whole-spans n t parts.whole rails) rails g stop less
+by-stops n true t p ahead way is parts rails g stop less = run-stops n t p ahead way (spanned-spans n t parts.spanned rails) rails g stop less
 by-stops n false t p ahead way is parts rails g stop less =
-    let spanned = turned-spans n t is (and_from (is_on_track n.blocks t.front) (is_on_track n.blocks t.rear) parts.front parts.rear) (whole-spans n t parts.whole rails) in
+    let spanned = turned-spans n t is (and_from (is_on_track n.blocks t.front) (is_on_track n.blocks t.rear) parts.front parts.rear) (spanned-spans n t parts.spanned rails) in
     turned-rear (run_on n (turned t) way) ∙ run-stops n (turned t) p ahead way spanned rails g stop less
 
 pub by-derails : (n : Network) (forward : Bool) (t : TrainState) (p : Place) (ahead way : ℕ) → IsTrue (is_sound n) → Placed n t → is_derailed t ≡ false → way_on n (leading_end forward t) ahead ≡ Some p
     → onward n p ≡ Against → ahead < way → (run_by n forward way t).derailed_at ≡ Some (switch_at n.turnouts (end_ahead p))
-by-derails n true t p ahead way is parts rails g against less = run-derails n t p ahead way (whole-spans n t parts.whole rails) rails g against less
+by-derails n true t p ahead way is parts rails g against less = run-derails n t p ahead way (spanned-spans n t parts.spanned rails) rails g against less
 by-derails n false t p ahead way is parts rails g against less =
-    let spanned = turned-spans n t is (and_from (is_on_track n.blocks t.front) (is_on_track n.blocks t.rear) parts.front parts.rear) (whole-spans n t parts.whole rails) in
+    let spanned = turned-spans n t is (and_from (is_on_track n.blocks t.front) (is_on_track n.blocks t.rear) parts.front parts.rear) (spanned-spans n t parts.spanned rails) in
     run-derails n (turned t) p ahead way spanned rails g against less
 
 -- A derailed train stands.

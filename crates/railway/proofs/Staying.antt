@@ -1,18 +1,22 @@
 -- Trains that stay in their blocks make no sensor report.
-use Rattle.std.proofs.Common.{◌≡◌, ◌<◌, ◌≤◌, ◌+◌, ◌∙◌, ◌++◌, ℕ, zero, suc, Bool, true, false, if◌then◌else◌, inl, inr, List, [], ◌∷◌, length, Option, Some, None, refl, ap, ap₂, subst, arith, eqb-true}
-use Rattle.std.specs.Prelude.{◌==◌, ◌&&◌, ◌||◌, not, slice_get}
-use Rattle.std.proofs.lemmas.Bool.{and_parts, cases_lt}
+use Rattle.std.proofs.Common.{◌≡◌, ◌<◌, ◌≤◌, ◌+◌, ◌∙◌, ◌++◌, ℕ, zero, suc, Bool, true, false, if◌then◌else◌, inl, inr, List, [], ◌∷◌, length, map, Option, Some, None, refl, ap, ap₂, subst, arith}
+use Rattle.std.specs.Prelude.{◌&&◌, ◌||◌, nat_lt, not, slice_get}
+use Rattle.std.specs.List.{slice_index_or}
+use Rattle.std.proofs.lemmas.Bool.{cases_lt}
+use Rattle.layout_core.specs.declared.node.Node.{Node}
 use Rattle.ln_ops.specs.declared.sensor.SensorReport.{SensorReport}
 use Rattle.railway.specs.declared.block.Block.{Block}
 use Rattle.railway.specs.declared.train.TrainState.{TrainState}
+use Rattle.railway.specs.Network.{Network}
 use Rattle.railway.specs.Reports.{change_of, changes, changes_from, is_occupied, occupies, onto}
 use Rattle.railway.specs.Staying.{AllStay, stays}
-use Rattle.railway.specs.Turnouts.{same_bool}
+use Rattle.railway.specs.Turnouts.{checked, same_bool}
+use Rattle.railway.proofs.Keeping.{same-marks}
+use Rattle.railway.proofs.Throwing.{checked-under}
 
 stays_in : (block : ℕ) (was is : TrainState) → stays (Some was) (Some is) ≡ true → occupies block was ≡ occupies block is
 stays_in block was is h =
-    let both = and_parts (was.front.block == is.front.block) (was.rear.block == is.rear.block) h in
-    ap₂ (λ (front rear : ℕ). front == block || rear == block) (eqb-true was.front.block is.front.block both.0) (eqb-true was.rear.block is.rear.block both.1)
+    ap (λ (under : List Bool). nat_lt block 64 && slice_index_or under block false) (same-marks was.under is.under h)
 
 same_occupied : (block : ℕ) (was is : List TrainState) → AllStay was is → is_occupied was block ≡ is_occupied is block
 same_occupied block [] [] all = refl
@@ -67,3 +71,19 @@ all_below_stay was is i many end so_far train = elim (cases_lt train i) [
   | inl under ↦ so_far train under
   | inr over ↦ ap₂ stays (none_there was train (omega (arith, many, end, over))) (none_there is train (omega (arith, end, over)))
 ]
+
+-- A train that is derailed where it is stays in its blocks.
+
+same_checked : (nodes : List Node) (n : Network) (ts : List TrainState) (block : ℕ) → is_occupied (map (checked nodes n) ts) block ≡ is_occupied ts block
+same_checked nodes n [] block = refl
+same_checked nodes n (t ∷ ts) block =
+    ap₂ (λ (a b : Bool). a || b) (ap (λ (under : List Bool). nat_lt block 64 && slice_index_or under block false) (checked-under nodes n t)) (same_checked nodes n ts block)
+
+checked_from : (level : Bool) (nodes : List Node) (n : Network) (ts is : List TrainState) (i : ℕ) (blocks : List Block) → changes_from level (map (checked nodes n) ts) is i blocks ≡ changes_from level ts is i blocks
+checked_from level nodes n ts is i [] = refl
+checked_from level nodes n ts is i (block ∷ blocks) =
+    ap₂ onto (ap (λ (before : Bool). change_of level block.sensor before (is_occupied is i)) (same_checked nodes n ts i)) (checked_from level nodes n ts is (i + 1) blocks)
+
+pub checked_changes : (nodes : List Node) (n : Network) (ts is : List TrainState) (blocks : List Block) → changes blocks (map (checked nodes n) ts) is ≡ changes blocks ts is
+checked_changes nodes n ts is blocks =
+    ap₂ (λ (a b : List SensorReport). a ++ b) (checked_from true nodes n ts is 0 blocks) (checked_from false nodes n ts is 0 blocks)

@@ -1,8 +1,8 @@
 -- Times add up.
-use Rattle.std.proofs.Common.{◌≡◌, ℕ, ◌+◌, ◌*◌, ◌%◌, Bool, true, false, List, [], ◌∷◌, Option, Some, None, map, refl, ap, sym, ◌∙◌}
-use Rattle.std.proofs.lemmas.Bool.{and_parts}
-use Rattle.std.specs.List.{list_all}
-use Rattle.std.specs.Prelude.{if◌then◌else◌, IsTrue}
+use Rattle.std.proofs.Common.{◌≡◌, ℕ, ◌+◌, ◌*◌, ◌%◌, Bool, true, false, not, inl, inr, List, [], ◌∷◌, Option, Some, None, map, refl, ap, sym, ◌∙◌}
+use Rattle.std.proofs.lemmas.Bool.{cases_Bool}
+use Rattle.std.specs.List.{list_any}
+use Rattle.std.specs.Prelude.{if◌then◌else◌}
 use Rattle.layout_core.specs.declared.node.Node.{Node}
 use Rattle.motion.specs.declared.velocity.Drive.{Drive}
 use Rattle.refresh_ring.specs.declared.pick.Power.{Power}
@@ -10,17 +10,15 @@ use Rattle.refresh_ring.specs.declared.pick.Power.TheVariants.{Off, Running as P
 use Rattle.railway.specs.declared.joint.TurnoutState.{TurnoutState}
 use Rattle.railway.specs.declared.train.TrainState.{TrainState}
 use Rattle.railway.specs.Laws.{asked_of}
-use Rattle.railway.specs.Network.{Network, checked, is_sound}
-use Rattle.railway.specs.Places.{still}
-use Rattle.railway.specs.Railway.{RailwayState, elapsed, is_railway, is_train, run_in, run_under}
+use Rattle.railway.specs.Network.{Network, marked, under}
+use Rattle.railway.specs.Places.{is_derailed}
+use Rattle.railway.specs.Railway.{RailwayState, elapsed, run_in, run_under}
 use Rattle.railway.specs.Running.{ridden}
-use Rattle.railway.specs.Trains.{drive_of, running_in}
-use Rattle.railway.specs.Turnouts.{is_on, laid, lies_thrown, observed, outputs_in, pair_of, same_bool}
-use Rattle.railway.proofs.Keeping.{checked-whole}
-use Rattle.railway.proofs.Leading.{laid-sound}
-use Rattle.railway.proofs.Riding.{checked-same, ridden-add, ridden-same}
-use Rattle.railway.proofs.Running.{same-drive, under-train}
-use Rattle.railway.proofs.Runs.{parts-of}
+use Rattle.railway.specs.Turnouts.{checked, is_moved, is_on, laid, lies_thrown, observed, outputs_in, pair_of, same_bool}
+use Rattle.railway.proofs.Facts.{or-none}
+use Rattle.railway.proofs.Riding.{ridden-add, ridden-derailed, ridden-same, ridden-under}
+use Rattle.railway.proofs.Running.{in-derailed, in-itself, same-drive}
+use Rattle.railway.proofs.Throwing.{unmoved-laid, unmoved-trains}
 
 -- A turnout that is laid lies so already.
 
@@ -31,56 +29,63 @@ lies-lies (Some outputs) pair lay = chosen (same_bool (is_on outputs (2 * (pair 
   chosen true = refl
   chosen false = refl
 
-observed-observed : (nodes : List Node) (states : List TurnoutState) → map (observed nodes) (map (observed nodes) states) ≡ map (observed nodes) states
-observed-observed nodes [] = refl
-observed-observed nodes (state ∷ states) =
-    ap (λ (thrown : Bool). record state { is_thrown = thrown } ∷ map (observed nodes) (map (observed nodes) states)) (lies-lies (outputs_in nodes state.decoder) (pair_of state.turnout.switch) state.is_thrown)
-    ∙ ap (λ (rest : List TurnoutState). observed nodes state ∷ rest) (observed-observed nodes states)
+-- So no turnout is moved then.
 
-laid-laid : (nodes : List Node) (n : Network) → laid nodes (laid nodes n) ≡ laid nodes n
-laid-laid nodes n = ap (λ (states : List TurnoutState). record n { turnouts = states }) (observed-observed nodes n.turnouts)
+same-bool-self : (b : Bool) → not (same_bool b b) ≡ false
+same-bool-self true = refl
+same-bool-self false = refl
+
+lies-already : (nodes : List Node) (state : TurnoutState) → is_moved nodes (observed nodes state) ≡ false
+lies-already nodes state =
+    let lies : Bool = lies_thrown (outputs_in nodes state.decoder) (pair_of state.turnout.switch) state.is_thrown in
+    ap (λ (b : Bool). not (same_bool b lies)) (lies-lies (outputs_in nodes state.decoder) (pair_of state.turnout.switch) state.is_thrown) ∙ same-bool-self lies
+
+all-lie : (nodes : List Node) (states : List TurnoutState) → list_any (is_moved nodes) (map (observed nodes) states) ≡ false
+all-lie nodes [] = refl
+all-lie nodes (state ∷ states) = or-none (is_moved nodes (observed nodes state)) (list_any (is_moved nodes) (map (observed nodes) states)) (lies-already nodes state) (all-lie nodes states)
 
 -- A train that ran, and runs on so, ran for all of the time.
 
--- a train of the railway needs no check
-checked-train : (n : Network) (t : TrainState) → is_train n t ≡ true → checked n t ≡ t
-checked-train n t h = checked-whole n t (parts-of n t h).whole
+in-in : (n : Network) (nodes : List Node) (these those : ℕ) (t : TrainState) → run_in n those nodes (run_in n these nodes t) ≡ run_in n (these + those) nodes t
+in-in n nodes these those t = elim (cases_Bool (is_derailed t)) [
+  | inl derailed ↦
+      ap (λ (u : TrainState). run_in n those nodes u) (in-derailed n these nodes t derailed) ∙ in-derailed n those nodes t derailed ∙ sym (in-derailed n (these + those) nodes t derailed)
+  | inr rails ↦
+      ap (λ (u : TrainState). run_in n those nodes u) (in-itself n these nodes t rails) ∙ rest
+      ∙ ap (λ (u : TrainState). marked n u) (sym (ridden-add n (asked_of nodes t) t these those)) ∙ sym (in-itself n (these + those) nodes t rails)
+] where
+  rest : run_in n those nodes (marked n (ridden n (asked_of nodes t) these t)) ≡ marked n (ridden n (asked_of nodes t) those (ridden n (asked_of nodes t) these t))
+  rest =
+      let d : Drive = asked_of nodes t in
+      let there : TrainState = ridden n d these t in
+      let first : TrainState = marked n there in
+      let same = ridden-same n d these t in
+      let asked : asked_of nodes first ≡ d = same-drive nodes t first (record { decoder = same.decoder; top = same.top; length = same.length; momentum = same.momentum }) in
+      elim (cases_Bool (is_derailed there)) [
+        | inl derailed ↦ in-derailed n those nodes first derailed ∙ ap (λ (u : TrainState). marked n u) (sym (ridden-derailed n d those there derailed))
+        | inr rails ↦
+            in-itself n those nodes first rails
+            ∙ ap (λ (e : Drive). marked n (ridden n e those first)) asked
+            ∙ ap (λ (u : TrainState). marked n u) (ridden-under n d those there (under n there))
+      ]
 
-in-in : (n m : Network) (nodes : List Node) (these those : ℕ) (t : TrainState) → IsTrue (is_sound m) → n.blocks ≡ m.blocks → is_train n t ≡ true → run_in m those nodes (run_in m these nodes t) ≡ run_in m (these + those) nodes t
-in-in n m nodes these those t is same h =
-    let first : TrainState = run_in m these nodes t in
-    let start : TrainState = checked m t in
-    let d : Drive = drive_of start (running_in nodes t.decoder) in
-    let checked-first : checked m first ≡ first = checked-train m first (under-train PowerOn n m these nodes t is same h) in
-    let asked : asked_of nodes first ≡ d =
-    same-drive nodes start first (ridden-same m d these start) ∙ ap (λ (decoder : ℕ). drive_of start (running_in nodes decoder)) (checked-same m t).decoder in
-    ap (λ (u : TrainState). ridden m (drive_of u (running_in nodes first.decoder)) those u) checked-first
-    ∙ ap (λ (e : Drive). ridden m e those first) asked
-    ∙ sym (ridden-add m d start these those)
+under-under : (p : Power) (n : Network) (nodes : List Node) (these those : ℕ) (t : TrainState) → run_under p n those nodes (run_under p n these nodes t) ≡ run_under p n (these + those) nodes t
+under-under Off n nodes these those t = refl
+under-under PowerOn n nodes these those t = in-in n nodes these those t
+under-under Paused n nodes these those t = in-in n nodes these those t
 
--- and one that stands without power stood for all of it
-stands-stands : (n m : Network) (nodes : List Node) (these : ℕ) (t : TrainState) → IsTrue (is_sound m) → n.blocks ≡ m.blocks → is_train n t ≡ true → still (checked m (still (checked m t))) ≡ still (checked m t)
-stands-stands n m nodes these t is same h =
-    ap (λ (u : TrainState). still u) (checked-train m (still (checked m t)) (under-train Off n m these nodes t is same h))
+all-all : (p : Power) (n : Network) (nodes : List Node) (these those : ℕ) (ts : List TrainState) → map (run_under p n those nodes) (map (run_under p n these nodes) ts) ≡ map (run_under p n (these + those) nodes) ts
+all-all p n nodes these those [] = refl
+all-all p n nodes these those (t ∷ ts) =
+    ap (λ (u : TrainState). u ∷ map (run_under p n those nodes) (map (run_under p n these nodes) ts)) (under-under p n nodes these those t)
+    ∙ ap (λ (us : List TrainState). run_under p n (these + those) nodes t ∷ us) (all-all p n nodes these those ts)
 
-under-under : (p : Power) (n m : Network) (nodes : List Node) (these those : ℕ) (t : TrainState) → IsTrue (is_sound m) → n.blocks ≡ m.blocks → is_train n t ≡ true
-    → run_under p m those nodes (run_under p m these nodes t) ≡ run_under p m (these + those) nodes t
-under-under Off n m nodes these those t is same h = stands-stands n m nodes these t is same h
-under-under PowerOn n m nodes these those t is same h = in-in n m nodes these those t is same h
-under-under Paused n m nodes these those t is same h = in-in n m nodes these those t is same h
-
-all-all : (p : Power) (n m : Network) (nodes : List Node) (these those : ℕ) (ts : List TrainState) → IsTrue (is_sound m) → n.blocks ≡ m.blocks → list_all (is_train n) ts ≡ true
-    → map (run_under p m those nodes) (map (run_under p m these nodes) ts) ≡ map (run_under p m (these + those) nodes) ts
-all-all p n m nodes these those [] is same h = refl
-all-all p n m nodes these those (t ∷ ts) is same h =
-    let parts = and_parts (is_train n t) (list_all (is_train n) ts) h in
-    ap (λ (u : TrainState). u ∷ map (run_under p m those nodes) (map (run_under p m these nodes) ts)) (under-under p n m nodes these those t is same parts.0)
-    ∙ ap (λ (us : List TrainState). run_under p m (these + those) nodes t ∷ us) (all-all p n m nodes these those ts is same parts.1)
-
-pub elapsed-elapsed : (r : RailwayState) (p : Power) (nodes : List Node) (these those : ℕ) → IsTrue (is_railway r) → elapsed (elapsed r these p nodes) those p nodes ≡ elapsed r (these + those) p nodes
-elapsed-elapsed r p nodes these those h =
-    let n = r.network in
-    let m : Network = laid nodes n in
-    let parts = and_parts (is_sound n) (list_all (is_train n) r.trains) h in
-    ap (λ (k : Network). record { network = k; trains = map (run_under p k those nodes) (map (run_under p m these nodes) r.trains) }) (laid-laid nodes n)
-    ∙ ap (λ (ts : List TrainState). record { network = m; trains = ts }) (all-all p n m nodes these those r.trains (laid-sound nodes n parts.0) refl parts.1)
+pub elapsed-elapsed : (r : RailwayState) (p : Power) (nodes : List Node) (these those : ℕ) → elapsed (elapsed r these p nodes) those p nodes ≡ elapsed r (these + those) p nodes
+elapsed-elapsed r p nodes these those =
+    let m : Network = laid nodes r.network in
+    let start : List TrainState = map (checked nodes r.network) r.trains in
+    let first : List TrainState = map (run_under p m these nodes) start in
+    let none = all-lie nodes r.network.turnouts in
+    ap (λ (k : Network). record { network = k; trains = map (run_under p k those nodes) (map (checked nodes m) first) }) (unmoved-laid nodes m none)
+    ∙ ap (λ (ts : List TrainState). record { network = m; trains = map (run_under p m those nodes) ts }) (unmoved-trains nodes m first none)
+    ∙ ap (λ (ts : List TrainState). record { network = m; trains = ts }) (all-all p m nodes these those start)

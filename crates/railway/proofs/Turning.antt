@@ -32,7 +32,7 @@ place-of n p h = ltb-true p.at (length_of n.blocks p.block) (and_parts (nat_lt p
 
 -- An end that is joined with another.
 
-abbrev Apart : Network → Type 0
+abbrev pub Apart : Network → Type 0
 Apart n = are_apart (ends_of n.joints (turnouts_of n.turnouts)) ≡ true
 
 leads-partner : (found : Option BlockEnd) (branch : Bool) (next : BlockEnd) → exit_to found branch ≡ Leads next → found ≡ Some next
@@ -78,7 +78,7 @@ leads-to blocks Lies q h = cc
 to-same : (p q : Place) → To p ≡ To q → p ≡ q
 to-same p q h = cc
 
-turned-turned : (p : Place) → turned_place (turned_place p) ≡ p
+pub turned-turned : (p : Place) → turned_place (turned_place p) ≡ p
 turned-turned p = ap (λ (e : End). record p { toward = e }) (other-other p.toward)
 
 back-within : (n : Network) (p : Place) → IsPlace n p → 0 < to_end (length_of n.blocks p.block) p → onward n (turned_place (further p 1)) ≡ To (turned_place p)
@@ -95,7 +95,7 @@ back-over n p next apart h g leads =
     ∙ ap (λ (exit : Exit). onward_by n.blocks exit) (exit-back n (end_ahead p) next apart leads)
     ∙ ap (λ (at : ℕ). To (record p { at = at; toward = other p.toward })) (at-end p.toward (length_of n.blocks p.block) p.at h g)
 
-onward-back : (n : Network) (p q : Place) → Apart n → IsPlace n p → onward n p ≡ To q → onward n (turned_place q) ≡ To (turned_place p)
+pub onward-back : (n : Network) (p q : Place) → Apart n → IsPlace n p → onward n p ≡ To q → onward n (turned_place q) ≡ To (turned_place p)
 onward-back n p q apart h g = elim (cases_Bool (to_end (length_of n.blocks p.block) p == 0)) [
   | inl ends ↦
       let none : to_end (length_of n.blocks p.block) p ≡ 0 = eqb-true (to_end (length_of n.blocks p.block) p) 0 ends in
@@ -169,5 +169,15 @@ way-back n p q (suc way) is h g = elim (onward-cases (onward n p)) [
       let rest : way_on n next.0 way ≡ Some q = sym (way_on-suc n p next.0 way next.1) ∙ g in
       way_on-snoc n (turned_place q) (turned_place next.0) (turned_place p) way (way-back n next.0 q way is (onward-on_track n p next.0 is h next.1) rest)
       (onward-back n p next.0 (sound n is).apart (place-of n p h) next.1)
+  | inr ends ↦ absurd (none-some q (sym (way_on-ends n p (suc way) (omega arith) ends) ∙ g))
+]
+
+-- A way stays on the track.
+
+pub way-on_track : (n : Network) (p q : Place) (way : ℕ) → IsTrue (is_sound n) → is_on_track n.blocks p ≡ true → way_on n p way ≡ Some q → is_on_track n.blocks q ≡ true
+unfolding way_on
+way-on_track n p q zero is h g = subst (λ (r : Place). is_on_track n.blocks r ≡ true) (some-same p q g) h
+way-on_track n p q (suc way) is h g = elim (onward-cases (onward n p)) [
+  | inl next ↦ way-on_track n next.0 q way is (onward-on_track n p next.0 is h next.1) (sym (way_on-suc n p next.0 way next.1) ∙ g)
   | inr ends ↦ absurd (none-some q (sym (way_on-ends n p (suc way) (omega arith) ends) ∙ g))
 ]

@@ -1,5 +1,5 @@
 -- Ways along the track.
-use Rattle.std.proofs.Common.{◌≡◌, ℕ, zero, suc, ◌+◌, ◌-◌, ◌<◌, ◌≤◌, Bool, true, false, Option, Some, None, refl, ap, sym, ◌∙◌, arith}
+use Rattle.std.proofs.Common.{◌≡◌, ℕ, zero, suc, ◌+◌, ◌-◌, ◌<◌, ◌≤◌, Bool, true, false, inl, inr, Option, Some, None, refl, ap, sym, ◌∙◌, arith}
 use Rattle.std.proofs.lemmas.Bool.{ne_eqb}
 use Rattle.std.specs.Option.{option_and_then}
 use Rattle.std.specs.Prelude.{if◌then◌else◌}
@@ -10,7 +10,7 @@ use Rattle.railway.specs.declared.exit.Onward.TheVariants.{To, BufferStop, Again
 use Rattle.railway.specs.declared.train.Place.{Place}
 use Rattle.railway.specs.declared.train.TrainState.{TrainState}
 use Rattle.railway.specs.Blocks.{length_of}
-use Rattle.railway.specs.Network.{Network, onward, place_of, run_on, step, stepped, way_on}
+use Rattle.railway.specs.Network.{LeadsOn, Network, onward, place_of, run_on, step, stepped, way_on}
 use Rattle.railway.specs.Places.{further, is_derailed, left_to, moved, moved_to, to_end}
 
 -- In a block.
@@ -23,14 +23,14 @@ moved_to-suc : (e : End) (at way : ℕ) → moved_to e (moved_to e at 1) way ≡
 moved_to-suc A at way = omega arith
 moved_to-suc B at way = omega arith
 
-left_to-moved : (e : End) (length at way : ℕ) → suc way ≤ left_to e length at → way ≤ left_to e length (moved_to e at 1)
+pub left_to-moved : (e : End) (length at way : ℕ) → suc way ≤ left_to e length at → way ≤ left_to e length (moved_to e at 1)
 left_to-moved A length at way h = omega arith
 left_to-moved B length at way h = omega arith
 
 pub further-zero : (p : Place) → p ≡ further p 0
 further-zero p = ap (λ (n : ℕ). record p { at = n }) (sym (moved_to-zero p.toward p.at))
 
-further-suc : (p : Place) (way : ℕ) → further (further p 1) way ≡ further p (suc way)
+pub further-suc : (p : Place) (way : ℕ) → further (further p 1) way ≡ further p (suc way)
 further-suc p way = ap (λ (n : ℕ). record p { at = n }) (moved_to-suc p.toward p.at way)
 
 pub onward-within : (n : Network) (p : Place) → 0 < to_end (length_of n.blocks p.block) p → onward n p ≡ To (further p 1)
@@ -87,6 +87,13 @@ way_on-part n p part way h within =
     let whole : way ≡ part + (way - part) = omega arith in
     ap (λ (w : ℕ). way_on n p w) whole ∙ way_on-add n p part (way - part)
     ∙ ap (λ (q : Option Place). option_and_then (λ q. way_on n q (way - part)) q) (way_on-within n p part within)
+
+pub way_on-goes : (n : Network) (p q : Place) (way left : ℕ) → LeadsOn n p way q left → way_on n p way ≡ way_on n q left
+way_on-goes n p q way left (inl h) =
+    way_on-part n p h.part way h.within h.in_block ∙ ap (λ (r : Place). way_on n r (way - h.part)) (sym h.there) ∙ ap (λ (w : ℕ). way_on n q w) (sym h.rest)
+way_on-goes n p q way left (inr h) =
+    let rest : way - 1 ≡ left = omega (arith, h.rest) in
+    way_on-step n p q way (omega (arith, h.rest)) h.on ∙ ap (λ (w : ℕ). way_on n q w) rest
 
 -- Trains.
 

@@ -1,5 +1,5 @@
 -- The blocks of a track plan, and their ends.
-use Rattle.std.specs.Prelude.{ℕ, ◌*◌, ◌==◌, ◌&&◌, Bool, true, false, nat_eq, nat_le, not, List, [], ◌∷◌, length, Option, Some, None}
+use Rattle.std.specs.Prelude.{ℕ, ◌*◌, ◌==◌, ◌&&◌, Bool, true, false, nat_eq, nat_le, not, replicate, List, [], ◌∷◌, length, Option, Some, None}
 use Rattle.std.specs.List.{list_any, slice_index_or}
 use Rattle.std.specs.Option.{option_eq}
 use Rattle.std.specs.Cmp.Lexicographic.{pointwise}
@@ -68,6 +68,10 @@ block_name (Some block) = block.name.bytes
 
 abbrev pub same_name : Block → Block → Bool
 same_name one two = pointwise nat_eq one.name.bytes two.name.bytes
+
+-- none of the blocks of a plan, of which there are at most 64
+abbrev pub no_blocks : List Bool
+no_blocks = replicate 64 false
 
 -- the length of a block in femtometres
 abbrev pub length_of : List Block → (block : ℕ) → ℕ

@@ -2,6 +2,7 @@
 use Rattle.std.specs.Prelude.{ℕ, ◌≡◌, ◌*◌, ◌<◌, ◌≤◌, ◌==◌, Bool, false, not, List, [], ◌∷◌, length, Some, IsTrue}
 use Rattle.std.specs.List.{list_any, slice_index_or}
 use Rattle.layout_core.specs.declared.node.Node.{Node}
+use Rattle.refresh_ring.specs.declared.pick.Power.{Power}
 use Rattle.ln_ops.specs.declared.sensor.SensorReport.{SensorReport}
 use Rattle.motion.specs.Velocity.{goes_only, velocity_after, way}
 use Rattle.motion.specs.declared.velocity.Drive.{Drive}
@@ -13,8 +14,10 @@ use Rattle.railway.specs.declared.train.TrainState.{TrainState}
 use Rattle.railway.specs.Blocks.{default_block, length_of}
 use Rattle.railway.specs.Network.{Network, way_on}
 use Rattle.railway.specs.Places.{is_derailed, leading_end, span, turned_place}
+use Rattle.railway.specs.Railway.{run_under}
 use Rattle.railway.specs.Reports.{is_occupied, occupies}
 use Rattle.railway.specs.Trains.{drive_of, is_forward, running_in, speed_of}
+use Rattle.railway.specs.Turnouts.{checked, laid}
 
 -- the place is in a block of the plan, within its length
 pub record IsOnTrack (blocks : List Block) (place : Place) : Type 0 where
@@ -29,6 +32,19 @@ pub record IsOnRails (network : Network) (train : TrainState) : Type 0 where
   pub apart : is_derailed train ≡ false → way_on network train.rear (span train) ≡ Some train.front
   pub back : is_derailed train ≡ false
       → way_on network (turned_place train.front) (span train) ≡ Some (turned_place train.rear)
+
+-- a place on a way is in the block
+pub record IsOnWay (network : Network) (from : Place) (way block : ℕ) : Type 0 where
+  pub part : ℕ
+  pub within : part ≤ way
+  pub place : Place
+  pub there : way_on network from part ≡ Some place
+  pub in_block : place.block ≡ block
+
+-- a train after so many microseconds in which the decoders do this: as the turnouts lie then
+abbrev pub train_after : Power → Network → (micros : ℕ) → List Node → TrainState → TrainState
+train_after power network micros nodes train =
+    run_under power (laid nodes network) micros nodes (checked nodes network train)
 
 -- what a train is asked for by its decoder
 abbrev pub asked_of : List Node → TrainState → Drive

@@ -1,10 +1,12 @@
 pub mod Blocks
 pub mod Conflicts
 pub mod Course
+pub mod Decoders
 pub mod Ends
 pub mod Faults
 pub mod Laws
 pub mod Network
+pub mod Placement
 pub mod Places
 pub mod Railway
 pub mod Reports

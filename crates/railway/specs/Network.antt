@@ -1,5 +1,7 @@
 -- The track: where it leads, and how a train runs on it.
-use Rattle.std.specs.Prelude.{ℕ, zero, suc, ◌==◌, ◌<◌, ◌&&◌, ◌||◌, ◌++◌, Bool, if◌then◌else◌, List, [], ◌∷◌, length, map, Option, Some, None}
+use Rattle.std.specs.Prelude.{ℕ, zero, suc, ◌+◌, ◌-◌, ◌≡◌, ◌⊎◌, ◌==◌, ◌<◌, ◌≤◌, ◌&&◌, ◌||◌, ◌++◌, Bool, true, if◌then◌else◌, List, [], ◌∷◌, length, map, Option, Some, None, slice_set}
+use Rattle.std.specs.Bool.{beq}
+use Rattle.std.specs.Cmp.Lexicographic.{pointwise}
 use Rattle.std.specs.List.{list_all, list_any}
 use Rattle.std.specs.Option.{option_and_then, option_eq, option_or}
 use Rattle.railway.specs.declared.block.Block.{Block}
@@ -13,7 +15,7 @@ use Rattle.railway.specs.declared.exit.Onward.{Onward}
 use Rattle.railway.specs.declared.exit.Onward.TheVariants.{To, BufferStop as Stopped, Against as Derails}
 use Rattle.railway.specs.declared.train.Place.{Place}
 use Rattle.railway.specs.declared.train.TrainState.{TrainState}
-use Rattle.railway.specs.Blocks.{are_distinct, is_block, length_of, same_block_end}
+use Rattle.railway.specs.Blocks.{are_distinct, is_block, length_of, no_blocks, same_block_end}
 use Rattle.railway.specs.Ends.{are_apart, ends_of, is_joint, is_turnout}
 use Rattle.railway.specs.Places.{end_ahead, further, is_derailed, same_place, span, start_at, still, to_end}
 
@@ -122,19 +124,77 @@ unfoldable pub run_on : Network → TrainState → (way : ℕ) → TrainState
 run_on network train zero = train
 run_on network train (suc way) = run_on network (step network train) way
 
+abbrev pub covered_by : (Place → List Bool) → List Bool → Option Place → List Bool
+covered_by go ends None = ends
+covered_by go ends (Some next) = go next
+
+-- which blocks there are on a way, beside those of `marks`: one femtometre after another
+unfoldable pub covered : Network → Place → (way : ℕ) → (marks : List Bool) → List Bool
+covered network place zero marks = slice_set marks place.block true
+covered network place (suc way) marks =
+    covered_by (λ next. covered network next way (slice_set marks place.block true))
+    (slice_set marks place.block true) (place_of (onward network place))
+
+-- the blocks from the rear of a train to its front
+abbrev pub under : Network → TrainState → List Bool
+under network train = covered network train.rear (span train) no_blocks
+
+-- a train that knows the blocks under it
+abbrev pub marked : Network → TrainState → TrainState
+marked network train = record train { under = under network train }
+
 -- the track leads from the rear of a train to its front, over exactly its length
 abbrev pub spans : Network → TrainState → Bool
 spans network train =
     option_eq same_place (way_on network train.rear (span train)) (Some train.front)
 
--- a train is on the rails from its rear to its front, or is derailed
+-- a train is on the rails from its rear to its front, and knows the blocks between, or is derailed
 abbrev pub is_whole : Network → TrainState → Bool
-is_whole network train = is_derailed train || spans network train
+is_whole network train =
+    is_derailed train
+    || (spans network train && pointwise beq (under network train) train.under)
 
--- a train with a turnout thrown under it is derailed by it: the one ahead of its rear
-abbrev pub checked : Network → TrainState → TrainState
-checked network train =
-    if is_whole network train then train else off_rails network train.rear train
+-- a way goes on over an end of a block that is one of these
+abbrev pub leaves_at : (BlockEnd → Bool) → Network → Place → Bool
+leaves_at is_one network place =
+    to_end (length_of network.blocks place.block) place == 0 && is_one (end_ahead place)
+
+-- the first place at which a way goes on over such an end, one femtometre after another
+unfoldable pub first_at : (BlockEnd → Bool) → Network → Place → (way : ℕ) → Option Place
+first_at is_one network place zero = None
+first_at is_one network place (suc way) =
+    if leaves_at is_one network place then Some place else
+    option_and_then (λ next. first_at is_one network next way) (place_of (onward network place))
+
+abbrev pub last_by : (Place → Place) → Place → Option Place → Place
+last_by go place None = place
+last_by go place (Some next) = go next
+
+-- the last place of a way: where the track ends, if it ends before
+unfoldable pub last_on : Network → Place → (way : ℕ) → Place
+last_on network place zero = place
+last_on network place (suc way) =
+    last_by (λ next. last_on network next way) place (place_of (onward network place))
+
+-- a place so far ahead in the same block, and the rest of a way
+pub record IsAhead (network : Network) (place : Place) (way : ℕ) (next : Place)
+    (left : ℕ) : Type 0 where
+  pub part : ℕ
+  pub within : part ≤ way
+  pub in_block : part ≤ to_end (length_of network.blocks place.block) place
+  pub there : next ≡ further place part
+  pub rest : left ≡ way - part
+
+-- the place one femtometre ahead, and the rest of a way
+pub record IsNext (network : Network) (place : Place) (way : ℕ) (next : Place)
+    (left : ℕ) : Type 0 where
+  pub on : onward network place ≡ To next
+  pub rest : left + 1 ≡ way
+
+-- a way goes on at a place further ahead
+abbrev pub LeadsOn : Network → Place → (way : ℕ) → Place → (left : ℕ) → Type 0
+LeadsOn network place way next left =
+    IsAhead network place way next left ⊎ IsNext network place way next left
 
 abbrev pub turnouts_of : List TurnoutState → List Turnout
 turnouts_of states = map (λ state. state.turnout) states

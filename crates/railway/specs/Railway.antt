@@ -1,5 +1,5 @@
 -- A railway, and what time makes of it.
-use Rattle.std.specs.Prelude.{ℕ, ◌/◌, ◌&&◌, Bool, List, length, map, nat_lt, if◌then◌else◌, Option, Some, None, slice_get, slice_set}
+use Rattle.std.specs.Prelude.{ℕ, ◌/◌, ◌&&◌, Bool, List, length, map, nat_le, nat_lt, if◌then◌else◌, Option, Some, None, slice_get, slice_set}
 use Rattle.std.specs.List.{list_all, slice_index_or}
 use Rattle.std.specs.Option.{option_or}
 use Rattle.decoder_node.specs.declared.node.NodeSpec.{NodeSpec}
@@ -15,14 +15,13 @@ use Rattle.railway.specs.declared.plan.Plan.{Plan}
 use Rattle.railway.specs.declared.train.Position.{Position}
 use Rattle.railway.specs.declared.train.Train.{Train}
 use Rattle.railway.specs.declared.train.TrainState.{TrainState}
-use Rattle.railway.specs.Blocks.{default_block}
-use Rattle.railway.specs.Faults.{is_train_length}
-use Rattle.railway.specs.Network.{Network, checked, is_sound, is_whole, onward}
+use Rattle.railway.specs.Network.{Network, is_sound, is_whole, onward}
+use Rattle.railway.specs.Placement.{has_front, is_room, state_of_train}
 use Rattle.railway.specs.Places.{leading_end, still}
 use Rattle.railway.specs.Reports.{changes}
 use Rattle.railway.specs.Running.{is_within, run_for}
-use Rattle.railway.specs.Trains.{default_state, fits, is_movable, running_in, state_of_train}
-use Rattle.railway.specs.Turnouts.{laid, state_of_turnout}
+use Rattle.railway.specs.Trains.{default_state, is_movable, running_in}
+use Rattle.railway.specs.Turnouts.{checked, laid, network_of}
 
 -- the track as the turnouts lie, and the trains as they are
 pub record RailwayState : Type 0 where
@@ -32,43 +31,48 @@ pub record RailwayState : Type 0 where
 -- the railway of a plan, with these decoders
 abbrev pub planned : List NodeSpec → Plan → RailwayState
 planned specs plan = record {
-  network = record {
-    blocks = plan.blocks.items;
-    joints = plan.joints.items;
-    turnouts = map (state_of_turnout specs) plan.turnouts.items;
-  };
-  trains = map state_of_train plan.trains.items;
+  network = network_of specs plan;
+  trains = map (state_of_train (network_of specs plan)) plan.trains.items;
 }
 
--- a train is no longer than a block, in blocks of the plan within their lengths, on the rails from
--- its rear to its front, or derailed, and has a speed that it can have
+-- a train is at least a millimetre long, has its ends in blocks of the plan within their lengths, is
+-- on the rails from its rear to its front and knows the blocks between, or is derailed, and has a
+-- speed that it can have
 abbrev pub is_train : Network → TrainState → Bool
 is_train network train =
-    is_train_length network.blocks train.length && is_within network.blocks train
-    && is_whole network train && is_movable train
+    nat_le 1 train.length && is_within network.blocks train && is_whole network train
+    && is_movable train
 
 -- what holds of every railway
 abbrev pub is_railway : RailwayState → Bool
 is_railway railway = is_sound railway.network && list_all (is_train railway.network) railway.trains
 
--- a train after so many microseconds in which the decoders do this: it runs as its own decoder
--- runs, or is derailed where a turnout was thrown under it
+-- a train after so many microseconds in which its decoder does this
 abbrev pub run_in : Network → (micros : ℕ) → List Node → TrainState → TrainState
 run_in network micros nodes train =
-    run_for network micros (running_in nodes train.decoder) (checked network train)
+    run_for network micros (running_in nodes train.decoder) train
 
 -- Without track power a train stands at once.
 abbrev pub run_under : Power → Network → (micros : ℕ) → List Node → TrainState → TrainState
-run_under Off network micros nodes train = still (checked network train)
+run_under Off network micros nodes train = still train
 run_under Running network micros nodes train = run_in network micros nodes train
 run_under Paused network micros nodes train = run_in network micros nodes train
 
+-- the turnouts lie as the decoders move them, and derail the trains under which they are thrown
+abbrev pub laid_in : List Node → RailwayState → RailwayState
+laid_in nodes railway = record {
+  network = laid nodes railway.network;
+  trains = map (checked nodes railway.network) railway.trains;
+}
+
+-- each train runs as its own decoder runs
+abbrev pub ran_in : Power → (micros : ℕ) → List Node → RailwayState → RailwayState
+ran_in power micros nodes railway =
+    record railway { trains = map (run_under power railway.network micros nodes) railway.trains }
+
 -- so many microseconds pass in which the decoders do this
 abbrev pub elapsed : RailwayState → (micros : ℕ) → Power → List Node → RailwayState
-elapsed railway micros power nodes = record {
-  network = laid nodes railway.network;
-  trains = map (run_under power (laid nodes railway.network) micros nodes) railway.trains;
-}
+elapsed railway micros power nodes = ran_in power micros nodes (laid_in nodes railway)
 
 -- what the sensors report of it
 abbrev pub reports_in : RailwayState → (micros : ℕ) → Power → List Node → List SensorReport
@@ -106,21 +110,23 @@ train_at train position = record {
 }
 
 -- a train is put back on the track
-abbrev pub replaced : TrainState → Position → TrainState
-replaced train position = state_of_train (train_at train position)
+abbrev pub replaced : Network → TrainState → Position → TrainState
+replaced network train position = state_of_train network (train_at train position)
 
 -- the train of this index, put there
 abbrev pub placed_in : RailwayState → (train : ℕ) → Position → RailwayState
 placed_in railway train position =
     record railway {
       trains = slice_set railway.trains train
-          (replaced (slice_index_or railway.trains train default_state) position);
+          (replaced railway.network (slice_index_or railway.trains train default_state) position);
     }
 
+-- its front is in the block there, and the track behind it is as long as the train
 abbrev pub fits_in : RailwayState → (train : ℕ) → Position → Bool
 fits_in railway train position =
-    fits (slice_index_or railway.network.blocks position.block default_block).length
-    (slice_index_or railway.trains train default_state).length position.at position.facing
+    has_front railway.network.blocks position
+    && is_room railway.network
+    (train_at (slice_index_or railway.trains train default_state) position)
 
 abbrev pub place_unless : Bool → PlaceFault → Option PlaceFault
 place_unless holds fault = if holds then None else Some fault

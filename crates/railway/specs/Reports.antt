@@ -1,17 +1,23 @@
 -- What sensors report, and what an observer knows by it.
-use Rattle.std.specs.Prelude.{ℕ, ◌+◌, ◌==◌, ◌&&◌, ◌||◌, ◌++◌, Bool, true, false, not, if◌then◌else◌, List, [], ◌∷◌, Option, Some, None}
-use Rattle.std.specs.List.{list_any}
+use Rattle.std.specs.Prelude.{ℕ, ◌+◌, ◌==◌, ◌&&◌, ◌++◌, Bool, true, false, nat_lt, not, if◌then◌else◌, List, [], ◌∷◌, Option, Some, None}
+use Rattle.std.specs.Bool.{beq}
+use Rattle.std.specs.Cmp.Lexicographic.{pointwise}
+use Rattle.std.specs.List.{list_any, slice_index_or}
 use Rattle.ln_ops.specs.Sensor.{is_sensor}
 use Rattle.ln_ops.specs.declared.sensor.SensorReport.{SensorReport}
 use Rattle.railway.specs.declared.block.Block.{Block}
 use Rattle.railway.specs.declared.train.TrainState.{TrainState}
 use Rattle.railway.specs.Turnouts.{same_bool}
 
--- a train is at most as long as a block, so that it is nowhere but in the blocks of its two ends
-abbrev pub occupies : (block : ℕ) → TrainState → Bool
-occupies block train = train.front.block == block || train.rear.block == block
-
 -- a part of a train is in the block
+abbrev pub occupies : (block : ℕ) → TrainState → Bool
+occupies block train = nat_lt block 64 && slice_index_or train.under block false
+
+-- a train is in the same blocks as another
+abbrev pub same_blocks : TrainState → TrainState → Bool
+same_blocks one other = pointwise beq one.under other.under
+
+-- a part of one of the trains is
 abbrev pub is_occupied : List TrainState → (block : ℕ) → Bool
 is_occupied trains block = list_any (occupies block) trains
 

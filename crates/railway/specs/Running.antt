@@ -6,7 +6,7 @@ use Rattle.motion.specs.declared.velocity.Drive.{Drive}
 use Rattle.motion.specs.declared.velocity.Velocity.{Velocity}
 use Rattle.railway.specs.declared.block.Block.{Block}
 use Rattle.railway.specs.declared.train.TrainState.{TrainState}
-use Rattle.railway.specs.Network.{Network, run_on}
+use Rattle.railway.specs.Network.{Network, marked, run_on}
 use Rattle.railway.specs.Places.{is_derailed, is_on_track, turned}
 use Rattle.railway.specs.Trains.{drive_of, is_movable}
 
@@ -40,6 +40,8 @@ unfoldable pub ridden : Network → Drive → (micros : ℕ) → TrainState → 
 ridden network drive zero train = train
 ridden network drive (suc micros) train = ridden network drive micros (rode network drive train)
 
--- a train runs as its decoder runs
+-- A train runs as its decoder runs, and then knows the blocks under it. A derailed one stands.
 abbrev pub run_for : Network → (micros : ℕ) → Option Running → TrainState → TrainState
-run_for network micros running train = ridden network (drive_of train running) micros train
+run_for network micros running train =
+    if is_derailed train then train else
+    marked network (ridden network (drive_of train running) micros train)

@@ -1,13 +1,14 @@
 -- Trains that stay in the blocks in which they are.
-use Rattle.std.specs.Prelude.{ℕ, ◌≡◌, ◌==◌, ◌&&◌, Bool, true, false, List, Option, Some, None, slice_get}
+use Rattle.std.specs.Prelude.{ℕ, ◌≡◌, Bool, true, false, List, Option, Some, None, slice_get}
 use Rattle.railway.specs.declared.train.TrainState.{TrainState}
+use Rattle.railway.specs.Reports.{same_blocks}
 
--- both ends of a train are in the blocks in which they were
+-- a train is in the blocks in which it was
 abbrev pub stays : (was is : Option TrainState) → Bool
 stays None None = true
-stays (Some was) (Some is) = was.front.block == is.front.block && was.rear.block == is.rear.block
+stays (Some was) (Some is) = same_blocks was is
 stays was is = false
 
--- those of each train are
+-- each train is
 abbrev pub AllStay : (was is : List TrainState) → Type 0
 AllStay was is = (train : ℕ) → stays (slice_get was train) (slice_get is train) ≡ true

@@ -1,5 +1,5 @@
--- Trains: how they are put on the track, and how fast their decoders run them.
-use Rattle.std.specs.Prelude.{ℕ, ◌+◌, ◌-◌, ◌*◌, ◌/◌, ◌&&◌, Bool, true, nat_le, min, List, length, Option, Some, None, slice_get}
+-- Trains, and how fast their decoders run them.
+use Rattle.std.specs.Prelude.{ℕ, ◌*◌, ◌/◌, ◌&&◌, Bool, true, nat_le, min, List, Option, Some, None, slice_get}
 use Rattle.std.specs.Option.{option_and_then}
 use Rattle.dcc_packet.specs.declared.steps.Motion.{Motion}
 use Rattle.dcc_packet.specs.declared.steps.Motion.TheVariants.{Stop, Emergency, Step}
@@ -12,12 +12,12 @@ use Rattle.motion.specs.Velocity.{is_momentum, velocity}
 use Rattle.motion.specs.declared.velocity.Drive.{Drive}
 use Rattle.motion.specs.declared.velocity.Momentum.{Momentum}
 use Rattle.motion.specs.declared.velocity.Velocity.{Velocity}
-use Rattle.railway.specs.declared.block.End.{End}
-use Rattle.railway.specs.declared.block.End.TheVariants.{A, B}
+use Rattle.railway.specs.declared.block.End.TheVariants.{A}
 use Rattle.railway.specs.declared.train.Place.{Place}
 use Rattle.railway.specs.declared.train.Position.{Position}
 use Rattle.railway.specs.declared.train.Train.{Train}
 use Rattle.railway.specs.declared.train.TrainState.{TrainState}
+use Rattle.railway.specs.Blocks.{no_blocks}
 
 abbrev pub default_position : Position
 default_position = record { block = 0; at = 0; facing = A }
@@ -43,47 +43,8 @@ default_state = record {
   rear = default_place;
   velocity = standstill;
   derailed_at = None;
+  under = no_blocks;
 }
-
--- A train of this length whose front is so far from end A fits into a block, all in millimetres.
-abbrev pub fits : (block length at : ℕ) → End → Bool
-fits block length at A = nat_le (at + length) block
-fits block length at B = nat_le length at && nat_le at block
-
--- the foremost femtometre of a train whose front is so many millimetres from end A
-abbrev pub front_at : End → (at : ℕ) → ℕ
-front_at A at = at * 1000000000000
-front_at B at = at * 1000000000000 - 1
-
--- and its rearmost one
-abbrev pub rear_at : End → (at length : ℕ) → ℕ
-rear_at A at length = (at + length) * 1000000000000 - 1
-rear_at B at length = (at - length) * 1000000000000
-
--- a train of a plan, at rest where it was put
-abbrev pub state_of_train : Train → TrainState
-state_of_train train = record {
-  decoder = train.decoder;
-  top = train.top;
-  length = train.length;
-  momentum = train.momentum;
-  front = record {
-    block = train.position.block;
-    at = front_at train.position.facing train.position.at;
-    toward = train.position.facing;
-  };
-  rear = record {
-    block = train.position.block;
-    at = rear_at train.position.facing train.position.at train.length;
-    toward = train.position.facing;
-  };
-  velocity = standstill;
-  derailed_at = None;
-}
-
--- train and position are at most 100 metres
-abbrev pub is_placeable : Train → Bool
-is_placeable train = nat_le train.length 100000 && nat_le train.position.at 100000
 
 -- the last step of a decoder
 abbrev pub last_step : Steps → ℕ
@@ -125,11 +86,9 @@ drive_of train running = record {
   momentum = momentum_of running train.momentum;
 }
 
--- a train of at most 100 metres, with a speed that it can have, and rates of at least 1
+-- a train with a speed that it can have, and rates of at least 1
 abbrev pub is_movable : TrainState → Bool
-is_movable train =
-    nat_le train.length 100000 && nat_le train.velocity.speed 2199023255552
-    && is_momentum train.momentum
+is_movable train = nat_le train.velocity.speed 2199023255552 && is_momentum train.momentum
 
 -- how the decoder of this index runs, if it is one of a locomotive
 abbrev pub running_in : List Node → (decoder : ℕ) → Option Running

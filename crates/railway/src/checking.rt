@@ -1,16 +1,18 @@
 //! The first fault of a plan.
-ghost use Rattle.std.specs.Prelude.{◌≡◌, ◌<◌, ◌≤◌, ◌++◌, length, List, IfSome, nat_le, slice_get};
-ghost use Rattle.std.specs.List.{list_all};
+ghost use Rattle.std.specs.Prelude.{◌≡◌, ◌<◌, ◌≤◌, ◌++◌, length, List, IfSome, slice_get};
 ghost use Rattle.motion.specs.Velocity.{is_momentum};
 ghost use Rattle.railway.specs.Blocks.{has_sensor, is_block_sensor, is_free};
 ghost use Rattle.railway.specs.Ends.{ends_of, ends_of_joints, ends_of_turnouts, has_end, is_end, named_twice};
-ghost use Rattle.railway.specs.Faults.{decoder_of, fault_of, fault_of_block, fault_of_blocks, fault_of_joints, fault_of_motors, fault_of_train, fault_of_trains, fault_of_turnouts, fits_there, is_loco, is_module, is_renamed, is_train_length, module_index};
+ghost use Rattle.railway.specs.Decoders.{decoder_of, is_loco, is_module, module_index};
+ghost use Rattle.railway.specs.Faults.{fault_of_block, fault_of_blocks, fault_of_joints, fault_of_motors, fault_of_track, fault_of_train, fault_of_trains, fault_of_turnouts, has_decoder, is_renamed};
 
 use crate::block::{Block, BlockEnd, LONGEST_BLOCK};
 use crate::fault::{Part, PlanFault};
 use crate::joint::{Joint, Turnout};
+use crate::placement::has_front;
 use crate::plan::{MAX_JOINTS, MAX_TURNOUTS, Plan};
-use crate::train::{Train, fits};
+use crate::track::Track;
+use crate::train::Train;
 use arrayvec::ArrayVec;
 use decoder_node::NodeSpec;
 use ln_ops::LAST_SENSOR;
@@ -22,9 +24,9 @@ const MAX_ENDS: usize = 2 * MAX_JOINTS + 3 * MAX_TURNOUTS;
 /// The ends that a plan names.
 type Ends = ArrayVec<BlockEnd, MAX_ENDS>;
 
-/// Returns the first fault of a plan for a layout with these decoders.
-pub(crate) fn fault_of(decoders: &[NodeSpec], plan: &Plan) -> Option<PlanFault>
-    ensures { result ≡ fault_of decoders.now plan.now }
+/// Returns the first fault of the track of a plan for a layout with these decoders.
+pub(crate) fn fault_of_track(decoders: &[NodeSpec], plan: &Plan) -> Option<PlanFault>
+    ensures { result ≡ fault_of_track decoders.now plan.now }
 {
     let blocks = plan.blocks.as_slice();
     let turnouts = plan.turnouts.as_slice();
@@ -33,7 +35,6 @@ pub(crate) fn fault_of(decoders: &[NodeSpec], plan: &Plan) -> Option<PlanFault>
         .or_else(|| fault_of_turnouts(blocks.len(), turnouts))
         .or_else(|| named_twice(plan.joints.as_slice(), turnouts).map(PlanFault::EndTwice))
         .or_else(|| fault_of_motors(decoders, turnouts))
-        .or_else(|| fault_of_trains(decoders, blocks, plan.trains.as_slice()))
 }
 
 fn fault_of_blocks(blocks: &[Block]) -> Option<PlanFault>
@@ -222,41 +223,67 @@ fn is_module(number: u16, spec: &NodeSpec) -> bool
     }
 }
 
-fn fault_of_trains(decoders: &[NodeSpec], blocks: &[Block], trains: &[Train]) -> Option<PlanFault>
-    ensures { result ≡ fault_of_trains decoders.now blocks.now 0 trains.now }
-{
-    for (i, train) in trains.iter().enumerate() {
-        if let Some(fault) = fault_of_train(decoders, blocks, i, train) {
-            return Some(fault);
+impl Track {
+    /// Returns the first fault of the trains of a plan for a layout with these decoders.
+    pub(crate) fn fault_of_trains(
+        &self,
+        decoders: &[NodeSpec],
+        trains: &[Train],
+    ) -> Option<PlanFault>
+        ensures { result ≡ fault_of_trains decoders.now self.now 0 trains.now }
+    {
+        for (i, train) in trains.iter().enumerate() {
+            let rest = &trains[i + 1..];
+            if let Some(fault) = self.fault_of_train(decoders, i, train, rest) {
+                return Some(fault);
+            }
         }
+        None
     }
-    None
+
+    fn fault_of_train(
+        &self,
+        decoders: &[NodeSpec],
+        i: usize,
+        train: &Train,
+        rest: &[Train],
+    ) -> Option<PlanFault>
+        ensures { result ≡ fault_of_train decoders.now self.now i train.now rest.now }
+    {
+        let blocks = self.blocks.as_slice();
+        if !is_loco(decoders, train.decoder) {
+            return Some(PlanFault::UnknownDecoder(Part::Train(i)));
+        }
+        if has_decoder(train.decoder, rest) {
+            return Some(PlanFault::DecoderTwice(i));
+        }
+        if usize::from(train.position.block) >= blocks.len() {
+            return Some(PlanFault::UnknownBlock(Part::Train(i)));
+        }
+        if train.length < 1 {
+            return Some(PlanFault::TrainLength(i));
+        }
+        if !is_momentum(train.momentum) {
+            return Some(PlanFault::Momentum(i));
+        }
+        if !has_front(blocks, train.position) {
+            return Some(PlanFault::OffTrack(i));
+        }
+        if !self.is_room(train) {
+            return Some(PlanFault::LongTrain {
+                train: i,
+                decoder: train.decoder,
+                block: self.block_behind(train),
+            });
+        }
+        None
+    }
 }
 
-fn fault_of_train(
-    decoders: &[NodeSpec],
-    blocks: &[Block],
-    i: usize,
-    train: &Train,
-) -> Option<PlanFault>
-    ensures { result ≡ fault_of_train decoders.now blocks.now i train.now }
+fn has_decoder(decoder: u8, trains: &[Train]) -> bool
+    ensures { result ≡ has_decoder decoder trains.now }
 {
-    if !is_loco(decoders, train.decoder) {
-        return Some(PlanFault::UnknownDecoder(Part::Train(i)));
-    }
-    if usize::from(train.position.block) >= blocks.len() {
-        return Some(PlanFault::UnknownBlock(Part::Train(i)));
-    }
-    if !is_train_length(blocks, train.length) {
-        return Some(PlanFault::TrainLength(i));
-    }
-    if !is_momentum(train.momentum) {
-        return Some(PlanFault::Momentum(i));
-    }
-    if !fits_there(blocks, train) {
-        return Some(PlanFault::OffTrack(i));
-    }
-    None
+    trains.iter().any(|train| train.decoder == decoder)
 }
 
 fn is_loco(decoders: &[NodeSpec], decoder: u8) -> bool
@@ -268,12 +295,6 @@ fn is_loco(decoders: &[NodeSpec], decoder: u8) -> bool
     }
 }
 
-fn is_train_length(blocks: &[Block], length: u32) -> bool
-    ensures { result ≡ is_train_length blocks.now length }
-{
-    length >= 1 && is_at_most_each(blocks, length)
-}
-
 /// Whether both rates are at least 1.
 fn is_momentum(momentum: Option<Momentum>) -> bool
     ensures { result ≡ is_momentum momentum }
@@ -282,18 +303,4 @@ fn is_momentum(momentum: Option<Momentum>) -> bool
         None => true,
         Some(momentum) => momentum.acceleration >= 1 && momentum.braking >= 1,
     }
-}
-
-fn is_at_most_each(blocks: &[Block], length: u32) -> bool
-    ensures { result ≡ list_all (λ block. nat_le length block.length) blocks.now }
-{
-    blocks.iter().all(|block| length <= block.length)
-}
-
-fn fits_there(blocks: &[Block], train: &Train) -> bool
-    requires { train.now.position.block < length blocks.now }
-    ensures { result ≡ fits_there blocks.now train.now }
-{
-    let block = &blocks[usize::from(train.position.block)];
-    fits(block.length, train.length, train.position)
 }

@@ -1,5 +1,5 @@
 //! Why a plan is refused.
-use crate::block::BlockEnd;
+use crate::block::{BlockEnd, Name};
 
 /// A part of a plan, by its index from 0.
 #[derive(Clone, Copy)]
@@ -26,12 +26,21 @@ pub enum PlanFault {
     EndTwice(BlockEnd),
     /// The layout has no decoder that moves the turnout or runs the train.
     UnknownDecoder(Part),
-    /// The train is shorter than a millimetre, or longer than a block.
+    /// The train has the decoder of a later one.
+    DecoderTwice(usize),
+    /// The train is shorter than a millimetre.
     TrainLength(usize),
     /// The acceleration or the braking of the train is 0.
     Momentum(usize),
-    /// The train does not fit into its block where it is put.
+    /// The front of the train is not in its block where it is put.
     OffTrack(usize),
+    /// The track behind the train, which has this decoder, ends in the block of this name before the
+    /// train does.
+    LongTrain {
+        train: usize,
+        decoder: u8,
+        block: Name,
+    },
 }
 
 /// Why a train was not placed.
@@ -41,6 +50,6 @@ pub enum PlaceFault {
     UnknownTrain,
     /// No block has this index.
     UnknownBlock,
-    /// The train does not fit into the block there.
+    /// The front of the train is not in the block there, or the track behind it ends before the train.
     OffTrack,
 }

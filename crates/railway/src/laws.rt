@@ -1,6 +1,6 @@
 //! The laws of a railway, each as a function that does nothing and ensures it: a call hands the
 //! law to a proof.
-ghost use Rattle.std.specs.Prelude.{◌≡◌, ◌≢◌, ℕ, ◌+◌, ◌/◌, ◌<◌, ◌≤◌, Bool, List, length, true, false, IfSome, IsTrue, Some, None};
+ghost use Rattle.std.specs.Prelude.{◌≡◌, ◌≢◌, ◌↔◌, ℕ, ◌+◌, ◌/◌, ◌<◌, ◌≤◌, Bool, List, length, not, true, false, IfSome, IsTrue, Some, None};
 ghost use Rattle.std.specs.List.{slice_index_or};
 ghost use Rattle.dcc_packet.specs.declared.steps.Motion.TheVariants.{Emergency, Stop};
 ghost use Rattle.decoder_node.specs.declared.running.Running.{Running};
@@ -15,16 +15,16 @@ ghost use Rattle.railway.specs.declared.exit.Exit.TheVariants.{Leads};
 ghost use Rattle.railway.specs.declared.exit.Onward.TheVariants.{BufferStop, Against};
 ghost use Rattle.railway.specs.declared.train.Place.{Place};
 ghost use Rattle.railway.specs.declared.train.TrainState.{TrainState};
-ghost use Rattle.railway.specs.Blocks.{default_block};
+ghost use Rattle.railway.specs.Blocks.{default_block, length_of};
 ghost use Rattle.railway.specs.Conflicts.{conflict_in};
 ghost use Rattle.railway.specs.Course.{Happening, after, after_all, reports_of_all};
-ghost use Rattle.railway.specs.Laws.{AreChanges, IsConflict, IsOnRails, StandsBetween, has_switch, leading, runs_only, speed_times_time, velocity_of, way_of};
-ghost use Rattle.railway.specs.Network.{Network, exit_of, is_sound, off_rails, onward, switch_at, way_on};
-ghost use Rattle.railway.specs.Places.{end_ahead, is_derailed, leading_end, span, still};
+ghost use Rattle.railway.specs.Laws.{AreChanges, IsConflict, IsOnRails, IsOnWay, StandsBetween, has_switch, leading, runs_only, speed_times_time, train_after, velocity_of, way_of};
+ghost use Rattle.railway.specs.Network.{Network, exit_of, is_sound, onward, switch_at, way_on};
+ghost use Rattle.railway.specs.Places.{end_ahead, is_derailed, leading_end, span, still, to_end};
 ghost use Rattle.railway.specs.Railway.{RailwayState, elapsed, is_railway, is_train, reports_in, run_in, run_under};
 ghost use Rattle.railway.specs.Reports.{full, is_occupied, level_after, occupies};
 ghost use Rattle.railway.specs.Trains.{is_forward, running_in};
-ghost use Rattle.railway.specs.Turnouts.{laid};
+ghost use Rattle.railway.specs.Turnouts.{checked, is_moved_end};
 
 /// Each train is in blocks of the plan, within their lengths. Its ends are as far apart as its
 /// length along the track, in both directions, or it is derailed.
@@ -34,12 +34,18 @@ pub fn trains_are_on_rails()
         → IsOnRails railway.network (slice_index_or railway.trains i none) }
 {}
 
-/// A train that is not derailed is nowhere but in the blocks of its two ends.
-pub fn trains_are_in_two_blocks()
-    ensures parts { (network : Network) (train : TrainState) (part : ℕ) (place : Place)
-        → IsTrue (is_sound network) → IsTrue (is_train network train) → is_derailed train ≡ false
-        → part ≤ span train → way_on network train.rear part ≡ Some place
-        → IsTrue (occupies place.block train) }
+/// A train that is not derailed is in exactly the blocks on the way from its rear to its front.
+pub fn trains_are_between_their_ends()
+    ensures between { (network : Network) (train : TrainState) (block : ℕ)
+        → IsTrue (is_train network train) → is_derailed train ≡ false → block < 64
+        → IsTrue (occupies block train) ↔ IsOnWay network train.rear (span train) block }
+{}
+
+/// Whatever happens to a railway, each train stays as long as it was.
+pub fn trains_keep_their_lengths()
+    ensures length { (railway : RailwayState) (happening : Happening) (i : ℕ) (none : TrainState)
+        → (slice_index_or (after railway happening).trains i none).length
+        ≡ (slice_index_or railway.trains i none).length }
 {}
 
 /// However a time is cut in which the decoders do the same, it has the same result. What holds of
@@ -135,11 +141,26 @@ pub fn trains_stand_at_once()
         → run_in network micros nodes train
         ≡ record train { velocity = velocity running.forward 0 } }
     ensures power { (network : Network) (train : TrainState) (micros : ℕ) (nodes : List Node)
-        → IsTrue (is_train network train)
         → run_under Off network micros nodes train ≡ still train }
 {
     motion::laws::without_momentum_at_once();
 }
+
+/// A train that nothing stops, and that then goes as far in the other direction, is where it was:
+/// while the turnouts stay, also over any number of them.
+pub fn ways_lead_back()
+    ensures back { (network : Network) (train : TrainState) (there back : ℕ)
+        (nodes others : List Node) (forward : Bool) (place : Place)
+        → IsTrue (is_sound network) → IsTrue (is_train network train) → is_derailed train ≡ false
+        → IsTrue (runs_only forward nodes there train)
+        → way_on network (leading_end forward train) (way_of nodes there train) ≡ Some place
+        → IsTrue (runs_only (not forward) others back (run_in network there nodes train))
+        → way_of others back (run_in network there nodes train) ≡ way_of nodes there train
+        → run_in network back others (run_in network there nodes train)
+        ≡ record train {
+          velocity = velocity_of others back (run_in network there nodes train);
+        } }
+{}
 
 /// With momentum a train that goes the other way stood still between.
 pub fn reversals_stand_still()
@@ -152,9 +173,8 @@ pub fn reversals_stand_still()
     motion::laws::reversals_stand_still();
 }
 
-/// A train stops where the track ends. It is derailed by a turnout that lies against it, or that
-/// is thrown under it, and has its switch: that of a turnout of the plan. A derailed train stands. Of
-/// a time in which a motor turns both ways these hold of each part.
+/// A train stops where the track ends. It is derailed by a turnout that lies against it, and has its
+/// switch. A derailed train stands. Of a time in which a motor turns both ways these hold of each part.
 pub fn trains_stop()
     ensures buffer_stop { (network : Network) (train : TrainState) (micros : ℕ)
         (nodes : List Node) (forward : Bool) (ahead : ℕ) (place : Place)
@@ -171,16 +191,35 @@ pub fn trains_stop()
         → onward network place ≡ Against → ahead < way_of nodes micros train
         → (run_in network micros nodes train).derailed_at
         ≡ Some (switch_at network.turnouts (end_ahead place)) }
-    ensures thrown_under { (network : Network) (train : TrainState) (micros : ℕ)
-        (nodes : List Node) → is_derailed train ≡ false
-        → way_on network train.rear (span train) ≢ Some train.front
-        → run_in network micros nodes train ≡ off_rails network train.rear train }
-    ensures turnout { (network : Network) (train : TrainState) (micros : ℕ) (nodes : List Node)
-        → IsTrue (is_sound network) → IsTrue (is_train network train) → is_derailed train ≡ false
-        → IfSome (run_in (laid nodes network) micros nodes train).derailed_at
-        (λ switch. IsTrue (has_switch network.turnouts switch)) }
     ensures derailed { (network : Network) (train : TrainState) (micros : ℕ) (nodes : List Node)
         → is_derailed train ≡ true → run_in network micros nodes train ≡ train }
+{}
+
+/// A turnout that is thrown under any part of a train derails it, where it is, in all its blocks: the
+/// first from its rear on, whatever the others then do. No other train is derailed. The switch that a
+/// derailed train has is that of a turnout of the plan.
+pub fn thrown_turnouts_derail()
+    ensures thrown { (network : Network) (train : TrainState) (nodes : List Node) (part : ℕ)
+        (place : Place) → is_derailed train ≡ false → part < span train
+        → way_on network train.rear part ≡ Some place
+        → to_end (length_of network.blocks place.block) place ≡ 0
+        → IsTrue (is_moved_end nodes network.turnouts (end_ahead place))
+        → is_derailed (checked nodes network train) ≡ true }
+    ensures stands { (network : Network) (train : TrainState) (power : Power) (micros : ℕ)
+        (nodes : List Node) → is_derailed train ≡ false
+        → is_derailed (checked nodes network train) ≡ true
+        → train_after power network micros nodes train
+        ≡ record (still train) { derailed_at = (checked nodes network train).derailed_at } }
+    ensures others { (network : Network) (train : TrainState) (nodes : List Node)
+        → ((part : ℕ) (place : Place) → part < span train
+        → way_on network train.rear part ≡ Some place
+        → to_end (length_of network.blocks place.block) place ≡ 0
+        → is_moved_end nodes network.turnouts (end_ahead place) ≡ false)
+        → checked nodes network train ≡ train }
+    ensures turnout { (network : Network) (train : TrainState) (power : Power) (micros : ℕ)
+        (nodes : List Node) → is_derailed train ≡ false
+        → IfSome (train_after power network micros nodes train).derailed_at
+        (λ switch. IsTrue (has_switch network.turnouts switch)) }
 {}
 
 /// The track that leads from an end to another leads back.

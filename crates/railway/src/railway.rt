@@ -1,24 +1,24 @@
 //! A railway: the track and the trains on it.
-ghost use Rattle.std.specs.Prelude.{◌≡◌, ◌≤◌, ◌<◌, IfErr, IfOk, IsTrue, List, None, OnErr, OnOk, Some, length, map, slice_set};
-ghost use Rattle.std.specs.List.{list_all, slice_index_or};
+ghost use Rattle.std.specs.Prelude.{◌≡◌, ◌≤◌, IfErr, IfOk, IsTrue, List, None, OnErr, OnOk, Some, length, map};
+ghost use Rattle.std.specs.List.{list_all};
 ghost use Rattle.railway.specs.Conflicts.{conflicts};
 ghost use Rattle.railway.specs.Faults.{fault_of};
 ghost use Rattle.railway.specs.Network.{exit_of};
-ghost use Rattle.railway.specs.Railway.{elapsed, is_railway, place_fault, placed_in, planned, replaced, reports_in, speed_in, train_at};
+ghost use Rattle.railway.specs.Railway.{elapsed, is_railway, laid_in, place_fault, placed_in, planned, reports_in, speed_in};
 ghost use Rattle.railway.specs.Reports.{changes, full, is_occupied, is_report};
-ghost use Rattle.railway.specs.Trains.{default_state, is_placeable, state_of_train};
 ghost use Rattle.railway.specs.Turnouts.{state_of_turnout};
 
 use crate::block::{Block, BlockEnd};
-use crate::checking::{decoder_of, fault_of};
+use crate::checking::{decoder_of, fault_of_track};
 use crate::conflict::{Conflicts, conflicts};
 use crate::exit::Exit;
 use crate::fault::{PlaceFault, PlanFault};
 use crate::joint::{Joint, Turnout, TurnoutState};
+use crate::placement::has_front;
 use crate::plan::{MAX_TURNOUTS, Plan};
 use crate::report::{Reports, changes, full, is_occupied};
 use crate::track::Track;
-use crate::train::{Position, Train, TrainState, Trains, fits, placed};
+use crate::train::{Position, TrainState, Trains};
 use arrayvec::ArrayVec;
 use decoder_node::{NodeList, NodeSpec};
 use layout_core::World;
@@ -56,17 +56,21 @@ impl Railway {
         ensures fault { IfErr result (λ fault. fault_of decoders.now.items plan ≡ Some fault) }
     {
         let decoders = decoders.as_slice();
-        match fault_of(decoders, &plan) {
+        match fault_of_track(decoders, &plan) {
             Some(fault) => return Err(fault),
             None => {}
         }
         let turnouts = turnout_states(decoders, plan.turnouts.as_slice());
-        let trains = train_states(plan.trains.as_slice());
         let track = Track {
             blocks: plan.blocks,
             joints: plan.joints,
             turnouts,
         };
+        match track.fault_of_trains(decoders, plan.trains.as_slice()) {
+            Some(fault) => return Err(fault),
+            None => {}
+        }
+        let trains = track.train_states(plan.trains.as_slice());
         Ok(Railway { track, trains })
     }
 
@@ -90,7 +94,7 @@ impl Railway {
             ≡ reports_in self.old micros world.now.station.powered.power world.now.nodes }
         ensures sensors { IsTrue (list_all is_report result.items) }
     {
-        self.track.lay(world);
+        self.lay(world);
         let track = &self.track;
         let trains = track.run_all(self.trains.as_slice(), micros, world);
         let blocks = track.blocks.as_slice();
@@ -98,15 +102,28 @@ impl Railway {
         self.trains = trains;
         reports
     }
+
+    /// Lays the turnouts as their decoders move them, and derails the trains under which one is
+    /// thrown.
+    fn lay(&mut self, world: &World)
+        ensures { self.new ≡ laid_in world.now.nodes self.old }
+    {
+        if self.track.is_moved(world) {
+            self.trains = self.track.check_all(self.trains.as_slice(), world);
+            self.track.lay(world);
+        }
+    }
 }
 
 impl Railway {
-    /// Puts a train on the track, derailed or not: its front at a position, the rest within the same block. It is at rest.
+    /// Puts a train on the track, derailed or not: its front at a position, the rest behind it, over any
+    /// number of blocks, as the turnouts lie. It is at rest.
+    ///
     /// Returns the reports of the sensors whose blocks became occupied, then of those that became
     /// free.
     ///
-    /// Fails, and changes nothing, if there is no such train or block, or if the train does not
-    /// fit into the block there.
+    /// Fails, and changes nothing, if there is no such train or block, if the front is not in the
+    /// block there, or if the track behind it ends before the train does.
     pub fn place(&mut self, train: usize, position: Position) -> Result<Reports, PlaceFault>
         ensures fault { IfErr result (λ fault. place_fault self.old train position ≡ Some fault) }
         ensures same { OnErr result (self.new ≡ self.old) }
@@ -121,7 +138,7 @@ impl Railway {
         }
         let track = &self.track;
         let old = self.trains.as_slice();
-        let trains = replaced(old, train, position);
+        let trains = track.replaced(old, train, position);
         let reports = changes(track.blocks.as_slice(), old, trains.as_slice());
         self.trains = trains;
         Ok(reports)
@@ -135,10 +152,11 @@ impl Railway {
             return Some(PlaceFault::UnknownTrain);
         };
         let track = &self.track;
-        let Some(block) = track.blocks.as_slice().get(usize::from(position.block)) else {
+        let blocks = track.blocks.as_slice();
+        if usize::from(position.block) >= blocks.len() {
             return Some(PlaceFault::UnknownBlock);
-        };
-        if !fits(block.length, train.length, position) {
+        }
+        if !has_front(blocks, position) || !track.is_room(&train.at(position)) {
             return Some(PlaceFault::OffTrack);
         }
         None
@@ -219,32 +237,6 @@ impl Railway {
     }
 }
 
-/// Returns these trains, with one of them put at a position.
-fn replaced(trains: &[TrainState], i: usize, position: Position) -> Trains
-    requires few { length trains.now ≤ 64 }
-    requires train { i < length trains.now }
-    requires placeable { IsTrue (is_placeable
-        (train_at (slice_index_or trains.now i default_state) position)) }
-    ensures { result.items ≡ slice_set trains.now i
-        (replaced (slice_index_or trains.now i default_state) position) }
-{
-    let train = trains[i];
-    let mut after = copied(trains);
-    after.as_mut_slice()[i] = placed(&train.at(position));
-    after
-}
-
-fn copied(trains: &[TrainState]) -> Trains
-    requires { length trains.now ≤ 64 }
-    ensures { result.items ≡ trains.now }
-{
-    let mut copy = ArrayVec::new();
-    for train in trains {
-        copy.push(*train);
-    }
-    copy
-}
-
 /// Returns the turnouts of a plan, closed, each with the index of its decoder.
 fn turnout_states(
     decoders: &[NodeSpec],
@@ -274,17 +266,4 @@ fn turnout_state(decoders: &[NodeSpec], turnout: &Turnout) -> TurnoutState
         decoder,
         is_thrown: false,
     }
-}
-
-/// Returns the trains of a plan, as they are put.
-fn train_states(trains: &[Train]) -> Trains
-    requires few { length trains.now ≤ 64 }
-    requires placeable { IsTrue (list_all is_placeable trains.now) }
-    ensures { result.items ≡ map state_of_train trains.now }
-{
-    let mut states = ArrayVec::new();
-    for train in trains {
-        states.push(placed(train));
-    }
-    states
 }

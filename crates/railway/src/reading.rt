@@ -1,7 +1,7 @@
 //! What the decoders of a layout do. They are read, and nothing changes them.
 ghost use Rattle.std.specs.Prelude.{◌≡◌, ◌<◌};
 ghost use Rattle.railway.specs.Trains.{running_in};
-ghost use Rattle.railway.specs.Turnouts.{is_on, lies_thrown, observed, outputs_in};
+ghost use Rattle.railway.specs.Turnouts.{is_moved, is_on, lies_thrown, observed, outputs_in};
 
 use crate::joint::TurnoutState;
 use layout_core::{Running, World};
@@ -38,6 +38,13 @@ pub(crate) fn observed(world: &World, state: &TurnoutState) -> TurnoutState
         is_thrown,
         ..*state
     }
+}
+
+/// Whether its decoder moves a turnout to its other side.
+pub(crate) fn is_moved(world: &World, state: &TurnoutState) -> bool
+    ensures { result ≡ is_moved world.now.nodes state.now }
+{
+    observed(world, state).is_thrown != state.is_thrown
 }
 
 /// Whether a turnout with these outputs lies thrown; `lay` is how it lay before.

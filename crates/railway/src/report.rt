@@ -1,7 +1,7 @@
 //! What the sensors report.
 ghost use Rattle.std.specs.Prelude.{◌≡◌, ◌≤◌, ◌<◌, ◌+◌, ◌++◌, length, slice_get, true};
 ghost use Rattle.arrayvec.specs.ArrayVec.{array_vec_len};
-ghost use Rattle.railway.specs.Reports.{change_of, changes, changes_from, full, is_occupied, occupies};
+ghost use Rattle.railway.specs.Reports.{change_of, changes, changes_from, full, is_occupied, occupies, same_blocks};
 ghost use Rattle.railway.specs.Staying.{AllStay, stays};
 
 use crate::block::Block;
@@ -21,7 +21,14 @@ impl TrainState {
     pub fn occupies(&self, block: usize) -> bool
         ensures occupies { result ≡ occupies block self.now }
     {
-        usize::from(self.front.block) == block || usize::from(self.rear.block) == block
+        block < MAX_BLOCKS && self.under[block]
+    }
+
+    /// Whether the train is in the same blocks as another.
+    pub fn is_in_blocks_of(&self, other: &TrainState) -> bool
+        ensures same { result ≡ same_blocks self.now other.now }
+    {
+        self.under == other.under
     }
 }
 
@@ -48,7 +55,7 @@ pub(crate) fn changes(blocks: &[Block], was: &[TrainState], is: &[TrainState]) -
     reports
 }
 
-/// Returns whether both ends of each train are in the blocks in which they were.
+/// Returns whether each train is in the blocks in which it was.
 fn all_stay(was: &[TrainState], is: &[TrainState]) -> bool
     ensures { result ≡ true → AllStay was.now is.now }
 {
@@ -68,9 +75,7 @@ fn stays(was: &[TrainState], is: &[TrainState], i: usize) -> bool
 {
     match (was.get(i), is.get(i)) {
         (None, None) => true,
-        (Some(was), Some(is)) => {
-            was.front.block == is.front.block && was.rear.block == is.rear.block
-        }
+        (Some(was), Some(is)) => was.is_in_blocks_of(is),
         _ => false,
     }
 }

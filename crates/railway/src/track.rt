@@ -1,20 +1,22 @@
 //! The track, and how a train runs on it.
-ghost use Rattle.std.specs.Prelude.{◌≡◌, ◌+◌, ◌<◌, ◌≤◌, IsTrue, length, IfSome, map, None, Some};
+ghost use Rattle.std.specs.Prelude.{◌≡◌, ◌+◌, ◌<◌, ◌≤◌, IsTrue, length, IfSome, map, slice_set, None, Some, true};
 ghost use Rattle.std.specs.List.{list_all, list_any};
-ghost use Rattle.railway.specs.Blocks.{length_of};
-ghost use Rattle.railway.specs.Network.{LeadsToPlan, across, as_joint, exit_of, is_branch, is_end_of, joined, off_rails, onward, partner, place_of, run_on, switch_at, way_on};
+ghost use Rattle.motion.specs.Velocity.{is_drive};
+ghost use Rattle.railway.specs.Blocks.{length_of, no_blocks};
+ghost use Rattle.railway.specs.Network.{LeadsOn, LeadsToPlan, across, as_joint, covered, exit_of, first_at, is_branch, is_end_of, joined, last_on, leaves_at, marked, off_rails, onward, partner, place_of, run_on, switch_at, way_on};
 ghost use Rattle.railway.specs.Places.{is_on_track, start_at, to_end};
 ghost use Rattle.railway.specs.Running.{can_run, is_within};
+ghost use Rattle.railway.specs.Turnouts.{is_moved, is_moved_end};
 
 use crate::block::{Block, BlockEnd, End};
 use crate::exit::{Exit, Onward};
 use crate::joint::{Joint, TurnoutState};
 use crate::plan::{MAX_BLOCKS, MAX_JOINTS, MAX_TURNOUTS};
-use crate::reading::{observed, running};
+use crate::reading::{is_moved, observed, running};
 use crate::train::{MILLIMETRE_A_SECOND, Place, TrainState, Trains, drive};
 use arrayvec::ArrayVec;
 use layout_core::{Running, World};
-use motion::Leg;
+use motion::{Drive, Leg};
 use station_core::Power;
 use std::marker::Model;
 
@@ -135,6 +137,23 @@ fn is_branch(turnouts: &[TurnoutState], end: BlockEnd) -> bool
     turnouts.iter().any(|turnout| turnout.is_branch(end))
 }
 
+/// Whether an end belongs to a turnout that its decoder moves to its other side.
+fn is_moved_end(world: &World, turnouts: &[TurnoutState], end: BlockEnd) -> bool
+    ensures { result ≡ is_moved_end world.now.nodes turnouts.now end }
+{
+    turnouts
+        .iter()
+        .any(|turnout| turnout.has_end(end) && is_moved(world, turnout))
+}
+
+/// Marks a block.
+fn mark(marks: &mut [bool], block: u8)
+    requires { block < length marks.old }
+    ensures { marks.new ≡ slice_set marks.old block true }
+{
+    marks[usize::from(block)] = true;
+}
+
 impl Track {
     /// Returns the length of a block in femtometres.
     fn length(&self, block: u8) -> u64
@@ -225,9 +244,8 @@ impl Track {
     fn go_on(&self, place: Place, way: u64) -> Option<(Place, u64)>
         requires on_track { IsTrue (is_on_track self.now.blocks place) }
         requires goes { 0 < way }
-        ensures none { result ≡ None → way_on self.now place way ≡ None }
-        ensures some { IfSome result
-            (λ next. way_on self.now place way ≡ way_on self.now next.0 next.1) }
+        ensures ends { result ≡ None → place_of (onward self.now place) ≡ None }
+        ensures goes { IfSome result (λ next. LeadsOn self.now place way next.0 next.1) }
         ensures on_track { IfSome result (λ next. IsTrue (is_on_track self.now.blocks next.0)) }
         ensures less { IfSome result (λ next. next.1 < way) }
     {
@@ -243,9 +261,10 @@ impl Track {
     }
 
     /// Returns the place `way` femtometres ahead, or `None` if the track ends before.
-    fn way_on(&self, place: Place, way: u64) -> Option<Place>
+    pub(crate) fn way_on(&self, place: Place, way: u64) -> Option<Place>
         requires { IsTrue (is_on_track self.now.blocks place) }
-        ensures { result ≡ way_on self.now place way }
+        ensures way { result ≡ way_on self.now place way }
+        ensures on_track { IfSome result (λ there. IsTrue (is_on_track self.now.blocks there)) }
     {
         let mut place = place;
         let mut left = way;
@@ -253,6 +272,80 @@ impl Track {
             (place, left) = self.go_on(place, left)?;
         }
         Some(place)
+    }
+
+    /// Returns the place `way` femtometres ahead, or the last one if the track ends before.
+    pub(crate) fn last_on(&self, place: Place, way: u64) -> Place
+        requires { IsTrue (is_on_track self.now.blocks place) }
+        ensures last { result ≡ last_on self.now place way }
+        ensures on_track { IsTrue (is_on_track self.now.blocks result) }
+    {
+        let mut place = place;
+        let mut left = way;
+        while left > 0 {
+            match self.go_on(place, left) {
+                Some(next) => (place, left) = next,
+                None => return place,
+            }
+        }
+        place
+    }
+
+    /// Returns which blocks there are on the way to the place `way` femtometres ahead.
+    fn covered(&self, place: Place, way: u64) -> [bool; MAX_BLOCKS]
+        requires { IsTrue (is_on_track self.now.blocks place) }
+        ensures { result ≡ covered self.now place way no_blocks }
+    {
+        let _blocks = self.blocks.as_slice();
+        let mut marks = [false; MAX_BLOCKS];
+        mark(&mut marks, place.block);
+        let mut place = place;
+        let mut left = way;
+        while left > 0 {
+            match self.go_on(place, left) {
+                Some(next) => (place, left) = next,
+                None => return marks,
+            }
+            mark(&mut marks, place.block);
+        }
+        marks
+    }
+
+    /// Returns the train, which then knows the blocks from its rear to its front.
+    pub(crate) fn marked(&self, train: &TrainState) -> TrainState
+        requires { IsTrue (is_on_track self.now.blocks train.now.rear) }
+        ensures { result ≡ marked self.now train.now }
+    {
+        TrainState {
+            under: self.covered(train.rear, train.span()),
+            ..*train
+        }
+    }
+
+    /// Whether a way goes on over an end of a turnout that its decoder moves to its other side.
+    fn leaves_at_moved(&self, world: &World, place: Place) -> bool
+        requires { IsTrue (is_on_track self.now.blocks place) }
+        ensures { result
+            ≡ leaves_at (is_moved_end world.now.nodes self.now.turnouts) self.now place }
+    {
+        self.to_end(place) == 0 && is_moved_end(world, self.turnouts.as_slice(), place.end_ahead())
+    }
+
+    /// Returns the first place on a way at which it goes on over an end of such a turnout.
+    fn moved_at_first(&self, world: &World, place: Place, way: u64) -> Option<Place>
+        requires { IsTrue (is_on_track self.now.blocks place) }
+        ensures { result
+            ≡ first_at (is_moved_end world.now.nodes self.now.turnouts) self.now place way }
+    {
+        let mut place = place;
+        let mut left = way;
+        while left > 0 {
+            if self.leaves_at_moved(world, place) {
+                return Some(place);
+            }
+            (place, left) = self.go_on(place, left)?;
+        }
+        None
     }
 
     /// Returns the train where it is, derailed by the turnout ahead of a place. It stands.
@@ -316,35 +409,9 @@ impl Track {
 
 impl Track {
     ghost use Rattle.std.specs.Prelude.{slice_get};
-    ghost use Rattle.railway.specs.Network.{checked, spans};
     ghost use Rattle.railway.specs.Railway.{run_in, run_under, shown_speed, speed_or_none};
-    ghost use Rattle.railway.specs.Running.{moved_at, run_for};
-    ghost use Rattle.railway.specs.Turnouts.{laid, observed};
-
-    /// Whether the track leads from the rear of a train to its front, over its length.
-    fn spans(&self, train: &TrainState) -> bool
-        requires { IsTrue (can_run self.now.blocks train.now) }
-        ensures { result ≡ spans self.now train.now }
-    {
-        match self.way_on(train.rear, train.span()) {
-            Some(place) => place.is(train.front),
-            None => false,
-        }
-    }
-
-    /// Returns the train, derailed by the turnout that was thrown under it, if one was.
-    fn checked(&self, train: &TrainState) -> TrainState
-        requires { IsTrue (can_run self.now.blocks train.now) }
-        ensures checked { result ≡ checked self.now train.now }
-        ensures runs { IsTrue (can_run self.now.blocks result) }
-        ensures decoder { result.decoder ≡ train.now.decoder }
-    {
-        if train.is_derailed() || self.spans(train) {
-            *train
-        } else {
-            self.off_rails(train, train.rear)
-        }
-    }
+    ghost use Rattle.railway.specs.Running.{moved_at, ridden, run_for};
+    ghost use Rattle.railway.specs.Turnouts.{checked, laid, observed};
 
     /// Returns a train that has run for a part of a time in which it goes in one direction. A derailed
     /// train stays where it is.
@@ -368,12 +435,13 @@ impl Track {
         }
     }
 
-    /// Returns a train that has run for `micros` microseconds as its decoder runs.
-    fn run_for(&self, train: &TrainState, micros: u32, running: Option<Running>) -> TrainState
-        requires { IsTrue (can_run self.now.blocks train.now) }
-        ensures { result ≡ run_for self.now micros running train.now }
+    /// Returns a train that has run for `micros` microseconds in which this is asked of it.
+    fn ridden(&self, train: &TrainState, drive: Drive, micros: u32) -> TrainState
+        requires runs { IsTrue (can_run self.now.blocks train.now) }
+        requires drive { IsTrue (is_drive drive) }
+        ensures ridden { result ≡ ridden self.now drive micros train.now }
+        ensures runs { IsTrue (can_run self.now.blocks result) }
     {
-        let drive = drive(train, running);
         let mut train = *train;
         let mut left = micros;
         while left > 0 {
@@ -384,19 +452,18 @@ impl Track {
         train
     }
 
-    /// Returns the turnouts as their decoders move them.
-    fn observed(&self, world: &World) -> ArrayVec<TurnoutState, MAX_TURNOUTS>
-        ensures { result.items ≡ map (observed world.now.nodes) self.now.turnouts }
+    /// Returns a train that has run for `micros` microseconds as its decoder runs. A derailed one stands.
+    fn run_for(&self, train: &TrainState, micros: u32, running: Option<Running>) -> TrainState
+        requires { IsTrue (can_run self.now.blocks train.now) }
+        ensures { result ≡ run_for self.now micros running train.now }
     {
-        let mut turnouts = ArrayVec::new();
-        for turnout in self.turnouts.as_slice() {
-            turnouts.push(observed(world, turnout));
+        if train.is_derailed() {
+            return *train;
         }
-        turnouts
+        self.marked(&self.ridden(train, drive(train, running), micros))
     }
 
-    /// Returns these trains after `micros` microseconds: each has run as its decoder runs, or is
-    /// derailed where a turnout was thrown under it.
+    /// Returns these trains after `micros` microseconds: each has run as its decoder runs.
     pub(crate) fn run_all(&self, trains: &[TrainState], micros: u32, world: &World) -> Trains
         requires few { length trains.now ≤ 64 }
         requires run { IsTrue (list_all (can_run self.now.blocks) trains.now) }
@@ -418,7 +485,7 @@ impl Track {
             ≡ run_under world.now.station.powered.power self.now micros world.now.nodes train.now }
     {
         match world.station().power() {
-            Power::Off => self.checked(train).still(),
+            Power::Off => train.still(),
             Power::Running | Power::Paused => self.run_in(train, micros, world),
         }
     }
@@ -428,8 +495,7 @@ impl Track {
         requires { IsTrue (can_run self.now.blocks train.now) }
         ensures { result ≡ run_in self.now micros world.now.nodes train.now }
     {
-        let train = self.checked(train);
-        self.run_for(&train, micros, running(world, train.decoder))
+        self.run_for(train, micros, running(world, train.decoder))
     }
 
     /// Returns how fast one of some trains runs, as [`Track::shown_speed`]; 0 if there is no such train.
@@ -454,6 +520,51 @@ impl Track {
             Onward::BufferStop => 0,
             Onward::To(_) | Onward::Against => (velocity.speed / MILLIMETRE_A_SECOND) as u32,
         }
+    }
+
+    /// Whether a decoder moves one of the turnouts to its other side.
+    pub(crate) fn is_moved(&self, world: &World) -> bool
+        ensures { result ≡ list_any (is_moved world.now.nodes) self.now.turnouts }
+    {
+        self.turnouts.iter().any(|turnout| is_moved(world, turnout))
+    }
+
+    /// Returns a train, derailed by the first turnout from its rear on that is thrown under it.
+    fn checked(&self, train: &TrainState, world: &World) -> TrainState
+        requires { IsTrue (can_run self.now.blocks train.now) }
+        ensures { result ≡ checked world.now.nodes self.now train.now }
+    {
+        if train.is_derailed() {
+            return *train;
+        }
+        match self.moved_at_first(world, train.rear, train.span()) {
+            Some(place) => self.off_rails(train, place),
+            None => *train,
+        }
+    }
+
+    /// Returns these trains, of which each is derailed under which a turnout is thrown.
+    pub(crate) fn check_all(&self, trains: &[TrainState], world: &World) -> Trains
+        requires few { length trains.now ≤ 64 }
+        requires run { IsTrue (list_all (can_run self.now.blocks) trains.now) }
+        ensures { result.items ≡ map (checked world.now.nodes self.now) trains.now }
+    {
+        let mut after = ArrayVec::new();
+        for train in trains {
+            after.push(self.checked(train, world));
+        }
+        after
+    }
+
+    /// Returns the turnouts as their decoders move them.
+    fn observed(&self, world: &World) -> ArrayVec<TurnoutState, MAX_TURNOUTS>
+        ensures { result.items ≡ map (observed world.now.nodes) self.now.turnouts }
+    {
+        let mut turnouts = ArrayVec::new();
+        for turnout in self.turnouts.as_slice() {
+            turnouts.push(observed(world, turnout));
+        }
+        turnouts
     }
 
     /// Lays the turnouts as their decoders move them.

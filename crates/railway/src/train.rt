@@ -1,16 +1,16 @@
 //! Trains.
-ghost use Rattle.std.specs.Prelude.{◌≡◌, ◌≤◌, ◌<◌, ◌+◌, ◌^◌, IsTrue, true};
+ghost use Rattle.std.specs.Prelude.{◌≡◌, ◌≤◌, ◌<◌, ◌+◌, ◌^◌, IsTrue};
 ghost use Rattle.motion.specs.Velocity.{is_drive, is_momentum};
 ghost use Rattle.railway.specs.Places.{end_ahead, further, is_derailed, leading_end, moved, same_place, span, still, to_end, turned, turned_place};
-ghost use Rattle.railway.specs.Trains.{default_state, default_train, drive_of, fits, is_forward, is_placeable, momentum_of, speed_at, speed_of, standstill, state_of_train};
+ghost use Rattle.railway.specs.Trains.{default_state, default_train, drive_of, is_forward, momentum_of, speed_at, speed_of};
 
 use crate::block::{BlockEnd, End, MILLIMETRE};
-use crate::plan::MAX_TRAINS;
+use crate::plan::{MAX_BLOCKS, MAX_TRAINS};
 use arrayvec::ArrayVec;
 use layout_core::{Motion, Running, Steps};
 use motion::{Drive, FASTEST, Momentum, Velocity};
 
-/// Where a train is put: within one block.
+/// Where the front of a train is put. The rest is behind it, as the turnouts lie.
 #[derive(Clone, Copy)]
 pub struct Position {
     /// The index of the block in the plan, from 0.
@@ -28,8 +28,8 @@ pub struct Train {
     pub decoder: u8,
     /// Its speed at the last speed step, in millimetres a second.
     pub top: u16,
-    /// Its length in millimetres: at least 1, and at most that of the shortest block.
-    pub length: u32,
+    /// Its length in millimetres, at least 1.
+    pub length: u16,
     /// How fast it gathers speed and brakes; `None` for at once.
     pub momentum: Option<Momentum>,
     pub position: Position,
@@ -39,7 +39,7 @@ pub struct Train {
 pub(crate) const MILLIMETRE_A_SECOND: u64 = MILLIMETRE / 1_000_000;
 
 /// The velocity of a train at rest.
-const STANDSTILL: Velocity = Velocity {
+pub(crate) const STANDSTILL: Velocity = Velocity {
     forward: true,
     speed: 0,
 };
@@ -66,7 +66,7 @@ pub struct TrainState {
     /// Its speed at the last speed step, in millimetres a second.
     pub top: u16,
     /// Its length in millimetres.
-    pub length: u32,
+    pub length: u16,
     /// How fast it gathers speed and brakes; `None` for at once.
     pub momentum: Option<Momentum>,
     /// The foremost femtometre of the train. The end ahead is where it goes if it runs forward.
@@ -77,6 +77,8 @@ pub struct TrainState {
     pub velocity: Velocity,
     /// The switch of the turnout that derailed it, until it is placed again; `None` on the rails.
     pub derailed_at: Option<u16>,
+    /// Whether a part of it is in the block of each index.
+    pub under: [bool; MAX_BLOCKS],
 }
 
 impl Place {
@@ -203,7 +205,6 @@ impl TrainState {
 
     /// Returns how far the front is from the rear, in femtometres.
     pub(crate) fn span(&self) -> u64
-        requires { self.now.length ≤ 100000 }
         ensures { result ≡ span self.now }
     {
         (u64::from(self.length) * MILLIMETRE).saturating_sub(1)
@@ -248,52 +249,8 @@ impl Default for TrainState {
             rear: place,
             velocity: STANDSTILL,
             derailed_at: None,
+            under: [false; MAX_BLOCKS],
         }
-    }
-}
-
-/// Whether a train of this length fits into a block at a position, all in millimetres.
-pub(crate) fn fits(block: u32, length: u32, position: Position) -> bool
-    ensures { result ≡ fits block length position.at position.facing }
-{
-    match position.facing {
-        End::A => u64::from(position.at) + u64::from(length) <= u64::from(block),
-        End::B => length <= position.at && position.at <= block,
-    }
-}
-
-/// Returns a train of a plan, at rest where it is put.
-pub(crate) fn placed(train: &Train) -> TrainState
-    requires { IsTrue (is_placeable train.now) }
-    ensures { result ≡ state_of_train train.now }
-{
-    let position = train.position;
-    let at = u64::from(position.at);
-    let size = u64::from(train.length);
-    let (front, rear) = match position.facing {
-        End::A => (
-            at * MILLIMETRE,
-            ((at + size) * MILLIMETRE).saturating_sub(1),
-        ),
-        End::B => (
-            (at * MILLIMETRE).saturating_sub(1),
-            at.saturating_sub(size) * MILLIMETRE,
-        ),
-    };
-    let place = |at| Place {
-        block: position.block,
-        at,
-        toward: position.facing,
-    };
-    TrainState {
-        decoder: train.decoder,
-        top: train.top,
-        length: train.length,
-        momentum: train.momentum,
-        front: place(front),
-        rear: place(rear),
-        velocity: STANDSTILL,
-        derailed_at: None,
     }
 }
 

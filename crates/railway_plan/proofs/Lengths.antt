@@ -1,5 +1,5 @@
 -- The members of an array one by one.
-use Rattle.std.proofs.Common.{◌≡◌, ℕ, ◌+◌, ◌<◌, List, [], ◌∷◌, ◌++◌, length, get_or, drop, arith, Result, Ok, Err, ◌≤◌, refl, sym}
+use Rattle.std.proofs.Common.{◌≡◌, ℕ, ◌+◌, ◌<◌, List, [], ◌∷◌, ◌++◌, length, get_or, drop, arith, None, Result, Ok, Err, ◌≤◌, refl, sym}
 use Rattle.toml.specs.Data.{Data, Items, no_items, item, Members}
 use Rattle.toml.specs.declared.value.Value.{Value}
 use Rattle.toml.specs.View.{items_view, view}
@@ -18,7 +18,7 @@ pub part_read : {A : Type 0} (of_table : Members → Result A Why) (place : ℕ 
 part_read of_table place values i d earlier part within e = rw (items_view-drop values i d within, e) refl
 
 pub part_refused : {A : Type 0} (of_table : Members → Result A Why) (place : ℕ → Section) (values : List Value) (i : ℕ) (d : Value) (earlier : List A) (why : Why) → i < length values → part_of of_table (view (get_or values i d)) ≡ Err why
-    → parts_after of_table place earlier (items_view (drop i values)) ≡ Err (record { section = place (length earlier + 1); why = why })
+    → parts_after of_table place earlier (items_view (drop i values)) ≡ Err (record { section = place (length earlier + 1); why = why; names = None })
 part_refused of_table place values i d earlier why within e = rw (items_view-drop values i d within, e) refl
 
 -- What reads two members gives the same for fewer and for more.

@@ -257,7 +257,7 @@ train_in decoders blocks given = do
   block ← block_at blocks table
   at ← number_at key.Front (from_to 0 100000) table
   facing ← facing_at table
-  size ← number_at key.Length (from_to 1 100000) table
+  size ← number_at key.Length (from_to 1 65535) table
   top ← number_at key.Speed (from_to 0 65535) table
   momentum ← momentum_at table
   Ok (record {
@@ -272,7 +272,7 @@ train_in decoders blocks given = do
 
 abbrev pub in_section : {A : Type 0} → Section → Result A Why → Result A PlanTextFault
 in_section place (Ok x) = Ok x
-in_section place (Err why) = Err (record { section = place; why = why })
+in_section place (Err why) = Err (record { section = place; why = why; names = None })
 
 abbrev pub table_of : Data → Result Members Why
 table_of value = or_fault (as_table value) NotTable

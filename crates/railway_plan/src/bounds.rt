@@ -9,10 +9,16 @@ pub(crate) struct Bounds {
 
 pub(crate) const VERSION: Bounds = Bounds { least: 1, most: 1 };
 
-/// The length of a block or of a train, in millimetres.
+/// The length of a block, in millimetres.
 pub(crate) const LENGTH: Bounds = Bounds {
     least: 1,
     most: 100_000,
+};
+
+/// The length of a train, in millimetres.
+pub(crate) const TRAIN_LENGTH: Bounds = Bounds {
+    least: 1,
+    most: 65_535,
 };
 
 /// A sensor, as throttles show its number.

@@ -1,11 +1,17 @@
 //! Why the text of a plan is refused.
-ghost use Rattle.std.specs.Prelude.{◌≡◌};
-ghost use Rattle.railway_plan.specs.Railways.{number_of, section_of, text_fault};
+ghost use Rattle.std.specs.Prelude.{◌≡◌, slice_get};
+ghost use Rattle.roster.specs.Decoders.{decoder_name};
+ghost use Rattle.railway_plan.specs.Railways.{HasNames, IsTextFault, number_of, section_at, section_of, why_of};
 
-use crate::bounds::{Bounds, FRONT, LENGTH, RATE, SENSOR, SPEED, SWITCH};
+use crate::bounds::{Bounds, FRONT, LENGTH, RATE, SENSOR, SPEED, SWITCH, TRAIN_LENGTH};
 use crate::key::Key;
-use railway::{End, Part, PlanFault};
+use arrayvec::ArrayString;
+use railway::{End, Name, Part, PlanFault};
+use roster::{Roster, decoder_name};
 use std::fmt;
+
+/// The name of a train, which is that of its decoder.
+pub type TrainName = ArrayString<16>;
 
 /// Why the text of a plan is refused.
 #[derive(Clone, Copy)]
@@ -34,10 +40,12 @@ pub enum Why {
     RepeatedEnd(End),
     /// No decoder of the roster moves the turnout, or the decoder of the train runs no locomotive.
     NoDecoder,
-    /// The train is longer than a block.
-    LongTrain,
-    /// The train does not fit into its block where it is put.
+    /// A later train has the decoder of this one.
+    RepeatedDecoder,
+    /// The front of the train is not in its block.
     OffTrack,
+    /// The track behind the train ends before the train does.
+    LongTrain,
     /// Out of memory.
     NoMemory,
 }
@@ -57,6 +65,15 @@ pub enum Section {
 pub struct PlanTextFault {
     pub section: Section,
     pub why: Why,
+    /// If a train is too long, the names of the train and of a block.
+    pub names: Option<TrainNames>,
+}
+
+/// The name of a train, and that of the block in which the track behind it ends.
+#[derive(Clone, Copy)]
+pub struct TrainNames {
+    pub train: TrainName,
+    pub block: Name,
 }
 
 /// Writes between which numbers that at a key must be.
@@ -85,8 +102,8 @@ fn section_of(part: Part) -> Section
 
 /// Returns where a plan has a fault, and the reason.
 fn place_of(fault: PlanFault) -> (Section, Why)
-    ensures section { result.0 ≡ (text_fault fault).section }
-    ensures why { result.1 ≡ (text_fault fault).why }
+    ensures section { result.0 ≡ section_at fault }
+    ensures why { result.1 ≡ why_of fault }
 {
     match fault {
         PlanFault::BlockLength(i) => (Section::Block(number_of(i)), Why::BadKey(Key::Length)),
@@ -101,18 +118,46 @@ fn place_of(fault: PlanFault) -> (Section, Why)
             )
         }
         PlanFault::UnknownDecoder(part) => (section_of(part), Why::NoDecoder),
-        PlanFault::TrainLength(i) => (Section::Train(number_of(i)), Why::LongTrain),
-        PlanFault::Momentum(i) => { (Section::Train(number_of(i)), Why::BadKey(Key::Acceleration)) }
+        PlanFault::DecoderTwice(i) => (Section::Train(number_of(i)), Why::RepeatedDecoder),
+        PlanFault::TrainLength(i) => (Section::Train(number_of(i)), Why::BadKey(Key::Length)),
+        PlanFault::Momentum(i) => (Section::Train(number_of(i)), Why::BadKey(Key::Acceleration)),
         PlanFault::OffTrack(i) => (Section::Train(number_of(i)), Why::OffTrack),
+        PlanFault::LongTrain { train, .. } => (Section::Train(number_of(train)), Why::LongTrain),
     }
 }
 
-impl From<PlanFault> for PlanTextFault {
-    ghost from_gives = { λ plan fault. fault ≡ text_fault plan };
+/// Returns the name of a decoder of a roster, by its index from 0.
+fn train_name(roster: &Roster, decoder: u8) -> TrainName
+    ensures { result.bytes ≡ decoder_name (slice_get roster.now decoder) }
+{
+    let mut name = TrainName::new();
+    name.push_str(decoder_name(Some(roster), usize::from(decoder)));
+    name
+}
 
-    fn from(fault: PlanFault) -> PlanTextFault {
-        let (section, why) = place_of(fault);
-        PlanTextFault { section, why }
+/// Returns the names of a train of a plan that is too long, and of a block; none of another fault.
+fn names_of(roster: &Roster, fault: &PlanFault) -> Option<TrainNames>
+    ensures { HasNames roster.now fault.now result }
+{
+    match fault {
+        PlanFault::LongTrain { decoder, block, .. } => Some(TrainNames {
+            train: train_name(roster, *decoder),
+            block: *block,
+        }),
+        _ => None,
+    }
+}
+
+/// Returns the fault of a plan for the decoders of a roster, as one of its text.
+pub(crate) fn text_fault(roster: &Roster, fault: PlanFault) -> PlanTextFault
+    ensures { IsTextFault roster.now fault result }
+{
+    let names = names_of(roster, &fault);
+    let (section, why) = place_of(fault);
+    PlanTextFault {
+        section,
+        why,
+        names,
     }
 }
 
@@ -151,8 +196,9 @@ fn words_of(why: Why) -> &'static str {
         Why::RepeatedEnd(End::A) => "end a is named twice",
         Why::RepeatedEnd(End::B) => "end b is named twice",
         Why::NoDecoder => "the roster has no decoder for it",
-        Why::LongTrain => "the train is longer than a block",
-        Why::OffTrack => "the train does not fit into its block there",
+        Why::RepeatedDecoder => "another train has this decoder",
+        Why::OffTrack => "its front is not in its block",
+        Why::LongTrain => "longer than the track behind it",
         Why::NoMemory => "no memory",
         Why::BadKey(_) | Why::TooMany(_) | Why::UnknownEnd(_) => "",
     }
@@ -184,10 +230,19 @@ impl fmt::Display for Section {
 impl fmt::Display for PlanTextFault {
     fn fmt<W: fmt::Write>(&self, f: &mut fmt::Formatter<W>) -> fmt::Result {
         let (section, why) = (self.section, self.why);
+        if let Some(names) = &self.names {
+            let (train, block) = (names.train.as_str(), names.block.as_str());
+            return write!(f, "{section} ({train}): {why} (block {block})");
+        }
         match (section, why) {
             // `block` is a key of the plan, and one of a train.
             (Section::Train(_), Why::BadKey(Key::Block)) => {
                 write!(f, "{section}: block must be the name of a block")
+            }
+            // So is `length`.
+            (Section::Train(_), Why::BadKey(Key::Length)) => {
+                let Bounds { least, most } = TRAIN_LENGTH;
+                write!(f, "{section}: length must be {least} to {most}")
             }
             _ => write!(f, "{section}: {why}"),
         }

@@ -3,7 +3,7 @@ ghost use Rattle.std.specs.Prelude.{◌≢◌, IfErr, IfOk};
 ghost use Rattle.railway_plan.specs.declared.fault.Why.TheVariants.{NoMemory};
 ghost use Rattle.railway_plan.specs.Railways.{IsFaultIn, IsRailwayIn};
 
-use crate::fault::PlanTextFault;
+use crate::fault::{PlanTextFault, text_fault};
 use crate::reading::read;
 use railway::Railway;
 use roster::Roster;
@@ -22,6 +22,6 @@ pub fn read_railway(alloc: Global, text: &[u8], roster: &Roster) -> Result<Railw
     let plan = read(alloc, text, roster)?;
     match Railway::new(plan, &roster.nodes()) {
         Ok(railway) => Ok(railway),
-        Err(fault) => Err(PlanTextFault::from(fault)),
+        Err(fault) => Err(text_fault(roster, fault)),
     }
 }

@@ -17,7 +17,7 @@ mod parts;
 mod reading;
 mod table;
 
-pub use fault::{PlanTextFault, Section, Why};
+pub use fault::{PlanTextFault, Section, TrainName, TrainNames, Why};
 pub use key::Key;
 pub use laying::read_railway;
 pub use reading::read;

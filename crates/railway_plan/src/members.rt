@@ -99,6 +99,7 @@ pub(crate) fn read_members<M: Member, const MOST: usize>(
                 return Err(PlanTextFault {
                     section: M::section(i + 1),
                     why,
+                    names: None,
                 });
             }
         }

@@ -5,7 +5,7 @@ ghost use Rattle.roster.specs.Entry.{name_of};
 ghost use Rattle.railway_plan.specs.Format.{block_at, block_in, decoder_at, end_at, end_of, facing_at, is_block_name, joint_in, joint_of, momentum_at, momentum_of, name_in, part_of, table_of, train_in, turnout_in};
 ghost use Rattle.railway_plan.specs.Entries.{block_entry, names_of};
 
-use crate::bounds::{FRONT, LENGTH, SPEED, SWITCH};
+use crate::bounds::{FRONT, LENGTH, SPEED, SWITCH, TRAIN_LENGTH};
 use crate::fault::Why;
 use crate::key::Key;
 use crate::names::{block_end, block_index, decoder_index};
@@ -138,7 +138,7 @@ pub(crate) fn turnout(blocks: &[Block], value: &Value) -> Result<Turnout, Why>
     })
 }
 
-/// Returns the train that a table says, in one of these blocks.
+/// Returns the train that a table says, its front in one of these blocks.
 pub(crate) fn train(roster: &Roster, blocks: &[Block], value: &Value) -> Result<Train, Why>
     requires { length blocks.now ≤ 64 }
     ensures { result
@@ -168,7 +168,7 @@ pub(crate) fn train(roster: &Roster, blocks: &[Block], value: &Value) -> Result<
     };
     Ok(Train {
         decoder,
-        length: number_at(table, Key::Length, LENGTH)?,
+        length: number_at(table, Key::Length, TRAIN_LENGTH)? as u16,
         top: number_at(table, Key::Speed, SPEED)? as u16,
         momentum: momentum_at(table)?,
         position,

@@ -69,15 +69,19 @@ pub fn read(alloc: Global, text: &[u8], roster: &Roster) -> Result<Plan, PlanTex
 
 /// Returns a fault of the whole.
 fn of_whole(why: Why) -> PlanTextFault
-    ensures { result ≡ record { section = WholeSection; why = why } }
+    ensures { result ≡ record { section = WholeSection; why = why; names = None } }
 {
     fault(Section::Whole, why)
 }
 
 fn fault(section: Section, why: Why) -> PlanTextFault
-    ensures { result ≡ record { section = section; why = why } }
+    ensures { result ≡ record { section = section; why = why; names = None } }
 {
-    PlanTextFault { section, why }
+    PlanTextFault {
+        section,
+        why,
+        names: None,
+    }
 }
 
 /// Returns the table of a text, or `NotToml` or `NoMemory`.

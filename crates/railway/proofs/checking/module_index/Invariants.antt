@@ -1,5 +1,5 @@
 use Rattle.std.proofs.Common.{◌≡◌, drop}
-use Rattle.railway.specs.Faults.{module_index}
+use Rattle.railway.specs.Decoders.{module_index}
 use Rattle.railway.proofs.checking.module_index.Given as goal
 
 abbrev pub invariant-loop-i : goal.invariant-loop-i

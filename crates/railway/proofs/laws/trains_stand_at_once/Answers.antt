@@ -1,12 +1,12 @@
-use Rattle.std.proofs.Common.{◌≡◌, ℕ, ◌*◌, Bool, ap, sym, ◌∙◌, arith}
+use Rattle.std.proofs.Common.{◌≡◌, ℕ, ◌*◌, Bool, List, refl, ap, sym, ◌∙◌, arith}
 use Rattle.motion.specs.declared.velocity.Velocity.{Velocity}
 use Rattle.motion.specs.Velocity.{velocity}
 use Rattle.railway.specs.declared.train.TrainState.{TrainState}
 use Rattle.railway.specs.Laws.{asked_of, velocity_of, way_of}
-use Rattle.railway.specs.Places.{still}
+use Rattle.railway.specs.Network.{marked}
 use Rattle.railway.specs.Running.{run_by}
-use Rattle.railway.proofs.Keeping.{checked-whole}
-use Rattle.railway.proofs.Riding.{run_by-zero, with_velocity}
+use Rattle.railway.proofs.Keeping.{whole-of}
+use Rattle.railway.proofs.Riding.{run_by-zero, with_under, with_velocity}
 use Rattle.railway.proofs.Running.{emergency-forward, emergency-momentum, emergency-speed, in-one-way}
 use Rattle.railway.proofs.Runs.{parts-of}
 use Rattle.railway.proofs.laws.trains_stand_at_once.Goals as goal
@@ -24,10 +24,11 @@ returns-clause-emergency c network train micros nodes running h rails runs emerg
     at_once.velocity drive train.velocity micros none time
     ∙ ap (λ (f : Bool). velocity f drive.speed) (emergency-forward nodes train running runs)
     ∙ ap (λ (s : ℕ). velocity running.forward s) (emergency-speed nodes train running runs emergency) in
-    in-one-way network drive.forward micros nodes train h rails (at_once.direction drive train.velocity micros none)
-    ∙ ap (λ (w : ℕ). run_by network drive.forward w (with_velocity (velocity_of nodes micros train) train)) way
-    ∙ sym (run_by-zero network drive.forward (with_velocity (velocity_of nodes micros train) train))
+    in-one-way network drive.forward micros nodes train rails (at_once.direction drive train.velocity micros none)
+    ∙ ap (λ (w : ℕ). marked network (run_by network drive.forward w (with_velocity (velocity_of nodes micros train) train))) way
+    ∙ ap (λ (t : TrainState). marked network t) (sym (run_by-zero network drive.forward (with_velocity (velocity_of nodes micros train) train)))
+    ∙ ap (λ (m : List Bool). with_under m (with_velocity (velocity_of nodes micros train) train)) (sym (whole-of network train (parts-of network train h).whole rails).knows)
     ∙ ap (λ (v : Velocity). with_velocity v train) stands
 
 pub returns-clause-power : goal.returns-clause-power
-returns-clause-power c network train micros nodes h = ap (λ (t : TrainState). still t) (checked-whole network train (parts-of network train h).whole)
+returns-clause-power c network train micros nodes = refl

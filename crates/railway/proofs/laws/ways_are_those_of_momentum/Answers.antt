@@ -8,4 +8,4 @@ pub returns-clause-rails : goal.returns-clause-rails
 returns-clause-rails c network train micros nodes forward place is h rails only way = (in-reaches network forward micros nodes train place is h rails only way).1
 
 pub returns-clause-velocity : goal.returns-clause-velocity
-returns-clause-velocity c network train micros nodes h rails = in-velocity network micros nodes train h rails
+returns-clause-velocity c network train micros nodes h rails = in-velocity network micros nodes train rails

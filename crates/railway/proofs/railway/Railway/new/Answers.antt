@@ -1,49 +1,51 @@
 use Rattle.std.proofs.Common.{◌≡◌, List, None, map, true, ap, subst, sym, ◌∙◌}
+use Rattle.std.proofs.lemmas.Bool.{and_from}
 use Rattle.std.specs.List.{list_all}
 use Rattle.std.specs.Prelude.{IsTrue}
+use Rattle.decoder_node.specs.declared.node.NodeSpec.{NodeSpec}
 use Rattle.railway.specs.declared.joint.Turnout.{Turnout}
 use Rattle.railway.specs.declared.joint.TurnoutState.{TurnoutState}
+use Rattle.railway.specs.declared.plan.Plan.{Plan}
 use Rattle.railway.specs.declared.train.Train.{Train}
 use Rattle.railway.specs.declared.train.TrainState.{TrainState}
-use Rattle.railway.specs.Faults.{fault_of}
-use Rattle.railway.specs.Network.{is_sound}
-use Rattle.railway.specs.Railway.{RailwayState, is_railway, planned}
-use Rattle.railway.specs.Trains.{is_placeable, state_of_train}
-use Rattle.railway.specs.Turnouts.{state_of_turnout}
-use Rattle.railway.proofs.Planning.{plan-placeable, planned-railway}
+use Rattle.railway.specs.Faults.{fault_of_track, fault_of_trains}
+use Rattle.railway.specs.Network.{Network, is_sound}
+use Rattle.railway.specs.Railway.{is_train}
+use Rattle.railway.specs.Turnouts.{network_of, state_of_turnout}
+use Rattle.railway.proofs.Planning.{planned-sound, sound_trains, trains_in_blocks}
 use Rattle.railway.proofs.railway.Railway.new.Goals as goal
 
--- The plan has no fault, and its turnouts and trains are those of the definition.
+-- The track has no fault, and its turnouts are those of the definition.
 
-no_fault : (c : goal.After-train_states-trains) → fault_of c.as_slice-decoders.result.now c.args.plan ≡ None
-no_fault c = sym c.fault_of.ensures ∙ c.in-None.is
-
-turnouts : (c : goal.After-train_states-trains) → c.turnout_states-turnouts.result.items ≡ map (state_of_turnout c.as_slice-decoders.result.now) c.args.plan.turnouts.items
-turnouts c = c.turnout_states-turnouts.ensures ∙ ap (λ (ts : List Turnout). map (state_of_turnout c.as_slice-decoders.result.now) ts) c.as_slice.ensures.value
-
-trains : (c : goal.After-train_states-trains) → c.train_states-trains.result.items ≡ map state_of_train c.args.plan.trains.items
-trains c = c.train_states-trains.ensures ∙ ap (λ (ts : List Train). map state_of_train ts) c.as_slice-2.ensures.value
-
--- the railway of the plan
-abbrev plan_of : goal.After-train_states-trains → RailwayState
-plan_of c = planned c.as_slice-decoders.result.now c.args.plan
+sound_track : (specs : List NodeSpec) (plan : Plan) (states : List TurnoutState) → fault_of_track specs plan ≡ None → states ≡ map (state_of_turnout specs) plan.turnouts.items
+    → IsTrue (is_sound (record (network_of specs plan) { turnouts = states }))
+sound_track specs plan states none same =
+    subst (λ (ts : List TurnoutState). IsTrue (is_sound (record (network_of specs plan) { turnouts = ts }))) (sym same) (planned-sound specs plan none)
 
 pub invariant_of-track : goal.invariant_of-track
 invariant_of-track c =
-    subst (λ (states : List TurnoutState). IsTrue (is_sound (record (plan_of c).network { turnouts = states }))) (sym (turnouts c))
-    (planned-railway c.as_slice-decoders.result.now c.args.plan (no_fault c)).0
+    let specs = c.as_slice-decoders.result.now in
+    sound_track specs c.args.plan c.turnout_states-turnouts.result.items (sym c.fault_of_track.ensures ∙ c.in-None.is)
+    (c.turnout_states-turnouts.ensures ∙ ap (λ (ts : List Turnout). map (state_of_turnout specs) ts) c.as_slice.ensures.value)
+
+-- Its trains have none there.
+
+pub train_states-trains-requires-clause-in_blocks : goal.train_states-trains-requires-clause-in_blocks
+train_states-trains-requires-clause-in_blocks c =
+    let specs = c.as_slice-decoders.result.now in
+    let n : Network = record (network_of specs c.args.plan) { turnouts = c.turnout_states-turnouts.result.items } in
+    let none : fault_of_trains specs n 0 c.as_slice-3.result.now ≡ None =
+    ap (λ (ts : List Train). fault_of_trains specs n 0 ts) (c.as_slice-3.ensures.value ∙ sym c.as_slice-2.ensures.value) ∙ sym c.fault_of_trains.ensures ∙ c.in-None-fault_of_trains.is in
+    trains_in_blocks specs n 0 c.as_slice-3.result.now none
 
 pub invariant_of-result : goal.invariant_of-result
 invariant_of-result c =
-    let with_turnouts =
-    subst (λ (states : List TurnoutState). IsTrue (is_railway (record (plan_of c) { network = record (plan_of c).network { turnouts = states } })))
-    (sym (turnouts c)) (planned-railway c.as_slice-decoders.result.now c.args.plan (no_fault c)).1 in
-    subst (λ (states : List TrainState). IsTrue (is_railway (record {
-      network = record (plan_of c).network { turnouts = c.turnout_states-turnouts.result.items };
-      trains = states;
-    }))) (sym (trains c)) with_turnouts
-
-pub train_states-trains-requires-clause-placeable : goal.train_states-trains-requires-clause-placeable
-train_states-trains-requires-clause-placeable c =
-    subst (λ (ts : List Train). list_all is_placeable ts ≡ true) (sym c.as_slice-2.ensures.value)
-    (plan-placeable c.as_slice-decoders.result.now c.args.plan (sym c.fault_of.ensures ∙ c.in-None.is))
+    let specs = c.as_slice-decoders.result.now in
+    let n : Network = record (network_of specs c.args.plan) { turnouts = c.turnout_states-turnouts.result.items } in
+    let none : fault_of_trains specs n 0 c.as_slice-3.result.now ≡ None =
+    ap (λ (ts : List Train). fault_of_trains specs n 0 ts) (c.as_slice-3.ensures.value ∙ sym c.as_slice-2.ensures.value) ∙ sym c.fault_of_trains.ensures ∙ c.in-None-fault_of_trains.is in
+    let sound : IsTrue (is_sound n) =
+    sound_track specs c.args.plan c.turnout_states-turnouts.result.items (sym c.fault_of_track.ensures ∙ c.in-None.is)
+    (c.turnout_states-turnouts.ensures ∙ ap (λ (ts : List Turnout). map (state_of_turnout specs) ts) c.as_slice.ensures.value) in
+    and_from (is_sound n) (list_all (is_train n) c.train_states-trains.result.items) sound
+    (subst (λ (ts : List TrainState). list_all (is_train n) ts ≡ true) (sym c.train_states-trains.ensures) (sound_trains specs n 0 c.as_slice-3.result.now sound none))

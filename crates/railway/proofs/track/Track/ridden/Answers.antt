@@ -1,14 +1,13 @@
 use Rattle.std.proofs.Common.{◌≡◌, ℕ, ◌-◌, ap, sym, ◌∙◌, arith}
-use Rattle.motion.specs.declared.velocity.Drive.{Drive}
 use Rattle.railway.specs.declared.train.TrainState.{TrainState}
 use Rattle.railway.specs.Running.{ridden}
 use Rattle.railway.proofs.Riding.{leg-rest}
-use Rattle.railway.proofs.track.Track.run_for.Goals as goal
+use Rattle.railway.proofs.track.Track.ridden.Goals as goal
 
 pub loop-left-preserved : goal.loop-left-preserved
 loop-left-preserved c =
     let n = c.args.self.now in
-    let d = c.drive-drive.result in
+    let d = c.args.drive in
     let leg = c.leg-leg.result in
     let rest : ℕ = c.loop-left.left - leg.micros in
     record {
@@ -17,9 +16,8 @@ loop-left-preserved c =
     }
 
 -- nothing is left of the time
-pub returns : goal.returns
+pub returns-clause-ridden : goal.returns-clause-ridden
 unfolding ridden
-returns c =
+returns-clause-ridden c =
     let none : c.loop-left.left ≡ 0 = omega arith in
-    sym (ap (λ (k : ℕ). ridden c.args.self.now c.drive-drive.result k c.loop-left.train) none) ∙ c.loop-left.invariant.leads
-    ∙ ap (λ (d : Drive). ridden c.args.self.now d c.args.micros c.args.train.now) c.drive-drive.ensures.drive
+    sym (ap (λ (k : ℕ). ridden c.args.self.now c.args.drive k c.loop-left.train) none) ∙ c.loop-left.invariant.leads
