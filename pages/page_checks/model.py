@@ -85,6 +85,17 @@ row('a block without a turnout is named', derailment('main 10 b main'), ['in mai
 tell('TRAIN express siding 0 a siding 0');
 row('until its rear has left one', ['main', 'siding'].map((block) => plan.wordsOf(block)), ['shunter', 'express']);
 
+plan.forget();
+tell('BLOCK west 500', 'BLOCK main 500', 'BLOCK siding 500', 'BLOCK east 500', 'BLOCK loop 500', 'JOINT east.b loop.a');
+tell('TURNOUT 8 west.b main.a siding.a', 'TURNOUT 9 east.a main.b siding.b', 'TRAIN long loop 1 b west 0');
+const under = () => plan.blocksOf(plan.trains.get('long'));
+row('a train is in all blocks between its ends', under(), ['loop', 'east', 'main', 'west']);
+plan.isClosed = () => false;
+row('as the turnouts lie', under(), ['loop', 'east', 'siding', 'west']);
+plan.isClosed = (number) => number === 9;
+row('or on the shortest way', under().length, 4);
+row('a block between them says so', ['east', 'loop', 'siding'].map((block) => plan.wordsOf(block)), ['long', 'long', 'free']);
+
 const station = new Station();
 const hear = (text) => station.hear(bytesOf(text), false);
 const verdict = () => verdictOf(station, readNode('node shunter short 3 step 63 of 128 forward F 0000000000000')).words;
