@@ -130,6 +130,17 @@ fn two_trains() -> Result<Plan, Fail> {
     Ok(plan)
 }
 
+/// The oval with an express of 1,300 millimetres: 600 are in main, and 700 in the west.
+fn long_train() -> Result<Plan, Fail> {
+    let mut plan = oval()?;
+    plan.trains.clear();
+    let _ = plan.trains.try_push(Train {
+        length: 1300,
+        ..EXPRESS
+    });
+    Ok(plan)
+}
+
 /// The express, which gathers speed by 100 and brakes by 50 millimetres a second each second.
 const MOMENTUM: Train = Train {
     momentum: Some(Momentum {
@@ -146,6 +157,7 @@ enum Made {
     Line,
     Momentum,
     TwoTrains,
+    LongTrain,
 }
 
 fn railway_of(made: Made) -> Result<Railway, Fail> {
@@ -154,6 +166,7 @@ fn railway_of(made: Made) -> Result<Railway, Fail> {
         Made::Line => line(EXPRESS)?,
         Made::Momentum => line(MOMENTUM)?,
         Made::TwoTrains => two_trains()?,
+        Made::LongTrain => long_train()?,
     };
     let mut nodes = decoders()?;
     let _ = nodes.try_push(NodeSpec::Loco(CvSet::new(4, 0, 0, 6)?));
@@ -331,6 +344,21 @@ const STORIES: &[(&str, Made, &[Step])] = &[
             Step::Elapse(60_000_000, &[]),
             Step::Speed(0),
             Step::Front(999_999_999_999_999),
+        ],
+    ),
+    // After 450 millimetres it is in three blocks, and turnout 1 is thrown under the middle of it.
+    (
+        "a train in three blocks",
+        Made::LongTrain,
+        &[
+            Step::Full(&[(1, true), (2, true), (3, false), (4, false), (5, false)]),
+            Step::Rear(300_000_000_000_000),
+            DRIVE,
+            Step::Elapse(3_000_000, &[(4, true)]),
+            Step::Say(&[0xB0, 0x00, 0x10]),
+            Step::Elapse(60_000_000, &[]),
+            Step::Derailed(Some(1)),
+            Step::Full(&[(1, true), (2, true), (3, false), (4, true), (5, false)]),
         ],
     ),
     (
