@@ -1,6 +1,6 @@
 -- The lines of the blocks and the trains of a railway, in the words of docs/CLIENTS.md, *What is
 -- printed*. Blocks and trains are named by their index in the plan, from 0.
-use Rattle.std.specs.Prelude.{ℕ, zero, suc, ◌≡◌, ◌+◌, ◌-◌, ◌==◌, ◌&&◌, Bool, true, false, not, if◌then◌else◌, List, [], ◌∷◌, ◌++◌, length, Option, Some, None, codes, slice_get}
+use Rattle.std.specs.Prelude.{ℕ, zero, suc, ◌≡◌, ◌+◌, ◌-◌, ◌&&◌, Bool, true, false, not, if◌then◌else◌, List, [], ◌∷◌, ◌++◌, length, Option, Some, None, codes, slice_get}
 use Rattle.std.specs.Fmt.{decimal}
 use Rattle.railway.specs.declared.block.Block.{Block}
 use Rattle.railway.specs.declared.conflict.Conflict.{Conflict}
