@@ -109,9 +109,18 @@ impl Railway {
         ensures { self.new ≡ laid_in world.now.nodes self.old }
     {
         if self.track.is_moved(world) {
-            self.trains = self.track.check_all(self.trains.as_slice(), world);
-            self.track.lay(world);
+            self.lay_moved(world);
         }
+    }
+
+    /// The same, if a decoder moves a turnout. That is rare, and takes room for all trains a second time.
+    #[cold]
+    #[inline(never)]
+    fn lay_moved(&mut self, world: &World)
+        ensures { self.new ≡ laid_in world.now.nodes self.old }
+    {
+        self.trains = self.track.check_all(self.trains.as_slice(), world);
+        self.track.lay(world);
     }
 }
 

@@ -1,36 +1,11 @@
-use Rattle.std.proofs.Common.{◌≡◌, List, true, false, map, ap, subst, sym, ◌∙◌}
-use Rattle.std.proofs.lemmas.Bool.{and_from, and_parts}
-use Rattle.std.specs.List.{list_all, list_any}
+use Rattle.std.proofs.Common.{◌≡◌, List, false, ap, sym, ◌∙◌}
+use Rattle.std.specs.List.{list_any}
 use Rattle.railway.specs.declared.train.TrainState.{TrainState}
-use Rattle.railway.specs.Network.{Network, is_sound}
-use Rattle.railway.specs.Railway.{RailwayState, is_railway, is_train}
-use Rattle.railway.specs.Running.{can_run}
-use Rattle.railway.specs.Turnouts.{checked, is_moved, laid}
-use Rattle.railway.proofs.Leading.{laid-sound}
-use Rattle.railway.proofs.Running.{all-run}
-use Rattle.railway.proofs.Throwing.{all-checked, unmoved-laid, unmoved-trains}
+use Rattle.railway.specs.Network.{Network}
+use Rattle.railway.specs.Railway.{RailwayState}
+use Rattle.railway.specs.Turnouts.{is_moved, laid}
+use Rattle.railway.proofs.Throwing.{unmoved-laid, unmoved-trains}
 use Rattle.railway.proofs.railway.Railway.lay.Goals as goal
-
-pub check_all-self-inside-requires-clause-run : goal.check_all-self-inside-requires-clause-run
-check_all-self-inside-requires-clause-run c =
-    let network = c.self.inside.track in
-    let trains = c.self.inside.trains.items in
-    subst (λ (ts : List TrainState). list_all (can_run network.blocks) ts ≡ true) (sym c.as_slice.ensures.value)
-    (all-run network trains (and_parts (is_sound network) (list_all (is_train network) trains) c.self.invariant).1)
-
-pub invariant_of-self : goal.invariant_of-self
-invariant_of-self c =
-    let old = c.self.inside.track in
-    let trains = c.self.inside.trains.items in
-    let nodes = c.args.world.now.nodes in
-    let new : Network = laid nodes old in
-    let parts = and_parts (is_sound old) (list_all (is_train old) trains) c.self.invariant in
-    let same : c.check_all-self-inside.result.items ≡ map (checked nodes old) trains =
-    c.check_all-self-inside.ensures ∙ ap (λ (ts : List TrainState). map (checked nodes old) ts) c.as_slice.ensures.value in
-    let is : is_railway (record { network = new; trains = map (checked nodes old) trains }) ≡ true =
-    and_from (is_sound new) (list_all (is_train new) (map (checked nodes old) trains)) (laid-sound nodes old parts.0) (all-checked nodes old trains parts.1) in
-    subst (λ (n : Network). is_railway (record { network = n; trains = c.check_all-self-inside.result.items }) ≡ true) (sym c.lay.ensures)
-    (subst (λ (ts : List TrainState). is_railway (record { network = new; trains = ts }) ≡ true) (sym same) is)
 
 pub returns-else-is_moved : goal.returns-else-is_moved
 returns-else-is_moved c =
