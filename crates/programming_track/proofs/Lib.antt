@@ -1,0 +1,5 @@
+pub mod Sequences
+pub mod Begins
+pub mod Times
+pub mod Lasting
+pub mod Short

@@ -1,0 +1,5 @@
+pub mod Tasks
+pub mod Track
+pub mod Time
+pub mod Completes
+pub mod Outcomes
