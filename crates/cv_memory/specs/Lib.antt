@@ -1,3 +1,4 @@
 pub mod Hearing
 pub mod History
 pub mod Changes
+pub mod Filed

@@ -3,10 +3,13 @@ ghost use Rattle.std.specs.Prelude.{◌≡◌, ◌<◌, ◌≤◌, ℕ, IfNone, 
 ghost use Rattle.service_mode.specs.declared.packet.ServicePacket.TheVariants.{Direct};
 ghost use Rattle.service_mode.specs.Reading.{packet_of};
 ghost use Rattle.service_mode.specs.Spelling.{is_legal};
+ghost use Rattle.decoder_cv.specs.Listed.{value_in};
 ghost use Rattle.cv_memory.specs.Changes.{is_changed};
+ghost use Rattle.cv_memory.specs.Filed.{filed_value};
 ghost use Rattle.cv_memory.specs.Hearing.{acknowledges, heard, is_acknowledged, is_read_only, is_reset, stored, values_after, with_bit};
 ghost use Rattle.cv_memory.specs.History.{unheard};
 
+use decoder_cv::CvPair;
 use service_mode::{Instruction, ServicePacket, read};
 use std::marker::Model;
 
@@ -18,6 +21,9 @@ const VERSION: u16 = 6;
 
 /// The address of CV8, the manufacturer of the decoder.
 const MANUFACTURER: u16 = 7;
+
+/// The address of CV17, the first byte of a long address.
+const FIRST_OF_TWO: u16 = 16;
 
 /// What is written to CV8 to reset the decoder.
 const RESET: u8 = 8;
@@ -54,6 +60,20 @@ impl CvMemory {
             service: false,
             last: None,
         }
+    }
+
+    /// A decoder whose file lists these variables, each once. CV17 that is not listed is 192, all others
+    /// are 0.
+    pub fn of_list(pairs: &[CvPair]) -> CvMemory
+        ensures values { (address : ℕ) → address < 1024
+            → slice_index result.values address ≡ filed_value pairs.now address }
+        ensures new { result ≡ unheard result.values result.values }
+    {
+        let mut values = [0; CV_COUNT];
+        for address in 0..1024 {
+            values[usize::from(address)] = filed_value(pairs, address);
+        }
+        CvMemory::new(values)
     }
 
     /// Switches the decoder off and on: it has heard nothing, and keeps its variables.
@@ -186,6 +206,28 @@ impl CvMemory {
         self.values[usize::from(address)] = value;
         true
     }
+}
+
+/// The value of the variable at an address, by a file that lists these.
+fn filed_value(pairs: &[CvPair], address: u16) -> u8
+    requires { address < 1024 }
+    ensures { result ≡ filed_value pairs.now address }
+{
+    match value_in(pairs, address + 1) {
+        Some(value) => value,
+        None if address == FIRST_OF_TWO => 192,
+        None => 0,
+    }
+}
+
+/// The value that a list has for a variable, if it names it.
+fn value_in(pairs: &[CvPair], number: u16) -> Option<u8>
+    ensures { result ≡ value_in number pairs.now }
+{
+    pairs
+        .iter()
+        .find(|pair| pair.number == number)
+        .map(|pair| pair.value)
 }
 
 /// Whether a variable cannot be written.
