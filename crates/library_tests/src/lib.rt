@@ -23,6 +23,8 @@ mod test_ln_ops;
 #[cfg(test)]
 mod test_loconet_tcp;
 #[cfg(test)]
+mod test_programming_track;
+#[cfg(test)]
 mod test_refresh_ring;
 #[cfg(test)]
 mod test_sensor;
