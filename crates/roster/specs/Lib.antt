@@ -6,3 +6,4 @@ pub mod Format
 pub mod Pairs
 pub mod Steps
 pub mod Toml
+pub mod Variables

@@ -1,16 +1,17 @@
 //! What the table of a node says of its decoder.
-ghost use Rattle.std.specs.Prelude.{◌≡◌};
+ghost use Rattle.std.specs.Prelude.{◌≡◌, option_map};
 ghost use Rattle.toml.specs.View.{table_view};
 ghost use Rattle.roster.specs.Details.{cv_fault_of, fault_in, settings_of_four};
 ghost use Rattle.roster.specs.Format.{accessory_in, byte_of, decoder_of, described_as, loco_in_keys, loco_in_list, variables_in};
+ghost use Rattle.roster.specs.Variables.{four_pairs, variables_of};
 ghost use Rattle.roster.specs.declared.described.Described.TheVariants.{Loco};
 
 use crate::decoder::{accessory, loco};
 use crate::fault::Why;
-use crate::pairs::Pairs;
+use crate::pairs::{CvPairs, Pairs};
 use crate::table::{integer_at, integer_or, knows_only, value_at};
 use crate::version::Version;
-use decoder_cv::{CvFault, CvSet};
+use decoder_cv::{CvFault, CvPair, CvSet};
 use decoder_node::NodeSpec;
 use toml::Table;
 
@@ -62,6 +63,22 @@ impl<'a> Described<'a> {
             } => loco_of_four(cv1, cv17, cv18, cv29),
             Described::Listed { pairs } => pairs.decoder(),
             Described::Accessory { module } => accessory(module),
+        }
+    }
+
+    /// The variables of a locomotive, if their numbers and values fit.
+    pub(crate) fn variables(&self) -> Option<CvPairs>
+        ensures { option_map (λ pairs. pairs.items) result ≡ variables_of self.now }
+    {
+        match self {
+            Described::Loco {
+                cv1,
+                cv17,
+                cv18,
+                cv29,
+            } => four_variables(*cv1, *cv17, *cv18, *cv29),
+            Described::Listed { pairs } => pairs.variables(),
+            Described::Accessory { .. } => None,
         }
     }
 
@@ -147,6 +164,35 @@ fn loco_of_four(cv1: i64, cv17: i64, cv18: i64, cv29: i64) -> Result<NodeSpec, W
         (Ok(cv1), Ok(cv17), Ok(cv18), Ok(cv29)) => loco(CvSet::new(cv1, cv17, cv18, cv29)),
         _ => Err(Why::BadCv),
     }
+}
+
+/// The four variables of a roster of version 1, if their values are bytes.
+fn four_variables(cv1: i64, cv17: i64, cv18: i64, cv29: i64) -> Option<CvPairs>
+    ensures { option_map (λ pairs. pairs.items) result
+        ≡ variables_of (Loco cv1 cv17 cv18 cv29) }
+{
+    match (byte(cv1), byte(cv17), byte(cv18), byte(cv29)) {
+        (Ok(cv1), Ok(cv17), Ok(cv18), Ok(cv29)) => Some(four_pairs(cv1, cv17, cv18, cv29)),
+        _ => None,
+    }
+}
+
+/// The four variables with these values.
+fn four_pairs(cv1: u8, cv17: u8, cv18: u8, cv29: u8) -> CvPairs
+    ensures { result.items ≡ four_pairs cv1 cv17 cv18 cv29 }
+{
+    let mut pairs = CvPairs::new();
+    pairs.push(pair(1, cv1));
+    pairs.push(pair(17, cv17));
+    pairs.push(pair(18, cv18));
+    pairs.push(pair(29, cv29));
+    pairs
+}
+
+fn pair(number: u16, value: u8) -> CvPair
+    ensures { result ≡ record { number = number; value = value } }
+{
+    CvPair { number, value }
 }
 
 /// What is wrong with these values of the four variables, if they are bytes.

@@ -89,7 +89,7 @@ fn node_details(whole: &Table, node: u8) -> FaultDetails
 }
 
 /// The table of a node, from 1.
-fn node_table(whole: &Table, node: u8) -> Option<&Table>
+pub(crate) fn node_table(whole: &Table, node: u8) -> Option<&Table>
     ensures { option_map (λ table. table_view table.now) result
         ≡ node_table_at (table_view whole.now) node }
 {
@@ -126,7 +126,7 @@ fn cv_fault_in(whole: &Table, table: &Table) -> Option<CvFault>
 }
 
 /// What a node says of its decoder, in the version of the whole.
-fn described_in<'a>(whole: &Table, table: &'a Table) -> Result<Described<'a>, Why>
+pub(crate) fn described_in<'a>(whole: &Table, table: &'a Table) -> Result<Described<'a>, Why>
     ensures { result ≡ described_in (table_view whole.now) (table_view table.now) }
 {
     let version = read_version(whole)?;

@@ -21,7 +21,7 @@ use toml::Value;
 const MOST_VARIABLES: usize = 1024;
 
 /// Variables with their values, in order.
-type CvPairs = ArrayVec<CvPair, MOST_VARIABLES>;
+pub type CvPairs = ArrayVec<CvPair, MOST_VARIABLES>;
 
 /// The value of the key `cvs`: an array of pairs.
 ///
@@ -80,6 +80,13 @@ impl<'a> Pairs<'a> {
                 Err(Why::BadCvList)
             }
         }
+    }
+
+    /// The variables, if their numbers and values fit.
+    pub(crate) fn variables(&self) -> Option<CvPairs>
+        ensures { option_map (λ pairs. pairs.items) result ≡ cv_pairs_after [] self.now }
+    {
+        cv_pairs(self.values)
     }
 
     /// What is wrong with the variables, if their numbers and values fit.
