@@ -3,3 +3,4 @@ pub mod Messages
 pub mod Packets
 pub mod Pieces
 pub mod Rows
+pub mod ServicePackets

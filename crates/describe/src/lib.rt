@@ -1,7 +1,8 @@
 //! Explanations of LocoNet messages and DCC packets in plain words.
 //!
-//! [`message_words`] explains the bytes of a message and [`packet_words`] those of a packet, as
-//! [`Words`], ASCII text of at most 400 bytes.
+//! [`message_words`] explains the bytes of a message, [`packet_words`] those of a packet and
+//! [`service_words`] those of a packet of the programming track, as [`Words`], ASCII text of at most 400
+//! bytes.
 //!
 //! ```ignore
 //! let words = message_words(&[0x83, 0x7C]);  // "track power on"
@@ -17,8 +18,10 @@ mod packet_rows;
 mod packets;
 mod pieces;
 mod rows;
+mod service_packets;
 mod slots;
 
 pub use messages::{describe_message, message_words};
 pub use packets::{describe_packet, packet_words};
 pub use pieces::Words;
+pub use service_packets::service_words;

@@ -99,7 +99,7 @@ pub(crate) const MESSAGES: [Row; 53] = [
     ),
     (
         &[(Byte(0), 0xB4), (Byte(1), 0x6F), (Byte(2), 0x7F)],
-        &[(Text, &["slot data accepted"])],
+        &[(Text, &["slot data accepted, or programmer: task not known"])],
     ),
     (
         &[(Byte(0), 0xB4), (Byte(1), 0x6F), (Byte(2), 0)],
