@@ -2,7 +2,9 @@
 //! LocoNet Personal Use Edition 1.0.
 
 use cv_memory::CvMemory;
-use decoder_cv::CvPair;
+use dcc_packet::Address;
+use decoder_cv::{CvPair, CvSet};
+use describe::service_words;
 use ln_frame::Msg;
 use programmer::{Status, TaskReply, TaskResult};
 use programming_track::{PacketEnds, ProgrammingTrack};
@@ -268,4 +270,109 @@ fn without_decoder_and_with_failures(rt: HostRuntime) -> Result<(), Fail> {
     let result = result_within(&mut track, 1_100_000).ok_or("a result")?;
     assert!(rt; result.status == Status::NoReadAcknowledge && result.value == 0);
     Ok(())
+}
+
+/// The message that reads CV n, 1 to 128, or writes a value below 128 to it.
+fn task(n: u8, value: Option<u8>) -> Option<Msg> {
+    let command = if value.is_some() { 0x6B } else { 0x2B };
+    let low = n.checked_sub(1)?;
+    let data = value.unwrap_or(0);
+    sealed(&[
+        0xEF,
+        0x0E,
+        0x7C,
+        command,
+        0,
+        0,
+        0,
+        0,
+        data / 128 * 2,
+        low,
+        data % 128,
+        0,
+        0,
+    ])
+}
+
+/// Runs one task, and returns its value if it is done.
+fn done(track: &mut ProgrammingTrack, n: u8, value: Option<u8>) -> Option<u8> {
+    let _accepted = track.request(&task(n, value)?);
+    let result = result_within(track, 1_440_936)?;
+    if result.status == Status::Done {
+        Some(result.value)
+    } else {
+        None
+    }
+}
+
+/// A decoder of version 5 by manufacturer 13, with address 3.
+const FILE: [CvPair; 4] = [
+    CvPair {
+        number: 29,
+        value: 6,
+    },
+    CvPair {
+        number: 1,
+        value: 3,
+    },
+    CvPair {
+        number: 7,
+        value: 5,
+    },
+    CvPair {
+        number: 8,
+        value: 13,
+    },
+];
+
+/// Layout software reads which decoder it is, and gives it a long address: 1234 is 4 * 256 + 210.
+#[test]
+fn long_address_is_written(rt: HostRuntime) -> Result<(), Fail> {
+    let mut track = ProgrammingTrack::new(Some(CvMemory::of_list(&FILE)));
+    for &(number, value) in &[(8, 13), (7, 5), (1, 3), (29, 6), (17, 192), (18, 0)] {
+        assert!(rt;
+            done(&mut track, number, None) == Some(value),
+            "CV {number}"
+        );
+    }
+    for &(number, value) in &[(17, 196), (18, 210), (29, 38)] {
+        assert!(rt;
+            done(&mut track, number, Some(value)) == Some(value),
+            "CV {number}"
+        );
+    }
+    let decoder = track.mount(None).ok_or("a decoder")?;
+    let values = (
+        decoder.value(0),
+        decoder.value(16),
+        decoder.value(17),
+        decoder.value(28),
+    );
+    let settings = CvSet::new(values.0, values.1, values.2, values.3)?;
+    assert!(rt; settings.address() == Address::Long(1234));
+    Ok(())
+}
+
+/// Packets, and their words.
+const WORD_ROWS: [(&'static [u8], &'static [u8]); 10] = [
+    (&[0x00, 0x00, 0x00], b"reset"),
+    (
+        &[0x78, 0x00, 0xEF, 0x97],
+        b"verify that bit 7 of CV 1 is on",
+    ),
+    (&[0x78, 0x1C, 0xF5, 0x91], b"turn bit 5 of CV 29 off"),
+    (&[0x74, 0x00, 0x03, 0x77], b"verify 3 in CV 1"),
+    (&[0x7F, 0xFF, 0x06, 0x86], b"write 6 to CV 1024"),
+    (&[0x7D, 0x01, 0x7C], b"write 1 to register 6"),
+    (&[0x70, 0x03, 0x73], b"verify 3 in register 1"),
+    (&[0xFF, 0x00, 0xFF], b"unknown form"),
+    (&[0x74, 0x00, 0x03, 0x76], b"wrong check"),
+    (&[0x74, 0x74], b"wrong length"),
+];
+
+#[test]
+fn words_of_packets(rt: HostRuntime) {
+    for &(bytes, words) in &WORD_ROWS {
+        assert_eq!(rt; service_words(bytes).as_slice(), words);
+    }
 }
