@@ -7,6 +7,7 @@ use Rattle.text.specs.Words.{is_blank, words_of}
 use Rattle.loconet_tcp.specs.Requests.{bytes_of, leading_bytes}
 use Rattle.describe.specs.Messages.{message_words}
 use Rattle.describe.specs.Packets.{packet_words}
+use Rattle.describe.specs.ServicePackets.{service_words}
 use Rattle.explain.specs.FaultLines.{fault_in, names_program}
 
 -- the explanation of bytes; none if there are no bytes, or if a word is not a pair of digits
@@ -23,6 +24,10 @@ message_in text = said_by message_words (bytes_of (words_of text))
 unfoldable pub turn_in : List ℕ → List ℕ
 turn_in text = if bytes_eq text (codes "off") then codes "no power, nothing is sent" else said_by packet_words (bytes_of (words_of text))
 
+-- the words of a packet of the programming track, and nothing else
+unfoldable pub programming_in : List ℕ → List ℕ
+programming_in text = said_by service_words (bytes_of (words_of text))
+
 -- a message, followed by words that describe it, none of which begins with a pair
 unfoldable pub monitored_in : List ℕ → List ℕ
 monitored_in text = said_by message_words (Some (leading_bytes (words_of text)))
@@ -35,16 +40,17 @@ abbrev pub begins_with : List ℕ → List ℕ → Bool
 begins_with word line = bytes_eq (before_first is_blank line) word
 
 -- The explanation of a line, by its first word. After `reply` is the line of the station, after
--- `track` the turn, and after the name of a program a fault. A line that begins with none of these
--- words is a message, or has no explanation.
+-- `track` the turn, after `programming` the number of the packet, and after the name of a program a
+-- fault. A line that begins with none of these words is a message, or has no explanation.
 abbrev pub words_about : List ℕ → List ℕ
 words_about line =
     if begins_with (codes "reply") line then message_in (rest_after (rest_after line)) else
     (if begins_with (codes "track") line then turn_in (rest_after (rest_after line)) else
+    (if begins_with (codes "programming") line then programming_in (rest_after (rest_after line)) else
     (if begins_with (codes "msg") line then monitored_in (rest_after line) else
     (if begins_with (codes "RECEIVE") line then message_in (rest_after line) else
     (if begins_with (codes "SEND") line then message_in (rest_after line) else
-    (if names_program (before_first is_blank line) then fault_in (rest_after line) else message_in line)))))
+    (if names_program (before_first is_blank line) then fault_in (rest_after line) else message_in line))))))
 
 -- two spaces before words
 abbrev pub set_off : List ℕ → List ℕ

@@ -3,10 +3,10 @@ ghost use Rattle.std.specs.Prelude.{◌≡◌, ◌≤◌, length, Option, Some, 
 ghost use Rattle.text.specs.Words.{words_of};
 ghost use Rattle.describe.specs.Messages.{message_words};
 ghost use Rattle.loconet_tcp.specs.Requests.{leading_bytes};
-ghost use Rattle.explain.specs.LineKinds.{message_in, monitored_in, said_by, turn_in, words_about};
+ghost use Rattle.explain.specs.LineKinds.{message_in, monitored_in, programming_in, said_by, turn_in, words_about};
 
 use crate::fault_lines::{fault_in, names_program};
-use describe::{Words, describe_message, describe_packet};
+use describe::{Words, describe_message, describe_packet, service_words};
 use loconet_tcp::{Bytes, bytes_of, leading_bytes};
 use text::{cut_piece, push_bytes};
 
@@ -48,6 +48,18 @@ fn describe_turn(text: &[u8], words: &mut Words)
     }
 }
 
+/// Explains the words of a packet of the programming track and nothing else.
+#[tactic(auto, unfolding(crate::specs::LineKinds::programming_in))]
+fn describe_programming(text: &[u8], words: &mut Words)
+    requires { length text.now ≤ 400 }
+    ensures { words.new.items ≡ programming_in text.now }
+{
+    match bytes_of(text) {
+        Some(bytes) if !bytes.is_empty() => *words = service_words(bytes.as_slice()),
+        _ => words.clear(),
+    }
+}
+
 /// Sets the explanation to this text.
 fn write_text(text: &[u8], words: &mut Words)
     requires { length text.now ≤ 400 }
@@ -78,6 +90,9 @@ pub(crate) fn describe_line(line: &[u8], words: &mut Words)
     }
     if first == b"track".as_slice() {
         return describe_turn(cut_piece(rest_after).1, words);
+    }
+    if first == b"programming".as_slice() {
+        return describe_programming(cut_piece(rest_after).1, words);
     }
     if first == b"msg".as_slice() {
         return describe_monitored(rest_after, words);
