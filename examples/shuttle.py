@@ -43,7 +43,8 @@ with Server(*options, roster=str(HERE / "shuttle-roster.toml")) as server, serve
         for leg in LAP:
             run(client, locos, *leg)
         laps += 1
-    found = [line for line in server.printed() if line.startswith(("conflict ", "derailed "))]
+    client.sync()  # the log has all that happened
+    found = server.conflicts() + server.derailments()
     print(f"{laps} laps, {len(found)} conflicts", *found, sep="\n")
     for leg in (IN, ((False, True), False, (WEST, None)), ((True, True), True, (WEST, None))):
         run(client, locos, *leg)  # in the last one turnout 1 is wrong

@@ -7,236 +7,64 @@
         loco.speed(63)
         server.wait_for_node("shunter", step=63)
 
-It needs no library. The log goes to a file, so that no line of it is left out.
+It needs no library. The log goes to a file, so that its reader never holds it up.
 """
 
 from __future__ import annotations
 
+import dataclasses
+import inspect
 import os
 import pathlib
 import re
-import socket
 import subprocess
 import tempfile
 import time
-from collections import deque
-from collections.abc import Callable
+import tomllib
+from collections.abc import Callable, Mapping
 from typing import Any, TypeVar, Union
 
-from .decoders import HasNodes, Roster, State, in_range, read_node_line, read_roster, roster_text
+from .client import LAST_SENSOR, MOST_TURNS, Client, connect
+from .decoders import HasNodes, Motion, Roster, State, in_range, read_roster, roster_text
 from .errors import ClosedError, StationError
-from .messages import Reply, SensorReport, checked_message, has_reply, message_hex, reply_of, sensor_report_in
+from .log import Conflict, Derailment, Log, kinds_in, option, sensors_at_start
+from .messages import Reply, SensorReport
+from .process import Process, find_page, find_program, free_port
 from .throttle import Throttle
 
-# The repository, if the package is used from it.
-PROGRAMS = pathlib.Path(__file__).resolve().with_name("programs")
-TOP = pathlib.Path(__file__).resolve().parents[3]
+__all__ = [
+    "Client",
+    "Condition",
+    "Conflict",
+    "Derailment",
+    "MOST_TURNS",
+    "Plan",
+    "Server",
+    "connect",
+    "find_page",
+    "find_program",
+    "free_port",
+]
 
 # A port that another program took meanwhile ends the server with this status; then another port is tried.
 NETWORK_STATUS = 4
 ATTEMPTS = 10
 POLL_SECONDS = 0.005
 
-# The most turns that a client requests at once.
-MOST_TURNS = 10_000
-
 Condition = Union[str, "re.Pattern[str]", Callable[[], Any]]
-SomeClient = TypeVar("SomeClient", bound="Client")
-
-
-def free_port() -> int:
-    """A port of this machine that nothing listens on."""
-    with socket.socket() as probe:
-        probe.bind(("127.0.0.1", 0))
-        port: int = probe.getsockname()[1]
-        return port
-
-
-def find_program(path: str | os.PathLike[str] | None = None) -> str:
-    """The program to start: `path`, or LBSERVER, or that of the package, or that of the repository.
-
-    In the repository it is the released program, or is built first if the sources have changed since.
-    """
-    found = path or os.environ.get("LBSERVER")
-    if found:
-        return str(pathlib.Path(found).resolve())
-    if (PROGRAMS / "lbserver").is_file():
-        return str(PROGRAMS / "lbserver")
-    if not (TOP / "run").is_file() or not (TOP / "crates.txt").is_file():
-        raise StationError("no program: name it, or set LBSERVER to its path")
-    words = [str(TOP / "run"), "--path", "lbserver"]
-    return subprocess.check_output(words, stdin=subprocess.DEVNULL, text=True).rstrip("\n")
-
-
-def find_page() -> pathlib.Path | None:
-    """The page that the program serves: that of the package, or that of the repository, if there is one."""
-    pages = PROGRAMS / "throttle.html", TOP / "pages/throttle.html"
-    return next((page for page in pages if page.is_file()), None)
-
-
-def connect(host: str, port: int, seconds: float = 20, room: int | None = None) -> socket.socket:
-    """A connection that sends each line at once, with `room` bytes for what is received."""
-    stream = socket.socket()
-    if room is not None:
-        stream.setsockopt(socket.SOL_SOCKET, socket.SO_RCVBUF, room)
-    stream.settimeout(seconds)
-    stream.setsockopt(socket.IPPROTO_TCP, socket.TCP_NODELAY, 1)
-    try:
-        stream.connect((host, port))
-    except OSError:
-        stream.close()
-        raise
-    return stream
-
-
-class Client(Throttle):
-    """A client of LocoNet over TCP. A read that lasts longer than `seconds` raises TimeoutError."""
-
-    def __init__(self, host: str, port: int, seconds: float = 20, room: int | None = None) -> None:
-        self.stream = connect(host, port, seconds, room)
-        self.lines = self.stream.makefile("rb")
-        self._reports: deque[SensorReport] = deque()
-        try:
-            greeting = self.line()
-            if not greeting.startswith("VERSION "):
-                raise ConnectionError(f"rejected: {greeting}")
-        except BaseException:
-            self.close()
-            raise
-
-    def __enter__(self: SomeClient) -> SomeClient:
-        return self
-
-    def __exit__(self, *_: object) -> None:
-        self.close()
-
-    def close(self) -> None:
-        """Closes the connection. It may be called again."""
-        self.lines.close()
-        self.stream.close()
-
-    def line(self) -> str:
-        """The next line, without its end."""
-        if self.lines.closed:
-            raise ClosedError("the client is closed")
-        line = self.lines.readline()
-        if not line:
-            raise ConnectionError("the server closed the connection")
-        return line.decode("ascii").rstrip("\r\n")
-
-    def _request(self, text: str) -> None:
-        if self.lines.closed:
-            raise ClosedError("the client is closed")
-        self.stream.sendall(text.encode("ascii") + b"\r\n")
-
-    def _next_line(self) -> str:
-        """The next line. The report of a sensor is kept for `sensor_report`."""
-        line = self.line()
-        report = sensor_report_in(line)
-        if report is not None:
-            self._reports.append(report)
-        return line
-
-    def _answer(self, word: str) -> str:
-        """The next line that begins with this word."""
-        while not (line := self._next_line()).startswith(word):
-            pass
-        return line
-
-    def sensor_report(self) -> SensorReport:
-        """Waits for the next report of a sensor. Those that came before it, while other calls waited, are returned first."""
-        while not self._reports:
-            self._next_line()
-        return self._reports.popleft()
-
-    def transmit(self, *body: int) -> None:
-        """Sends a message, and waits until it is sent. Its reply, if there is one, is the next line."""
-        self._request(f"SEND {message_hex(*body)}")
-        line = self._answer("SENT ")
-        if line != "SENT OK":
-            raise ValueError(line)
-
-    def send(self, *body: int) -> Reply | None:
-        """Sends a message: `body` is all of it but the check byte. Returns the reply, or None if there is none.
-
-        A switch request (B0) has a reply only if it is refused. A read of slot 1 is sent after it, whose reply shows
-        that there was none.
-        """
-        replies = has_reply(checked_message(body))
-        self.transmit(*body)
-        if replies:
-            return _reply_in(self.line())
-        if replies is None:
-            return self._refusal()
-        return None
-
-    def turns(self, count: int) -> None:
-        """Has the track run so many turns now, and waits for them. The server runs with `--turns`, which may be 0."""
-        left = in_range(count, 0, 1 << 32, "turns")
-        while left > 0:
-            some = min(left, MOST_TURNS)
-            self._run_turns(some)
-            left -= some
-
-    def _run_turns(self, count: int) -> None:
-        self._request(f"TURNS {count}")
-        line = self._answer("TURNS ")
-        if line != "TURNS OK":
-            raise StationError(line)
-
-    def nodes(self) -> dict[str, State]:
-        """How the decoders of the roster stand now, by their names. Only `lbserver` answers this request."""
-        self._request("NODES")
-        nodes: dict[str, State] = {}
-        while (line := self._next_line()) != "NODES OK":
-            found = read_node_line(line)
-            if found is not None:
-                nodes[found[0]] = found[1]
-        return nodes
-
-    def place(self, train: str, block: str, front: int, facing: str | None = None) -> None:
-        """Puts a train on the track, derailed or not: its front in this block, so many millimetres from end a.
-
-        It faces end "a" or "b", without one that which it faces now. `lbserver` runs with `--plan`.
-        """
-        for name in (train, block):
-            if len(name.split()) != 1 or name != name.strip() or not name.isascii():
-                raise ValueError(f"{name!r} is no name")
-        if facing not in (None, "a", "b"):
-            raise ValueError(f"facing is {facing!r}, and not 'a' or 'b'")
-        words = ["PLACE", train, block, str(in_range(front, 0, 9_999_999, "front"))]
-        self._request(" ".join(words + ([facing] if facing else [])))
-        line = self._answer("PLACE ")
-        if line != "PLACE OK":
-            raise StationError(line)
-
-    def _refusal(self) -> Reply | None:
-        """The reply to the message that was sent last, if the next line is one."""
-        self._request(f"SEND {message_hex(0xBB, 1, 0)}")
-        first = line = self._next_line()
-        # The reply to the read comes right after its SENT OK.
-        while line != "SENT OK":
-            line = self._next_line()
-        self.line()
-        return _reply_in(first) if first.startswith("RECEIVE B4 ") else None
-
-
-def _reply_in(line: str) -> Reply:
-    word, _, digits = line.partition(" ")
-    if word != "RECEIVE":
-        raise StationError(f"no reply: {line}")
-    return reply_of(bytes.fromhex(digits))
+Plan = Union[str, "os.PathLike[str]"]
 
 
 class Server(Throttle, HasNodes):
     """The program `lbserver` on a free port, until the end of a `with`.
 
     `options` are further options of the program. `roster` is a path, the text of a roster (a str with a line feed), or
-    a list of decoders. `port` 0 lets the program choose, which programs that know no port 0 refuse. With `page` it
-    serves the page, at `page_port`. `cwd` is the folder that it runs in, and `seconds` how long each wait may last.
+    a list of decoders; `plan` is a path, or the text of a track plan. `port` 0 lets the program choose, which programs
+    that know no port 0 refuse. With `page` it serves the page, at `page_port`. `cwd` is the folder that it runs in, and
+    `seconds` how long each wait may last.
 
-    It is a throttle, over a client that it connects when the first message is sent. `client` connects more. With the
-    option `--quiet` there is no log to wait for.
+    It is a throttle, over a client that it connects when the first message is sent. `client` connects more. When a call
+    of the server's own client returns, the log has what it did. With the option `--quiet` there is no log.
     """
 
     host = "127.0.0.1"
@@ -245,6 +73,7 @@ class Server(Throttle, HasNodes):
         self,
         *options: str,
         roster: Roster | None = None,
+        plan: Plan | None = None,
         program: str | os.PathLike[str] | None = None,
         port: int | None = None,
         page: bool = False,
@@ -254,15 +83,14 @@ class Server(Throttle, HasNodes):
         self.options, self.seconds = list(options), seconds
         self.port = port if port is not None else free_port()
         self.page_port: int | None = None
-        self.process: subprocess.Popen[bytes] | None = None
-        self._program, self._roster, self._cwd, self._page = program, roster, cwd, page
+        self.process: Process | None = None
+        self._program, self._roster, self._plan, self._cwd, self._page = program, roster, plan, cwd, page
         self._chosen_port = port
         self._client: Client | None = None
         self._folder: tempfile.TemporaryDirectory[str] | None = None
-        self._nodes: dict[str, State] = {}
-        self._lines: list[str] = []
-        self._read_bytes = 0
-        self._read_nodes = 0
+        self._log = Log(pathlib.Path())
+        self._kinds: dict[str, type[State]] | None = None
+        self._at_start: set[int] = set()
 
     def __enter__(self: SomeServer) -> SomeServer:
         if self.is_running():
@@ -271,7 +99,9 @@ class Server(Throttle, HasNodes):
         self.log = pathlib.Path(self._folder.name, "log")
         self.faults = pathlib.Path(self._folder.name, "faults")
         try:
-            self._start_on_free_port(find_program(self._program), self._roster_words(self._folder.name))
+            words = [*self._roster_words(self._folder.name), *self._plan_words(self._folder.name)]
+            self._start_on_free_port(find_program(self._program), words)
+            self._note_layout([*words, *self.options])
         except BaseException:
             self.close()
             raise
@@ -303,16 +133,31 @@ class Server(Throttle, HasNodes):
         return self.process is not None and self.process.poll() is None
 
     def client(self) -> Client:
-        """Connects one more client. Close it, or use it in a `with`."""
+        """Connects one more client. Close it, or use it in a `with`. After its calls `sync` waits for the log."""
         return Client(self.host, self.port, self.seconds)
 
     def send(self, *body: int) -> Reply | None:
-        """Sends a message by the server's own client. Returns the reply, or None if there is none."""
-        return self._own_client().send(*body)
+        """Sends a message by the server's own client. Returns the reply, or None if there is none.
+
+        Then the log has it, and the turns that follow it (`--turns`) have passed.
+        """
+        reply = self._own_client().send(*body)
+        self.sync()
+        return reply
 
     def turns(self, count: int) -> None:
         """Has the track run so many turns now, and waits for them. The server runs with `--turns`, which may be 0."""
         self._own_client().turns(count)
+        self.sync()
+
+    def place(self, train: str, block: str, front: int, facing: str | None = None) -> None:
+        """Puts a train on the track, as `Client.place` does. The server runs with a plan."""
+        self._own_client().place(train, block, front, facing)
+        self.sync()
+
+    def sync(self) -> None:
+        """Waits until the log has all that happened before this call, whoever sent it."""
+        self._own_client().sync()
 
     def _own_client(self) -> Client:
         if not self.is_running():
@@ -321,26 +166,40 @@ class Server(Throttle, HasNodes):
             self._client = self.client()
         return self._client
 
-    def printed(self) -> list[str]:
-        """All whole lines of the log so far."""
-        if self._folder is not None and self.log.exists():
-            with open(self.log, "rb") as file:
-                file.seek(self._read_bytes)
-                lines, end, _ = file.read().rpartition(b"\n")
-            self._read_bytes += len(lines + end)
-            self._lines += lines.decode(errors="replace").splitlines()
-        return self._lines
+    def printed(self, since: int = 0) -> list[str]:
+        """All whole lines of the log so far, or those from a mark on."""
+        lines = self._log.read()
+        return lines[since:] if since else lines
+
+    def mark(self) -> int:
+        """The end of the log so far: what is waited for `since` this mark comes after it."""
+        return len(self.printed())
 
     @property
     def nodes(self) -> dict[str, State]:
         """What the log said last of each decoder, by its name. One that has not changed since the start is missing."""
-        lines = self.printed()
-        for line in lines[self._read_nodes :]:
-            found = read_node_line(line)
-            if found is not None:
-                self._nodes[found[0]] = found[1]
-        self._read_nodes = len(lines)
-        return dict(self._nodes)
+        self.printed()
+        return {name: state for name, (_, state) in self._log.nodes.items()}
+
+    def sensor_reports(self, since: int = 0) -> list[SensorReport]:
+        """The reports of sensors so far, in order, or those since a mark."""
+        self.printed()
+        return [report for number, report in self._log.reports if number >= since]
+
+    def occupied(self) -> set[int]:
+        """The sensors that are high: those of the plan's trains at the start, changed by each report since."""
+        self.printed()
+        return self._log.occupied(self._at_start)
+
+    def conflicts(self, since: int = 0) -> list[Conflict]:
+        """The conflicts so far, two trains in a block, or those since a mark."""
+        self.printed()
+        return [conflict for number, conflict in self._log.conflicts if number >= since]
+
+    def derailments(self, since: int = 0) -> list[Derailment]:
+        """The derailments so far, or those since a mark."""
+        self.printed()
+        return [derailment for number, derailment in self._log.derailments if number >= since]
 
     def until(self, is_so: Callable[[], Any], seconds: float | None = None) -> Any:
         """Waits until `is_so()` is true, or the program has ended, or the time is over. Returns its last value."""
@@ -351,46 +210,83 @@ class Server(Throttle, HasNodes):
             time.sleep(POLL_SECONDS)
         return found
 
-    def wait_for(self, what: Condition, seconds: float | None = None) -> Any:
+    def wait_for(self, what: Condition, seconds: float | None = None, since: int = 0) -> Any:
         """Waits for a whole line of the log, a line in which a pattern is found, or a function that returns true.
 
-        Lines from before the call count too. Returns the line, the match or the value. Raises TimeoutError, with the
-        end of the log, if the time is over or the program has ended.
+        Lines from before the call count too, unless they are before the mark `since`. Returns the line, the match or the
+        value. Raises TimeoutError, with the end of the log, if the time is over or the program has ended.
         """
         if isinstance(what, (str, re.Pattern)):
             wanted = what
-            found = self.until(lambda: self._line_with(wanted), seconds)
-        else:
-            found = self.until(what, seconds)
-        if not found:
-            state = "it runs" if self.is_running() else f"it has ended. {self._fault_text()}"
-            raise TimeoutError(f"waited in vain for {what!r}; {state}; its log ends {self.printed()[-5:]}")
-        return found
+            return self._found(lambda: self._find(wanted, since), seconds, lambda: _words_of(wanted))
+        return self._found(what, seconds, lambda: _words_of(what))
 
-    def wait_for_node(self, name: str, seconds: float | None = None, **wanted: Any) -> State:
-        """Waits until the decoder has these values, as in `wait_for_node("shunter", step=63, forward=True)`."""
+    def wait_for_node(self, name: str, seconds: float | None = None, since: int = 0, **wanted: Any) -> State:
+        """Waits until the decoder has these values, as in `wait_for_node("shunter", step=63, forward=True)`.
+
+        `since` a mark only what the log says of it after the mark counts. Raises StationError for a decoder that the
+        roster does not have, TypeError for a value that it has not, and TimeoutError as `wait_for`.
+        """
+        self._check_node(name, list(wanted))
 
         def is_so() -> State | None:
-            state = self.nodes.get(name)
+            self.printed()
+            state = self._log.state(name, since)
             has = state is not None and all(getattr(state, field, None) == value for field, value in wanted.items())
             return state if has else None
 
-        try:
-            state: State = self.wait_for(is_so, seconds)
-        except TimeoutError as error:
-            raise TimeoutError(f"decoder {name} has not {wanted}, but {self.nodes.get(name)}: {error}") from None
-        return state
+        def words() -> str:
+            values = " and ".join(f"{field} {value!r}" for field, value in wanted.items())
+            state = self._log.state(name, 0)
+            last = "it has not changed since the start" if state is None else f"its last state is {state}"
+            return f"decoder {name} {'with ' + values if values else 'to change'}; {last}"
 
-    def _line_with(self, what: str | re.Pattern[str]) -> Any:
-        lines = self.printed()
+        found: State = self._found(is_so, seconds, words)
+        return found
+
+    def wait_for_sensor(self, number: int, high: bool = True, seconds: float | None = None, since: int | None = None) -> None:
+        """Waits until a sensor, 1 to 4096, is high: occupied; or low. With a mark `since` it has to report so after the mark."""
+        wanted = SensorReport(in_range(number, 1, LAST_SENSOR, "a sensor"), high)
+
+        def is_so() -> bool:
+            if since is not None:
+                return wanted in self.sensor_reports(since)
+            return (number in self.occupied()) == high
+
+        def words() -> str:
+            reports = self.sensor_reports()
+            last = f"the last report was {reports[-1]}" if reports else "no sensor has reported"
+            now = ", ".join(map(str, sorted(self.occupied()))) or "none"
+            return f"{wanted}; high are {now}; {last}"
+
+        self._found(is_so, seconds, words)
+
+    def _found(self, is_so: Callable[[], Any], seconds: float | None, words: Callable[[], str]) -> Any:
+        """Waits until this is true. Returns its value. The words say what is waited for."""
+        found = self.until(is_so, seconds)
+        if not found:
+            state = "it runs" if self.is_running() else f"it has ended. {self._fault_text()}"
+            raise TimeoutError(f"waited in vain for {words()}; {state}; its log ends {self.printed()[-5:]}")
+        return found
+
+    def _find(self, what: str | re.Pattern[str], since: int) -> Any:
+        """The line, or the first match of a pattern, from a mark on, or None."""
+        lines = self.printed(since)
         if isinstance(what, str):
             return what if what in lines else None
         return next((found for line in lines if (found := what.search(line))), None)
 
-    def _forget(self) -> None:
-        """Forgets the log of an earlier start."""
-        self._nodes, self._lines = {}, []
-        self._read_bytes = self._read_nodes = 0
+    def _check_node(self, name: str, values: list[str]) -> None:
+        """Raises an error if the roster does not have the decoder, or the decoder not these values."""
+        if self._kinds is None:
+            return
+        if name not in self._kinds:
+            raise StationError(f"there is no decoder {name}; the roster has {', '.join(self._kinds) or 'none'}")
+        kind = self._kinds[name]
+        known = [field.name for field in dataclasses.fields(kind)] + (["last_step"] if kind is Motion else [])
+        for value in values:
+            if value not in known:
+                raise TypeError(f"decoder {name} has no {value}, but {', '.join(known)}")
 
     def _roster_words(self, folder: str) -> list[str]:
         if self._roster is None:
@@ -399,6 +295,30 @@ class Server(Throttle, HasNodes):
         file = pathlib.Path(folder, "roster.toml")
         file.write_text(found if isinstance(found, str) else roster_text(found), encoding="utf-8")
         return ["--roster", str(file)]
+
+    def _plan_words(self, folder: str) -> list[str]:
+        if self._plan is None:
+            return []
+        if not isinstance(self._plan, str) or "\n" not in self._plan:
+            return ["--plan", str(pathlib.Path(self._plan).resolve())]
+        file = pathlib.Path(folder, "plan.toml")
+        file.write_text(self._plan, encoding="utf-8")
+        return ["--plan", str(file)]
+
+    def _note_layout(self, words: list[str]) -> None:
+        """Notes the decoders of the roster, and the sensors that are occupied at the start, which the log does not say."""
+        roster, plan = self._toml(option(words, "--roster")), self._toml(option(words, "--plan"))
+        self._kinds = None if roster is None else kinds_in(roster)
+        self._at_start = sensors_at_start(plan or {})
+
+    def _toml(self, path: str | None) -> Mapping[str, Any] | None:
+        """What a file of the program has: nothing without one, and None if it cannot be read again."""
+        if path is None:
+            return {}
+        try:
+            return tomllib.loads(pathlib.Path(self._cwd or "", path).read_text(encoding="utf-8"))
+        except (OSError, ValueError):
+            return None
 
     def _page_words(self) -> list[str]:
         if self.page_port is None:
@@ -421,12 +341,10 @@ class Server(Throttle, HasNodes):
         raise ConnectionError(f"the server does not listen. {self._fault_text()}")
 
     def _start(self, words: list[str]) -> None:
-        self._forget()
+        self._log = Log(self.log)
         with open(self.log, "wb") as log, open(self.faults, "wb") as faults:
             output = self._output(log)
-            self.process = subprocess.Popen(
-                words, cwd=self._cwd, stdin=subprocess.DEVNULL, stdout=output, stderr=faults
-            )
+            self.process = Process(words, cwd=self._cwd, stdin=subprocess.DEVNULL, stdout=output, stderr=faults)
 
     def _output(self, log: Any) -> Any:
         """Where standard output goes."""
@@ -453,6 +371,19 @@ class Server(Throttle, HasNodes):
             return "it was closed"
         text = self.faults.read_text(errors="replace").strip() if self.faults.exists() else ""
         return f"status {self._ended_with()}: {text}"
+
+
+def _words_of(what: Condition) -> str:
+    """What is waited for, in words: of a function what its source says."""
+    if isinstance(what, str):
+        return f"the line {what!r}"
+    if isinstance(what, re.Pattern):
+        return f"a line with {what.pattern!r}"
+    try:
+        first, *_ = inspect.getsource(what).strip().splitlines()
+        return first
+    except (OSError, TypeError):
+        return repr(what)
 
 
 SomeServer = TypeVar("SomeServer", bound=Server)

@@ -68,6 +68,9 @@ class SensorReport:
     sensor: int  # 1 to 4096
     occupied: bool
 
+    def __str__(self) -> str:
+        return f"sensor {self.sensor} {'high' if self.occupied else 'low'}"
+
 
 def is_body(body: bytes) -> bool:
     """Whether one more byte makes a whole message: an opcode, then bytes below 80, as many as the opcode says."""
@@ -130,8 +133,9 @@ def reply_of(message: bytes) -> Reply:
 
 
 def sensor_report_in(line: str) -> SensorReport | None:
-    """The report of a sensor in a line of LocoNet over TCP, if that is what it tells."""
-    if not line.startswith("RECEIVE B2 "):
-        return None
-    _, low, high, _ = bytes.fromhex(line.removeprefix("RECEIVE "))
-    return SensorReport(1 + 2 * (low + (high & 0x0F) * 128) + (high >> 5 & 1), bool(high & 0x10))
+    """The report of a sensor in a line of LocoNet over TCP or of the log, if that is what it tells."""
+    for word in ("RECEIVE", "message"):
+        if line.startswith(f"{word} B2 "):
+            _, low, high = bytes.fromhex(line.removeprefix(f"{word} ")[:8])
+            return SensorReport(1 + 2 * (low + (high & 0x0F) * 128) + (high >> 5 & 1), bool(high & 0x10))
+    return None

@@ -12,6 +12,7 @@ import sys
 import tempfile
 import threading
 import time
+import tomllib
 import unittest
 
 TOP = pathlib.Path(__file__).resolve().parents[3]
@@ -33,11 +34,42 @@ from station import (  # noqa: E402
 )
 from station.decoders import read_node_line  # noqa: E402
 from station.lbserver import Client, Server  # noqa: E402
+from station.log import Conflict, Derailment, Log  # noqa: E402
 from station.messages import has_reply  # noqa: E402
 
 LAYOUT = TOP / "examples/layout.toml"
+OVAL, OVAL_ROSTER = TOP / "examples/oval.toml", TOP / "examples/oval-roster.toml"
 ROSTER = [LocoDecoder.at(3, name="shunter"), AccessoryDecoder(1, "yard")]
 WITHOUT = None if os.environ.get("LBSERVER") else "LBSERVER names no program"
+
+
+# A program that takes one client. It answers a message half a second before it prints it, and all else as real time does.
+FAKE = """#!{python}
+import socket, sys, time
+listener = socket.create_server(("{bound}", 0))
+{words}
+print(f"listening {named}:{listener.getsockname()[1]}", flush=True)
+stream, _ = listener.accept()
+stream.sendall(b"VERSION x\\r\\n")
+for line in stream.makefile():
+    if line.startswith("TURNS "):
+        stream.sendall(b"TURNS ERROR real time\\r\\n")
+        continue
+    stream.sendall(b"RECEIVE 83 7C\\r\\nSENT OK\\r\\n")
+    time.sleep(0.5)
+    print("message 83 7C  track power on", "node x short 3 stop forward F 0000000000000", sep="\\n", flush=True)
+"""
+
+
+@contextlib.contextmanager
+def fake(words, named="127.0.0.1", bound="127.0.0.1"):
+    """The path of a program that stands for `lbserver`, with the address that it prints, and that on which it listens."""
+    with tempfile.TemporaryDirectory() as folder:
+        program = pathlib.Path(folder, "a program")
+        text = FAKE.replace("{python}", sys.executable).replace("{words}", words)
+        program.write_text(text.replace("{named}", named).replace("{bound}", bound))
+        program.chmod(0o755)
+        yield program
 
 
 class TestLines(unittest.TestCase):
@@ -81,45 +113,16 @@ class TestLines(unittest.TestCase):
             self.assertIs(has_reply(bytes.fromhex(text)), wanted, text)
 
     def test_port_that_the_program_chooses(self):
-        text = """#!/usr/bin/env python3
-import socket, sys
-assert sys.argv[1:] == ["--port", "0", "--quiet"], sys.argv
-listener = socket.create_server(("127.0.0.1", 0))
-print(f"listening 127.0.0.1:{listener.getsockname()[1]}", flush=True)
-stream, _ = listener.accept()
-stream.sendall(b"VERSION x\\r\\n")
-stream.recv(100)
-stream.sendall(b"RECEIVE 83 7C\\r\\nSENT OK\\r\\n")
-print("node x short 3 stop forward F 0000000000000", flush=True)
-stream.recv(100)
-"""
-        with tempfile.TemporaryDirectory() as folder:
-            program = pathlib.Path(folder, "a program")
-            program.write_text(text)
-            program.chmod(0o755)
-            with Server("--quiet", program=program, port=0) as server:
+        with fake('assert sys.argv[1:4] == ["--port", "0", "--roster"] and sys.argv[5:] == ["--quiet"], sys.argv') as program:
+            with Server("--quiet", program=program, port=0, roster=[LocoDecoder.at(3, name="x")]) as server:
                 server.power_on()
                 self.assertEqual(server.wait_for_node("x"), Motion("stop", 0, None, True, 0))
 
     def test_address(self):
         # The server's own client connects where the program listens, to one that listens everywhere on this machine.
-        text = """#!/usr/bin/env python3
-import socket, sys
-listener = socket.create_server(("{bound}", 0))
-assert sys.argv[1:] == ["--port", "0", "--address", "{named}"], sys.argv
-print(f"listening {named}:{listener.getsockname()[1]}", flush=True)
-stream, _ = listener.accept()
-stream.sendall(b"VERSION x\\r\\n")
-stream.recv(100)
-stream.sendall(b"RECEIVE 83 7C\\r\\nSENT OK\\r\\n")
-print("message 83 7C  track power on", flush=True)
-stream.recv(100)
-"""
         for named, bound in (("127.0.0.2", "127.0.0.2"), ("0.0.0.0", "127.0.0.1")):
-            with tempfile.TemporaryDirectory() as folder:
-                program = pathlib.Path(folder, "program")
-                program.write_text(text.replace("{named}", named).replace("{bound}", bound))
-                program.chmod(0o755)
+            words = f'assert sys.argv[1:] == ["--port", "0", "--address", "{named}"], sys.argv'
+            with fake(words, named, bound) as program:
                 with Server("--address", named, program=program, port=0) as server:
                     self.assertEqual(repr(server), f"<Server on {bound}:{server.port}, running>")
                     with self.assertRaisesRegex(StationError, "the server is running"):
@@ -134,6 +137,88 @@ stream.recv(100)
                         with self.assertRaisesRegex(TimeoutError, "waited in vain"):
                             server.wait_for(wanted, seconds=0.02)
                 self.assertEqual(repr(server), f"<Server on {bound}:{server.port}, not running>")
+
+    def test_log_follows_calls(self):
+        # The program answers before it prints.
+        with fake("") as program, Server(program=program, port=0) as server:
+            server.power_on()
+            self.assertEqual(server.printed()[1:2], ["message 83 7C  track power on"])
+            mark = server.mark()
+            server.power_on()
+            self.assertEqual(server.printed(mark)[:1], ["message 83 7C  track power on"])
+
+    def test_log(self):
+        with tempfile.TemporaryDirectory() as folder:
+            log = Log(pathlib.Path(folder, "log"))
+            self.assertEqual(log.read(), [])
+            log.path.write_text(
+                "block east occupied (shunter)\nmessage B2 01 50 1C  sensor 3 high\nmessage B2 00 40 0D  sensor 1 low\n"
+                "conflict back: shunter, express\nnode shunter short 3 stop forward F 0000000000000\nderailed"
+            )
+            log.read()
+            self.assertEqual(log.reports, [(1, SensorReport(3, True)), (2, SensorReport(1, False))])
+            self.assertEqual(log.occupied({1, 4}), {3, 4})
+            self.assertEqual(log.conflicts, [(3, Conflict("back", ("shunter", "express")))])
+            self.assertEqual(str(log.conflicts[0][1]), log.lines[3])
+            self.assertEqual(log.state("shunter", 4), Motion("stop", 0, None, True, 0))
+            self.assertIsNone(log.state("shunter", 5))
+            self.assertEqual(log.derailments, [])
+            with open(log.path, "a") as file:
+                file.write(" express at turnout 12\nmessage B2 01 40 0C  sensor 3 low\n")
+            self.assertEqual(len(log.read()), 7)
+            self.assertEqual(log.derailments, [(5, Derailment("express", 12))])
+            self.assertEqual(str(log.derailments[0][1]), "derailed express at turnout 12")
+            self.assertEqual(log.occupied({1, 4}), {4})
+            self.assertEqual(str(log.reports[-1][1]), "sensor 3 low")
+
+    def test_decoders_that_are_waited_for(self):
+        layout = tomllib.loads((TOP / "examples/layout.toml").read_text())
+        names = [node["name"] for node in layout["node"]]
+        for how in ({"roster": LAYOUT}, {"options": ["--roster", str(LAYOUT)]}, {"options": [f"--roster={LAYOUT}"]}):
+            options = how.pop("options", [])
+            with fake("") as program, Server(*options, program=program, port=0, **how) as server:
+                start = time.monotonic()
+                with self.assertRaisesRegex(StationError, f"there is no decoder red; the roster has {', '.join(names)}$"):
+                    server.wait_for_node("red", step=3)
+                with self.assertRaisesRegex(TypeError, "decoder shunter has no stepp, but kind, step, steps"):
+                    server.wait_for_node("shunter", stepp=3)
+                with self.assertRaisesRegex(TypeError, "decoder yard has no step, but bits$"):
+                    server.wait_for_node("yard", step=3)
+                self.assertLess(time.monotonic() - start, 5)
+        with fake("") as program, Server(program=program, port=0) as server:
+            with self.assertRaisesRegex(StationError, "there is no decoder shunter; the roster has none$"):
+                server.wait_for_node("shunter", step=3)
+
+    def test_words_of_waits(self):
+        with fake("") as program, Server(program=program, port=0, roster=[LocoDecoder.at(3, name="x")]) as server:
+            words = "waited in vain for decoder x with step 3 and forward True; it has not changed since the start; it runs; "
+            with self.assertRaisesRegex(TimeoutError, words + "its log ends"):
+                server.wait_for_node("x", seconds=0.02, step=3, forward=True)
+            server.power_on()
+            words = "waited in vain for decoder x with steps None and kind 'step'; its last state is stop forward F 0000000000000; it"
+            with self.assertRaisesRegex(TimeoutError, words):
+                server.wait_for_node("x", seconds=0.02, steps=None, kind="step")
+            mark = server.mark()
+            server.wait_for_node("x", forward=True)
+            with self.assertRaisesRegex(TimeoutError, "waited in vain for decoder x to change; its last state is stop"):
+                server.wait_for_node("x", seconds=0.02, since=mark)
+            server.wait_for("message 83 7C  track power on")
+            with self.assertRaisesRegex(TimeoutError, "waited in vain for the line 'message 83 7C  track power on'; it runs"):
+                server.wait_for("message 83 7C  track power on", seconds=0.02, since=mark)
+            with self.assertRaisesRegex(TimeoutError, "waited in vain for a line with 'x.y'; it runs"):
+                server.wait_for(re.compile("x.y"), seconds=0.02)
+            never = lambda: False  # noqa: E731
+            with self.assertRaisesRegex(TimeoutError, "waited in vain for never = lambda: False"):
+                server.wait_for(never, seconds=0.02)
+            words = "waited in vain for sensor 3 high; high are none; no sensor has reported; it runs"
+            with self.assertRaisesRegex(TimeoutError, words):
+                server.wait_for_sensor(3, seconds=0.02)
+            server.wait_for_sensor(3, high=False)
+            for number in (0, 4097, "3"):
+                with self.assertRaisesRegex(ValueError, "a sensor is"):
+                    server.wait_for_sensor(number)
+            server.power_on()
+            self.assertEqual(server.wait_for_node("x", since=mark), Motion("stop", 0, None, True, 0))
 
     def test_words_of_a_page(self):
         # The server waits for both lines. A page that the options name is the only one.
@@ -312,6 +397,55 @@ class TestClient(unittest.TestCase):
             with self.assertRaises(ClosedError):
                 client.sensor_report()
 
+    def test_sensors_without_waiting(self):
+        first, third, low = "RECEIVE B2 00 50 1D", "RECEIVE B2 01 50 1C", "RECEIVE B2 01 40 0C"
+        with scripted(["VERSION x", first, "RECEIVE 83 7C"], [third, "SENT OK"], [low, "TURNS OK", third]) as (port, _):
+            with Client("127.0.0.1", port, seconds=0.2) as client:
+                client.wait_for_sensor(1)
+                self.assertEqual(client.sensor_reports(), [SensorReport(1, True)])
+                client.wait_for_sensor(3, high=False)
+                with self.assertRaisesRegex(TimeoutError, "waited in vain for sensor 3 high; the last report was sensor 1 high; the last line was 'RECEIVE 83 7C'"):
+                    client.wait_for_sensor(3, seconds=0.02)
+                client.power_on()
+                self.assertEqual(client.occupied(), {1, 3})
+                client.turns(1)
+                client.wait_for_sensor(3, seconds=5)
+                # Those that were returned count too, and none is returned twice.
+                reports = [SensorReport(1, True), SensorReport(3, True), SensorReport(3, False), SensorReport(3, True)]
+                self.assertEqual([client.sensor_report() for _ in reports], reports)
+                self.assertEqual(client.sensor_reports(), reports)
+                with self.assertRaisesRegex(TimeoutError, "waited in vain for the report of a sensor; the last line was 'RECEIVE B2 01 50 1C'"):
+                    client.sensor_report()
+                for number in (0, 4097):
+                    with self.assertRaisesRegex(ValueError, "a sensor is"):
+                        client.wait_for_sensor(number)
+            with self.assertRaises(ClosedError):
+                client.occupied()
+
+    def test_waits_end(self):
+        with scripted(["VERSION x"], ["RECEIVE 83 7C"], ["SENT OK", "RECEIVE 82 7D"], []) as (port, _):
+            with Client("127.0.0.1", port, seconds=0.1) as client:
+                with self.assertRaisesRegex(TimeoutError, "waited in vain for a line; the last line was 'VERSION x'"):
+                    client.line()
+                with self.assertRaisesRegex(TimeoutError, "waited in vain for SENT .. after 83 7C; the last line was 'RECEIVE 83 7C'"):
+                    client.power_on()
+                # A wait that was in vain loses nothing.
+                client._request("again")
+                self.assertEqual([client.line(), client.line()], ["SENT OK", "RECEIVE 82 7D"])
+                client._request("end")
+        with scripted() as (port, _), self.assertRaisesRegex(ConnectionError, "in a wait for its greeting"):
+            Client("127.0.0.1", port)
+
+    def test_sync(self):
+        error = "TURNS ERROR no number from 1 to 10000"
+        with scripted(["VERSION x"], ["RECEIVE 83 7C", error], [error], ["TURNS OK"]) as (port, received):
+            with Client("127.0.0.1", port) as client:
+                client.sync()
+                client.turns(1)
+            with self.assertRaises(ClosedError):
+                client.sync()
+        self.assertEqual(received, ["TURNS 0", "TURNS 0", "TURNS 1", ""])
+
     def test_no_reply(self):
         with scripted(["VERSION x"], ["RECEIVE BB 01 00 45", "SENT OK", "SENT OK"]) as (port, _):
             with Client("127.0.0.1", port) as client:
@@ -385,11 +519,65 @@ class TestServer(unittest.TestCase):
             with self.assertRaisesRegex(StationError, "TURNS ERROR real time"):
                 server.turns(1)
 
+    def test_log_follows_calls(self):
+        for options in ([], ["--turns", "8"]):
+            with Server(*options, roster=ROSTER) as server, server.client() as other:
+                server.power_on()
+                loco = server.loco(3)
+                slot = loco.take().slot
+                if options:
+                    server.turns(100)
+                for speed in range(1, 120):
+                    mark = server.mark()
+                    loco.speed(speed)
+                    sent = message_hex(0xA0, slot, speed + 1)
+                    # In real time what decoders do comes between.
+                    self.assertTrue(any(line.startswith(f"message {sent} ") for line in server.printed(mark)))
+                    if options:
+                        # One of the turns that follow it has its packet.
+                        self.assertTrue(server.printed(mark)[1].startswith(f"node shunter short 3 step {speed} of 128 "))
+                for speed in range(1, 60):
+                    mark = server.mark()
+                    other.send(0xA0, slot, speed)
+                    other.sync() if speed % 2 else server.sync()
+                    self.assertIn(f"message {message_hex(0xA0, slot, speed)} ", "\n".join(server.printed(mark)))
+
+    def test_trains(self):
+        with Server("--turns", "0", roster=OVAL_ROSTER, plan=OVAL.read_text()) as server, server.client() as client:
+            # Both trains of the example, before any report.
+            self.assertEqual((server.occupied(), client.occupied()), ({1, 4}, set()))
+            server.power_on()
+            loco = server.loco(3)
+            loco.take()
+            loco.speed(126)
+            while 3 not in server.occupied():
+                server.turns(10)
+            mark = server.mark()
+            while 1 in server.occupied():
+                server.turns(10)
+            self.assertEqual(server.sensor_reports(), [SensorReport(3, True), SensorReport(1, False)])
+            self.assertEqual(server.sensor_reports(mark), [SensorReport(1, False)])
+            self.assertEqual(client.sensor_reports(), server.sensor_reports())
+            self.assertEqual((server.conflicts(), server.derailments()), ([], []))
+            server.wait_for_sensor(1, high=False, since=mark)
+            with self.assertRaisesRegex(TimeoutError, "waited in vain for sensor 3 high; high are 3, 4; the last report was sensor 1 low; it runs"):
+                server.wait_for_sensor(3, since=mark, seconds=0.05)
+            client.send(0xB0, 0x78, 0x27)
+            self.assertEqual(client.occupied(), {3, 4})
+            server.place("express", "east", 1000)
+            self.assertEqual(server.conflicts(), [Conflict("east", ("shunter", "express"))])
+            self.assertEqual(server.conflicts(server.mark()), [])
+            with self.assertRaisesRegex(StationError, "PLACE ERROR no such train"):
+                server.place("yard", "east", 500)
+        for options, plan in ((["--plan", str(OVAL)], None), ([], OVAL)):
+            with Server(*options, roster=OVAL_ROSTER, plan=plan) as server:
+                server.wait_for_sensor(4, seconds=0)
+
     def test_waits_end(self):
         with Server(roster=ROSTER) as server:
             with self.assertRaisesRegex(TimeoutError, "it runs; its log ends"):
                 server.wait_for("never", seconds=0.1)
-            with self.assertRaisesRegex(TimeoutError, "decoder shunter has not"):
+            with self.assertRaisesRegex(TimeoutError, "decoder shunter with step 1; it has not changed since the start"):
                 server.wait_for_node("shunter", seconds=0.1, step=1)
             server.process.kill()
             start = time.monotonic()
