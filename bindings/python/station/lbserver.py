@@ -29,7 +29,7 @@ from .decoders import HasNodes, Motion, Roster, State, in_range, read_roster, ro
 from .errors import ClosedError, StationError
 from .log import Conflict, Derailment, Log, kinds_in, option, sensors_at_start
 from .messages import Reply, SensorReport
-from .process import Process, find_page, find_program, free_port
+from .process import Process, find_page, find_program, free_port, start
 from .throttle import Throttle
 
 __all__ = [
@@ -56,7 +56,7 @@ Plan = Union[str, "os.PathLike[str]"]
 
 
 class Server(Throttle, HasNodes):
-    """The program `lbserver` on a free port, until the end of a `with`.
+    """The program `lbserver` on a free port, until the end of a `with`, or of this process.
 
     `options` are further options of the program. `roster` is a path, the text of a roster (a str with a line feed), or
     a list of decoders; `plan` is a path, or the text of a track plan. `port` 0 lets the program choose, which programs
@@ -344,7 +344,7 @@ class Server(Throttle, HasNodes):
         self._log = Log(self.log)
         with open(self.log, "wb") as log, open(self.faults, "wb") as faults:
             output = self._output(log)
-            self.process = Process(words, cwd=self._cwd, stdin=subprocess.DEVNULL, stdout=output, stderr=faults)
+            self.process = start(words, cwd=self._cwd, stdin=subprocess.DEVNULL, stdout=output, stderr=faults)
 
     def _output(self, log: Any) -> Any:
         """Where standard output goes."""

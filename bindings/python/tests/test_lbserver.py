@@ -7,7 +7,9 @@ import contextlib
 import os
 import pathlib
 import re
+import signal
 import socket
+import subprocess
 import sys
 import tempfile
 import threading
@@ -59,6 +61,21 @@ for line in stream.makefile():
     time.sleep(0.5)
     print("message 83 7C  track power on", "node x short 3 stop forward F 0000000000000", sep="\\n", flush=True)
 """
+
+
+def has_ended(process, seconds=5):
+    """Whether a process ends within this time: it is gone, or its parent has not asked for its status yet."""
+    end = time.monotonic() + seconds
+    while True:
+        try:
+            stat = pathlib.Path(f"/proc/{process}/stat").read_text()
+        except (FileNotFoundError, ProcessLookupError):
+            return True
+        if stat.rpartition(")")[2].split()[0] in "ZX":
+            return True
+        if time.monotonic() > end:
+            return False
+        time.sleep(0.01)
 
 
 @contextlib.contextmanager
@@ -238,6 +255,44 @@ time.sleep(60)
                 with Server(*options, program=program, port=0, page=True) as server:
                     wanted = ["words", "--port", "0", "--page", str(server.page_port), *page]
                     self.assertEqual(server.printed()[1:], [" ".join(wanted)])
+
+    def test_ends_with_its_process(self):
+        # A process with three servers: from its first thread, from a thread that has ended, and in a child.
+        text = f"""
+import os, sys, threading, time
+sys.path.insert(0, {str(TOP / "bindings/python")!r})
+from station.lbserver import Server
+
+def start():
+    server = Server(program=sys.argv[1], port=0)
+    server.__enter__()
+    servers.append(server)
+
+servers = []
+start()
+thread = threading.Thread(target=start)
+thread.start()
+thread.join()
+time.sleep(0.3)
+if os.fork() == 0:
+    thread = threading.Thread(target=start)
+    thread.start()
+    thread.join()
+    print(servers[-1].process.pid, flush=True)
+    os.kill(os.getpid(), 9)
+os.wait()
+print(*[server.process.pid for server in servers if server.is_running()], flush=True)
+time.sleep(60)
+"""
+        for number in (signal.SIGTERM, signal.SIGKILL):
+            with fake("") as program:
+                words = [sys.executable, "-c", text, str(program)]
+                with subprocess.Popen(words, stdout=subprocess.PIPE, text=True) as process:
+                    child, *servers = [int(word) for _ in range(2) for word in process.stdout.readline().split()]
+                    ended = [has_ended(child), *(has_ended(server, seconds=0) for server in servers)]
+                    process.send_signal(number)
+                ended += map(has_ended, servers)
+                self.assertEqual(ended, [True, False, False, True, True])
 
     def test_programs_that_fail(self):
         for program in ("/bin/false", "/bin/echo"):
