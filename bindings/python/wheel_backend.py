@@ -1,8 +1,8 @@
 """Builds the wheel of the package for pip, without setuptools, so without a network (PEP 517, PEP 660).
 
 The wheel contains the programs of a folder that STATION_PROGRAMS names (`lbserver`, the page, the shared object); without it
-the shared object if `make -C bindings` has made it. Then it is for x86-64 Linux alone. There is no source distribution, since
-programs are made elsewhere in the repository. The same files make the same bytes, at the time SOURCE_DATE_EPOCH.
+the page, and the shared object if `make -C bindings` has made it. With a program it is for x86-64 Linux alone. There is no source
+distribution, since programs are made elsewhere in the repository. The same files make the same bytes, at the time SOURCE_DATE_EPOCH.
 """
 
 import base64
@@ -16,6 +16,7 @@ import zipfile
 HERE = pathlib.Path(__file__).resolve().parent
 PACKAGE = "station"
 LIBRARY = HERE.parent / "out/libstation.so"
+PAGE = HERE.parents[1] / "pages/throttle.html"
 # The programs need glibc 2.34 and nothing else.
 PLATFORM = "manylinux_2_34_x86_64"
 # The earliest time that a zip archive can hold.
@@ -27,9 +28,10 @@ def build_wheel(wheel_directory, config_settings=None, metadata_directory=None):
     files = {f"{PACKAGE}/{path.name}": path.read_bytes() for path in sorted((HERE / PACKAGE).glob("*.py"))}
     files[f"{PACKAGE}/py.typed"] = b""
     folder = os.environ.get("STATION_PROGRAMS")
-    programs = sorted(pathlib.Path(folder).iterdir()) if folder else [LIBRARY] if LIBRARY.is_file() else []
+    programs = sorted(pathlib.Path(folder).iterdir()) if folder else [path for path in (LIBRARY, PAGE) if path.is_file()]
     files |= {f"{PACKAGE}/programs/{path.name}": path.read_bytes() for path in programs}
-    return _write(wheel_directory, files, (PLATFORM if folder else "linux_x86_64") if programs else "any")
+    platform = PLATFORM if folder else "linux_x86_64" if LIBRARY in programs else "any"
+    return _write(wheel_directory, files, platform)
 
 
 def build_editable(wheel_directory, config_settings=None, metadata_directory=None):

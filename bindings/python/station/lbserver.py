@@ -320,10 +320,10 @@ class Server(Throttle, HasNodes):
         except (OSError, ValueError):
             return None
 
-    def _page_words(self) -> list[str]:
+    def _page_words(self, program: str) -> list[str]:
         if self.page_port is None:
             return []
-        words, file = ["--page", str(self.page_port)], find_page()
+        words, file = ["--page", str(self.page_port)], find_page(program)
         # The program looks for the page below the folder that it runs in.
         if file and not any(option.startswith("--page-file") for option in self.options):
             words += ["--page-file", str(file)]
@@ -332,7 +332,7 @@ class Server(Throttle, HasNodes):
     def _start_on_free_port(self, program: str, words: list[str]) -> None:
         for _ in range(ATTEMPTS):
             self.page_port = free_port() if self._page else None
-            self._start([program, "--port", str(self.port), *self._page_words(), *words, *self.options])
+            self._start([program, "--port", str(self.port), *self._page_words(program), *words, *self.options])
             if self._listens():
                 return
             if self._chosen_port is not None or self._ended_with() != NETWORK_STATUS:

@@ -51,9 +51,14 @@ def find_program(path: str | os.PathLike[str] | None = None) -> str:
     return subprocess.check_output(words, stdin=subprocess.DEVNULL, text=True).rstrip("\n")
 
 
-def find_page() -> pathlib.Path | None:
-    """The page that the program serves: that of the package, or that of the repository, if there is one."""
-    pages = PROGRAMS / PAGE, TOP / "pages" / PAGE
+def find_page(program: str | os.PathLike[str]) -> pathlib.Path | None:
+    """The page that the program serves, if it is found.
+
+    That is the page beside the program, or that of its installation, or of this package, or of the repository.
+    """
+    folder = pathlib.Path(program).resolve().parent
+    installed = [above / "share/station" / PAGE for above in list(folder.parents)[:2]]
+    pages = folder / PAGE, *installed, PROGRAMS / PAGE, TOP / "pages" / PAGE
     return next((page for page in pages if page.is_file()), None)
 
 

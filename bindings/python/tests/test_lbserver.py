@@ -35,7 +35,7 @@ from station import (  # noqa: E402
     message_hex,
 )
 from station.decoders import read_node_line  # noqa: E402
-from station.lbserver import Client, Server  # noqa: E402
+from station.lbserver import Client, Server, find_page  # noqa: E402
 from station.log import Conflict, Derailment, Log  # noqa: E402
 from station.messages import has_reply  # noqa: E402
 
@@ -255,6 +255,20 @@ time.sleep(60)
                 with Server(*options, program=program, port=0, page=True) as server:
                     wanted = ["words", "--port", "0", "--page", str(server.page_port), *page]
                     self.assertEqual(server.printed()[1:], [" ".join(wanted)])
+
+    def test_page_of_an_installation(self):
+        for program, page in (
+            ("bin/lbserver", "share/station/throttle.html"),
+            ("lib/station/lbserver", "share/station/throttle.html"),
+            ("programs/lbserver", "programs/throttle.html"),
+        ):
+            with tempfile.TemporaryDirectory() as folder:
+                for path in (program, page):
+                    pathlib.Path(folder, path).parent.mkdir(parents=True, exist_ok=True)
+                    pathlib.Path(folder, path).write_text("")
+                self.assertEqual(find_page(pathlib.Path(folder, program)), pathlib.Path(folder, page))
+        for program in ("/lbserver", "/bin/lbserver"):
+            self.assertEqual(find_page(program), TOP / "pages/throttle.html")
 
     def test_ends_with_its_process(self):
         # A process with three servers: from its first thread, from a thread that has ended, and in a child.
