@@ -46,7 +46,12 @@ def _write(folder, files, platform):
     metadata += f"Summary: {project['description']}\nRequires-Python: {project['requires-python']}\n"
     pure = str(platform == "any").lower()
     tags = f"Wheel-Version: 1.0\nGenerator: wheel_backend\nRoot-Is-Purelib: {pure}\nTag: py3-none-{platform}\n"
+    entries = "".join(
+        f"[{group}]\n" + "".join(f"{name} = {module}\n" for name, module in names.items())
+        for group, names in project["entry-points"].items()
+    )
     files = {**files, f"{info}/METADATA": metadata.encode(), f"{info}/WHEEL": tags.encode()}
+    files[f"{info}/entry_points.txt"] = entries.encode()
     record = [f"{name},sha256={_digest(data)},{len(data)}" for name, data in files.items()]
     files[f"{info}/RECORD"] = "\n".join([*record, f"{info}/RECORD,,", ""]).encode()
     name = f"{project['name']}-{project['version']}-py3-none-{platform}.whl"

@@ -7,7 +7,7 @@
         loco.speed(63)
         server.wait_for_node("shunter", step=63)
 
-It needs no library. The log goes to a file, so that its reader never holds it up.
+It needs no library. The log goes to a file, so that its reader never holds it up. `station.pytest_plugin` has a fixture.
 """
 
 from __future__ import annotations
