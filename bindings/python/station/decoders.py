@@ -5,7 +5,7 @@ from __future__ import annotations
 import os
 import pathlib
 import re
-from collections.abc import Iterable, Mapping, Sequence
+from collections.abc import Container, Iterable, Mapping, Sequence
 from dataclasses import dataclass
 from typing import Any, Union
 
@@ -13,6 +13,7 @@ from .errors import RosterError, StationError
 from .messages import LAST_STEP
 
 MOST_DECODERS = 64
+_NAME = re.compile(r"[A-Za-z0-9_-]{1,16}")
 
 
 def in_range(number: int, first: int, last: int, what: str) -> int:
@@ -169,12 +170,13 @@ def read_roster(roster: Roster) -> str | list[Decoder]:
 
 
 def named(decoders: Sequence[Decoder]) -> dict[str, Decoder]:
-    """The decoders by their names. One without a name is `node-I`, where I is its index, from 0."""
+    """The decoders by their names. One without a name is `node-I`, where I is its index, from 0. Raises RosterError for a name."""
     found: dict[str, Decoder] = {}
     for i, decoder in enumerate(decoders):
         name = f"node-{i}" if decoder.name is None else decoder.name
-        if name in found:
-            raise RosterError("an earlier decoder has this name", i + 1, name)
+        fault = _name_fault(name, found)
+        if fault is not None:
+            raise RosterError(fault, i + 1, name)
         found[name] = decoder
     return found
 
@@ -258,13 +260,19 @@ def _explained_fault(text: str, number: int, unknown: str) -> RosterError:
         return RosterError(unknown, number, name)
 
 
+def _name_fault(name: str, earlier: Container[str]) -> str | None:
+    """Why a name is invalid, as programs have it, or None."""
+    if not _NAME.fullmatch(name):
+        return f"name is {name!r}, and has to be 1 to 16 letters, digits, - or _"
+    return "an earlier decoder has this name" if name in earlier else None
+
+
 def _node_fault(node: Mapping[str, Any], earlier: Sequence[str]) -> str | None:
     """Why a node of a roster is invalid, apart from its values, or None."""
     name, kind, numbers = node["name"], node["kind"], [number for number, _ in node.get("cvs", [])]
-    if not re.fullmatch(r"[A-Za-z0-9_-]{1,16}", name):
-        return f"name is {name!r}, and has to be 1 to 16 letters, digits, - or _"
-    if name in earlier:
-        return "an earlier decoder has this name"
+    fault = _name_fault(name, earlier)
+    if fault is not None:
+        return fault
     if kind not in ("loco", "accessory"):
         return f"kind is {kind!r}, and has to be loco or accessory"
     for i, number in enumerate(numbers):

@@ -82,6 +82,12 @@ class TestLayouts(Test):
             ([SHORT, SHORT, AccessoryDecoder(511, "yard")], 3, "yard: module is 511"),
             ([AccessoryDecoder(0)], 1, "module is 0"),
             ([LocoDecoder(3, name="a"), LocoDecoder(4, name="a")], 2, "earlier"),
+            # A program refuses these names, too.
+            ([LocoDecoder(3, name="a"), LocoDecoder(4, name="a b")], 2, "name is 'a b', and has to be 1 to 16 letters, digits, - or _"),
+            ([LocoDecoder(3, name="")], 1, "name is ''"),
+            ([LocoDecoder(3, name="a" * 17)], 1, "name is 'aaaaaaaaaaaaaaaaa'"),
+            ([LocoDecoder(3, name="a\n")], 1, "name is"),
+            ([LocoDecoder(3, name="ä")], 1, "name is 'ä'"),
             ([SHORT] * 65, None, "65 decoders"),
         ):
             self.assertEqual(self.fails(RosterError, text, Station, decoders).decoder, number)
