@@ -2,7 +2,9 @@
  *
  * play sizes: prints the sizes of the structs of station.h and where their fields stand.
  *
- * play numbers: prints its kinds and statuses. */
+ * play numbers: prints its kinds and statuses.
+ *
+ * play texts: prints what it says of each status, and of each fault of a roster. */
 #include <stdio.h>
 #include <stdlib.h>
 #include <string.h>
@@ -165,21 +167,18 @@ static void print_numbers(void) {
     NUMBER(MADE), NUMBER(BAD_LINES), NUMBER(BAD_DECODERS), NUMBER(NO_MEMORY), NUMBER(ALREADY_MADE);
 }
 
+static void print_texts(void) {
+    for (uint8_t status = 0; status <= STATION_ALREADY_MADE + 1; status++)
+        printf("%u %s\n", status, station_status_text(status));
+    for (uint8_t fault = 0; fault <= STATION_BAD_CV_LIST; fault++)
+        printf("%u %s\n", fault, station_fault_text(fault));
+}
+
 /* What is wrong with a roster. */
 static const char *fault_of(const char *roster, size_t size) {
     uint8_t fault = 0, node = 0;
-    station_check((const uint8_t *)roster, size, &fault, &node);
-    switch (fault) {
-    case STATION_NOT_TOML: return "the text is not TOML, or not UTF-8";
-    case STATION_BAD_SHAPE: return "a key is missing or unknown, or a value has another type";
-    case STATION_TOO_MANY: return "there are more than 64 decoders";
-    case STATION_BAD_NAME: return "the name is not valid, or an earlier decoder has it";
-    case STATION_BAD_CV: return "a variable has no valid value";
-    case STATION_BAD_MODULE: return "the module is not 1 to 510";
-    case STATION_EMPTY: return "there is no decoder";
-    case STATION_BAD_CV_LIST: return "the list of variables is not valid";
-    default: return "out of memory";
-    }
+    uint8_t status = station_check((const uint8_t *)roster, size, &fault, &node);
+    return status == STATION_BAD_DECODERS ? station_fault_text(fault) : station_status_text(status);
 }
 
 int main(int argc, char **argv) {
@@ -191,8 +190,12 @@ int main(int argc, char **argv) {
         print_numbers();
         return 0;
     }
+    if (argc == 2 && strcmp(argv[1], "texts") == 0) {
+        print_texts();
+        return 0;
+    }
     if (argc != 4) {
-        fprintf(stderr, "usage: play ROSTER SCRIPT LINES | play sizes | play numbers\n");
+        fprintf(stderr, "usage: play ROSTER SCRIPT LINES | play sizes | play numbers | play texts\n");
         return 2;
     }
     size_t size;
@@ -206,7 +209,7 @@ int main(int argc, char **argv) {
         return 2;
     }
     if (status != STATION_MADE) {
-        fprintf(stderr, "play: no layout: status %u at decoder %u\n", status, node);
+        fprintf(stderr, "play: %s\n", station_status_text(status));
         return 2;
     }
     read_names(roster);

@@ -112,6 +112,33 @@ enum {
  * Owed: `text` points to `size` bytes. */
 uint8_t station_check(const uint8_t *text, size_t size, uint8_t *fault, uint8_t *node);
 
+/* What a status says, in words without an end of line. This function and the next are the header's own. */
+static inline const char *station_status_text(uint8_t status) {
+    switch (status) {
+    case STATION_MADE: return "the layout was made";
+    case STATION_BAD_LINES: return "the lines are not 1 to 8";
+    case STATION_BAD_DECODERS: return "a decoder is invalid, or there are more than 64, or the roster has a fault";
+    case STATION_NO_MEMORY: return "out of memory";
+    case STATION_ALREADY_MADE: return "there is a layout already";
+    default: return "no status";
+    }
+}
+
+/* What a fault of a roster says, in words. */
+static inline const char *station_fault_text(uint8_t fault) {
+    switch (fault) {
+    case STATION_NOT_TOML: return "the text is not TOML, or not UTF-8";
+    case STATION_BAD_SHAPE: return "a key is missing or unknown, or a value has another type";
+    case STATION_TOO_MANY: return "there are more than 64 decoders";
+    case STATION_BAD_NAME: return "the name is not valid, or an earlier decoder has it";
+    case STATION_BAD_CV: return "a variable has no valid value";
+    case STATION_BAD_MODULE: return "the module is not 1 to 510";
+    case STATION_EMPTY: return "there is no decoder";
+    case STATION_BAD_CV_LIST: return "the list of variables is not valid";
+    default: return "no fault";
+    }
+}
+
 /* Ends a layout, if there is one. Afterwards there is none.
  * Owed: nothing but the above. */
 void station_free(station_layout *layout);
