@@ -10,6 +10,7 @@ import signal
 import socket
 import subprocess
 import threading
+import warnings
 from collections.abc import Callable, Sequence
 from concurrent.futures import Future
 from typing import Any
@@ -71,7 +72,13 @@ def start(words: Sequence[str], **how: Any) -> Process:
         if os.getppid() != parent:
             os._exit(1)
 
-    return _in_lasting_thread(lambda: Process(words, preexec_fn=end_with_parent, **how))
+    def make() -> Process:
+        with warnings.catch_warnings():
+            # Python warns of a fork beside threads. What the child does before the program takes no lock.
+            warnings.simplefilter("ignore", DeprecationWarning)
+            return Process(words, preexec_fn=end_with_parent, **how)
+
+    return _in_lasting_thread(make)
 
 
 class _Starter(threading.Thread):
