@@ -183,23 +183,27 @@ class Server(Throttle, HasNodes):
 
     def sensor_reports(self, since: int = 0) -> list[SensorReport]:
         """The reports of sensors so far, in order, or those since a mark."""
-        self.printed()
-        return [report for number, report in self._log.reports if number >= since]
+        return [report for number, report in self._whole_log(since).reports if number >= since]
 
     def occupied(self) -> set[int]:
         """The sensors that are high: those of the plan's trains at the start, changed by each report since."""
-        self.printed()
-        return self._log.occupied(self._at_start)
+        return self._whole_log(0).occupied(self._at_start)
 
     def conflicts(self, since: int = 0) -> list[Conflict]:
         """The conflicts so far, two trains in a block, or those since a mark."""
-        self.printed()
-        return [conflict for number, conflict in self._log.conflicts if number >= since]
+        return [conflict for number, conflict in self._whole_log(since).conflicts if number >= since]
 
     def derailments(self, since: int = 0) -> list[Derailment]:
         """The derailments so far, or those since a mark."""
+        return [derailment for number, derailment in self._whole_log(since).derailments if number >= since]
+
+    def _whole_log(self, since: int) -> Log:
+        """The log. Raises StationError if lines were left out of it, as `log: 2 lines left out` says, from a mark on."""
         self.printed()
-        return [derailment for number, derailment in self._log.derailments if number >= since]
+        for number, line in self._log.gaps:
+            if number >= since:
+                raise StationError(f"the log is not whole: {line}")
+        return self._log
 
     def until(self, is_so: Callable[[], Any], seconds: float | None = None) -> Any:
         """Waits until `is_so()` is true, or the program has ended, or the time is over. Returns its last value."""

@@ -47,6 +47,7 @@ class Log:
     reports: list[tuple[int, SensorReport]] = field(default_factory=list)
     conflicts: list[tuple[int, Conflict]] = field(default_factory=list)
     derailments: list[tuple[int, Derailment]] = field(default_factory=list)
+    gaps: list[tuple[int, str]] = field(default_factory=list)
     read_bytes: int = 0
 
     def read(self) -> list[str]:
@@ -72,6 +73,8 @@ class Log:
             self.conflicts.append((number, Conflict(found[1], (found[2], found[3]))))
         elif word == "derailed" and (found := _DERAILMENT.fullmatch(line)):
             self.derailments.append((number, Derailment(found[1], int(found[2]))))
+        elif word == "log:":
+            self.gaps.append((number, line))
 
     def state(self, name: str, since: int) -> State | None:
         """The last state of a decoder, if a line from `since` on has it."""

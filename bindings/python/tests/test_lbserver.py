@@ -188,6 +188,15 @@ class TestLines(unittest.TestCase):
             self.assertEqual(log.occupied({1, 4}), {4})
             self.assertEqual(str(log.reports[-1][1]), "sensor 3 low")
 
+    def test_log_with_gaps(self):
+        with fake("") as program, Server(program=program, port=0) as server:
+            with open(server.log, "a") as file:
+                file.write("conflict back: shunter, express\nlog: 1,234 lines left out\n")
+            for call in (server.conflicts, server.derailments, server.sensor_reports, server.occupied):
+                with self.assertRaisesRegex(StationError, "the log is not whole: log: 1,234 lines left out"):
+                    call()
+            self.assertEqual(server.conflicts(server.mark()), [])
+
     def test_decoders_that_are_waited_for(self):
         layout = tomllib.loads((TOP / "examples/layout.toml").read_text())
         names = [node["name"] for node in layout["node"]]
