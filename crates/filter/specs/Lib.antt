@@ -1,3 +1,4 @@
+pub mod ClosedPipe
 pub mod FilterFault
 pub mod FilterLine
 pub mod FilterRuns

@@ -12,6 +12,7 @@
 #![tactic(auto)]
 
 mod announced;
+mod closed_pipe;
 mod filter;
 mod orders;
 mod report;
