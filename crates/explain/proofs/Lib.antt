@@ -1,3 +1,4 @@
+pub mod Closing
 mod Ends
 mod Held
 mod Copying

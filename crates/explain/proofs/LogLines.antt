@@ -2,6 +2,7 @@
 use Rattle.std.proofs.Common.{◌≡◌, ℕ, true, List, [], ◌∷◌, ◌++◌, append-nil, append_assoc, refl, ap, sym, ◌∙◌}
 use Rattle.text.specs.Words.{words_of}
 use Rattle.loconet_tcp.specs.Requests.{are_pairs, bytes_of, leading_bytes}
+use Rattle.explain.specs.Brackets.{without_brackets}
 use Rattle.explain.specs.HexText.{hex_line_of, hex_text}
 use Rattle.explain.specs.Lines.{body_of}
 use Rattle.text.specs.Lines.{is_open}
@@ -14,7 +15,7 @@ unfolding hex_text
 line_first line rest h = rw (lines-ended line rest h) refl
 
 hex_none : hex_line_of [] ≡ []
-unfolding hex_line_of bytes_of are_pairs words_of leading_bytes
+unfolding hex_line_of without_brackets bytes_of are_pairs words_of leading_bytes
 hex_none = refl
 
 -- the last line, if it has no end

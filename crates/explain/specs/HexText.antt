@@ -5,6 +5,7 @@ use Rattle.text.specs.Hex.{hex_char, hex_words}
 use Rattle.text.specs.Words.{words_of}
 use Rattle.ln_frame.specs.Message.{is_whole}
 use Rattle.loconet_tcp.specs.Requests.{bytes_of, leading_bytes}
+use Rattle.explain.specs.Brackets.{without_brackets}
 use Rattle.explain.specs.Lines.{body_of, lines_of}
 use Rattle.explain.specs.LineKinds.{begins_with, rest_after}
 
@@ -30,13 +31,13 @@ without_explanation line =
 
 -- The bytes in a line, by its first word: after `message` and `msg` those before other words, after
 -- `reply` those after the line of the station, after `RECEIVE` and `SEND` all; or the line is bytes
--- alone.
+-- alone, or has them between brackets.
 abbrev pub bytes_in : List ℕ → List ℕ
 bytes_in line =
     if begins_with (codes "message") line || begins_with (codes "msg") line
     then leading_bytes (words_of (rest_after line)) else
     (if begins_with (codes "reply") line then pairs_in (rest_after (rest_after line)) else
-    (if begins_with (codes "RECEIVE") line || begins_with (codes "SEND") line then pairs_in (rest_after line) else pairs_in line))
+    (if begins_with (codes "RECEIVE") line || begins_with (codes "SEND") line then pairs_in (rest_after line) else pairs_in (without_brackets line)))
 
 -- the message in a text of at most 400 characters, if its bytes are a whole one
 abbrev pub message_in_text : List ℕ → Option (List ℕ)

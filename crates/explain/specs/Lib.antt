@@ -1,3 +1,4 @@
+pub mod Brackets
 pub mod Conversion
 pub mod Ends
 pub mod Explained

@@ -8,6 +8,7 @@ use Rattle.loconet_tcp.specs.Requests.{bytes_of, leading_bytes}
 use Rattle.describe.specs.Messages.{message_words}
 use Rattle.describe.specs.Packets.{packet_words}
 use Rattle.describe.specs.ServicePackets.{service_words}
+use Rattle.explain.specs.Brackets.{without_brackets}
 use Rattle.explain.specs.FaultLines.{fault_in, names_program}
 
 -- the explanation of bytes; none if there are no bytes, or if a word is not a pair of digits
@@ -41,7 +42,8 @@ begins_with word line = bytes_eq (before_first is_blank line) word
 
 -- The explanation of a line, by its first word. After `reply` is the line of the station, after
 -- `track` the turn, after `programming` the number of the packet, and after the name of a program a
--- fault. A line that begins with none of these words is a message, or has no explanation.
+-- fault. A line that begins with none of these words is a message, which may be between brackets, or
+-- has no explanation.
 abbrev pub words_about : List ℕ → List ℕ
 words_about line =
     if begins_with (codes "reply") line then message_in (rest_after (rest_after line)) else
@@ -50,7 +52,7 @@ words_about line =
     (if begins_with (codes "msg") line then monitored_in (rest_after line) else
     (if begins_with (codes "RECEIVE") line then message_in (rest_after line) else
     (if begins_with (codes "SEND") line then message_in (rest_after line) else
-    (if names_program (before_first is_blank line) then fault_in (rest_after line) else message_in line))))))
+    (if names_program (before_first is_blank line) then fault_in (rest_after line) else message_in (without_brackets line)))))))
 
 -- two spaces before words
 abbrev pub set_off : List ℕ → List ℕ

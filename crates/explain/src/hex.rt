@@ -3,6 +3,7 @@ ghost use Rattle.std.specs.Prelude.{◌≡◌, ◌≤◌, ◌++◌, IfOk, OnOk, 
 ghost use Rattle.explain.specs.HexText.{before_two_spaces, bytes_in, hex_line, hex_line_of, hex_text, message_in_line, message_in_text, pairs_in, without_explanation};
 ghost use Rattle.text.specs.Hex.{hex_words};
 
+use crate::brackets::without_brackets;
 use crate::lines::body_and_end;
 use arrayvec::ArrayVec;
 use ln_frame::Msg;
@@ -40,7 +41,7 @@ fn bytes_in(line: &[u8]) -> Bytes
     if first == b"RECEIVE".as_slice() || first == b"SEND".as_slice() {
         return pairs_in(rest);
     }
-    pairs_in(line)
+    pairs_in(without_brackets(line))
 }
 
 /// Returns the message in a text of at most 400 characters, if it has a whole one.

@@ -5,6 +5,7 @@ ghost use Rattle.describe.specs.Messages.{message_words};
 ghost use Rattle.loconet_tcp.specs.Requests.{leading_bytes};
 ghost use Rattle.explain.specs.LineKinds.{message_in, monitored_in, programming_in, said_by, turn_in, words_about};
 
+use crate::brackets::without_brackets;
 use crate::fault_lines::{fault_in, names_program};
 use describe::{Words, describe_message, describe_packet, service_words};
 use loconet_tcp::{Bytes, bytes_of, leading_bytes};
@@ -103,5 +104,5 @@ pub(crate) fn describe_line(line: &[u8], words: &mut Words)
     if names_program(first) {
         return write_text(fault_in(rest_after).as_bytes(), words);
     }
-    describe_message_in(line, words);
+    describe_message_in(without_brackets(line), words);
 }

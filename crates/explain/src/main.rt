@@ -2,6 +2,7 @@
 //! plain words.
 #![tactic(auto)]
 
+mod brackets;
 mod conversion;
 mod end;
 mod explain;
