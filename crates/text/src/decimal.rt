@@ -4,11 +4,12 @@ ghost use Rattle.std.specs.Char.{is_ascii_digit};
 ghost use Rattle.std.specs.Fmt.{decimal};
 ghost use Rattle.std.specs.List.{list_all};
 ghost use Rattle.std.specs.Str.Parse.{digits_value};
+ghost use Rattle.arrayvec.specs.ArrayString.{array_string_len};
 ghost use Rattle.arrayvec.specs.ArrayVec.{array_vec_len};
 ghost use Rattle.text.specs.Decimal.{is_decimal, decimal_of};
 
 use crate::push_ascii::PushAscii;
-use arrayvec::ArrayVec;
+use arrayvec::{ArrayString, ArrayVec};
 
 /// The most digits of a number that is read.
 const MOST_DIGITS: usize = 7;
@@ -80,6 +81,15 @@ pub fn push_decimal<T: PushAscii>(text: &mut T, n: u64)
             push_two_digits(text, (n % 100) as u8);
         }
     }
+}
+
+/// Appends a number in decimal digits, at most 20.
+pub fn push_number<const N: usize>(text: &mut ArrayString<N>, n: u64)
+    requires { array_string_len text.old + 20 ≤ N }
+    ensures text { text.new.bytes ≡ text.old.bytes ++ decimal n }
+    ensures len { array_string_len text.new ≤ array_string_len text.old + 20 }
+{
+    push_decimal(text, n);
 }
 
 /// Returns `n` in decimal digits: at most 5 for a 16-bit number, at most 10 for a 32-bit number.

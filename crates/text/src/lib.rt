@@ -24,7 +24,7 @@ mod pieces;
 mod push_ascii;
 mod words;
 
-pub use decimal::{Digits, are_digits, decimal_digits, push_decimal, read_decimal};
+pub use decimal::{Digits, are_digits, decimal_digits, push_decimal, push_number, read_decimal};
 pub use hex::{hex_char, push_hex_words, read_hex_digits, read_hex_pair};
 pub use hex_text::{HexFault, HexWhy, LONGEST_TEXT, read_hex};
 pub use laws::written_hex_is_read;
