@@ -6,7 +6,7 @@ ghost use Rattle.ln_ops.specs.Slot.{address_with};
 ghost use Rattle.describe.specs.Pieces.{hex_pair, one_on, four_on, eight_on, functions_words};
 
 use arrayvec::ArrayVec;
-use text::hex_char;
+use text::{decimal_digits, hex_char, push_bytes};
 
 /// An explanation: ASCII text without a line feed, at most 400 bytes.
 pub type Words = ArrayVec<u8, 400>;
@@ -17,7 +17,7 @@ pub(crate) fn push_text(words: &mut Words, text: &str)
     ensures text { words.new.items ≡ words.old.items ++ text.now }
     ensures len { array_vec_len words.new ≡ array_vec_len words.old + length text.now }
 {
-    let _fits = words.try_extend_from_slice(text.as_bytes());
+    push_bytes(words, text.as_bytes());
 }
 
 /// Appends a small number in decimal digits, at most 5.
@@ -26,7 +26,7 @@ pub(crate) fn push_number(words: &mut Words, n: u16)
     ensures text { words.new.items ≡ words.old.items ++ decimal n }
     ensures len { array_vec_len words.new ≤ array_vec_len words.old + 5 }
 {
-    let _fits = words.try_extend_from_slice(text::decimal_digits(u64::from(n)).as_slice());
+    push_bytes(words, decimal_digits(u64::from(n)).as_slice());
 }
 
 /// Appends a label and a small number.
