@@ -1,7 +1,7 @@
 //! Messages of sensors, as LocoNet Personal Use Edition 1.0 has OPC_INPUT_REP.
 
 use ln_frame::{Framer, Msg};
-use ln_ops::{SensorReport, is_interrogation};
+use ln_ops::{SensorReport, begins_interrogation, is_interrogation};
 use std::test::Fail;
 
 /// Sensors, whether their blocks are occupied, and their messages.
@@ -35,21 +35,26 @@ fn reports_are_written_and_read(rt: HostRuntime) -> Result<(), Fail> {
     Ok(())
 }
 
-/// Messages, and whether they ask for a full report.
-const REQUESTS: [(&'static [u8], bool); 6] = [
-    (&[0xB0, 0x78, 0x27, 0x10], true),
-    (&[0xB0, 0x79, 0x27, 0x11], false),
-    (&[0xB0, 0x78, 0x07, 0x30], false),
-    (&[0xB0, 0x78, 0x37, 0x00], false),
-    (&[0xB2, 0x78, 0x27, 0x12], false),
-    (&[0x83, 0x7C], false),
+/// Messages, whether they are of an interrogation, and whether they begin one.
+const REQUESTS: [(&'static [u8], bool, bool); 10] = [
+    (&[0xB0, 0x78, 0x27, 0x10], true, true),
+    (&[0xB0, 0x78, 0x67, 0x50], true, true),
+    (&[0xB0, 0x79, 0x27, 0x11], true, false),
+    (&[0xB0, 0x7B, 0x27, 0x13], true, false),
+    (&[0xB0, 0x78, 0x07, 0x30], true, false),
+    (&[0xB0, 0x7B, 0x07, 0x33], true, false),
+    (&[0xB0, 0x7C, 0x27, 0x14], false, false),
+    (&[0xB0, 0x78, 0x37, 0x00], false, false),
+    (&[0xB2, 0x78, 0x27, 0x12], false, false),
+    (&[0x83, 0x7C], false, false),
 ];
 
 #[test]
 fn one_request_of_a_round_is_answered(rt: HostRuntime) -> Result<(), Fail> {
-    for (bytes, asks) in REQUESTS {
+    for (bytes, asks, begins) in REQUESTS {
         let message = message(bytes).ok_or("message")?;
         assert_eq!(rt; is_interrogation(&message), asks);
+        assert_eq!(rt; begins_interrogation(&message), begins);
         assert!(rt; SensorReport::read(&message).is_some() == (bytes.first() == Some(&0xB2)));
     }
     Ok(())

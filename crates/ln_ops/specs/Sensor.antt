@@ -34,8 +34,13 @@ report_of (opcode ∷ low ∷ high ∷ check ∷ []) =
     }) else None
 report_of other = None
 
--- OPC_SW_REQ that asks turnout 1017 to turn off its closed output, the first of the eight requests
--- by which layout software asks all sensors to report
+-- OPC_SW_REQ that asks one of the turnouts 1017 to 1020 to turn off an output: the eight requests by
+-- which layout software asks all sensors to report. Bit 6 of SW2 has no meaning.
 abbrev pub is_interrogation : List ℕ → Bool
-is_interrogation (opcode ∷ low ∷ high ∷ check ∷ []) = opcode == 0xB0 && low == 0x78 && high == 0x27
+is_interrogation (opcode ∷ sw1 ∷ sw2 ∷ check ∷ []) = opcode == 0xB0 && sw1 / 4 == 0x1E && sw2 % 32 == 0x07
 is_interrogation other = false
+
+-- the first of them: the closed output of turnout 1017
+abbrev pub begins_interrogation : List ℕ → Bool
+begins_interrogation (opcode ∷ sw1 ∷ sw2 ∷ check ∷ []) = opcode == 0xB0 && sw1 == 0x78 && sw2 % 64 == 0x27
+begins_interrogation other = false

@@ -15,4 +15,4 @@ pub use fields::SlotFields;
 pub use op::{Op, read};
 pub use reply::{Reply, read_reply, to_msg};
 pub use row::{Row, State};
-pub use sensor::{LAST_SENSOR, SensorReport, is_interrogation};
+pub use sensor::{LAST_SENSOR, SensorReport, begins_interrogation, is_interrogation};

@@ -2,7 +2,7 @@
 //! Edition 1.0, OPC_INPUT_REP and OPC_SW_REQ).
 ghost use Rattle.std.specs.Prelude.{◌≡◌};
 ghost use Rattle.ln_frame.specs.Message.{IsWhole};
-ghost use Rattle.ln_ops.specs.Sensor.{is_interrogation, report_bytes, report_of};
+ghost use Rattle.ln_ops.specs.Sensor.{begins_interrogation, is_interrogation, report_bytes, report_of};
 
 use crate::op::OPC_SW_REQ;
 use ln_frame::Msg;
@@ -52,16 +52,25 @@ impl SensorReport {
     }
 }
 
-/// Whether a message asks all sensors to report.
-///
-/// Layout software starts with a round of eight requests for turnouts 1017 to 1020. The first of
-/// them alone, turnout 1017 closed with its output off, is answered, so that one round gives one
-/// report of each sensor.
+/// Whether a message is one of the eight requests by which layout software asks all sensors to
+/// report: for turnouts 1017 to 1020, closed and thrown, with the output off.
 pub fn is_interrogation(message: &Msg) -> bool
     ensures asks { result ≡ is_interrogation message.now }
 {
     match message.bytes() {
-        [OPC_SW_REQ, low, high, _] => *low == 0x78 && *high == 0x27,
+        [OPC_SW_REQ, sw1, sw2, _] => *sw1 / 4 == 0x1E && *sw2 % 32 == 0x07,
+        _ => false,
+    }
+}
+
+/// Whether a message is the first of these eight requests, for turnout 1017 closed.
+///
+/// It alone is answered, so that one round gives one report of each sensor.
+pub fn begins_interrogation(message: &Msg) -> bool
+    ensures begins { result ≡ begins_interrogation message.now }
+{
+    match message.bytes() {
+        [OPC_SW_REQ, sw1, sw2, _] => *sw1 == 0x78 && *sw2 % 64 == 0x27,
         _ => false,
     }
 }
