@@ -20,7 +20,7 @@ use Rattle.station_core.specs.declared.call.Call.{Call}
 use Rattle.station_core.specs.declared.call.Call.TheVariants.{Turn as TurnCall}
 use Rattle.station_core.specs.declared.call.Step.{Step}
 use Rattle.station_core.specs.declared.call.Step.TheVariants.{Packet}
-use Rattle.station_core.specs.Moved.{packet_of_turn, sent}
+use Rattle.station_core.specs.Station.{packet_of_turn, sent}
 use Rattle.station_core.specs.Packets.{entry_packet, place_packet}
 use Rattle.station_core.specs.Refreshed.{is_driven, is_refreshed}
 use Rattle.station_core.specs.ThrottleView.{ThrottleView, known_after, known_after_all}

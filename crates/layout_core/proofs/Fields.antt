@@ -15,7 +15,7 @@ use Rattle.dcc_packet.specs.Sent.{speed_bytes, group_one_bytes, group_two_bytes,
 use Rattle.dcc_packet.specs.Steps.{motion_of}
 use Rattle.slot_table.specs.Entry.{Entry}
 use Rattle.station_core.specs.Packets.{address_sent, is_lit, speed_packet, group_one_packet, group_two_packet, group_three_packet}
-use Rattle.station_core.specs.Requested.{steps_asked, is_forward, functions_asked}
+use Rattle.station_core.specs.Entries.{steps_asked, is_forward, functions_asked}
 use Rattle.decoder_cv.specs.Settings.{Settings}
 use Rattle.decoder_node.specs.declared.running.Running.{Running}
 use Rattle.decoder_node.specs.Bits.{with_bits}

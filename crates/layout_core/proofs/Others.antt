@@ -11,7 +11,7 @@ use Rattle.dcc_packet.specs.Sent.{idle_bytes, accessory_bytes}
 use Rattle.dcc_packet.specs.Spells.{Spells, Tells}
 use Rattle.slot_table.specs.Entry.{Entry, IsAddress, IsEntry}
 use Rattle.station_core.specs.Packets.{address_sent, is_lit}
-use Rattle.station_core.specs.Requested.{steps_asked, motion_asked, is_forward, functions_asked}
+use Rattle.station_core.specs.Entries.{steps_asked, motion_asked, is_forward, functions_asked}
 use Rattle.decoder_cv.specs.Answering.{is_at, answers_to}
 use Rattle.decoder_cv.specs.Settings.{Settings}
 use Rattle.decoder_node.specs.declared.running.Running.{Running}

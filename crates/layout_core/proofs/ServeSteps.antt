@@ -6,7 +6,7 @@ use Rattle.std.specs.Io.KnownBytes.{Appends, Consumes, Keeps}
 use Rattle.station_core.specs.declared.call.Step.{Step}
 use Rattle.ln_ops.specs.declared.reply.Reply.{Reply as ReplyValue}
 use Rattle.station_core.specs.declared.call.Call.TheVariants.{Byte as ByteCall, Turn as TurnCall}
-use Rattle.station_core.specs.Moved.{answer_to_byte, packet_of_turn, replied, sent}
+use Rattle.station_core.specs.Station.{answer_to_byte, packet_of_turn, replied, sent}
 use Rattle.station_core.specs.Runs.{answer_of, state_of}
 use Rattle.station_core.specs.Seen.{Seen}
 use Rattle.layout_core.specs.declared.event.Event.{Event}

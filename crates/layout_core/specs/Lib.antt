@@ -15,7 +15,7 @@ pub mod Counts
 -- words of the layers below that public clauses cite
 pub use Rattle.slot_table.specs.Entry.{Entry, IsEntry, IsAddress}
 pub use Rattle.station_core.specs.Packets.{speed_packet, group_one_packet, group_two_packet, group_three_packet}
-pub use Rattle.station_core.specs.Requested.{motion_asked, is_forward, functions_asked}
+pub use Rattle.station_core.specs.Entries.{motion_asked, is_forward, functions_asked}
 pub use Rattle.decoder_cv.specs.Answering.{answers_to, AgreesInSteps}
 pub use Rattle.decoder_node.specs.Obey.{obey, runs}
 pub use Rattle.station_core.specs.ThrottleView.{ThrottleView, known_after, known_after_all}

@@ -1,7 +1,7 @@
 -- What an entry asks of a decoder.
 use Rattle.std.specs.Prelude.{Bool, not, if◌then◌else◌}
 use Rattle.slot_table.specs.Entry.{Entry}
-use Rattle.station_core.specs.Requested.{motion_asked, is_forward, functions_asked}
+use Rattle.station_core.specs.Entries.{motion_asked, is_forward, functions_asked}
 use Rattle.decoder_node.specs.declared.running.Running.{Running}
 
 -- How a decoder runs that obeys its entry: its motion is that of the type and SPD; it runs forward

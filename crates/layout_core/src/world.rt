@@ -1,7 +1,9 @@
 //! A layout: a station, and the decoders on its track.
-ghost use Rattle.std.specs.Prelude.{◌≡◌, ◌<◌, ◌≤◌, List, IfOk, IfErr, IsTrue, length, map, true, false};
+ghost use Rattle.std.specs.Prelude.{◌≡◌, ◌<◌, ◌≤◌, List, IfOk, IfErr, IfSome, IsTrue, Some, length, map, true, false};
 ghost use Rattle.std.specs.List.{slice_index_or};
+ghost use Rattle.ln_ops.specs.Reply.{IsSendable};
 ghost use Rattle.station_core.specs.Moments.{AtEveryMoment};
+ghost use Rattle.station_core.specs.Station.{after_message, answer_to_message};
 ghost use Rattle.station_core.specs.Powered.{HasDesk};
 ghost use Rattle.station_core.specs.Seen.{first_seen, is_line_count, known_of};
 ghost use Rattle.layout_core.specs.declared.node.Node.{Node as NodeValue};
@@ -20,6 +22,8 @@ use crate::event::Event;
 use crate::laws;
 use crate::nodes::Nodes;
 use decoder_node::{NodeList, Running};
+use ln_frame::Msg;
+use ln_ops::Reply;
 use station_core::{Station, StationFault, Step};
 use std::alloc::Global;
 
@@ -113,6 +117,17 @@ impl World {
             Event::Turn { missed } => self.turn(missed),
             Event::Noise { node, half } => self.noise(node, half),
         }
+    }
+
+    /// Lets the station carry out a whole message, and returns its reply if it has one: what its
+    /// bytes would do on a line that holds no unfinished message. No decoder changes.
+    pub fn message(&mut self, message: &Msg) -> Option<Reply>
+        ensures station { self.new.station ≡ after_message self.old.station (Some message.now) }
+        ensures reply { result ≡ answer_to_message self.old.station (Some message.now) }
+        ensures nodes { self.new.nodes ≡ self.old.nodes }
+        ensures sendable { IfSome result IsSendable }
+    {
+        self.station.message(message)
     }
 
     /// Runs the events in order and writes each result at the same index of `steps`. A list of

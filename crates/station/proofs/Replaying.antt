@@ -7,7 +7,7 @@ use Rattle.station_core.specs.declared.call.Call.{Call}
 use Rattle.station_core.specs.declared.call.Call.TheVariants.{Turn as TurnCall}
 use Rattle.station_core.specs.declared.call.Step.{Step}
 use Rattle.station_core.specs.Moments.{turns_in as calls_of_turns}
-use Rattle.station_core.specs.Moved.{packet_of_turn, sent}
+use Rattle.station_core.specs.Station.{packet_of_turn, sent}
 use Rattle.station_core.specs.Runs.{answer_of, state_of}
 use Rattle.station_core.specs.Seen.{Seen}
 use Rattle.layout_core.specs.declared.event.Event.{Event}

@@ -10,7 +10,7 @@ use Rattle.station_core.specs.declared.call.Call.TheVariants.{Byte, Turn}
 use Rattle.station_core.specs.ThrottleView.{ThrottleView, bytes_of, carried_out, known_after, known_after_all}
 use Rattle.station_core.specs.Messages.{bytes_on, carried_out_on}
 use Rattle.station_core.specs.Moments.{AtEveryMoment}
-use Rattle.station_core.specs.Moved.{moved, after_message, message_ended}
+use Rattle.station_core.specs.Station.{moved, after_message, message_ended}
 use Rattle.station_core.specs.Powered.{PoweredDesk}
 use Rattle.station_core.specs.Runs.{state_of, state_after}
 use Rattle.station_core.specs.Seen.{Seen, known_of, line_of}

@@ -24,8 +24,8 @@ use Rattle.refresh_ring.specs.declared.kind.Kind.{Kind}
 use Rattle.refresh_ring.specs.declared.kind.Kind.TheVariants as kind
 use Rattle.station_core.specs.After.{after_move, desk_after}
 use Rattle.station_core.specs.Answer.{move_answer}
-use Rattle.station_core.specs.Asked.{change_of, changed_places, of_field, of_more, of_slot, of_write, places_with}
-use Rattle.station_core.specs.Requested.{functions_asked}
+use Rattle.station_core.specs.Schedule.{change_of, changed_places, of_field, of_more, of_slot, of_write, places_with}
+use Rattle.station_core.specs.Entries.{functions_asked}
 use Rattle.station_core.specs.Immediate.{more_of, with_more}
 use Rattle.station_core.specs.Packets.{address_sent, entry_packet, place_packet}
 use Rattle.station_core.specs.Refreshed.{is_driven, is_refreshed}

@@ -26,7 +26,7 @@ use Rattle.refresh_ring.specs.declared.pick.Pick.TheVariants.{Off, StopAll, Idle
 use Rattle.refresh_ring.specs.declared.pick.Power.{Power}
 use Rattle.refresh_ring.specs.declared.pick.Power.TheVariants as power
 use Rattle.station_core.specs.Answer.{is_taken}
-use Rattle.station_core.specs.Moved.{moved, answer_to_byte, message_ended, packet_of, replied, sent, turn_of}
+use Rattle.station_core.specs.Station.{moved, answer_to_byte, message_ended, packet_of, replied, sent, turn_of}
 use Rattle.station_core.specs.Neighbours.{address_in, destination_of, AreApart, NeighboursApart}
 use Rattle.station_core.specs.Packets.{address_sent, place_packet}
 use Rattle.station_core.specs.Promises.{asked_by, asked_by_message, asked_by_op, twice_if}

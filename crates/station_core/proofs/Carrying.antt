@@ -6,7 +6,7 @@ use Rattle.std.proofs.lemmas.Nat.{pow-add}
 use Rattle.std.proofs.Math.Pow.{pow_mono}
 use Rattle.ln_frame.specs.Message.{are_data, check_of, is_body, IsWhole}
 use Rattle.ln_ops.specs.Message.{op_of}
-use Rattle.station_core.specs.Carried.{can_carry, carried_by, carrying, carrying_body, dhi_of, high_bits, reps_of}
+use Rattle.station_core.specs.ImmediatePackets.{can_carry, carried_by, carrying, carrying_body, dhi_of, high_bits, reps_of}
 
 abbrev are_bytes : List ℕ → Type 0
 are_bytes bytes = list_all (λ byte. nat_lt byte 256) bytes ≡ true

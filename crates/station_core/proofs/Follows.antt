@@ -14,10 +14,10 @@ use Rattle.refresh_ring.specs.declared.kind.Kind.{Kind}
 use Rattle.refresh_ring.specs.declared.pick.Power.{Power}
 use Rattle.station_core.specs.After.{after_move}
 use Rattle.station_core.specs.Answer.{move_answer}
-use Rattle.station_core.specs.Asked.{after_places, of_write, places_with}
+use Rattle.station_core.specs.Schedule.{after_places, of_write, places_with}
 use Rattle.station_core.specs.declared.schedule.Change.TheVariants.{All}
 use Rattle.station_core.specs.Kept.{InStep}
-use Rattle.station_core.specs.Moved.{after_change}
+use Rattle.station_core.specs.Station.{after_change}
 use Rattle.station_core.specs.Refreshed.{is_refreshed}
 use Rattle.station_core.specs.Slots.{refreshed_slots}
 use Rattle.station_core.specs.Seen.{seen_with}

@@ -10,7 +10,7 @@ use Rattle.ln_ops.specs.declared.reply.Reply.{Reply}
 use Rattle.refresh_ring.specs.Jobs.{requests_in}
 use Rattle.refresh_ring.specs.Scheduled.{Scheduled}
 use Rattle.station_core.specs.Answer.{answer}
-use Rattle.station_core.specs.Moved.{after_byte, after_message, after_op, answer_to_byte, answer_to_message, message_ended}
+use Rattle.station_core.specs.Station.{after_byte, after_message, after_op, answer_to_byte, answer_to_message, message_ended}
 use Rattle.station_core.specs.Powered.{PoweredDesk}
 use Rattle.station_core.specs.Seen.{Seen, line_of, seen_with}
 use Rattle.station_core.proofs.Framed.{lent_and_set}

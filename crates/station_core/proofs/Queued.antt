@@ -11,7 +11,7 @@ use Rattle.refresh_ring.specs.Scheduled.{Scheduled, after_changed}
 use Rattle.refresh_ring.specs.declared.kind.Kind.{Kind}
 use Rattle.refresh_ring.specs.declared.job.Job.{Job}
 use Rattle.station_core.specs.After.{desk_after}
-use Rattle.station_core.specs.Asked.{after_places, changed_places, schedule_asked}
+use Rattle.station_core.specs.Schedule.{after_places, changed_places, schedule_asked}
 use Rattle.station_core.specs.Promises.{ChangesWait}
 use Rattle.station_core.specs.Slots.{refreshed_slots}
 use Rattle.station_core.specs.Seen.{Seen, scheduled}

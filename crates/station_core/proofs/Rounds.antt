@@ -15,8 +15,8 @@ use Rattle.refresh_ring.specs.Left.{count_to, turns_left}
 use Rattle.refresh_ring.specs.declared.kind.Kind.{Kind}
 use Rattle.refresh_ring.specs.declared.pick.Pick.TheVariants.{Place}
 use Rattle.station_core.specs.After.{desk_after}
-use Rattle.station_core.specs.Asked.{after_places, after_request, changed_places, schedule_asked}
-use Rattle.station_core.specs.Moved.{moved, message_ended, after_message, after_byte}
+use Rattle.station_core.specs.Schedule.{after_places, after_request, changed_places, schedule_asked}
+use Rattle.station_core.specs.Station.{moved, message_ended, after_message, after_byte}
 use Rattle.station_core.specs.Refreshed.{is_refreshed}
 use Rattle.station_core.specs.Slots.{refreshed_slots, addresses}
 use Rattle.station_core.specs.ThrottleView.{ThrottleView, known_after}

@@ -7,7 +7,7 @@ use Rattle.refresh_ring.specs.declared.pick.Pick.{Pick}
 use Rattle.refresh_ring.specs.declared.pick.Pick.TheVariants.{Off, StopAll, Idle, Place, Switch}
 use Rattle.refresh_ring.specs.declared.pick.Power.{Power}
 use Rattle.refresh_ring.specs.declared.pick.Power.TheVariants as power
-use Rattle.station_core.specs.Moved.{packet_of}
+use Rattle.station_core.specs.Station.{packet_of}
 use Rattle.station_core.specs.Slots.{addresses}
 use Rattle.station_core.specs.Seen.{Seen, scheduled}
 use Rattle.station_core.specs.Sent.{IsRunningPacket, IsPacketOfDesk}

@@ -19,7 +19,7 @@ use Rattle.refresh_ring.specs.declared.pick.Pick.{Pick}
 use Rattle.refresh_ring.specs.declared.pick.Pick.TheVariants.{Off, StopAll, Idle, Place, Switch}
 use Rattle.slot_table.specs.Desk.{Desk}
 use Rattle.slot_table.specs.Entry.{Entry}
-use Rattle.station_core.specs.Moved.{packet_of, packet_of_turn, turn_of}
+use Rattle.station_core.specs.Station.{packet_of, packet_of_turn, turn_of}
 use Rattle.station_core.specs.Packets.{address_sent, entry_packet}
 use Rattle.station_core.specs.Seen.{Seen}
 

@@ -20,8 +20,8 @@ use Rattle.station_core.specs.declared.call.Call.{Call}
 use Rattle.station_core.specs.declared.call.Call.TheVariants.{Byte, Turn}
 use Rattle.station_core.specs.declared.call.Step.{Step}
 use Rattle.station_core.specs.declared.call.Step.TheVariants as step
-use Rattle.station_core.specs.Requested.{steps_asked, motion_asked, is_forward}
-use Rattle.station_core.specs.Moved.{moved, answer_to_byte, packet_of, replied, sent, turn_of}
+use Rattle.station_core.specs.Entries.{steps_asked, motion_asked, is_forward}
+use Rattle.station_core.specs.Station.{moved, answer_to_byte, packet_of, replied, sent, turn_of}
 use Rattle.station_core.specs.Packets.{address_sent, entry_packet, is_lit, place_packet}
 use Rattle.station_core.specs.Promises.{is_accessory, packet_for, packets_for, switches_asked, switches_sent, IsFrontOf, SwitchesInOrder}
 use Rattle.station_core.specs.Runs.{answer_of, answers, packets_in, state_of, state_after}

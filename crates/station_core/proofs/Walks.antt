@@ -21,8 +21,8 @@ use Rattle.refresh_ring.specs.declared.pick.Power.{Power}
 use Rattle.refresh_ring.specs.declared.pick.Power.TheVariants as power
 use Rattle.station_core.specs.After.{desk_after}
 use Rattle.station_core.specs.Answer.{is_taken}
-use Rattle.station_core.specs.Asked.{after_places, after_request, changed_places, schedule_asked}
-use Rattle.station_core.specs.Moved.{moved, message_ended, after_message, turn_of}
+use Rattle.station_core.specs.Schedule.{after_places, after_request, changed_places, schedule_asked}
+use Rattle.station_core.specs.Station.{moved, message_ended, after_message, turn_of}
 use Rattle.station_core.specs.Moments.{turns_in}
 use Rattle.station_core.specs.Promises.{twice_if, asked_by_op, asked_by_message, asked_by, switches_asked}
 use Rattle.station_core.specs.Slots.{refreshed_slots, addresses}

@@ -18,8 +18,8 @@ use Rattle.refresh_ring.specs.Jobs.{sends_ahead}
 use Rattle.refresh_ring.specs.declared.kind.Kind.{Kind}
 use Rattle.station_core.specs.After.{desk_after}
 use Rattle.station_core.specs.Answer.{move_answer}
-use Rattle.station_core.specs.Requested.{functions_asked}
-use Rattle.station_core.specs.Moved.{after_op}
+use Rattle.station_core.specs.Entries.{functions_asked}
+use Rattle.station_core.specs.Station.{after_op}
 use Rattle.station_core.specs.Packets.{address_sent, place_packet}
 use Rattle.station_core.specs.Refreshed.{is_refreshed}
 use Rattle.station_core.specs.Seen.{Seen}

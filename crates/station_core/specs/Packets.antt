@@ -10,7 +10,7 @@ use Rattle.refresh_ring.specs.declared.pick.Pick.TheVariants.{Place, Switch}
 use Rattle.slot_table.specs.Desk.{Desk}
 use Rattle.slot_table.specs.Entry.{Entry, IsSlot, entry_of}
 use Rattle.ln_ops.specs.Slot.{is_held}
-use Rattle.station_core.specs.Requested.{steps_asked, motion_asked, is_forward, functions_asked}
+use Rattle.station_core.specs.Entries.{steps_asked, motion_asked, is_forward, functions_asked}
 use Rattle.slot_table.specs.Reading.{row_of}
 
 -- an address of a slot is sent as a short one up to 127, and as a long one from 128 on (own)

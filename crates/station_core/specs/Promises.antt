@@ -15,9 +15,9 @@ use Rattle.refresh_ring.specs.declared.pick.Pick.TheVariants.{Switch}
 use Rattle.refresh_ring.specs.declared.pick.Power.TheVariants.{Running}
 use Rattle.station_core.specs.After.{desk_after}
 use Rattle.station_core.specs.Answer.{is_taken}
-use Rattle.station_core.specs.Asked.{changed_places}
+use Rattle.station_core.specs.Schedule.{changed_places}
 use Rattle.station_core.specs.Moments.{AtEveryMoment, IsLive, turns_in}
-use Rattle.station_core.specs.Moved.{after_op, message_ended}
+use Rattle.station_core.specs.Station.{after_op, message_ended}
 use Rattle.station_core.specs.Powered.{PoweredDesk}
 use Rattle.station_core.specs.Refreshed.{is_refreshed}
 use Rattle.station_core.specs.Runs.{state_of, state_after, answers, packets_in, Sends}

@@ -8,7 +8,7 @@ use Rattle.station_core.specs.declared.call.Step.{Step}
 use Rattle.station_core.specs.declared.call.Step.TheVariants.{Quiet, Reply, Packet, Off}
 use Rattle.station_core.specs.Moments.{IsFullCycle}
 use Rattle.station_core.specs.Seen.{Seen, known_of}
-use Rattle.station_core.specs.Moved.{moved}
+use Rattle.station_core.specs.Station.{moved}
 use Rattle.station_core.specs.Packets.{place_packet}
 use Rattle.slot_table.specs.Entry.{IsSlot}
 

@@ -11,7 +11,7 @@ ghost use Rattle.station_core.specs.Powered.{HasDesk};
 ghost use Rattle.station_core.specs.Promises.{ChangesFirst, ChangesWait, SwitchesAreSent, SwitchesInOrder};
 ghost use Rattle.ln_ops.specs.declared.op.Op.{Op as OpOf};
 ghost use Rattle.station_core.specs.Runs.{Covers, answer_of, state_after, state_of};
-ghost use Rattle.station_core.specs.Moved.{after_byte, after_turn, answer_to_byte, packet_of_turn, replied, sent};
+ghost use Rattle.station_core.specs.Station.{after_byte, after_turn, answer_to_byte, packet_of_turn, replied, sent};
 ghost use Rattle.station_core.specs.Seen.{Seen, known_of, scheduled};
 ghost use Rattle.refresh_ring.specs.Scheduled.{IsScheduled};
 ghost use Rattle.station_core.specs.Sent.{IsPacketOfDesk};
@@ -22,7 +22,7 @@ use ln_frame::{any_cut, left_is_enough};
 
 /// The effect of a call on a station, and its result, by its kind: a byte is answered by a reply or
 /// by nothing, a turn by a packet or, while off, by none.
-#[tactic(auto, unfolding(crate::specs::Moved::moved))]
+#[tactic(auto, unfolding(crate::specs::Station::moved))]
 pub fn calls_are_moves()
     ensures after_byte { (seen : Seen) (line byte : ℕ)
         → state_of seen (ByteCall line byte) ≡ after_byte seen line byte }

@@ -12,9 +12,9 @@ ghost use Rattle.slot_table.specs.Values.{IsValue};
 ghost use Rattle.slot_table.specs.Writes.{after_field, after_take, take_answer};
 ghost use Rattle.station_core.specs.After.{after_move, paused};
 ghost use Rattle.station_core.specs.Answer.{answer, is_taken, more_reply, move_answer, slot_data, slot_or_refusal};
-ghost use Rattle.station_core.specs.Asked.{of_field, of_more, of_slot};
+ghost use Rattle.station_core.specs.Schedule.{of_field, of_more, of_slot};
 ghost use Rattle.station_core.specs.Immediate.{more_asked, with_more};
-ghost use Rattle.station_core.specs.Moved.{after_change, after_op};
+ghost use Rattle.station_core.specs.Station.{after_change, after_op};
 
 use crate::immediate::{counted, more_asked};
 use crate::schedule::{Change, change_of, refresh_if_driven, schedule_changes};

@@ -6,7 +6,7 @@ ghost use Rattle.dcc_packet.specs.Steps.{steps_of_kind};
 ghost use Rattle.ln_ops.specs.Slot.{is_held};
 ghost use Rattle.slot_table.specs.Entry.{IsRow, entry_of};
 ghost use Rattle.station_core.specs.Packets.{address_sent, entry_packet, is_lit};
-ghost use Rattle.station_core.specs.Requested.{functions_asked, is_forward, motion_asked, steps_asked};
+ghost use Rattle.station_core.specs.Entries.{functions_asked, is_forward, motion_asked, steps_asked};
 
 use dcc_packet::{Address, Packet, Steps, group_one, group_three, group_two, speed, steps_of};
 use ln_ops::Row;

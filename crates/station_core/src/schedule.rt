@@ -4,7 +4,7 @@ ghost use Rattle.slot_table.specs.Entry.{IsSlot};
 ghost use Rattle.refresh_ring.specs.Scheduled.{after_refresh, IsScheduled};
 ghost use Rattle.station_core.specs.Refreshed.{is_driven, is_refreshed};
 ghost use Rattle.station_core.specs.Slots.{addresses, length-addresses};
-ghost use Rattle.station_core.specs.Asked.{after_places, change_of, places_with};
+ghost use Rattle.station_core.specs.Schedule.{after_places, change_of, places_with};
 
 use ln_ops::State;
 use refresh_ring::{BitRing, Kind, Schedule, View};

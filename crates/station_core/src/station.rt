@@ -21,7 +21,7 @@ ghost use Rattle.station_core.specs.Promises.{ChangesFirst, ChangesWait, Switche
 ghost use Rattle.station_core.specs.Runs.{AreCalls, Covers, answer_of, answers, is_call, state_after, state_of};
 ghost use Rattle.station_core.specs.Seen.{first_seen, is_line_count, known_of, line_of, scheduled};
 ghost use Rattle.station_core.specs.Sent.{IsPacketOfDesk};
-ghost use Rattle.station_core.specs.Moved.{after_byte, after_turn, answer_to_byte, message_ended, packet_of, packet_of_turn};
+ghost use Rattle.station_core.specs.Station.{after_byte, after_message, after_turn, answer_to_byte, answer_to_message, message_ended, packet_of, packet_of_turn};
 
 use crate::call::{Call, Step};
 use crate::laws;
@@ -29,7 +29,7 @@ use crate::packets::entry_packet;
 use crate::schedule::Addresses;
 use arrayvec::ArrayVec;
 use dcc_packet::{Packet, accessory, idle, stop_all};
-use ln_frame::{Framer, left_is_enough};
+use ln_frame::{Framer, Msg, left_is_enough};
 use ln_ops::{Reply, Row, read};
 use refresh_ring::{BitRing, Kind, Pick, Power, Schedule};
 use slot_table::SlotTable;
@@ -198,6 +198,19 @@ impl Station {
         }
     }
 
+    /// Carries out a whole message, and returns its reply if it has one: what its bytes would do on
+    /// a line that holds no unfinished message.
+    pub fn message(&mut self, message: &Msg) -> Option<Reply>
+        ensures reply { result ≡ answer_to_message self.old (Some message.now) }
+        ensures state { self.new ≡ after_message self.old (Some message.now) }
+        ensures sendable { IfSome result IsSendable }
+        // Each place that a message changes waits after it, where its slot is refreshed.
+        ensures changes_queued { ChangesWait self.old (op_of message.now) }
+    {
+        laws::changes_wait();
+        self.carry_out_op(read(message))
+    }
+
     /// Returns the packet to send now, or `None` exactly while the power is off.
     #[inline(never)]
     pub fn turn(&mut self) -> Option<Packet>
@@ -257,7 +270,7 @@ impl Station {
     }
 
     // One call.
-    #[tactic(auto, unfolding(crate::specs::Moved::moved))]
+    #[tactic(auto, unfolding(crate::specs::Station::moved))]
     fn call(&mut self, call: Call) -> Step
         requires { IsTrue (is_call (length self.old.lines) call) }
         ensures state { self.new ≡ state_of self.old call }

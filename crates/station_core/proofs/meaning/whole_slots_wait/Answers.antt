@@ -3,7 +3,7 @@ use Rattle.std.specs.Prelude.{Contains}
 use Rattle.ln_ops.specs.declared.op.Op.{Op}
 use Rattle.slot_table.specs.Desk.{Desk}
 use Rattle.refresh_ring.specs.declared.kind.Kind.{Kind}
-use Rattle.station_core.specs.Asked.{changed_places, of_slot, of_write}
+use Rattle.station_core.specs.Schedule.{changed_places, of_slot, of_write}
 use Rattle.station_core.specs.Meaning.{LeavesSlot}
 use Rattle.station_core.proofs.Anew.{all_of}
 use Rattle.station_core.proofs.meaning.whole_slots_wait.Goals as goal

@@ -1,5 +1,5 @@
 use Rattle.std.proofs.Common.{◌∙◌, ap, sym}
-use Rattle.station_core.specs.Moved.{sent}
+use Rattle.station_core.specs.Station.{sent}
 use Rattle.layout_core.proofs.world.World.turn.Goals as goal
 
 pub returns-in-Some-clause-station : goal.returns-in-Some-clause-station

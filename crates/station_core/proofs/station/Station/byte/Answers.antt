@@ -5,7 +5,7 @@ use Rattle.std.specs.Option.{option_to_list}
 use Rattle.ln_frame.specs.Stream.{messages_of}
 use Rattle.ln_ops.specs.Message.{op_of}
 use Rattle.slot_table.specs.Desk.{IsDesk}
-use Rattle.station_core.specs.Moved.{after_byte, answer_to_byte, message_ended}
+use Rattle.station_core.specs.Station.{after_byte, answer_to_byte, message_ended}
 use Rattle.station_core.specs.Seen.{Seen, line_of, seen_with}
 use Rattle.station_core.proofs.Framed.{stays_station}
 use Rattle.station_core.proofs.Heard.{Heard, heard_by, kept_count, kept_messages, quiet_reply, quiet_state, told_reply, told_state}

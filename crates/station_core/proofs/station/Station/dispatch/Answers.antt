@@ -2,9 +2,9 @@ use Rattle.std.proofs.Common.{◌≡◌, refl, ap, subst, ◌∙◌}
 use Rattle.slot_table.specs.Desk.{Desk}
 use Rattle.slot_table.specs.Reading.{row_of}
 use Rattle.station_core.specs.After.{after_move}
-use Rattle.station_core.specs.Asked.{places_with}
+use Rattle.station_core.specs.Schedule.{places_with}
 use Rattle.station_core.specs.declared.schedule.Change.TheVariants.{All}
-use Rattle.station_core.specs.Moved.{after_change}
+use Rattle.station_core.specs.Station.{after_change}
 use Rattle.station_core.specs.Seen.{Seen, seen_with}
 use Rattle.station_core.proofs.Follows.{Others, handed_over, in_step, noted_as}
 use Rattle.station_core.proofs.station.Station.dispatch.Goals as goal

@@ -3,7 +3,7 @@ use Rattle.slot_table.specs.Desk.{Desk}
 use Rattle.slot_table.specs.Entry.{IsSlot}
 use Rattle.slot_table.specs.Reading.{row_of}
 use Rattle.slot_table.specs.Writes.{after_field, can_field}
-use Rattle.station_core.specs.Asked.{change_of, places_with}
+use Rattle.station_core.specs.Schedule.{change_of, places_with}
 use Rattle.station_core.proofs.Follows.{Others, noted_as, in_step, chosen_if, ok_of, from_ok, done}
 use Rattle.station_core.proofs.station.Station.set_field.Goals as goal
 

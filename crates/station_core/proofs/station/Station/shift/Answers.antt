@@ -3,7 +3,7 @@ use Rattle.slot_table.specs.Desk.{Desk}
 use Rattle.slot_table.specs.Entry.{IsSlot}
 use Rattle.slot_table.specs.Moves.{after_shift, can_shift}
 use Rattle.slot_table.specs.Reading.{row_of}
-use Rattle.station_core.specs.Asked.{places_with}
+use Rattle.station_core.specs.Schedule.{places_with}
 use Rattle.station_core.specs.declared.schedule.Change.TheVariants.{All}
 use Rattle.station_core.proofs.Follows.{moved_as, moved_in_step, given_slot}
 use Rattle.station_core.proofs.station.Station.shift.Goals as goal

@@ -1,7 +1,7 @@
 use Rattle.std.proofs.Common.{ap, ◌∙◌}
 use Rattle.slot_table.specs.Desk.{Desk}
 use Rattle.slot_table.specs.Reading.{row_of}
-use Rattle.station_core.specs.Asked.{places_with}
+use Rattle.station_core.specs.Schedule.{places_with}
 use Rattle.station_core.specs.declared.schedule.Change.TheVariants.{Nothing}
 use Rattle.station_core.proofs.Follows.{Others, in_step}
 use Rattle.station_core.proofs.station.Station.take.Goals as goal

@@ -2,7 +2,7 @@ use Rattle.std.proofs.Common.{ap, ◌∙◌, subst, List, Bool}
 use Rattle.refresh_ring.specs.Picked.{turned}
 use Rattle.refresh_ring.specs.Scheduled.{Scheduled}
 use Rattle.slot_table.specs.Desk.{IsDesk}
-use Rattle.station_core.specs.Moved.{packet_of}
+use Rattle.station_core.specs.Station.{packet_of}
 use Rattle.station_core.specs.Powered.{PoweredDesk}
 use Rattle.station_core.specs.Seen.{Seen, seen_with}
 use Rattle.station_core.specs.Slots.{addresses}

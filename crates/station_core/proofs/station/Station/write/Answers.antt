@@ -5,7 +5,7 @@ use Rattle.slot_table.specs.Desk.{Desk}
 use Rattle.slot_table.specs.Entry.{IsSlot}
 use Rattle.slot_table.specs.Reading.{row_of}
 use Rattle.slot_table.specs.Writes.{after_write, write_answer}
-use Rattle.station_core.specs.Asked.{after_places, places_with}
+use Rattle.station_core.specs.Schedule.{after_places, places_with}
 use Rattle.station_core.specs.Refreshed.{is_refreshed}
 use Rattle.station_core.specs.declared.schedule.Change.TheVariants.{All}
 use Rattle.station_core.proofs.Follows.{Others, noted_as, in_step, ok_of, from_ok, chosen_write}

@@ -20,7 +20,7 @@ use Rattle.station_core.specs.Slots.{refreshed_slots, addresses}
 use Rattle.station_core.specs.Seen.{Seen, scheduled, seen_with, line_of}
 use Rattle.station_core.specs.After.{after, desk_after}
 use Rattle.station_core.specs.Answer.{answer}
-use Rattle.station_core.specs.Asked.{after_places, schedule_asked}
+use Rattle.station_core.specs.Schedule.{after_places, schedule_asked}
 use Rattle.station_core.specs.Packets.{place_packet}
 
 -- the whole message that a byte ends on its line, if it ends one
