@@ -34,6 +34,14 @@ const INVALID: [(&[u8], Reason); 10] = [
     (b"SEND 83,7C\n", Reason::NotHex),
 ];
 
+// Lines, and what they ask the states of.
+const STATES: [(&[u8], Things); 4] = [
+    (b"NODES\r\n", Things::Nodes),
+    (b"\nNODES\n", Things::Nodes),
+    (b"TRAINS\r", Things::Trains),
+    (b"TURNOUTS\n", Things::Turnouts),
+];
+
 // Lines that request turns, each with their number.
 const TURNS: [(&[u8], Option<u16>); 12] = [
     (b"TURNS 1\r\n", Some(1)),
@@ -158,11 +166,12 @@ fn reads_lines(rt: HostRuntime) {
         };
         assert!(rt; turns, "{text:?}");
     }
-    for text in [b"NODES\r\n".as_slice(), b"\nNODES\n".as_slice()] {
-        assert!(rt;
-            matches!(&request_of(&rt, text), Some(Request::Nodes)),
-            "{text:?}"
-        );
+    for (text, things) in STATES {
+        let asks = match request_of(&rt, text) {
+            Some(Request::States(found)) => found == things,
+            _ => false,
+        };
+        assert!(rt; asks, "{text:?}");
     }
     for text in IDLE {
         assert!(rt; request_of(&rt, text).is_none(), "{text:?}");

@@ -10,12 +10,13 @@ use Rattle.std.proofs.lemmas.Bool.{and_parts, not-true, lt-leb, lt-ltb, le-ltb, 
 use Rattle.std.proofs.lemmas.List.{append-nil, append_assoc, length-drop, length-take}
 use Rattle.std.proofs.lemmas.Slice.Eq.{bytes_eq-Decides}
 use Rattle.loconet_tcp.specs.declared.request.Request.{Request}
-use Rattle.loconet_tcp.specs.declared.request.Request.TheVariants.{Invalid, Turns, Nodes, Place}
+use Rattle.loconet_tcp.specs.declared.request.Request.TheVariants.{Invalid, Turns, Place}
+use Rattle.loconet_tcp.specs.declared.request.Things.TheVariants.{Nodes, Trains, Turnouts}
 use Rattle.loconet_tcp.specs.declared.request.PlaceError.TheVariants as place_error
 use Rattle.loconet_tcp.specs.declared.request.Reason.TheVariants.{TooLong}
 use Rattle.loconet_tcp.specs.Text.{is_end, is_open, onto_line, lines_of}
 use Rattle.text.specs.Words.{words_of, is_blank}
-use Rattle.loconet_tcp.specs.Requests.{request_of, parse_place, parse_send, bytes_of, in_range, is_nodes, is_place, is_send, is_turns, turns_of}
+use Rattle.loconet_tcp.specs.Requests.{request_of, parse_place, parse_send, ask_states, bytes_of, in_range, is_place, is_send, is_turns, things_of, turns_of}
 use Rattle.text.specs.Decimal.{decimal_of}
 use Rattle.loconet_tcp.specs.Reading.{requests_in, requests_of, request_of_byte, kept_after, requests_along}
 
@@ -94,30 +95,40 @@ turns-too_long line h is =
     omega (arith, size, h, length-take (position_or_len is_blank line) line, length-drop (position_or_len is_blank line + 1) line) in
     ap in_range (seven_digits (after_first is_blank line) long)
 
-no_nodes : (line : List ℕ) → 400 < length line → is_nodes line ≡ true → Some Nodes ≡ None
-no_nodes line h is =
-    let same : line ≡ codes "NODES" = (bytes_eq-Decides line (codes "NODES")).0 is in
-    let size : length line ≡ 5 = ap length same in
-    absurd (omega (arith, size, h))
+-- a line that is longer than a word is not that word
+longer : (line word : List ℕ) → length word < length line → bytes_eq line word ≡ false
+longer line word h = elim (cases_Bool (bytes_eq line word)) [
+  | inl is ↦ absurd (omega (arith, ap length ((bytes_eq-Decides line word).0 is), h))
+  | inr is ↦ is
+]
+
+no_things : (line : List ℕ) → 400 < length line → things_of line ≡ None
+no_things line h =
+    let size : length (codes "TURNOUTS") ≡ 8 = refl in
+    let five : length (codes "NODES") ≡ 5 = refl in
+    let six : length (codes "TRAINS") ≡ 6 = refl in
+    ap (λ (is : Bool). if is then Some Nodes else if bytes_eq line (codes "TRAINS") then Some Trains else if bytes_eq line (codes "TURNOUTS") then Some Turnouts else None)
+    (longer line (codes "NODES") (omega (arith, five, h)))
+    ∙ ap (λ (is : Bool). if is then Some Trains else if bytes_eq line (codes "TURNOUTS") then Some Turnouts else None) (longer line (codes "TRAINS") (omega (arith, six, h)))
+    ∙ ap (λ (is : Bool). if is then Some Turnouts else None) (longer line (codes "TURNOUTS") (omega (arith, size, h)))
 
 -- the request of a line that is no `SEND` line, by whether it is too long
-abbrev other_request : (line : List ℕ) → (long turns place nodes : Bool) → Option Request
-other_request line long turns place nodes =
+abbrev other_request : (line : List ℕ) → (long turns place : Bool) → Option Request
+other_request line long turns place =
     if turns then Some (Turns (turns_of (after_first is_blank line)))
     else if place then Some (Place (if long then Err place_error.TooLong else parse_place (words_of (after_first is_blank line))))
-    else if nodes then Some Nodes else None
+    else ask_states (things_of line)
 
-request-turns : (line : List ℕ) (turns place nodes : Bool) → 400 < length line → is_turns line ≡ turns → is_nodes line ≡ nodes
-    → other_request line true turns place nodes ≡ asked_long false turns place
-request-turns line true place nodes h is is_nodes = ap (λ (count : Option ℕ). Some (Turns count)) (turns-too_long line h is)
-request-turns line false true nodes h is is_nodes = refl
-request-turns line false false true h is is_nodes = no_nodes line h is_nodes
-request-turns line false false false h is is_nodes = refl
+request-turns : (line : List ℕ) (turns place : Bool) → 400 < length line → is_turns line ≡ turns
+    → other_request line true turns place ≡ asked_long false turns place
+request-turns line true place h is = ap (λ (count : Option ℕ). Some (Turns count)) (turns-too_long line h is)
+request-turns line false true h is = refl
+request-turns line false false h is = ap ask_states (no_things line h)
 
 request-too_long : (line : List ℕ) → 400 < length line → request_of line ≡ asked_long (is_send line) (is_turns line) (is_place line)
 request-too_long line h =
-    ap (λ (long : Bool). if is_send line then Some (if long then Invalid TooLong else parse_send (bytes_of (words_of (after_first is_blank line)))) else other_request line long (is_turns line) (is_place line) (is_nodes line)) (lt-ltb 400 (length line) h)
-    ∙ ap (λ (other : Option Request). if is_send line then Some (Invalid TooLong) else other) (request-turns line (is_turns line) (is_place line) (is_nodes line) h refl refl)
+    ap (λ (long : Bool). if is_send line then Some (if long then Invalid TooLong else parse_send (bytes_of (words_of (after_first is_blank line)))) else other_request line long (is_turns line) (is_place line)) (lt-ltb 400 (length line) h)
+    ∙ ap (λ (other : Option Request). if is_send line then Some (Invalid TooLong) else other) (request-turns line (is_turns line) (is_place line) h refl)
 
 request-long : (xs ys : List ℕ) → length xs ≡ 401 → request_of (xs ++ ys) ≡ request_of xs
 request-long xs ys h =

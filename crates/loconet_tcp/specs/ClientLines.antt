@@ -1,7 +1,9 @@
 -- The lines sent to a client, in LocoNet over TCP. The words after SENT ERROR, VERSION and ERROR,
--- and the lines that begin with TURNS, PLACE or NODE, are this project's own.
+-- and the lines that begin with TURNS, PLACE, NODE, TRAIN or TURNOUT, are this project's own.
 use Rattle.std.specs.Prelude.{ℕ, List, [], ◌∷◌, ◌++◌, codes, Result, Ok, Err}
 use Rattle.text.specs.Hex.{hex_words}
+use Rattle.loconet_tcp.specs.declared.request.Things.{Things}
+use Rattle.loconet_tcp.specs.declared.request.Things.TheVariants.{Nodes, Trains, Turnouts}
 use Rattle.loconet_tcp.specs.declared.request.Reason.{Reason}
 use Rattle.loconet_tcp.specs.declared.request.PlaceError.{PlaceError}
 use Rattle.loconet_tcp.specs.declared.request.PlaceError.TheVariants as place_error
@@ -62,9 +64,15 @@ place_text (Err error) = codes "PLACE ERROR " ++ place_error_text error ++ line_
 abbrev pub node_text : (line : List ℕ) → List ℕ
 node_text line = codes "NODE " ++ line ++ line_end
 
--- the lines of all decoders were sent
-abbrev pub nodes_ok_text : List ℕ
-nodes_ok_text = codes "NODES OK" ++ line_end
+-- how a train or a turnout stands, by its line
+abbrev pub state_text : (line : List ℕ) → List ℕ
+state_text line = line ++ line_end
+
+-- the lines of all were sent
+abbrev pub states_ok_text : Things → List ℕ
+states_ok_text Nodes = codes "NODES OK" ++ line_end
+states_ok_text Trains = codes "TRAINS OK" ++ line_end
+states_ok_text Turnouts = codes "TURNOUTS OK" ++ line_end
 
 -- the name of the server
 abbrev pub version_text : List ℕ

@@ -1,6 +1,6 @@
 -- The request of a client's line, in LocoNet over TCP. The protocol leaves open the longest line,
 -- the case of the digits, the tab as a blank and the replies to invalid lines: these are rules of
--- this project. So are the words TURNS, NODES and PLACE, which other servers pass over.
+-- this project. So are the words TURNS, NODES, TRAINS, TURNOUTS and PLACE, which other servers pass over.
 use Rattle.std.specs.Prelude.{ℕ, Bool, ◌&&◌, if◌then◌else◌, nat_le, nat_lt, List, [], ◌∷◌, length, take, Option, Some, None, Result, Ok, Err, codes}
 use Rattle.std.specs.List.{list_all, before_first, after_first}
 use Rattle.std.specs.Option.{is_some}
@@ -9,7 +9,9 @@ use Rattle.text.specs.Words.{is_blank, words_of}
 use Rattle.text.specs.Hex.{pair_of}
 use Rattle.ln_frame.specs.Message.{has_form, is_whole}
 use Rattle.loconet_tcp.specs.declared.request.Request.{Request}
-use Rattle.loconet_tcp.specs.declared.request.Request.TheVariants.{Send, Invalid, Turns, Nodes, Place}
+use Rattle.loconet_tcp.specs.declared.request.Request.TheVariants.{Send, Invalid, Turns, States, Place}
+use Rattle.loconet_tcp.specs.declared.request.Things.{Things}
+use Rattle.loconet_tcp.specs.declared.request.Things.TheVariants.{Nodes, Trains, Turnouts}
 use Rattle.loconet_tcp.specs.declared.request.Facing.{Facing}
 use Rattle.loconet_tcp.specs.declared.request.Facing.TheVariants.{A, B}
 use Rattle.loconet_tcp.specs.declared.request.PlaceError.{PlaceError}
@@ -52,9 +54,15 @@ is_send line = bytes_eq (before_first is_blank line) (codes "SEND")
 abbrev pub is_turns : List ℕ → Bool
 is_turns line = bytes_eq (before_first is_blank line) (codes "TURNS")
 
--- the line is NODES
-abbrev pub is_nodes : List ℕ → Bool
-is_nodes line = bytes_eq line (codes "NODES")
+-- what a line asks the states of
+abbrev pub things_of : List ℕ → Option Things
+things_of line =
+    if bytes_eq line (codes "NODES") then Some Nodes else if bytes_eq line (codes "TRAINS") then Some Trains
+    else if bytes_eq line (codes "TURNOUTS") then Some Turnouts else None
+
+abbrev pub ask_states : Option Things → Option Request
+ask_states None = None
+ask_states (Some things) = Some (States things)
 
 -- it is PLACE
 abbrev pub is_place : List ℕ → Bool
@@ -103,8 +111,8 @@ turns_of text = in_range (decimal_of text)
 -- A line that begins with the word SEND requests to send the bytes of the words after it, if the
 -- line has at most 400 characters. One that begins with TURNS and a blank requests the number of
 -- turns that the rest of the line writes (own). One that begins with PLACE requests to put a train
--- where the words after it say, if the line has at most 400 characters (own). The line NODES asks
--- how the decoders stand (own). Every other line makes no request.
+-- where the words after it say, if the line has at most 400 characters (own). The lines NODES, TRAINS
+-- and TURNOUTS ask how these stand (own). Every other line makes no request.
 abbrev pub request_of : List ℕ → Option Request
 request_of line =
     if is_send line then Some (if nat_lt 400 (length line) then Invalid TooLong
@@ -112,4 +120,4 @@ request_of line =
     else if is_turns line then Some (Turns (turns_of (after_first is_blank line)))
     else if is_place line then Some (Place (if nat_lt 400 (length line) then Err place_error.TooLong
     else parse_place (words_of (after_first is_blank line))))
-    else if is_nodes line then Some Nodes else None
+    else ask_states (things_of line)

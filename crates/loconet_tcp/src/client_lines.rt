@@ -1,9 +1,9 @@
 //! The lines sent to a client. Each ends with a carriage return and a line feed.
 ghost use Rattle.std.specs.Prelude.{◌≡◌, ◌+◌, ◌*◌, ◌<◌, ◌≤◌, ◌++◌, codes, length, Err};
 ghost use Rattle.arrayvec.specs.ArrayVec.{array_vec_len};
-ghost use Rattle.loconet_tcp.specs.ClientLines.{line_end, receive_text, sent_ok_text, reason_text, sent_error_text, place_error_text, place_text, turns_error_text, turns_ok_text, turns_text, node_text, nodes_ok_text, version_text, server_full_text};
+ghost use Rattle.loconet_tcp.specs.ClientLines.{line_end, receive_text, sent_ok_text, reason_text, sent_error_text, place_error_text, place_text, turns_error_text, turns_ok_text, turns_text, node_text, states_ok_text, state_text, version_text, server_full_text};
 
-use crate::request::{PlaceError, Reason, TurnsError};
+use crate::request::{PlaceError, Reason, Things, TurnsError};
 use arrayvec::ArrayVec;
 use ln_frame::Msg;
 use text::{push_bytes, push_hex_words};
@@ -113,13 +113,27 @@ pub fn push_node(text: &mut Text, line: &[u8])
     push_bytes(text, b"\r\n");
 }
 
-/// Appends `NODES OK`: the lines of all decoders were sent.
-pub fn push_nodes_ok(text: &mut Text)
-    requires { array_vec_len text.old + 10 ≤ 800 }
-    ensures text { text.new.items ≡ text.old.items ++ nodes_ok_text }
-    ensures len { array_vec_len text.new ≡ array_vec_len text.old + 10 }
+/// Appends the line of a train or a turnout, 2 bytes longer than the line.
+pub fn push_state(text: &mut Text, line: &[u8])
+    requires { array_vec_len text.old + length line.now + 2 ≤ 800 }
+    ensures text { text.new.items ≡ text.old.items ++ state_text line.now }
+    ensures len { array_vec_len text.new ≡ array_vec_len text.old + length line.now + 2 }
 {
-    push_bytes(text, b"NODES OK\r\n");
+    push_bytes(text, line);
+    push_bytes(text, b"\r\n");
+}
+
+/// Appends `NODES OK`, `TRAINS OK` or `TURNOUTS OK`, at most 14 bytes: the lines of all were sent.
+pub fn push_states_ok(text: &mut Text, things: Things)
+    requires { array_vec_len text.old + 14 ≤ 800 }
+    ensures text { text.new.items ≡ text.old.items ++ states_ok_text things }
+    ensures most { array_vec_len text.new ≤ array_vec_len text.old + 14 }
+{
+    match things {
+        Things::Nodes => push_bytes(text, b"NODES OK\r\n"),
+        Things::Trains => push_bytes(text, b"TRAINS OK\r\n"),
+        Things::Turnouts => push_bytes(text, b"TURNOUTS OK\r\n"),
+    }
 }
 
 /// Appends the greeting of a client: `VERSION` and the name of the server.

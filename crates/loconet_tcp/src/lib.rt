@@ -9,7 +9,7 @@
 //!         Some(Request::Send(message)) => { /* send it */ }
 //!         Some(Request::Invalid(reason)) => push_sent_error(&mut text, reason),
 //!         Some(Request::Turns(count)) => { /* run them */ }
-//!         Some(Request::Nodes) => { /* tell how the decoders stand */ }
+//!         Some(Request::States(things)) => { /* tell how they stand */ }
 //!         Some(Request::Place(placement)) => { /* put a train there */ }
 //!         None => {}
 //!     }
@@ -26,10 +26,12 @@ mod reader;
 mod request;
 
 pub use client_lines::{
-    Text, push_node, push_nodes_ok, push_place, push_receive, push_sent_error, push_sent_ok,
-    push_server_full, push_turns, push_turns_ok, push_version,
+    Text, push_node, push_place, push_receive, push_sent_error, push_sent_ok, push_server_full,
+    push_state, push_states_ok, push_turns, push_turns_ok, push_version,
 };
 pub use laws::{any_cut, received_is_sendable};
 pub use parsing::{Bytes, LONGEST_KEPT, LONGEST_LINE, bytes_of, leading_bytes};
 pub use reader::RequestReader;
-pub use request::{Facing, LONGEST_WORD, PlaceError, Placement, Reason, Request, TurnsError, Word};
+pub use request::{
+    Facing, LONGEST_WORD, PlaceError, Placement, Reason, Request, Things, TurnsError, Word,
+};

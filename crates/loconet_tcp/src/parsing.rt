@@ -1,9 +1,9 @@
 //! Parsing a line.
 ghost use Rattle.std.specs.Prelude.{◌≡◌, ◌≤◌, [], if◌then◌else◌, length, nat_lt, take, None, Some, Err, MatchOption};
 ghost use Rattle.text.specs.Words.{with_piece, words_of};
-ghost use Rattle.loconet_tcp.specs.Requests.{are_pairs, bytes_of, end_named, facing_of, leading_bytes, parse_place, parse_send, placement_of, request_of, turns_of};
+ghost use Rattle.loconet_tcp.specs.Requests.{are_pairs, bytes_of, end_named, facing_of, leading_bytes, parse_place, parse_send, placement_of, request_of, things_of, turns_of};
 
-use crate::request::{Facing, LONGEST_WORD, PlaceError, Placement, Reason, Request, Word};
+use crate::request::{Facing, LONGEST_WORD, PlaceError, Placement, Reason, Request, Things, Word};
 use arrayvec::ArrayVec;
 use ln_frame::Msg;
 use text::{Words, cut_piece, push_bytes, read_decimal, read_hex_pair};
@@ -34,16 +34,27 @@ pub(crate) fn parse_line(line: &[u8]) -> Option<Request>
         return Some(Request::Place(parse_place_line(line.len(), rest)));
     }
     if first != b"SEND".as_slice() {
-        return if line == b"NODES".as_slice() {
-            Some(Request::Nodes)
-        } else {
-            None
-        };
+        return Some(Request::States(things_of(line)?));
     }
     if line.len() > LONGEST_LINE {
         return Some(Request::Invalid(Reason::TooLong));
     }
     Some(parse_send(rest))
+}
+
+/// Returns what a line asks the states of.
+fn things_of(line: &[u8]) -> Option<Things>
+    ensures { result ≡ things_of line.now }
+{
+    if line == b"NODES".as_slice() {
+        Some(Things::Nodes)
+    } else if line == b"TRAINS".as_slice() {
+        Some(Things::Trains)
+    } else if line == b"TURNOUTS".as_slice() {
+        Some(Things::Turnouts)
+    } else {
+        None
+    }
 }
 
 /// Returns where a `PLACE` line of this length puts a train, by the words after `PLACE`.

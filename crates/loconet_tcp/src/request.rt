@@ -4,7 +4,7 @@ use arrayvec::ArrayVec;
 use ln_frame::Msg;
 
 /// The request of a line that begins with the word `SEND`, `TURNS` or `PLACE`, or of the line
-/// `NODES`.
+/// `NODES`, `TRAINS` or `TURNOUTS`.
 #[derive(Drop)]
 pub enum Request {
     /// Send this message.
@@ -13,10 +13,21 @@ pub enum Request {
     Invalid(Reason),
     /// Run this number of turns; `None` if the line has no number from 1 to 10,000.
     Turns(Option<u16>),
-    /// Tell how the decoders stand.
-    Nodes,
+    /// Tell how these stand.
+    States(Things),
     /// Put a train on the track; or why the line does not say where.
     Place(Result<Placement, PlaceError>),
+}
+
+/// What a client can ask the states of.
+#[derive(Clone, Copy, Debug, PartialEq, Eq)]
+pub enum Things {
+    /// The decoders.
+    Nodes,
+    /// The trains of the plan.
+    Trains,
+    /// The turnouts of the plan.
+    Turnouts,
 }
 
 /// The most bytes that are kept of a name: one more than the longest has, so that a longer word is
