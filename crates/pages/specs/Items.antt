@@ -16,7 +16,7 @@ use Rattle.roster.specs.Decoders.{decoder_name}
 use Rattle.roster.specs.Entry.{Entry}
 use Rattle.pages.specs.declared.items.ItemState.{ItemState}
 use Rattle.pages.specs.declared.items.ItemState.TheVariants.{Decoder, Part, Train}
-use Rattle.pages.specs.TrainPlace.{place_of, same_train_place, train_message}
+use Rattle.railway_text.specs.TrainPlace.{place_of, same_train_place, train_line}
 use Rattle.pages.specs.Words.{end_text, point_text}
 
 -- a decoder in this state: NODE and its line, under the name of its entry
@@ -53,7 +53,7 @@ decoder_messages (entry ∷ entries) (node ∷ nodes) =
 -- a train has the name of its decoder
 abbrev pub message_of_train : List Entry → Network → TrainState → List ℕ
 message_of_train entries network train =
-    train_message (decoder_name (slice_get entries train.decoder)) network.blocks
+    train_line (decoder_name (slice_get entries train.decoder)) network.blocks
     (place_of network.blocks train (shown_speed network train))
 
 abbrev pub plan_messages : List Entry → RailwayState → List (List ℕ)

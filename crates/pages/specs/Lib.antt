@@ -1,6 +1,5 @@
 pub mod ClientEvents
 pub mod Items
 pub mod PageText
-pub mod TrainPlace
 pub mod Updates
 pub mod Words

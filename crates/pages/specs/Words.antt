@@ -1,20 +1,11 @@
 -- The words of the messages to a page about a track plan, as docs/PAGES.md has them.
-use Rattle.std.specs.Prelude.{ℕ, suc, ℤ, pos, negsuc, List, [], ◌++◌, Option, Some, None, codes, slice_get}
+use Rattle.std.specs.Prelude.{ℕ, suc, ℤ, pos, negsuc, List, [], ◌++◌, Option, Some, None, codes}
 use Rattle.std.specs.Fmt.{decimal}
 use Rattle.railway.specs.declared.block.Block.{Block}
 use Rattle.railway.specs.declared.block.BlockEnd.{BlockEnd}
 use Rattle.railway.specs.declared.block.End.{End}
-use Rattle.railway.specs.declared.block.End.TheVariants.{A, B}
 use Rattle.railway.specs.declared.block.Point.{Point}
-use Rattle.railway.specs.Blocks.{block_name}
-
-abbrev pub letter_of : End → List ℕ
-letter_of A = codes "a"
-letter_of B = codes "b"
-
--- a block of the plan, by its index from 0
-abbrev pub name_in : List Block → (block : ℕ) → List ℕ
-name_in blocks block = block_name (slice_get blocks block)
+use Rattle.railway_text.specs.Words.{letter_of, name_in}
 
 -- an end of a block, as `main.a`
 abbrev pub end_text : List Block → BlockEnd → List ℕ

@@ -8,18 +8,19 @@ ghost use Rattle.layout_core.specs.Nodes.{spec_of};
 ghost use Rattle.roster.specs.Decoders.{decoder_name, entries_of, specs_of};
 ghost use Rattle.roster.specs.Entry.{Entry};
 ghost use Rattle.pages.specs.Items.{block_message, item_messages, item_states, joint_message, line_at, max_items, node_message, parts_of, plan_messages, plan_states, same_item_state, turnout_message};
-ghost use Rattle.pages.specs.TrainPlace.{place_of, train_message};
+ghost use Rattle.railway_text.specs.TrainPlace.{place_of, train_line};
 
-use crate::train_place::TrainPlace;
-use crate::words::{Message, push_end, push_number, push_point};
+use crate::words::{Message, push_end, push_point};
 use decoder_node::MAX_NODES;
 use layout_core::{DecoderState, World};
 use railway::{
     Block, End, Joint, MAX_BLOCKS, MAX_JOINTS, MAX_TRAINS, MAX_TURNOUTS, Railway, TrainState,
     TurnoutState,
 };
+use railway_text::TrainPlace;
 use roster::{Roster, decoder_name};
 use show_text::Line;
+use text::push_number;
 
 /// The most items that pages are told of.
 pub(crate) const MAX_ITEMS: usize = MAX_NODES + MAX_BLOCKS + MAX_JOINTS + MAX_TURNOUTS + MAX_TRAINS;
@@ -184,11 +185,17 @@ fn message_of_train(
     speed: u32,
 ) -> Message
     ensures { result.bytes
-        ≡ train_message (decoder_name (slice_get (entries_of roster.entry) train.now.decoder))
+        ≡ train_line (decoder_name (slice_get (entries_of roster.entry) train.now.decoder))
         blocks.now (place_of blocks.now train.now speed) }
 {
     let name = decoder_name(roster, usize::from(train.decoder));
-    TrainPlace::of(blocks, train, speed).message(name, blocks)
+    let mut message = Message::new();
+    message.push_str(
+        TrainPlace::of(blocks, train, speed)
+            .line(name, blocks)
+            .as_str(),
+    );
+    message
 }
 
 /// Returns `BLOCK NAME LENGTH`, and where its ends are drawn.

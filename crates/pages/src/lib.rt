@@ -20,7 +20,6 @@
 mod clients;
 mod items;
 mod page_text;
-mod train_place;
 mod updates;
 mod words;
 

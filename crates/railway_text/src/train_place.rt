@@ -1,14 +1,15 @@
-//! Where a train is, as pages are told of it.
+//! Where a train is.
 ghost use Rattle.std.specs.Prelude.{◌≡◌, ◌≤◌, ◌/◌, length, min, slice_get};
-ghost use Rattle.pages.specs.TrainPlace.{place_of, same_train_place, tenths_in, tenths_of, train_message, way_from_a};
+ghost use Rattle.railway_text.specs.TrainPlace.{place_of, same_train_place, tenths_of, train_line, way_from_a};
 
-use crate::words::{Message, letter_of, push_number};
+use crate::words::{StateLine, letter_of};
 use railway::{Block, End, Place, TrainState, block_name};
+use text::push_number;
 
 /// A tenth of a millimetre, in femtometres.
 const TENTH: u64 = 100_000_000_000;
 
-/// The words of a train's message behind its name.
+/// The words of a train's line behind its name.
 #[derive(Clone, Copy)]
 pub struct TrainPlace {
     /// The index in the plan of the block of its front, from 0.
@@ -27,7 +28,7 @@ pub struct TrainPlace {
 
 impl TrainPlace {
     /// Returns where a train of this speed is on these blocks.
-    pub(crate) fn of(blocks: &[Block], train: &TrainState, speed: u32) -> TrainPlace
+    pub fn of(blocks: &[Block], train: &TrainState, speed: u32) -> TrainPlace
         ensures { result ≡ place_of blocks.now train.now speed }
     {
         TrainPlace {
@@ -41,7 +42,7 @@ impl TrainPlace {
     }
 
     /// Whether it is this place.
-    pub(crate) fn is(self, place: TrainPlace) -> bool
+    pub fn is(self, place: TrainPlace) -> bool
         ensures { result ≡ same_train_place self place }
     {
         self.front == place.front
@@ -53,25 +54,25 @@ impl TrainPlace {
     }
 
     /// Returns `TRAIN`, the name of the train, at most 16 bytes, and this place.
-    pub(crate) fn message(self, name: &str, blocks: &[Block]) -> Message
+    pub fn line(self, name: &str, blocks: &[Block]) -> StateLine
         requires { length name.now ≤ 16 }
-        ensures { result.bytes ≡ train_message name.now blocks.now self }
+        ensures { result.bytes ≡ train_line name.now blocks.now self }
     {
-        let mut message = Message::new();
-        message.push_str("TRAIN ");
-        message.push_str(name);
-        message.push_str(" ");
-        message.push_str(block_name(blocks, usize::from(self.front)));
-        message.push_str(" ");
-        push_number(&mut message, u64::from(self.tenths));
-        message.push_str(" ");
-        message.push_str(letter_of(self.facing));
-        message.push_str(" ");
-        message.push_str(block_name(blocks, usize::from(self.rear)));
-        message.push_str(" ");
-        push_number(&mut message, u64::from(self.speed));
-        message.push_str(if self.derailed { " derailed" } else { "" });
-        message
+        let mut line = StateLine::new();
+        line.push_str("TRAIN ");
+        line.push_str(name);
+        line.push_str(" ");
+        line.push_str(block_name(blocks, usize::from(self.front)));
+        line.push_str(" ");
+        push_number(&mut line, u64::from(self.tenths));
+        line.push_str(" ");
+        line.push_str(letter_of(self.facing));
+        line.push_str(" ");
+        line.push_str(block_name(blocks, usize::from(self.rear)));
+        line.push_str(" ");
+        push_number(&mut line, u64::from(self.speed));
+        line.push_str(if self.derailed { " derailed" } else { "" });
+        line
     }
 }
 

@@ -1,4 +1,4 @@
--- Where a train is, as pages are told of it.
+-- Where a train is, as clients and pages are told of it (own).
 use Rattle.std.specs.Prelude.{ℕ, ◌+◌, ◌/◌, ◌==◌, ◌&&◌, min, Bool, if◌then◌else◌, List, [], ◌++◌, Option, Some, None, codes, slice_get}
 use Rattle.std.specs.Fmt.{decimal}
 use Rattle.railway.specs.declared.block.Block.{Block}
@@ -9,8 +9,8 @@ use Rattle.railway.specs.declared.train.TrainState.{TrainState}
 use Rattle.railway.specs.Blocks.{same_end}
 use Rattle.railway.specs.Places.{is_derailed}
 use Rattle.railway.specs.Turnouts.{same_bool}
-use Rattle.pages.specs.declared.train_place.TrainPlace.{TrainPlace}
-use Rattle.pages.specs.Words.{letter_of, name_in}
+use Rattle.railway_text.specs.declared.train_place.TrainPlace.{TrainPlace}
+use Rattle.railway_text.specs.Words.{letter_of, name_in}
 
 -- How far a front is from end a, in femtometres, at most 2 ^ 64 - 1. Its own femtometre counts if it
 -- faces end b.
@@ -46,8 +46,8 @@ same_train_place one other =
 
 -- a train of this name: the block of its front, how many tenths of the block the front is from
 -- end a, the end that it faces, the block of its rear, and its speed in millimetres a second
-abbrev pub train_message : (name : List ℕ) → List Block → TrainPlace → List ℕ
-train_message name blocks place =
+abbrev pub train_line : (name : List ℕ) → List Block → TrainPlace → List ℕ
+train_line name blocks place =
     codes "TRAIN " ++ name ++ codes " " ++ name_in blocks place.front ++ codes " "
     ++ decimal place.tenths ++ codes " " ++ letter_of place.facing ++ codes " "
     ++ name_in blocks place.rear ++ codes " " ++ decimal place.speed

@@ -1,0 +1,3 @@
+pub mod TrainPlace
+pub mod Turnouts
+pub mod Words
