@@ -1,9 +1,10 @@
 -- The same turns begin in a time, however it is divided.
 use Rattle.std.proofs.Common.{◌≡◌, ℕ, zero, suc, ◌-◌, ◌<◌, Bool, true, false, if◌then◌else◌, nat_le, List, [], ◌∷◌, ◌++◌, length, get_or, Option, refl, ap, subst, sym, ◌∙◌, arith}
 use Rattle.std.specs.List.{list_all}
-use Rattle.station_core.specs.Moved.{after_turn, packet_of_turn}
+use Rattle.station_core.specs.Station.{after_turn, packet_of_turn}
 use Rattle.station_core.specs.Seen.{Seen}
 use Rattle.bus.specs.declared.event.Event.{Event}
+use Rattle.bus.specs.declared.options.BusOptions.{BusOptions}
 use Rattle.bus.specs.declared.event.Event.TheVariants.{Connects, Receives, Disconnects, Reports, Elapses, Turn}
 use Rattle.bus.specs.declared.outcome.Outcome.TheVariants.{Nothing, TurnBegan}
 use Rattle.bus.specs.Bus.{BusState, after_events, duration, outcomes_of, after_turn_boundary}
@@ -26,7 +27,7 @@ record IsCourse (bus later : BusState) (turns : List ℕ) : Type 0 where
   turns_are : turns ≡ durations count bus.station
   station : later.station ≡ turned_by count bus.station
   clients : later.clients ≡ bus.clients
-  stepped : later.stepped ≡ bus.stepped
+  options : later.options ≡ bus.options
 
 abbrev IsCourseOf : List Event → BusState → Type 0
 IsCourseOf events bus = IsCourse bus (after_events bus events) (turn_durations (outcomes_of bus events))
@@ -39,7 +40,7 @@ one_more events bus micros rest = record {
   turns_are = ap (λ (turns : List ℕ). duration (packet_of_turn bus.station) ∷ turns) rest.turns_are;
   station = rest.station;
   clients = rest.clients;
-  stepped = rest.stepped;
+  options = rest.options;
 }
 
 passing : (ends : Bool) (events : List Event) (bus : BusState) (micros : ℕ) → ((later : BusState) → IsCourseOf events later)
@@ -48,11 +49,11 @@ passing : (ends : Bool) (events : List Event) (bus : BusState) (micros : ℕ) �
 passing true events bus micros course = one_more events bus micros (course (after_turn_boundary bus micros))
 passing false events bus micros course =
     let rest = course (record bus { remaining = bus.remaining - micros }) in
-    record { count = rest.count; turns_are = rest.turns_are; station = rest.station; clients = rest.clients; stepped = rest.stepped }
+    record { count = rest.count; turns_are = rest.turns_are; station = rest.station; clients = rest.clients; options = rest.options }
 
 is_course : (events : List Event) (bus : BusState) → list_all is_time events ≡ true → IsCourseOf events bus
 unfolding durations turned_by
-is_course [] bus all = record { count = 0; turns_are = refl; station = refl; clients = refl; stepped = refl }
+is_course [] bus all = record { count = 0; turns_are = refl; station = refl; clients = refl; options = refl }
 is_course (Connects client ∷ events) bus all = cc
 is_course (Receives client byte ∷ events) bus all = cc
 is_course (Disconnects client ∷ events) bus all = cc
@@ -72,11 +73,11 @@ unfolding durations
 length-durations zero seen = refl
 length-durations (suc n) seen = ap suc (length-durations n (after_turn seen))
 
-equal : (a b : BusState) → a.station ≡ b.station → a.clients ≡ b.clients → a.stepped ≡ b.stepped → a.remaining ≡ b.remaining → a ≡ b
-equal a b station clients stepped remaining =
+equal : (a b : BusState) → a.station ≡ b.station → a.clients ≡ b.clients → a.options ≡ b.options → a.remaining ≡ b.remaining → a ≡ b
+equal a b station clients options remaining =
     let first : a ≡ record a { station = b.station } = ap (λ (x : Seen). record a { station = x }) station in
     let second : record a { station = b.station } ≡ record a { station = b.station; clients = b.clients } = ap (λ (x : List (Option (List ℕ))). record a { station = b.station; clients = x }) clients in
-    let third : record a { station = b.station; clients = b.clients } ≡ record b { remaining = a.remaining } = ap (λ (x : Bool). record b { remaining = a.remaining; stepped = x }) stepped in
+    let third : record a { station = b.station; clients = b.clients } ≡ record b { remaining = a.remaining } = ap (λ (x : BusOptions). record b { remaining = a.remaining; options = x }) options in
     first ∙ second ∙ third ∙ ap (λ (x : ℕ). record b { remaining = x }) remaining
 
 both : (bus one other : BusState) (micros : ℕ) (these those : List ℕ) → IsCourse bus one these → IsCourse bus other those
@@ -89,7 +90,7 @@ both bus one other micros these those c d p q =
     let are = same bus.remaining micros one.remaining other.remaining these those agrees p q in
     let count : c.count ≡ d.count =
     sym (length-durations c.count bus.station) ∙ ap length (sym c.turns_are ∙ are.0 ∙ d.turns_are) ∙ length-durations d.count bus.station in
-    (equal one other (c.station ∙ ap (λ (n : ℕ). turned_by n bus.station) count ∙ sym d.station) (c.clients ∙ sym d.clients) (c.stepped ∙ sym d.stepped) are.1, are.0)
+    (equal one other (c.station ∙ ap (λ (n : ℕ). turned_by n bus.station) count ∙ sym d.station) (c.clients ∙ sym d.clients) (c.options ∙ sym d.options) are.1, are.0)
 
 pub cut : (bus : BusState) (these those : List Event) → list_all is_time these ≡ true → list_all is_time those ≡ true
     → IsTimeAccount bus.remaining (micros_in bus these) (turn_durations (outcomes_of bus these)) (after_events bus these).remaining

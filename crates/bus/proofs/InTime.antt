@@ -4,11 +4,11 @@ use Rattle.std.specs.List.{list_all}
 use Rattle.std.proofs.lemmas.Bool.{and_parts, and_from}
 use Rattle.std.proofs.lemmas.List.Elements.{All-append, All-cons, All-nil}
 use Rattle.loconet_tcp.specs.declared.request.Request.{Request}
-use Rattle.loconet_tcp.specs.declared.request.Request.TheVariants.{Send, Invalid, Turns, Nodes, Place}
+use Rattle.loconet_tcp.specs.declared.request.Request.TheVariants.{Send, Invalid, Turns, States, Place}
 use Rattle.slot_table.specs.Entry.{Entry}
 use Rattle.station_core.specs.ThrottleView.{ThrottleView, known_after_all}
 use Rattle.station_core.specs.Moments.{slots_refreshed, turns_in}
-use Rattle.station_core.specs.Moved.{packet_of_turn}
+use Rattle.station_core.specs.Station.{packet_of_turn}
 use Rattle.station_core.specs.Seen.{known_of}
 use Rattle.layout_core.specs.declared.event.Event.{Event as LayoutEvent}
 use Rattle.layout_core.specs.declared.event.Event.TheVariants.{Byte as LayoutByte, Turn as LayoutTurn, Noise as LayoutNoise}
@@ -18,11 +18,11 @@ use Rattle.layout_core.specs.Events.{NoNoise, calls_in}
 use Rattle.bus.specs.declared.event.Event.{Event}
 use Rattle.bus.specs.declared.event.Event.TheVariants.{Connects, Receives, Disconnects, Reports, Elapses, Turn}
 use Rattle.bus.specs.declared.outcome.Outcome.TheVariants.{Nothing, TurnBegan}
-use Rattle.bus.specs.Bus.{AreEvents, BusState, after_event, after_events, request_at, client_of, is_event, duration, outcome_of_request, outcome_of, outcomes_of}
+use Rattle.bus.specs.Bus.{AreEvents, BusState, after_event, after_events, for_station, request_at, client_of, is_event, duration, outcome_of_request, outcome_of, outcomes_of}
 use Rattle.bus.specs.Course.{durations_in, micros_in, turn_durations}
 use Rattle.bus.specs.Cycle.{IsTimedCycleOf, RunsInTime}
 use Rattle.bus.specs.Invariant.{IsInvariant}
-use Rattle.bus.specs.Layout.{bytes_on, request_events, layout_event, layout_events, turn_of}
+use Rattle.bus.specs.Layout.{bytes_on, message_events, layout_event, layout_events, turn_of}
 use Rattle.bus.specs.Time.{IsTimeAccount}
 use Rattle.bus.proofs.Account.{enough}
 use Rattle.bus.specs.Below.{TurnsAreBounded}
@@ -39,13 +39,9 @@ bytes_quiet : (i line : ℕ) (bytes : List ℕ) → NoNoise i (bytes_on line byt
 bytes_quiet i line [] = tt
 bytes_quiet i line (byte ∷ bytes) = bytes_quiet i line bytes
 
-asked_quiet : (i client : ℕ) (request : Option Request) → NoNoise i (request_events client request)
+asked_quiet : (i client : ℕ) (message : Option (List ℕ)) → NoNoise i (message_events client message)
 asked_quiet i client None = tt
-asked_quiet i client (Some (Invalid reason)) = tt
-asked_quiet i client (Some (Send message)) = bytes_quiet i client message
-asked_quiet i client (Some (Turns count)) = tt
-asked_quiet i client (Some Nodes) = tt
-asked_quiet i client (Some (Place placement)) = tt
+asked_quiet i client (Some message) = bytes_quiet i client message
 
 passing_quiet : (i missed : ℕ) (ends : Bool) → NoNoise i (if ends then turn_of missed else [])
 passing_quiet i missed true = tt
@@ -54,7 +50,7 @@ passing_quiet i missed false = tt
 event_quiet : (i : ℕ) (bus : BusState) (event : Event) → NoNoise i (layout_event bus event)
 event_quiet i bus (Connects client) = tt
 event_quiet i bus (Disconnects client) = tt
-event_quiet i bus (Receives client byte) = asked_quiet i client (request_at (client_of bus client) byte)
+event_quiet i bus (Receives client byte) = asked_quiet i client (for_station bus (request_at (client_of bus client) byte))
 event_quiet i bus (Reports sensor occupied) = tt
 event_quiet i bus (Elapses micros missed) = passing_quiet i missed (nat_le bus.remaining micros)
 event_quiet i bus (Turn missed) = tt
@@ -76,12 +72,16 @@ bytes_turns : (line : ℕ) (bytes : List ℕ) → turns_in (calls_in (bytes_on l
 bytes_turns line [] = refl
 bytes_turns line (byte ∷ bytes) = omega (arith, bytes_turns line bytes)
 
-asked_turns : (bus : BusState) (client : ℕ) (request : Option Request) → turns_in (calls_in (request_events client request)) ≡ length (durations_in (outcome_of_request bus client request))
+given_turns : (client : ℕ) (message : Option (List ℕ)) → turns_in (calls_in (message_events client message)) ≡ 0
+given_turns client None = refl
+given_turns client (Some message) = bytes_turns client message
+
+asked_turns : (bus : BusState) (client : ℕ) (request : Option Request) → turns_in (calls_in (message_events client (for_station bus request))) ≡ length (durations_in (outcome_of_request bus client request))
 asked_turns bus client None = refl
 asked_turns bus client (Some (Invalid reason)) = refl
-asked_turns bus client (Some (Send message)) = bytes_turns client message
+asked_turns bus client (Some (Send message)) = given_turns client (for_station bus (Some (Send message)))
 asked_turns bus client (Some (Turns count)) = refl
-asked_turns bus client (Some Nodes) = refl
+asked_turns bus client (Some (States things)) = refl
 asked_turns bus client (Some (Place placement)) = refl
 
 passing_turns : (missed : ℕ) (packet : Option (List ℕ)) (ends : Bool) → turns_in (calls_in (if ends then turn_of missed else [])) ≡ length (durations_in (if ends then TurnBegan packet else Nothing))
@@ -118,7 +118,7 @@ asked_short bus client None = All-nil IsShort
 asked_short bus client (Some (Invalid reason)) = All-nil IsShort
 asked_short bus client (Some (Send message)) = All-nil IsShort
 asked_short bus client (Some (Turns count)) = All-nil IsShort
-asked_short bus client (Some Nodes) = All-nil IsShort
+asked_short bus client (Some (States things)) = All-nil IsShort
 asked_short bus client (Some (Place placement)) = All-nil IsShort
 
 turn_short : TurnsAreBounded → (bus : BusState) → All IsShort (durations_in (TurnBegan (packet_of_turn bus.station)))

@@ -7,9 +7,9 @@ use Rattle.std.proofs.lemmas.Bool.{and_parts, cases_Bool, eqb-true, eqb-false, l
 use Rattle.std.proofs.lemmas.List.{length-set, get_or-set_same, get_or-set_other}
 use Rattle.ln_ops.specs.Sensor.{is_sensor}
 use Rattle.loconet_tcp.specs.declared.request.Request.{Request}
-use Rattle.loconet_tcp.specs.declared.request.Request.TheVariants.{Send, Invalid, Turns, Nodes, Place}
+use Rattle.loconet_tcp.specs.declared.request.Request.TheVariants.{Send, Invalid, Turns, States, Place}
 use Rattle.loconet_tcp.specs.Reading.{request_of_byte, requests_along, requests_of, kept_after}
-use Rattle.station_core.specs.Moved.{packet_of_turn}
+use Rattle.station_core.specs.Station.{packet_of_turn}
 use Rattle.bus.specs.declared.event.Event.{Event}
 use Rattle.bus.specs.declared.event.Event.TheVariants.{Connects, Receives, Disconnects, Reports, Elapses, Turn}
 use Rattle.bus.specs.declared.outcome.Outcome.TheVariants.{Nothing, TurnBegan}
@@ -38,7 +38,7 @@ on_own bus c i None e = refl
 on_own bus c i (Some (Invalid reason)) e = refl
 on_own bus c i (Some (Send message)) e = rw e refl
 on_own bus c i (Some (Turns count)) e = refl
-on_own bus c i (Some Nodes) e = refl
+on_own bus c i (Some (States things)) e = refl
 on_own bus c i (Some (Place placement)) e = refl
 
 on_other : (bus : BusState) (c i : ℕ) (request : Option Request) → (c == i) ≡ false → message_on i (outcome_of_request bus c request) ≡ []
@@ -46,7 +46,7 @@ on_other bus c i None e = refl
 on_other bus c i (Some (Invalid reason)) e = refl
 on_other bus c i (Some (Send message)) e = rw e refl
 on_other bus c i (Some (Turns count)) e = refl
-on_other bus c i (Some Nodes) e = refl
+on_other bus c i (Some (States things)) e = refl
 on_other bus c i (Some (Place placement)) e = refl
 
 sends-more : (request : Option Request) (requests : List Request) → messages_to_send (option_to_list request ++ requests) ≡ messages_to_send (option_to_list request) ++ messages_to_send requests
@@ -54,7 +54,7 @@ sends-more None requests = refl
 sends-more (Some (Invalid reason)) requests = refl
 sends-more (Some (Send message)) requests = refl
 sends-more (Some (Turns count)) requests = refl
-sends-more (Some Nodes) requests = refl
+sends-more (Some (States things)) requests = refl
 sends-more (Some (Place placement)) requests = refl
 
 -- ---- time puts nothing on a line, and changes no client

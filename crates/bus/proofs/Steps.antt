@@ -1,6 +1,6 @@
 -- What each event preserves of a bus, and its effect on the layout.
 use Rattle.std.proofs.Common.{◌≡◌, ℕ, ◌+◌, ◌-◌, ◌<◌, ◌≤◌, Bool, true, false, List, [], length, Option, Some, None, refl, ap, sym, subst, ◌∙◌, arith, inl, inr, if◌then◌else◌, nat_lt, replicate}
-use Rattle.std.specs.Prelude.{Err, Result, slice_set}
+use Rattle.std.specs.Prelude.{Err, IfSome, Result, slice_set, ◌&&◌}
 use Rattle.std.specs.List.{after_first}
 use Rattle.std.proofs.lemmas.Bool.{cases_lt, ltb-true, leb-true, le-leb, lt-leb}
 use Rattle.std.proofs.lemmas.List.{length-set}
@@ -9,30 +9,33 @@ use Rattle.loconet_tcp.specs.declared.request.Request.{Request}
 use Rattle.loconet_tcp.specs.declared.request.PlaceError.{PlaceError}
 use Rattle.loconet_tcp.specs.declared.request.PlaceError.TheVariants as place_error
 use Rattle.loconet_tcp.specs.declared.request.Placement.{Placement}
-use Rattle.loconet_tcp.specs.declared.request.Request.TheVariants.{Send, Invalid, Turns, Nodes, Place}
+use Rattle.loconet_tcp.specs.declared.request.Things.{Things}
+use Rattle.loconet_tcp.specs.declared.request.Request.TheVariants.{Send, Invalid, Turns, States, Place}
 use Rattle.loconet_tcp.specs.declared.request.Reason.TheVariants.{TooLong, NoMessage, WrongCheck}
 use Rattle.text.specs.Words.{is_blank, words_of}
-use Rattle.loconet_tcp.specs.Requests.{parse_place, parse_send, request_of, bytes_of, is_nodes, is_place, is_send, is_turns, turns_of}
+use Rattle.loconet_tcp.specs.Requests.{parse_place, parse_send, request_of, ask_states, bytes_of, is_place, is_send, is_turns, things_of, turns_of}
 use Rattle.loconet_tcp.specs.Text.{is_end}
+use Rattle.ln_ops.specs.Sensor.{is_interrogation}
+use Rattle.station_core.specs.Station.{after_message}
 use Rattle.station_core.specs.Seen.{Seen}
 use Rattle.layout_core.specs.declared.event.Event.{Event as LayoutEvent}
 use Rattle.layout_core.specs.Played.{after_events as played}
 use Rattle.bus.specs.declared.event.Event.{Event}
 use Rattle.bus.specs.declared.event.Event.TheVariants.{Connects, Receives, Disconnects, Reports, Elapses, Turn}
 use Rattle.bus.specs.Below.{StationMoves, TurnsAreBounded}
-use Rattle.bus.specs.Bus.{BusState, after_event, request_at, client_of, is_event, pending_text_at, station_after, after_turn_boundary}
+use Rattle.bus.specs.Bus.{BusState, after_event, for_station, request_at, client_of, is_event, pending_text_at, station_after, after_turn_boundary}
 use Rattle.bus.specs.Invariant.{IsInvariant}
-use Rattle.bus.specs.Layout.{request_events, layout_event, turn_of}
+use Rattle.bus.specs.Layout.{message_events, layout_event, turn_of}
 use Rattle.bus.proofs.Whole.{whole_after}
 
--- A request to send holds a whole message.
+-- A request to send holds a whole message, and the station receives it or nothing.
 
 abbrev pub IsWholeAsk : Option Request → Type 0
 IsWholeAsk None = Unit {0}
 IsWholeAsk (Some (Invalid reason)) = Unit {0}
 IsWholeAsk (Some (Send message)) = IsWhole message
 IsWholeAsk (Some (Turns count)) = Unit {0}
-IsWholeAsk (Some Nodes) = Unit {0}
+IsWholeAsk (Some (States things)) = Unit {0}
 IsWholeAsk (Some (Place placement)) = Unit {0}
 
 whole_by : (whole form : Bool) (bytes : List ℕ) → is_whole bytes ≡ whole → IsWholeAsk (Some (if whole then Send bytes else if form then Invalid WrongCheck else Invalid NoMessage))
@@ -44,12 +47,15 @@ whole_sends : (said : Option (List ℕ)) → IsWholeAsk (Some (parse_send said))
 whole_sends None = tt
 whole_sends (Some bytes) = whole_by (is_whole bytes) (has_form bytes) bytes refl
 
-whole_other : (turns place nodes : Bool) (count : Option ℕ) (placement : Result Placement PlaceError)
-    → IsWholeAsk (if turns then Some (Turns count) else if place then Some (Place placement) else if nodes then Some Nodes else None)
-whole_other true place nodes count placement = tt
-whole_other false true nodes count placement = tt
-whole_other false false true count placement = tt
-whole_other false false false count placement = tt
+whole_states : (things : Option Things) → IsWholeAsk (ask_states things)
+whole_states None = tt
+whole_states (Some things) = tt
+
+whole_other : (turns place : Bool) (count : Option ℕ) (placement : Result Placement PlaceError) (things : Option Things)
+    → IsWholeAsk (if turns then Some (Turns count) else if place then Some (Place placement) else ask_states things)
+whole_other true place count placement things = tt
+whole_other false true count placement things = tt
+whole_other false false count placement things = whole_states things
 
 whole_when : (sends long : Bool) (said : Option (List ℕ)) (other : Option Request) → IsWholeAsk other → IsWholeAsk (if sends then Some (if long then Invalid TooLong else parse_send said) else other)
 whole_when false long said other whole = whole
@@ -62,16 +68,28 @@ placed_at line = if nat_lt 400 (length line) then Err place_error.TooLong else p
 
 abbrev other_request : (line : List ℕ) → Option Request
 other_request line =
-    if is_turns line then Some (Turns (turns_of (after_first is_blank line))) else if is_place line then Some (Place (placed_at line)) else if is_nodes line then Some Nodes else None
+    if is_turns line then Some (Turns (turns_of (after_first is_blank line))) else if is_place line then Some (Place (placed_at line)) else ask_states (things_of line)
 
 whole_at_end : (ends : Bool) (request : Option Request) → IsWholeAsk request → IsWholeAsk (if ends then request else None)
 whole_at_end true request whole = whole
 whole_at_end false request whole = tt
 
+whole_unless : (answered : Bool) (message : List ℕ) → IsWhole message → IfSome (if answered then None else Some message) IsWhole
+whole_unless true message whole = tt
+whole_unless false message whole = whole
+
 pub whole_ask : (kept : Option (List ℕ)) (byte : ℕ) → IsWholeAsk (request_at kept byte)
 whole_ask None byte = tt
 whole_ask (Some kept) byte = whole_at_end (is_end byte) (request_of kept) (whole_when (is_send kept) (nat_lt 400 (length kept)) (bytes_of (words_of (after_first is_blank kept))) (other_request kept)
-    (whole_other (is_turns kept) (is_place kept) (is_nodes kept) (turns_of (after_first is_blank kept)) (placed_at kept)))
+    (whole_other (is_turns kept) (is_place kept) (turns_of (after_first is_blank kept)) (placed_at kept) (things_of kept)))
+
+whole_given : (bus : BusState) (request : Option Request) → IsWholeAsk request → IfSome (for_station bus request) IsWhole
+whole_given bus None whole = tt
+whole_given bus (Some (Invalid reason)) whole = tt
+whole_given bus (Some (Turns count)) whole = tt
+whole_given bus (Some (States things)) whole = tt
+whole_given bus (Some (Place placement)) whole = tt
+whole_given bus (Some (Send message)) whole = whole_unless (bus.options.has_sensors && is_interrogation message) message whole
 
 -- A time in which the current turn ends, and one in which it does not.
 
@@ -98,13 +116,9 @@ kept_clients bus station client kept h lines = record {
   longest = h.longest;
 }
 
-asked_lines : (station : Seen) (request : Option Request) → (station_after station request).lines ≡ station.lines
+asked_lines : (station : Seen) (message : Option (List ℕ)) → (after_message station message).lines ≡ station.lines
 asked_lines station None = refl
-asked_lines station (Some (Invalid reason)) = refl
-asked_lines station (Some (Send message)) = refl
-asked_lines station (Some (Turns count)) = refl
-asked_lines station (Some Nodes) = refl
-asked_lines station (Some (Place placement)) = refl
+asked_lines station (Some message) = refl
 
 kept_turned : TurnsAreBounded → (bus : BusState) (micros : ℕ) → IsInvariant bus → bus.remaining ≤ micros → micros ≤ bus.remaining + 5795 → IsInvariant (after_turn_boundary bus micros)
 kept_turned laws bus micros h ends soon = record {
@@ -122,7 +136,7 @@ keeps laws bus (Connects client) h legal = kept_clients bus bus.station client (
 keeps laws bus (Disconnects client) h legal = kept_clients bus bus.station client None h refl
 keeps laws bus (Receives client byte) h legal =
     let request : Option Request = request_at (client_of bus client) byte in
-    kept_clients bus (station_after bus.station request) client (pending_text_at (client_of bus client) byte) h (asked_lines bus.station request)
+    kept_clients bus (station_after bus request) client (pending_text_at (client_of bus client) byte) h (asked_lines bus.station (for_station bus request))
 keeps laws bus (Reports sensor occupied) h legal = h
 keeps laws bus (Turn missed) h legal = kept_turned laws bus bus.remaining h (omega arith) (omega arith)
 keeps laws bus (Elapses micros missed) h legal = elim (cases_lt micros bus.remaining) [
@@ -132,20 +146,17 @@ keeps laws bus (Elapses micros missed) h legal = elim (cases_lt micros bus.remai
 
 -- Its effect on the layout.
 
-asked_station : StationMoves → (station : Seen) (client : ℕ) (request : Option Request) → station.lines ≡ replicate 8 [] → client < 8 → IsWholeAsk request
-    → played station (request_events client request) ≡ station_after station request
+asked_station : StationMoves → (station : Seen) (client : ℕ) (message : Option (List ℕ)) → station.lines ≡ replicate 8 [] → client < 8 → IfSome message IsWhole
+    → played station (message_events client message) ≡ after_message station message
 asked_station laws station client None idle below whole = refl
-asked_station laws station client (Some (Invalid reason)) idle below whole = refl
-asked_station laws station client (Some (Send message)) idle below whole = whole_after laws station client message idle below whole
-asked_station laws station client (Some (Turns count)) idle below whole = refl
-asked_station laws station client (Some Nodes) idle below whole = refl
-asked_station laws station client (Some (Place placement)) idle below whole = refl
+asked_station laws station client (Some message) idle below whole = whole_after laws station client message idle below whole
 
 pub plays : StationMoves → (bus : BusState) (event : Event) → IsInvariant bus → is_event event ≡ true → played bus.station (layout_event bus event) ≡ (after_event bus event).station
 plays laws bus (Connects client) h legal = refl
 plays laws bus (Disconnects client) h legal = refl
 plays laws bus (Receives client byte) h legal =
-    asked_station laws bus.station client (request_at (client_of bus client) byte) h.idle (ltb-true client 8 legal) (whole_ask (client_of bus client) byte)
+    let request : Option Request = request_at (client_of bus client) byte in
+    asked_station laws bus.station client (for_station bus request) h.idle (ltb-true client 8 legal) (whole_given bus request (whole_ask (client_of bus client) byte))
 plays laws bus (Reports sensor occupied) h legal = refl
 plays laws bus (Turn missed) h legal = laws.turn bus.station
 plays laws bus (Elapses micros missed) h legal = elim (cases_lt micros bus.remaining) [

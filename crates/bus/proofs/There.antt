@@ -5,9 +5,10 @@ use Rattle.std.specs.List.{list_all, slice_index_or}
 use Rattle.std.proofs.lemmas.Bool.{and_parts, cases_lt, ltb-true, eqb-true}
 use Rattle.std.proofs.lemmas.List.{length-set, get_or-replicate, get_or_past}
 use Rattle.loconet_tcp.specs.declared.request.Request.{Request}
-use Rattle.loconet_tcp.specs.declared.request.Request.TheVariants.{Send, Invalid, Turns, Nodes, Place}
-use Rattle.station_core.specs.Moved.{packet_of_turn}
+use Rattle.loconet_tcp.specs.declared.request.Request.TheVariants.{Send, Invalid, Turns, States, Place}
+use Rattle.station_core.specs.Station.{packet_of_turn}
 use Rattle.bus.specs.declared.event.Event.{Event}
+use Rattle.bus.specs.declared.options.BusOptions.{BusOptions}
 use Rattle.bus.specs.declared.event.Event.TheVariants.{Connects, Receives, Disconnects, Reports, Elapses, Turn}
 use Rattle.bus.specs.declared.outcome.Outcome.{Outcome}
 use Rattle.bus.specs.declared.outcome.Outcome.TheVariants.{Nothing, TurnBegan}
@@ -52,7 +53,7 @@ asked_stays i c bus None = refl
 asked_stays i c bus (Some (Invalid reason)) = refl
 asked_stays i c bus (Some (Send message)) = refl
 asked_stays i c bus (Some (Turns count)) = refl
-asked_stays i c bus (Some Nodes) = refl
+asked_stays i c bus (Some (States things)) = refl
 asked_stays i c bus (Some (Place placement)) = refl
 
 time_stays : (i : ℕ) (ends : Bool) (packet : Option (List ℕ)) → changes_connection i (if ends then TurnBegan packet else Nothing) ≡ false
@@ -113,10 +114,10 @@ still_there (event ∷ events) bus i legal eight =
 
 -- on a new bus every connected client has connected
 
-nobody : (stepped : Bool) (i : ℕ) → is_some (client_of (first_bus stepped) i) ≡ false
-nobody stepped i = elim (cases_lt i 8) [
+nobody : (options : BusOptions) (i : ℕ) → is_some (client_of (first_bus options) i) ≡ false
+nobody options i = elim (cases_lt i 8) [
   | inl below ↦ ap is_some (get_or-replicate 8 i None None below)
-  | inr past ↦ ap is_some (get_or_past (first_bus stepped).clients i None past)
+  | inr past ↦ ap is_some (get_or_past (first_bus options).clients i None past)
 ]
 
 no_more : (there stay : Bool) → (there || (stay && false)) ≡ there
@@ -124,10 +125,10 @@ no_more true stay = refl
 no_more false true = refl
 no_more false false = refl
 
-pub who_is_there : (stepped : Bool) (events : List Event) (i : ℕ) → AreEvents events
-    → is_some (client_of (after_events (first_bus stepped) events) i) ≡ has_connected i (outcomes_of (first_bus stepped) events)
-who_is_there stepped events i legal =
-    let outcomes : List Outcome = outcomes_of (first_bus stepped) events in
-    still_there events (first_bus stepped) i legal refl
-    ∙ ap (λ (b : Bool). has_connected i outcomes || (stays_connected i outcomes && b)) (nobody stepped i)
+pub who_is_there : (options : BusOptions) (events : List Event) (i : ℕ) → AreEvents events
+    → is_some (client_of (after_events (first_bus options) events) i) ≡ has_connected i (outcomes_of (first_bus options) events)
+who_is_there options events i legal =
+    let outcomes : List Outcome = outcomes_of (first_bus options) events in
+    still_there events (first_bus options) i legal refl
+    ∙ ap (λ (b : Bool). has_connected i outcomes || (stays_connected i outcomes && b)) (nobody options i)
     ∙ no_more (has_connected i outcomes) (stays_connected i outcomes)

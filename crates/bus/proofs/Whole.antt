@@ -1,37 +1,24 @@
 -- A whole message put byte by byte on an idle line is carried out whole.
 use Rattle.std.proofs.Common.{◌≡◌, ℕ, ◌<◌, List, [], ◌∷◌, ◌++◌, length, Option, Some, None, refl, ap, ap₂, sym, subst, ◌∙◌, arith, append_assoc, replicate}
-use Rattle.std.specs.Prelude.{slice_set, option_map}
+use Rattle.std.specs.Prelude.{slice_set}
 use Rattle.std.specs.List.{slice_index_or}
 use Rattle.std.proofs.lemmas.List.{get_or-set_same, set-set, set-get_or, get_or-replicate}
 use Rattle.ln_frame.specs.Message.{IsWhole}
 use Rattle.ln_frame.specs.Stream.{message_at_end}
 use Rattle.ln_frame.specs.Unfinished.{unfinished_of}
-use Rattle.ln_ops.specs.Reply.{reply_bytes}
-use Rattle.ln_ops.specs.declared.reply.Reply.{Reply as ReplyOf}
-use Rattle.station_core.specs.declared.call.Step.{Step}
 use Rattle.station_core.specs.Seen.{Seen, line_of}
-use Rattle.station_core.specs.Moved.{after_message, answer_to_message, message_ended, replied}
+use Rattle.station_core.specs.Station.{after_message, message_ended}
 use Rattle.layout_core.specs.declared.event.Event.TheVariants.{Byte}
 use Rattle.layout_core.specs.declared.node.Node.{Node}
 use Rattle.layout_core.specs.Heard.{HearsAll, sounds_in}
-use Rattle.layout_core.specs.Played.{after_event, after_events, answer_to, answers_to}
+use Rattle.layout_core.specs.Played.{after_event, after_events}
 use Rattle.layout_core.specs.World.{HaveHeard}
 use Rattle.bus.specs.Below.{StationMoves}
-use Rattle.bus.specs.Bus.{message_in, reply_to}
 use Rattle.bus.specs.Layout.{bytes_on}
 
 -- the station with these bytes unfinished on a line
 abbrev pub with_line : Seen → ℕ → List ℕ → Seen
 with_line seen line bytes = record seen { lines = slice_set seen.lines line bytes }
-
--- the message of the last of these answers, or this one if there are none
-abbrev pub last_message : Option (List ℕ) → List Step → Option (List ℕ)
-last_message message [] = message
-last_message message (step ∷ steps) = last_message (message_in step) steps
-
-message_of_reply : (reply : Option ReplyOf) → message_in (replied reply) ≡ option_map reply_bytes reply
-message_of_reply None = refl
-message_of_reply (Some reply) = refl
 
 -- a byte after these of its line
 
@@ -64,19 +51,6 @@ after_one laws seen line byte front message remaining within m l =
     (ended seen line byte front message within m) (left_over seen line byte front remaining within l)
     ∙ lined seen line front remaining message
 
-same_answer : (seen : Seen) (line : ℕ) (front : List ℕ) (message : Option (List ℕ)) → answer_to_message (with_line seen line front) message ≡ answer_to_message seen message
-same_answer seen line front None = refl
-same_answer seen line front (Some message) = refl
-
-answer_one : StationMoves → (seen : Seen) (line byte : ℕ) (front : List ℕ) (message : Option (List ℕ)) → line < length seen.lines
-    → message_at_end (front ++ byte ∷ []) ≡ message
-    → message_in (answer_to (with_line seen line front) (Byte line byte)) ≡ option_map reply_bytes (answer_to_message seen message)
-answer_one laws seen line byte front message within m =
-    let before : Seen = with_line seen line front in
-    ap message_in (laws.answer before line byte ∙ ap (λ (end : Option (List ℕ)). replied (answer_to_message before end)) (ended seen line byte front message within m))
-    ∙ message_of_reply (answer_to_message before message)
-    ∙ ap (option_map reply_bytes) (same_answer seen line front message)
-
 -- the rest of a whole message, after a prefix of it
 
 joined : (front more : List ℕ) (byte next : ℕ) → (front ++ byte ∷ []) ++ next ∷ more ≡ front ++ byte ∷ next ∷ more
@@ -95,18 +69,6 @@ fed laws (next ∷ more) front byte line seen within whole =
     (after_one laws seen line byte front None (front ++ byte ∷ []) within (laws.none front more byte next whole) (further laws front more byte next whole))
     ∙ fed laws more (front ++ byte ∷ []) next line seen within (subst IsWhole (sym e) whole)
     ∙ ap (λ (message : List ℕ). with_line (after_message seen (Some message)) line []) e
-
-answered : StationMoves → (rest front : List ℕ) (byte line : ℕ) (seen : Seen) (message : Option (List ℕ)) → line < length seen.lines → IsWhole (front ++ byte ∷ rest)
-    → last_message message (answers_to (with_line seen line front) (bytes_on line (byte ∷ rest))) ≡ reply_to seen (front ++ byte ∷ rest)
-answered laws [] front byte line seen message within whole =
-    answer_one laws seen line byte front (Some (front ++ byte ∷ [])) within (laws.ends (front ++ byte ∷ []) whole)
-answered laws (next ∷ more) front byte line seen message within whole =
-    let e = joined front more byte next in
-    let first : Option (List ℕ) = message_in (answer_to (with_line seen line front) (Byte line byte)) in
-    ap (λ (s : Seen). last_message first (answers_to s (bytes_on line (next ∷ more))))
-    (after_one laws seen line byte front None (front ++ byte ∷ []) within (laws.none front more byte next whole) (further laws front more byte next whole))
-    ∙ answered laws more (front ++ byte ∷ []) next line seen first within (subst IsWhole (sym e) whole)
-    ∙ ap (reply_to seen) e
 
 -- a station without anything unfinished on its eight lines
 
@@ -134,13 +96,6 @@ whole_after laws seen line (byte ∷ rest) idle below whole =
     ap (λ (s : Seen). after_events s (bytes_on line (byte ∷ rest))) (sym (from_idle seen line idle below))
     ∙ fed laws rest [] byte line seen (within_eight seen line idle below) whole
     ∙ idle_again seen line (byte ∷ rest) idle below
-
-pub whole_answered : StationMoves → (seen : Seen) (line : ℕ) (message : List ℕ) → IsIdle seen → line < 8 → IsWhole message
-    → last_message None (answers_to seen (bytes_on line message)) ≡ reply_to seen message
-whole_answered laws seen line [] idle below whole = cc
-whole_answered laws seen line (byte ∷ rest) idle below whole =
-    ap (λ (s : Seen). last_message None (answers_to s (bytes_on line (byte ∷ rest)))) (sym (from_idle seen line idle below))
-    ∙ answered laws rest [] byte line seen None (within_eight seen line idle below) whole
 
 -- bytes change no decoder
 

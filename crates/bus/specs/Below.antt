@@ -5,8 +5,8 @@ use Rattle.ln_frame.specs.Message.{IsWhole}
 use Rattle.ln_frame.specs.Stream.{message_at_end}
 use Rattle.ln_frame.specs.Unfinished.{unfinished_of}
 use Rattle.station_core.specs.declared.call.Call.TheVariants.{Byte, Turn}
-use Rattle.station_core.specs.Moved.{after_byte, after_turn, answer_to_byte, packet_of_turn, replied}
-use Rattle.station_core.specs.Runs.{answer_of, state_of}
+use Rattle.station_core.specs.Station.{after_byte, after_turn, packet_of_turn}
+use Rattle.station_core.specs.Runs.{state_of}
 use Rattle.station_core.specs.Seen.{Seen}
 use Rattle.bus.specs.Bus.{duration}
 
@@ -20,7 +20,6 @@ pub record TurnsAreBounded : Type 0 where
 pub record StationMoves : Type 0 where
   pub turn : (seen : Seen) → state_of seen Turn ≡ after_turn seen
   pub byte : (seen : Seen) (line byte : ℕ) → state_of seen (Byte line byte) ≡ after_byte seen line byte
-  pub answer : (seen : Seen) (line byte : ℕ) → answer_of seen (Byte line byte) ≡ replied (answer_to_byte seen line byte)
   pub ends : (message : List ℕ) → IsWhole message → message_at_end message ≡ Some message
   pub leaves : (message : List ℕ) → IsWhole message → unfinished_of message ≡ []
   pub fronts : (front rest : List ℕ) (byte : ℕ) → IsWhole (front ++ byte ∷ rest) → unfinished_of front ≡ front

@@ -1,32 +1,31 @@
 -- The effect of an event on a bus, and its outcome.
-use Rattle.std.specs.Prelude.{ℕ, Bool, true, false, ◌+◌, ◌-◌, nat_lt, nat_le, if◌then◌else◌, IsTrue, List, [], ◌∷◌, replicate, Option, Some, None, Result, Ok, Err, option_map, slice_set}
+use Rattle.std.specs.Prelude.{ℕ, Bool, true, false, ◌&&◌, ◌+◌, ◌-◌, nat_lt, nat_le, if◌then◌else◌, IsTrue, List, [], ◌∷◌, replicate, Option, Some, None, Result, Ok, Err, option_map, slice_set}
 use Rattle.std.specs.List.{fold, list_all, slice_index_or}
 use Rattle.dcc_packet.specs.Sent.{idle_bytes}
 use Rattle.half_bits.specs.Halves.{duration_of}
 use Rattle.ln_ops.specs.Reply.{reply_bytes}
-use Rattle.ln_ops.specs.Sensor.{is_sensor, report_bytes}
+use Rattle.ln_ops.specs.Sensor.{is_interrogation, is_sensor, report_bytes}
 use Rattle.loconet_tcp.specs.declared.request.Request.{Request}
-use Rattle.loconet_tcp.specs.declared.request.Request.TheVariants.{Send, Invalid, Turns, Nodes, Place}
+use Rattle.loconet_tcp.specs.declared.request.Request.TheVariants.{Send, Invalid, Turns, States, Place}
 use Rattle.loconet_tcp.specs.declared.request.TurnsError.{TurnsError}
 use Rattle.loconet_tcp.specs.declared.request.TurnsError.TheVariants.{NoNumber, RealTime}
 use Rattle.loconet_tcp.specs.Reading.{request_of_byte, kept_after}
-use Rattle.station_core.specs.declared.call.Step.{Step}
-use Rattle.station_core.specs.declared.call.Step.TheVariants.{Reply}
-use Rattle.station_core.specs.Moved.{after_message, answer_to_message, after_turn, packet_of_turn}
+use Rattle.station_core.specs.Station.{after_message, answer_to_message, after_turn, packet_of_turn}
 use Rattle.station_core.specs.Seen.{Seen, first_seen}
 use Rattle.bus.specs.declared.event.Event.{Event}
+use Rattle.bus.specs.declared.options.BusOptions.{BusOptions}
 use Rattle.bus.specs.declared.event.Event.TheVariants.{Connects, Receives, Disconnects, Reports, Elapses, Turn}
 use Rattle.bus.specs.declared.outcome.Outcome.{Outcome}
-use Rattle.bus.specs.declared.outcome.Outcome.TheVariants.{Nothing, Connected, Disconnected, Rejected, Reported, Sent, TurnBegan, TurnsRequested, NodesRequested, PlaceRequested}
+use Rattle.bus.specs.declared.outcome.Outcome.TheVariants.{Nothing, Connected, Disconnected, Rejected, Reported, Sent, TurnBegan, TurnsRequested, StatesRequested, PlaceRequested}
 
 -- the part of a bus that clients and time change: the station, the bytes kept of each client's
--- text, or None for no client, and the microseconds left of the current turn; and whether clients
--- may request turns
+-- text, or None for no client, and the microseconds left of the current turn; and what there is
+-- beside the station
 pub record BusState : Type 0 where
   pub station : Seen
   pub clients : List (Option (List ℕ))
   pub remaining : ℕ
-  pub stepped : Bool
+  pub options : BusOptions
 
 -- the most clients: each has a line of the station
 abbrev pub client_count : ℕ
@@ -49,8 +48,13 @@ abbrev pub AreEvents : List Event → Type 0
 AreEvents events = IsTrue (list_all is_event events)
 
 -- a new bus: no client is connected, and the track is as in a turn without power
-abbrev pub first_bus : (stepped : Bool) → BusState
-first_bus stepped = record { station = first_seen 8; clients = replicate 8 None; remaining = 5796; stepped = stepped }
+abbrev pub first_bus : BusOptions → BusState
+first_bus options = record {
+  station = first_seen 8;
+  clients = replicate 8 None;
+  remaining = 5796;
+  options = options;
+}
 
 -- the bytes kept of a client's text so far
 abbrev pub client_of : BusState → ℕ → Option (List ℕ)
@@ -66,24 +70,19 @@ abbrev pub pending_text_at : Option (List ℕ) → ℕ → Option (List ℕ)
 pending_text_at None byte = None
 pending_text_at (Some kept) byte = Some (kept_after kept byte)
 
--- A message that is sent is carried out whole; a rejected request has no effect. The turns
--- requested are events of their own.
-abbrev pub station_after : Seen → Option Request → Seen
-station_after station None = station
-station_after station (Some (Invalid reason)) = station
-station_after station (Some (Send message)) = after_message station (Some message)
-station_after station (Some (Turns count)) = station
-station_after station (Some Nodes) = station
-station_after station (Some (Place placement)) = station
+-- The message of a request that the station receives: each that is sent, but for an interrogation
+-- where there are sensors, which answer it. The turns requested are events of their own.
+abbrev pub for_station : BusState → Option Request → Option (List ℕ)
+for_station bus (Some (Send message)) = if bus.options.has_sensors && is_interrogation message then None else Some message
+for_station bus other = None
 
--- the message of the station's reply
-abbrev pub message_in : Step → Option (List ℕ)
-message_in (Reply reply) = Some (reply_bytes reply)
-message_in other = None
+-- A message is carried out whole; a rejected request has no effect.
+abbrev pub station_after : BusState → Option Request → Seen
+station_after bus request = after_message bus.station (for_station bus request)
 
--- the reply to a message, if there is one
-abbrev pub reply_to : Seen → List ℕ → Option (List ℕ)
-reply_to station message = option_map reply_bytes (answer_to_message station (Some message))
+-- the station's reply, if there is one
+abbrev pub reply_to : BusState → Option Request → Option (List ℕ)
+reply_to bus request = option_map reply_bytes (answer_to_message bus.station (for_station bus request))
 
 -- the number of turns that are run on request, or why none are
 abbrev pub granted : (stepped : Bool) → Option ℕ → Result ℕ TurnsError
@@ -94,9 +93,9 @@ granted true (Some count) = Ok count
 abbrev pub outcome_of_request : BusState → (client : ℕ) → Option Request → Outcome
 outcome_of_request bus client None = Nothing
 outcome_of_request bus client (Some (Invalid reason)) = Rejected client reason
-outcome_of_request bus client (Some (Send message)) = Sent client message (reply_to bus.station message)
-outcome_of_request bus client (Some (Turns count)) = TurnsRequested client (granted bus.stepped count)
-outcome_of_request bus client (Some Nodes) = NodesRequested client
+outcome_of_request bus client (Some (Send message)) = Sent client message (reply_to bus (Some (Send message)))
+outcome_of_request bus client (Some (Turns count)) = TurnsRequested client (granted bus.options.is_stepped count)
+outcome_of_request bus client (Some (States things)) = StatesRequested client things
 outcome_of_request bus client (Some (Place placement)) = PlaceRequested client placement
 
 -- the duration of a turn: that of its packet, and without power that of an idle packet
@@ -113,7 +112,7 @@ abbrev pub after_event : BusState → Event → BusState
 after_event bus (Connects client) = record bus { clients = slice_set bus.clients client (Some []) }
 after_event bus (Disconnects client) = record bus { clients = slice_set bus.clients client None }
 after_event bus (Receives client byte) = record bus {
-  station = station_after bus.station (request_at (client_of bus client) byte);
+  station = station_after bus (request_at (client_of bus client) byte);
   clients = slice_set bus.clients client (pending_text_at (client_of bus client) byte);
 }
 after_event bus (Reports sensor occupied) = bus

@@ -2,7 +2,7 @@
 use Rattle.std.specs.Prelude.{ℕ, Bool, true, false, ◌&&◌, ◌||◌, ◌==◌, if◌then◌else◌, not, List, [], ◌∷◌}
 use Rattle.std.specs.List.{flat_map, list_all}
 use Rattle.bus.specs.declared.outcome.Outcome.{Outcome}
-use Rattle.bus.specs.declared.outcome.Outcome.TheVariants.{Connected, Disconnected, Rejected, Sent, TurnsRequested, NodesRequested, PlaceRequested, Placed}
+use Rattle.bus.specs.declared.outcome.Outcome.TheVariants.{Connected, Disconnected, Rejected, Sent, TurnsRequested, StatesRequested, PlaceRequested, Placed}
 use Rattle.bus.specs.Outcome.{messages_in, text_for}
 
 abbrev pub is_connecting : (client : ℕ) → Outcome → Bool
@@ -43,7 +43,7 @@ abbrev pub makes_request : (client : ℕ) → Outcome → Bool
 makes_request i (Rejected client reason) = client == i
 makes_request i (Sent client message reply) = client == i
 makes_request i (TurnsRequested client turns) = client == i
-makes_request i (NodesRequested client) = client == i
+makes_request i (StatesRequested client things) = client == i
 makes_request i (PlaceRequested client placement) = client == i
 makes_request i (Placed client answer) = client == i
 makes_request i other = false

@@ -3,4 +3,4 @@ use Rattle.bus.specs.declared.bus.Bus.{Bus}
 use Rattle.bus.specs.Bus.{BusState}
 
 abbrev pub bus_state : Bus → BusState
-bus_state bus = record { station = bus.world.station; clients = bus.clients; remaining = bus.remaining; stepped = bus.is_stepped }
+bus_state bus = record { station = bus.world.station; clients = bus.clients; remaining = bus.remaining; options = bus.options }

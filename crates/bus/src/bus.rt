@@ -1,13 +1,15 @@
 //! The bus.
-ghost use Rattle.std.specs.Prelude.{◌≡◌, ◌<◌, ◌≤◌, ◌+◌, [], IfErr, IfOk, IsTrue, is_some, length, map, replicate};
+ghost use Rattle.std.specs.Prelude.{◌≡◌, ◌&&◌, ℕ, ◌<◌, ◌≤◌, ◌+◌, [], IfErr, IfOk, IsTrue, is_some, length, map, replicate, slice_set};
+ghost use Rattle.ln_ops.specs.Sensor.{is_interrogation};
 ghost use Rattle.bus.specs.Bus.{granted};
 
 use crate::event::Event;
+use crate::options::BusOptions;
 use crate::outcome::Outcome;
 use crate::sending::send;
 use crate::turning::{SHORTEST_TURN, duration, turn};
-use layout_core::{NodeList, World};
-use ln_ops::SensorReport;
+use layout_core::{Msg, NodeList, World};
+use ln_ops::{SensorReport, is_interrogation};
 use loconet_tcp::{Request, RequestReader, TurnsError};
 use station_core::{MAX_LINES, StationFault};
 use std::alloc::Global;
@@ -25,8 +27,7 @@ pub struct Bus {
     pub(crate) clients: [Option<RequestReader>; MAX_CLIENTS],
     /// The microseconds left of the current turn.
     pub(crate) remaining: u32,
-    /// Clients may request turns.
-    pub(crate) is_stepped: bool,
+    pub(crate) options: BusOptions,
     ghost client_count: { length clients ≡ 8 },
     ghost idle: { world.station.lines ≡ replicate 8 [] },
     ghost under_way: { 0 < remaining },
@@ -36,20 +37,18 @@ pub struct Bus {
 impl Bus {
     ghost use Rattle.layout_core.specs.Nodes.{node_of, spec_of};
     ghost use Rattle.layout_core.specs.World.{HaveHeard, IsSameLayout};
-    ghost use Rattle.station_core.specs.Moved.{packet_of_turn};
+    ghost use Rattle.station_core.specs.Station.{packet_of_turn};
     ghost use Rattle.station_core.specs.Powered.{HasDesk};
-    ghost use Rattle.bus.specs.Bus.{after_event, client_of, first_bus, is_event, outcome_of, after_turn_boundary};
+    ghost use Rattle.bus.specs.Bus.{after_event, client_of, first_bus, for_station, is_event, outcome_of, after_turn_boundary, pending_text_at, reply_to, request_at, station_after};
     ghost use Rattle.bus.specs.Invariant.{IsInvariant};
-    ghost use Rattle.bus.specs.Layout.{layout_event, turn_of};
+    ghost use Rattle.bus.specs.Layout.{layout_event, message_events, turn_of};
     ghost use Rattle.bus.specs.State.{bus_state};
 
     /// Creates a layout of eight lines with these decoders, without clients.
     ///
-    /// `is_stepped`: clients may request turns; otherwise these are refused.
-    ///
     /// Fails with `NoMemory` if out of memory, and never with `BadLines`.
-    pub fn new(alloc: Global, nodes: NodeList, is_stepped: bool) -> Result<Bus, StationFault>
-        ensures new { IfOk result (λ bus. bus_state bus ≡ first_bus is_stepped) }
+    pub fn new(alloc: Global, nodes: NodeList, options: BusOptions) -> Result<Bus, StationFault>
+        ensures new { IfOk result (λ bus. bus_state bus ≡ first_bus options) }
         ensures nodes { IfOk result (λ bus. bus.world.nodes ≡ map node_of nodes.items) }
         ensures specs { IfOk result (λ bus. map spec_of bus.world.nodes ≡ nodes.items) }
         ensures memory { IfErr result (λ e. e ≡ StationFault.NoMemory) }
@@ -59,7 +58,7 @@ impl Bus {
             world,
             clients: [None, None, None, None, None, None, None, None],
             remaining: SHORTEST_TURN,
-            is_stepped,
+            options,
         })
     }
 
@@ -134,15 +133,11 @@ impl Bus {
             self.new.world.nodes }
         ensures same { IsSameLayout self.old.world self.new.world }
     {
-        let request = match &mut self.clients[usize::from(client)] {
-            Some(reader) => reader.push(byte),
-            None => None,
-        };
-        match request {
+        match self.read(client, byte) {
             None => Outcome::Nothing,
             Some(Request::Invalid(reason)) => Outcome::Rejected { client, reason },
             Some(Request::Send(message)) => {
-                let reply = send(&mut self.world, client, &message);
+                let reply = self.send(&message);
                 Outcome::Sent {
                     client,
                     message,
@@ -151,11 +146,52 @@ impl Bus {
             }
             Some(Request::Turns(count)) => Outcome::TurnsRequested {
                 client,
-                turns: granted(self.is_stepped, count),
+                turns: granted(self.options.is_stepped, count),
             },
-            Some(Request::Nodes) => Outcome::NodesRequested { client },
+            Some(Request::States(things)) => Outcome::StatesRequested { client, things },
             Some(Request::Place(placement)) => Outcome::PlaceRequested { client, placement },
         }
+    }
+
+    /// Reads a byte of a client's text, and returns the request whose line it ends.
+    fn read(&mut self, client: u8, byte: u8) -> Option<Request>
+        requires { client < 8 }
+        ensures request { result ≡ request_at (client_of (bus_state self.old) client) byte }
+        ensures bus { bus_state self.new ≡ record (bus_state self.old) {
+          clients = slice_set (bus_state self.old).clients client
+              (pending_text_at (client_of (bus_state self.old) client) byte);
+        } }
+        ensures world { self.new.world ≡ self.old.world }
+    {
+        match &mut self.clients[usize::from(client)] {
+            Some(reader) => reader.push(byte),
+            None => None,
+        }
+    }
+
+    /// Gives the station a message, unless sensors answer it, and returns its reply.
+    fn send(&mut self, message: &Msg) -> Option<Msg>
+        ensures bus { bus_state self.new ≡ record (bus_state self.old) {
+          station = station_after (bus_state self.old) (Some (Request.Send message.now));
+        } }
+        ensures reply { result ≡ reply_to (bus_state self.old) (Some (Request.Send message.now)) }
+        ensures nodes { (client : ℕ) → HaveHeard self.old.world.station
+            (message_events client
+            (for_station (bus_state self.old) (Some (Request.Send message.now))))
+            self.old.world.nodes self.new.world.nodes }
+        ensures same { IsSameLayout self.old.world self.new.world }
+    {
+        if self.is_for_sensors(message) {
+            return None;
+        }
+        send(&mut self.world, message)
+    }
+
+    /// Whether sensors answer a message.
+    fn is_for_sensors(&self, message: &Msg) -> bool
+        ensures { result ≡ self.now.options.has_sensors && is_interrogation message.now }
+    {
+        self.options.has_sensors && is_interrogation(message)
     }
 
     /// Lets `micros` microseconds elapse.

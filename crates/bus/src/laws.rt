@@ -14,6 +14,7 @@ ghost use Rattle.bus.specs.declared.outcome.Outcome.{Outcome};
 ghost use Rattle.bus.specs.declared.outcome.Outcome.TheVariants.{Connected, Disconnected};
 ghost use Rattle.bus.specs.Outcome.{text_for};
 ghost use Rattle.bus.specs.declared.event.Event.{Event};
+ghost use Rattle.bus.specs.declared.options.BusOptions.{BusOptions};
 ghost use Rattle.bus.specs.Below.{StationMoves, TurnsAreBounded};
 ghost use Rattle.bus.specs.Bus.{AreEvents, BusState, after_event, after_events, is_event, client_of, first_bus, outcomes_of};
 ghost use Rattle.bus.specs.Invariant.{IsInvariant};
@@ -130,9 +131,9 @@ pub fn text_since_connecting()
         → IsFalse (changes_connection i outcome)
         → has_connected i (outcomes ++ outcome ∷ []) ≡ has_connected i outcomes }
     // The connected clients are those that the bus holds a reader for.
-    ensures there { (stepped : Bool) (i : ℕ) (events : List Event) → AreEvents events
-        → has_connected i (outcomes_of (first_bus stepped) events)
-        ≡ is_some (client_of (after_events (first_bus stepped) events) i) }
+    ensures there { (options : BusOptions) (i : ℕ) (events : List Event) → AreEvents events
+        → has_connected i (outcomes_of (first_bus options) events)
+        ≡ is_some (client_of (after_events (first_bus options) events) i) }
     // A client that makes no request receives all messages of the bus, in order, and nothing else.
     ensures bystander { (i : ℕ) (outcomes : List Outcome) → IsTrue (stays_connected i outcomes)
         → IsTrue (requests_nothing i outcomes) →

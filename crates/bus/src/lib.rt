@@ -5,7 +5,7 @@
 //! [`Outcome::push_text_for`] makes the text for each client.
 //!
 //! ```ignore
-//! let mut bus = Bus::new(alloc, nodes, false)?;
+//! let mut bus = Bus::new(alloc, nodes, options)?;
 //! let outcome = bus.step(Event::Receives { client: 0, byte });
 //! outcome.push_text_for(0, &mut text);
 //! ```
@@ -15,6 +15,7 @@ mod bus;
 mod course;
 mod event;
 pub mod laws;
+mod options;
 mod outcome;
 mod sending;
 mod turning;
@@ -26,5 +27,6 @@ pub use laws::{
     events_are_the_layout, headline, however_cut, own_lines, text_since_connecting, time_adds_up,
     turns_are_bounded, turns_of_the_time,
 };
+pub use options::BusOptions;
 pub use outcome::Outcome;
 pub use turning::SHORTEST_TURN;

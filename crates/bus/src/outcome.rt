@@ -6,8 +6,8 @@ ghost use Rattle.bus.specs.Outcome.{text_for};
 use dcc_packet::Packet;
 use ln_frame::Msg;
 use loconet_tcp::{
-    PlaceError, Placement, Reason, Text, TurnsError, push_place, push_receive, push_sent_error,
-    push_sent_ok, push_turns, push_version,
+    PlaceError, Placement, Reason, Text, Things, TurnsError, push_place, push_receive,
+    push_sent_error, push_sent_ok, push_turns, push_version,
 };
 
 /// The outcome of an event on a bus. Clients are numbered from 0 to 7.
@@ -45,10 +45,11 @@ pub enum Outcome {
         client: u8,
         turns: Result<u16, TurnsError>,
     },
-    /// A client asked how the decoders stand. The answer is not of the bus, which knows no names;
-    /// clients receive nothing of this event.
-    NodesRequested {
+    /// A client asked how the decoders, the trains or the turnouts stand. The answer is not of the
+    /// bus, which knows no names; clients receive nothing of this event.
+    StatesRequested {
         client: u8,
+        things: Things,
     },
     /// A client requested to put a train on the track, or its line did not say where. A bus has no
     /// trains; clients receive nothing of this event.

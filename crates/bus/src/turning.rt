@@ -1,7 +1,7 @@
 //! A turn of the track, and its duration.
 ghost use Rattle.std.specs.Prelude.{◌≡◌, ◌≤◌, option_map};
 ghost use Rattle.layout_core.specs.World.{HaveHeard, IsSameLayout};
-ghost use Rattle.station_core.specs.Moved.{after_turn, packet_of_turn};
+ghost use Rattle.station_core.specs.Station.{after_turn, packet_of_turn};
 ghost use Rattle.bus.specs.Bus.{duration};
 ghost use Rattle.bus.specs.Layout.{turn_of};
 

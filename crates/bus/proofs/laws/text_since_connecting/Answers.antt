@@ -11,6 +11,6 @@ returns c = record {
   connected = is_connected_after;
   disconnected = is_disconnected_after;
   stayed = stayed;
-  there = λ stepped i events legal. sym (who_is_there stepped events i legal);
+  there = λ options i events legal. sym (who_is_there options events i legal);
   bystander = bystander;
 }

@@ -1,4 +1,4 @@
-use Rattle.station_core.specs.Moved.{packet_of_turn}
+use Rattle.station_core.specs.Station.{packet_of_turn}
 use Rattle.bus.proofs.Bounds.{at_least, at_most}
 use Rattle.bus.proofs.laws.turns_are_bounded.Goals as goal
 
