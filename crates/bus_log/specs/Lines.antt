@@ -13,7 +13,7 @@ use Rattle.roster.specs.Entry.{Entry}
 use Rattle.show_text.specs.Lines.{track_text}
 use Rattle.describe.specs.Messages.{message_words}
 use Rattle.bus.specs.declared.outcome.Outcome.{Outcome}
-use Rattle.bus.specs.declared.outcome.Outcome.TheVariants.{Nothing, Connected, Disconnected, Rejected, Reported, Sent, TurnBegan, TurnsRequested, NodesRequested, PlaceRequested, Placed}
+use Rattle.bus.specs.declared.outcome.Outcome.TheVariants.{Nothing, Connected, Disconnected, Rejected, Reported, Sent, TurnBegan, TurnsRequested, StatesRequested, PlaceRequested, Placed}
 use Rattle.text.specs.Hex.{hex_words}
 use Rattle.bus.specs.Outcome.{messages_in}
 
@@ -81,7 +81,7 @@ lines_of track entries before (Connected client) decoder_states = client_line cl
 lines_of track entries before (Disconnected client) decoder_states = client_line client (codes " leaves") ∷ []
 lines_of track entries before (Rejected client reason) decoder_states = []
 lines_of track entries before (TurnsRequested client turns) decoder_states = []
-lines_of track entries before (NodesRequested client) decoder_states = []
+lines_of track entries before (StatesRequested client things) decoder_states = []
 lines_of track entries before (PlaceRequested client placement) decoder_states = []
 lines_of track entries before (Placed client answer) decoder_states = []
 lines_of track entries before (Sent client message reply) decoder_states =

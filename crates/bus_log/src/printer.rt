@@ -108,7 +108,7 @@ impl<'a> Printer<'a> {
             Outcome::Nothing
             | Outcome::Rejected { .. }
             | Outcome::TurnsRequested { .. }
-            | Outcome::NodesRequested { .. }
+            | Outcome::StatesRequested { .. }
             | Outcome::PlaceRequested { .. }
             | Outcome::Placed { .. } => {}
             Outcome::Connected { client } => print_client(&mut self.log, *client, " joins"),

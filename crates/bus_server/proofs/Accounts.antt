@@ -7,7 +7,7 @@ use Rattle.std.proofs.lemmas.List.{get_or-set_other}
 use Rattle.bus.specs.declared.event.Event.{Event}
 use Rattle.bus_server.specs.Observations.{Observation}
 use Rattle.bus.specs.declared.outcome.Outcome.{Outcome}
-use Rattle.bus.specs.declared.outcome.Outcome.TheVariants.{Nothing, Connected, Disconnected, Rejected, Reported, Sent, TurnBegan, TurnsRequested, NodesRequested, PlaceRequested, Placed}
+use Rattle.bus.specs.declared.outcome.Outcome.TheVariants.{Nothing, Connected, Disconnected, Rejected, Reported, Sent, TurnBegan, TurnsRequested, StatesRequested, PlaceRequested, Placed}
 use Rattle.bus.specs.Outcome.{text_for}
 use Rattle.bus_server.specs.SendQueue.{enqueued}
 use Rattle.bus_server.specs.TransportEvents.{Polled, ServerClosed, Accepted, WriteBlocked, PeerClosed, NonePending, TransportEvent, Written, ReadBlocked, Received, Refused}
@@ -69,7 +69,7 @@ front_told i account (Rejected client reason) queues fits q h = all_told i accou
 front_told i account (Sent client message reply) queues fits q h = all_told i account (Sent client message reply) queues fits q h
 front_told i account (Reported message) queues fits q h = all_told i account (Reported message) queues fits q h
 front_told i account (TurnsRequested client turns) queues fits q h = all_told i account (TurnsRequested client turns) queues fits q h
-front_told i account (NodesRequested client) queues fits q h = fits q h ∙ sym (append-nil account.text)
+front_told i account (StatesRequested client things) queues fits q h = fits q h ∙ sym (append-nil account.text)
 front_told i account (PlaceRequested client placement) queues fits q h = fits q h ∙ sym (append-nil account.text)
 front_told i account (Placed client answer) queues fits q h = all_told i account (Placed client answer) queues fits q h
 front_told i account (Disconnected client) queues fits q h = elim (cases_eq i client) [

@@ -6,7 +6,7 @@ use Rattle.decoder_node.specs.declared.node.NodeSpec.{NodeSpec}
 use Rattle.layout_core.specs.declared.node.Node.{Node}
 use Rattle.layout_core.specs.Nodes.{spec_of}
 use Rattle.layout_core.specs.DecoderStates.{decoder_line, decoder_state_of}
-use Rattle.loconet_tcp.specs.ClientLines.{node_text}
+use Rattle.loconet_tcp.specs.ClientLines.{node_text, state_text}
 use Rattle.bus_server.specs.declared.named_node.NamedNode.{NamedNode}
 use Rattle.bus_server.specs.Answers.{node_lines}
 use Rattle.bus_server.specs.NamedNodes.{names_of, specs_of}
@@ -34,6 +34,14 @@ no_line [] nodes i none past = refl
 no_line (first ∷ names) [] i none past = refl
 no_line (first ∷ names) (other ∷ nodes) zero none past = absurd (omega (arith, past))
 no_line (first ∷ names) (other ∷ nodes) (suc i) none past = no_line names nodes i none (omega (arith, past))
+
+-- the line at an index of these, which is not cut
+pub listed : {A : Type 0} (text : A → List ℕ) (items : List A) (i : ℕ) (line last : List ℕ) → i < length items → length line ≤ 160
+    → ((none : A) → line ≡ text (slice_index_or items i none)) → state_text line ≡ slice_index_or (map (λ item. state_text (take 160 (text item))) items) i last
+listed text [] i line last below short is = absurd (omega (arith, below))
+listed text (first ∷ items) zero line last below short is =
+    ap state_text (sym (take_all 160 line short)) ∙ ap (λ (bytes : List ℕ). state_text (take 160 bytes)) (is first)
+listed text (first ∷ items) (suc i) line last below short is = listed text items i line last (omega (arith, below)) short is
 
 -- as many names as decoders
 pub as_many : (named : List NamedNode) (nodes : List Node) → specs_of named ≡ map spec_of nodes → length (names_of named) ≡ length nodes

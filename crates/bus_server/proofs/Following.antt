@@ -6,7 +6,7 @@ use Rattle.std.proofs.lemmas.Bool.{and_parts, cases_eq}
 use Rattle.std.proofs.lemmas.Bool.Decides.{nat_tests}
 use Rattle.std.proofs.lemmas.List.{get_or-set_same, get_or-set_other, length-set}
 use Rattle.bus.specs.declared.outcome.Outcome.{Outcome}
-use Rattle.bus.specs.declared.outcome.Outcome.TheVariants.{Connected, Disconnected, NodesRequested, Nothing, Placed, PlaceRequested, Rejected, Reported, Sent, TurnBegan, TurnsRequested}
+use Rattle.bus.specs.declared.outcome.Outcome.TheVariants.{Connected, Disconnected, StatesRequested, Nothing, Placed, PlaceRequested, Rejected, Reported, Sent, TurnBegan, TurnsRequested}
 use Rattle.layout_core.specs.declared.node.Node.{Node}
 use Rattle.railway.specs.Railway.{RailwayState}
 use Rattle.bus.specs.declared.event.Event.{Event}
@@ -291,7 +291,7 @@ is_sending (Rejected client reason) = false
 is_sending (Reported message) = false
 is_sending (TurnBegan packet) = false
 is_sending (TurnsRequested client count) = false
-is_sending (NodesRequested client) = false
+is_sending (StatesRequested client things) = false
 is_sending (PlaceRequested client placement) = false
 is_sending (Placed client answer) = false
 
@@ -304,7 +304,7 @@ sending_sent names railway now nodes (Rejected client reason) = refl
 sending_sent names railway now nodes (Reported message) = refl
 sending_sent names railway now nodes (TurnBegan packet) = refl
 sending_sent names railway now nodes (TurnsRequested client count) = refl
-sending_sent names railway now nodes (NodesRequested client) = refl
+sending_sent names railway now nodes (StatesRequested client things) = refl
 sending_sent names railway now nodes (PlaceRequested client placement) = refl
 sending_sent names railway now nodes (Placed client answer) = refl
 
@@ -322,7 +322,7 @@ sent_owes turns (Rejected client reason) owed eight names = inl refl
 sent_owes turns (Reported message) owed eight names = inl refl
 sent_owes turns (TurnBegan packet) owed eight names = inl refl
 sent_owes turns (TurnsRequested client count) owed eight names = inl refl
-sent_owes turns (NodesRequested client) owed eight names = inl refl
+sent_owes turns (StatesRequested client things) owed eight names = inl refl
 sent_owes turns (PlaceRequested client placement) owed eight names = inl refl
 sent_owes turns (Placed client answer) owed eight names = inl refl
 
@@ -336,7 +336,7 @@ due_length turns (Reported message) owed = refl
 due_length turns (TurnBegan packet) owed = refl
 due_length turns (TurnsRequested client (Ok count)) owed = length-set owed client (record { left = count; cause = Request })
 due_length turns (TurnsRequested client (Err error)) owed = refl
-due_length turns (NodesRequested client) owed = refl
+due_length turns (StatesRequested client things) owed = refl
 due_length turns (PlaceRequested client placement) owed = refl
 due_length turns (Placed client answer) owed = refl
 

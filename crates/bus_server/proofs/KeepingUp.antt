@@ -1,6 +1,6 @@
 -- A client that keeps up stays connected.
 use Rattle.std.proofs.Common.{◌≡◌, ℕ, zero, suc, ◌+◌, ◌*◌, ◌-◌, ◌<◌, ◌≤◌, ◌⊎◌, inl, inr, Bool, true, false, if◌then◌else◌, nat_le, List, [], ◌∷◌, ◌++◌, length, take, Option, Some, None, refl, ap, ap₂, sym, subst, ◌∙◌, arith, eqb-true, ne_eqb}
-use Rattle.std.specs.Prelude.{◌==◌, ◌&&◌, ◌||◌, is_some, not, slice_set}
+use Rattle.std.specs.Prelude.{◌==◌, ◌&&◌, ◌||◌, is_some, map, not, slice_set}
 use Rattle.std.specs.List.{list_all, list_any, slice_index_or}
 use Rattle.std.proofs.lemmas.Bool.{and_parts, cases_eq, le-leb}
 use Rattle.std.proofs.lemmas.Bool.Decides.{nat_tests}
@@ -10,18 +10,23 @@ use Rattle.ln_ops.specs.Sensor.{report_bytes}
 use Rattle.layout_core.specs.declared.node.Node.{Node}
 use Rattle.layout_core.specs.DecoderStates.{decoder_line, decoder_state_of}
 use Rattle.layout_core.specs.Nodes.{spec_of}
-use Rattle.railway.specs.Railway.{RailwayState}
-use Rattle.loconet_tcp.specs.ClientLines.{line_end, node_text, nodes_ok_text, turns_ok_text, version_text}
+use Rattle.railway.specs.Railway.{RailwayState, shown_speed}
+use Rattle.railway_text.specs.TrainPlace.{place_of, train_line}
+use Rattle.railway_text.specs.Turnouts.{turnout_line}
+use Rattle.loconet_tcp.specs.declared.request.Things.{Things}
+use Rattle.loconet_tcp.specs.declared.request.Things.TheVariants.{Nodes, Trains, Turnouts}
+use Rattle.loconet_tcp.specs.ClientLines.{line_end, node_text, state_text, states_ok_text, turns_ok_text, version_text}
 use Rattle.bus.specs.Outcome.{text_for}
 use Rattle.bus.specs.declared.outcome.Outcome.{Outcome}
 use Rattle.bus.specs.declared.outcome.Outcome.TheVariants.{Connected, Nothing, Placed, Rejected, Reported, Sent, TurnBegan, TurnsRequested}
 use Rattle.loconet_tcp.specs.declared.request.Request.{Request}
-use Rattle.loconet_tcp.specs.declared.request.Request.TheVariants.{Invalid, Nodes, Place, Send, Turns}
+use Rattle.loconet_tcp.specs.declared.request.Request.TheVariants.{Invalid, States, Place, Send, Turns}
 use Rattle.bus.specs.Bus.{BusState, after_event, client_of, granted, pending_text_at, reply_to, request_at}
 use Rattle.bus.specs.Course.{is_time}
 use Rattle.bus.specs.declared.event.Event.{Event}
 use Rattle.bus.specs.declared.event.Event.TheVariants.{Connects, Disconnects, Elapses, Receives, Reports, Turn}
-use Rattle.bus_server.specs.Answers.{next_line, node_lines}
+use Rattle.bus_server.specs.declared.under_way.UnderWay.{UnderWay}
+use Rattle.bus_server.specs.Answers.{line_of_train, line_of_turnout, lines_of, next_line, node_lines, train_lines, turnouts_of}
 use Rattle.bus_server.specs.ServerState.{answer_to, Applies, AppliesAll, Handled, IsWithReports, LoggedEvent, RunsEvent, RunsEventWithReports, RunsEvents, ServerState, events_of, has_overflowed, is_connected, is_crowded, outcome_in, transport_events, with_backlog, round_start}
 use Rattle.bus_server.specs.SendQueues.{SendQueues, enqueued_all, enqueued_from, queues_after}
 use Rattle.bus_server.specs.TrackDue.{due_to, have_passed, turns_answer}
@@ -139,12 +144,12 @@ request_within client reader n None old new queues connected few most room h = s
 request_within client reader n (Some (Invalid reason)) old new queues connected few most room h =
     enqueues_within client n (n + 3477) (Rejected reader reason) old new queues connected few (omega (arith, most, few.0, h.1)) room h
 request_within client reader n (Some (Send message)) old new queues connected few most room h =
-    enqueues_within client n (n + 3477) (Sent reader message (reply_to old.bus.station message)) old new queues connected few (omega (arith, most, few.0, h.1)) room h
+    enqueues_within client n (n + 3477) (Sent reader message (reply_to old.bus (Some (Send message)))) old new queues connected few (omega (arith, most, few.0, h.1)) room h
 request_within client reader n (Some (Turns count)) old new queues connected few most room h =
-    enqueues_within client n (n + 3477) (TurnsRequested reader (granted old.bus.stepped count)) old new queues connected few (omega (arith, most, few.0, h.1)) room h
+    enqueues_within client n (n + 3477) (TurnsRequested reader (granted old.bus.options.is_stepped count)) old new queues connected few (omega (arith, most, few.0, h.1)) room h
 request_within client reader n (Some (Place placement)) old new queues connected few most room h =
     enqueues_within client n (n + 3477) (Placed reader (place_answer old.names old.railway placement)) old new queues connected few (omega (arith, most, few.0, h.1)) room h
-request_within client reader n (Some Nodes) old new queues connected few most room h = same_within client n (n + 3477) old new queues connected few (omega (arith, few.0, h.1)) h
+request_within client reader n (Some (States things)) old new queues connected few most room h = same_within client n (n + 3477) old new queues connected few (omega (arith, few.0, h.1)) h
 
 receives_within : SameBlocks → (client reader byte n : ℕ) (observed : Observation) (old new : ServerState) → RunsEvent (Receives reader byte) observed old new → n + 3477 ≤ 65536 → Within client n old → Within client (n + 3477) new
 receives_within same client reader byte n observed old new runs room h =
@@ -651,15 +656,36 @@ round_keeps same client handled old new among round up h =
 line_most : (line : List ℕ) → length (node_text (take 640 line)) ≤ 647
 line_most line = omega (arith, length-append (take 640 line) line_end, length-take 640 line)
 
-lines_most : (names : List (List ℕ)) (nodes : List Node) (count : ℕ) → length (slice_index_or (node_lines names nodes) count nodes_ok_text) ≤ 647
+lines_most : (names : List (List ℕ)) (nodes : List Node) (count : ℕ) → length (slice_index_or (node_lines names nodes) count (states_ok_text Nodes)) ≤ 647
 lines_most [] nodes count = omega arith
 lines_most (name ∷ names) [] count = omega arith
 lines_most (name ∷ names) (node ∷ nodes) zero = line_most (decoder_line name (spec_of node) (decoder_state_of node))
 lines_most (name ∷ names) (node ∷ nodes) (suc count) = lines_most names nodes count
 
-next_most : (names : List (List ℕ)) (nodes : List Node) (count : Option ℕ) → length (next_line (node_lines names nodes) count) ≤ 647
-next_most names nodes None = omega arith
-next_most names nodes (Some count) = lines_most names nodes count
+short_most : (line : List ℕ) → length (state_text (take 160 line)) ≤ 647
+short_most line = omega (arith, length-append (take 160 line) line_end, length-take 160 line)
+
+each_most : {A : Type 0} (line : A → List ℕ) (last : List ℕ) (items : List A) (i : ℕ) → ((a : A) → length (line a) ≤ 647) → length last ≤ 647 → length (slice_index_or (map line items) i last) ≤ 647
+each_most line last [] i each most = most
+each_most line last (a ∷ items) zero each most = each a
+each_most line last (a ∷ items) (suc i) each most = each_most line last items i each most
+
+trains_most : (names : List (List ℕ)) (railway : Option RailwayState) (i : ℕ) → length (slice_index_or (train_lines names railway) i (states_ok_text Trains)) ≤ 647
+trains_most names None i = omega arith
+trains_most names (Some railway) i =
+    each_most (line_of_train names railway.network) (states_ok_text Trains) railway.trains i
+    (λ train. short_most (train_line (slice_index_or names train.decoder []) railway.network.blocks (place_of railway.network.blocks train (shown_speed railway.network train)))) (omega arith)
+
+things_most : (names : List (List ℕ)) (nodes : List Node) (railway : Option RailwayState) (things : Things) (i : ℕ)
+    → length (slice_index_or (lines_of names nodes railway things) i (states_ok_text things)) ≤ 647
+things_most names nodes railway Nodes i = lines_most names nodes i
+things_most names nodes railway Trains i = trains_most names railway i
+things_most names nodes railway Turnouts i =
+    each_most line_of_turnout (states_ok_text Turnouts) (turnouts_of railway) i (λ state. short_most (turnout_line state)) (omega arith)
+
+next_most : (names : List (List ℕ)) (nodes : List Node) (railway : Option RailwayState) (answer : Option UnderWay) → length (next_line (lines_of names nodes railway) answer) ≤ 647
+next_most names nodes railway None = omega arith
+next_most names nodes railway (Some answer) = things_most names nodes railway answer.things answer.lines
 
 turns_answer_most : (is_over : Bool) → length (if is_over then turns_ok_text else []) ≤ 10
 turns_answer_most true = omega arith
@@ -667,10 +693,10 @@ turns_answer_most false = omega arith
 
 starts_within : (client : ℕ) (old : ServerState) → Within client 56960 old → Within client 57617 (round_start old)
 starts_within client old h =
-    let line = next_line (node_lines old.names old.nodes) (slice_index_or old.answers client None) in
+    let line = next_line (lines_of old.names old.nodes old.railway) (slice_index_or old.answers client None) in
     let owed = due_to old.turns_due client in
     let answer : length (answer_to old client) ≤ 657 =
-    omega (arith, next_most old.names old.nodes (slice_index_or old.answers client None), turns_answer_most (have_passed owed), length-append line (turns_answer owed)) in
+    omega (arith, next_most old.names old.nodes old.railway (slice_index_or old.answers client None), turns_answer_most (have_passed owed), length-append line (turns_answer owed)) in
     texts_within client 56960 57617 (answer_to old) old (round_start old) refl refl h.3 (omega (arith, answer, h.1)) (omega arith) h
 
 rounds_keep : SameBlocks → (client most : ℕ) (rounds : List Round) (old new : ServerState) → client < 8 → RunsRounds most rounds old new → KeepsUp client (transport_log rounds) → Within client 56960 old

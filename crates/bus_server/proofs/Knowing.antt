@@ -10,15 +10,15 @@ use Rattle.layout_core.specs.declared.node.Node.{Node}
 use Rattle.refresh_ring.specs.declared.pick.Power.{Power}
 use Rattle.ln_ops.specs.declared.sensor.SensorReport.{SensorReport}
 use Rattle.ln_ops.specs.Reply.{reply_bytes}
-use Rattle.ln_ops.specs.Sensor.{is_interrogation, is_sensor, report_bytes, report_of}
+use Rattle.ln_ops.specs.Sensor.{begins_interrogation, is_sensor, report_bytes, report_of}
 use Rattle.ln_ops.specs.declared.reply.Reply.{Reply}
 use Rattle.ln_ops.specs.declared.reply.Reply.TheVariants.{LongAck, SlotData}
-use Rattle.station_core.specs.Moved.{answer_to_message, packet_of_turn}
+use Rattle.station_core.specs.Station.{answer_to_message, packet_of_turn}
 use Rattle.bus.specs.Outcome.{messages_in}
 use Rattle.bus.specs.declared.outcome.Outcome.{Outcome}
 use Rattle.bus.specs.declared.outcome.Outcome.TheVariants.{Nothing, Reported, Sent, TurnBegan}
 use Rattle.loconet_tcp.specs.declared.request.Request.{Request}
-use Rattle.loconet_tcp.specs.declared.request.Request.TheVariants.{Invalid, Nodes, Place, Send, Turns}
+use Rattle.loconet_tcp.specs.declared.request.Request.TheVariants.{Invalid, States, Place, Send, Turns}
 use Rattle.railway.specs.declared.block.Block.{Block}
 use Rattle.railway.specs.Blocks.{default_block}
 use Rattle.railway.specs.Course.{Happening, after, after_all, reports_of, reports_of_all}
@@ -27,14 +27,14 @@ use Rattle.railway.specs.Railway.{RailwayState, is_railway}
 use Rattle.railway.specs.Reports.{full, is_occupied, level_after}
 use Rattle.bus.specs.declared.event.Event.{Event}
 use Rattle.bus.specs.declared.event.Event.TheVariants.{Connects, Receives, Disconnects, Reports, Elapses, Turn}
-use Rattle.bus.specs.Bus.{BusState, client_of, outcome_of, outcome_of_request, request_at}
+use Rattle.bus.specs.Bus.{BusState, client_of, for_station, outcome_of, outcome_of_request, request_at}
 use Rattle.bus_server.specs.Observations.{Observation, Observed}
 use Rattle.bus_server.specs.ServerState.{Applies, AppliesAll, Handled, LoggedEvent, RunsEvent, RunsEvents, ServerState, outcome_in, with_backlog, round_start}
 use Rattle.bus_server.specs.Known.{ClaimNothing, IsKnown, IsSensorOf, is_no_claim, level_by, messages_of, received_in, reports_read}
 use Rattle.bus_server.specs.declared.pace.Pace.{Pace}
 use Rattle.bus_server.specs.Running.{Round, RunsRounds, logged_in}
 use Rattle.bus_server.specs.Placement.{answered, places}
-use Rattle.bus_server.specs.Sensors.{asks_sensors, full_report, power_of, railway_elapsed, railway_placed, reports_due, reports_elapsed}
+use Rattle.bus_server.specs.Sensors.{asks_sensors, full_report, next_turn, power_of, railway_elapsed, railway_placed, reports_due, reports_elapsed}
 use Rattle.bus_server.specs.TransportEvents.{Accepted, NonePending, PeerClosed, Polled, ReadBlocked, Received, Refused, ServerClosed, TransportEvent, WriteBlocked, Written}
 use Rattle.bus_server.specs.Track.{RunsTrack}
 use Rattle.bus_server.proofs.Rounding.{round_serves}
@@ -110,10 +110,10 @@ request_known : SensorLaws → (names : List (List ℕ)) (block sensor : ℕ) (l
 request_known laws names block sensor level bus client None railway new beside made whole is known = (railway, beside, whole, is, ap (λ (d : List SensorReport). level_after d sensor level) made ∙ known)
 request_known laws names block sensor level bus client (Some (Invalid reason)) railway new beside made whole is known = (railway, beside, whole, is, ap (λ (d : List SensorReport). level_after d sensor level) made ∙ known)
 request_known laws names block sensor level bus client (Some (Turns count)) railway new beside made whole is known = (railway, beside, whole, is, ap (λ (d : List SensorReport). level_after d sensor level) made ∙ known)
-request_known laws names block sensor level bus client (Some Nodes) railway new beside made whole is known = (railway, beside, whole, is, ap (λ (d : List SensorReport). level_after d sensor level) made ∙ known)
+request_known laws names block sensor level bus client (Some (States things)) railway new beside made whole is known = (railway, beside, whole, is, ap (λ (d : List SensorReport). level_after d sensor level) made ∙ known)
 request_known laws names block sensor level bus client (Some (Place (Err error))) railway new beside made whole is known = (railway, beside, whole, is, ap (λ (d : List SensorReport). level_after d sensor level) made ∙ known)
 request_known laws names block sensor level bus client (Some (Send message)) railway new beside made whole is known =
-    (railway, beside, whole, is, ap (λ (d : List SensorReport). level_after d sensor level) made ∙ asked_level laws (is_interrogation message) level block sensor railway whole is known)
+    (railway, beside, whole, is, ap (λ (d : List SensorReport). level_after d sensor level) made ∙ asked_level laws (begins_interrogation message) level block sensor railway whole is known)
 request_known laws names block sensor level bus client (Some (Place (Ok placement))) railway new beside made whole is known =
     happens_known laws block sensor level (places names railway placement) railway new beside made whole is known
 
@@ -124,7 +124,7 @@ asked_known : SensorLaws → (names : List (List ℕ)) (block sensor : ℕ) (lev
 asked_known laws names block sensor level bus client None railway new beside made whole is asks = cc
 asked_known laws names block sensor level bus client (Some (Invalid reason)) railway new beside made whole is asks = cc
 asked_known laws names block sensor level bus client (Some (Turns count)) railway new beside made whole is asks = cc
-asked_known laws names block sensor level bus client (Some Nodes) railway new beside made whole is asks = cc
+asked_known laws names block sensor level bus client (Some (States things)) railway new beside made whole is asks = cc
 asked_known laws names block sensor level bus client (Some (Place placement)) railway new beside made whole is asks = cc
 asked_known laws names block sensor level bus client (Some (Send message)) railway new beside made whole is asks = (
   railway,
@@ -158,9 +158,9 @@ request_tells : (names : List (List ℕ)) (beside : Option RailwayState) (bus : 
 request_tells names beside bus sensor level client None nodes railway h = refl
 request_tells names beside bus sensor level client (Some (Invalid reason)) nodes railway h = refl
 request_tells names beside bus sensor level client (Some (Turns count)) nodes railway h = refl
-request_tells names beside bus sensor level client (Some Nodes) nodes railway h = refl
+request_tells names beside bus sensor level client (Some (States things)) nodes railway h = refl
 request_tells names beside bus sensor level client (Some (Place placement)) nodes railway h = refl
-request_tells names beside bus sensor level client (Some (Send message)) nodes railway h = sent_tells sensor level client message (answer_to_message bus.station (Some message)) h
+request_tells names beside bus sensor level client (Some (Send message)) nodes railway h = sent_tells sensor level client message (answer_to_message bus.station (for_station bus (Some (Send message)))) h
 
 -- time tells nothing
 time_tells : (names : List (List ℕ)) (beside : Option RailwayState) (ends : Bool) (packet : Option (List ℕ)) (sensor : ℕ) (level : Bool) → TellsNothing sensor level (answered names beside (if ends then TurnBegan packet else Nothing))
@@ -215,7 +215,7 @@ event_known laws block sensor level (Elapses micros missed) observed old new run
     (elapsed_known laws block sensor micros level (power_of old.bus) old.nodes old new runs.unreported.0 runs.railway runs.unreported.1 h)
 event_known laws block sensor level (Turn missed) observed old new runs quiet h =
     known_still block sensor level observed new (untold sensor level observed (outcome_in old (Turn missed)) new.nodes new.railway runs.saw refl)
-    (elapsed_known laws block sensor old.bus.remaining level (power_of old.bus) old.nodes old new runs.unreported.0 runs.railway runs.unreported.1 h)
+    (elapsed_known laws block sensor (next_turn old.bus) level (power_of old.bus) new.nodes old new runs.unreported.0 runs.railway runs.unreported.1 h)
 
 pub becomes_known : SensorLaws → (block sensor client byte : ℕ) (level : Bool) (railway : RailwayState) (observed : Observation) (old new : ServerState) → old.railway ≡ Some railway
     → IsTrue (is_railway railway) → IsSensorOf block sensor railway → asks_sensors (outcome_of old.bus (Receives client byte)) ≡ true → RunsEvent (Receives client byte) observed old new

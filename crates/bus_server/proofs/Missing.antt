@@ -5,12 +5,10 @@ use Rattle.std.specs.List.{list_all}
 use Rattle.std.proofs.lemmas.Bool.{and_from}
 use Rattle.std.proofs.lemmas.List.Folds.{list_all-append}
 use Rattle.layout_core.specs.declared.event.Event.{Event as LayoutEvent}
-use Rattle.loconet_tcp.specs.declared.request.Request.{Request}
-use Rattle.loconet_tcp.specs.declared.request.Request.TheVariants.{Send, Invalid, Turns, Nodes, Place}
 use Rattle.bus.specs.declared.event.Event.{Event}
 use Rattle.bus.specs.declared.event.Event.TheVariants.{Connects, Receives, Disconnects, Reports, Elapses, Turn}
-use Rattle.bus.specs.Bus.{BusState, after_event, client_of, request_at}
-use Rattle.bus.specs.Layout.{bytes_on, layout_event, layout_events, request_events, turn_of}
+use Rattle.bus.specs.Bus.{BusState, for_station, after_event, client_of, request_at}
+use Rattle.bus.specs.Layout.{bytes_on, layout_event, layout_events, message_events, turn_of}
 use Rattle.bus_server.specs.declared.losses.Losses.{Losses}
 use Rattle.bus_server.specs.ServerState.{IsDrawn}
 use Rattle.bus_server.specs.Losses.{IsDraw}
@@ -20,13 +18,9 @@ bytes_heard : (line : ℕ) (bytes : List ℕ) → list_all is_missed_by_none (by
 bytes_heard line [] = refl
 bytes_heard line (byte ∷ bytes) = bytes_heard line bytes
 
-request_heard : (client : ℕ) (request : Option Request) → list_all is_missed_by_none (request_events client request) ≡ true
-request_heard client None = refl
-request_heard client (Some (Invalid reason)) = refl
-request_heard client (Some (Send message)) = bytes_heard client message
-request_heard client (Some (Turns count)) = refl
-request_heard client (Some Nodes) = refl
-request_heard client (Some (Place placement)) = refl
+message_heard : (client : ℕ) (message : Option (List ℕ)) → list_all is_missed_by_none (message_events client message) ≡ true
+message_heard client None = refl
+message_heard client (Some message) = bytes_heard client message
 
 -- a turn that is heard by all, and the share stays
 record Heard (events : List LayoutEvent) (new : Losses) : Type 0 where
@@ -43,7 +37,7 @@ elapsed_heard false nodes missed old new h lose = record { all = refl; share = a
 event_heard : (event : Event) (bus : BusState) (nodes : ℕ) (old new : Losses) → IsDrawn event bus nodes old new → old.lose ≡ 0 → Heard (layout_event bus event) new
 event_heard (Connects client) bus nodes old new h lose = record { all = refl; share = ap (λ (l : Losses). l.lose) h ∙ lose }
 event_heard (Disconnects client) bus nodes old new h lose = record { all = refl; share = ap (λ (l : Losses). l.lose) h ∙ lose }
-event_heard (Receives client byte) bus nodes old new h lose = record { all = request_heard client (request_at (client_of bus client) byte); share = ap (λ (l : Losses). l.lose) h ∙ lose }
+event_heard (Receives client byte) bus nodes old new h lose = record { all = message_heard client (for_station bus (request_at (client_of bus client) byte)); share = ap (λ (l : Losses). l.lose) h ∙ lose }
 event_heard (Elapses micros missed) bus nodes old new h lose = elapsed_heard (nat_le bus.remaining micros) nodes missed old new h lose
 event_heard (Reports sensor occupied) bus nodes old new h lose = record { all = refl; share = ap (λ (l : Losses). l.lose) h ∙ lose }
 event_heard (Turn missed) bus nodes old new h lose = turn_heard nodes missed old new h lose

@@ -3,7 +3,7 @@ use Rattle.std.proofs.Common.{◌≡◌, ℕ, List, [], Option, None, Some, refl
 use Rattle.bus.specs.declared.outcome.Outcome.{Outcome}
 use Rattle.bus.specs.declared.outcome.Outcome.TheVariants.{Nothing}
 use Rattle.loconet_tcp.specs.declared.request.Request.{Request}
-use Rattle.loconet_tcp.specs.declared.request.Request.TheVariants.{Invalid, Nodes, Place, Send, Turns}
+use Rattle.loconet_tcp.specs.declared.request.Request.TheVariants.{Invalid, States, Place, Send, Turns}
 use Rattle.railway.specs.Railway.{RailwayState}
 use Rattle.bus.specs.declared.event.Event.TheVariants.{Receives}
 use Rattle.bus.specs.Bus.{BusState, client_of, outcome_of, outcome_of_request, request_at}
@@ -20,7 +20,7 @@ nothing_of names railway bus client None h = refl
 nothing_of names railway bus client (Some (Invalid reason)) h = cc
 nothing_of names railway bus client (Some (Send message)) h = cc
 nothing_of names railway bus client (Some (Turns count)) h = cc
-nothing_of names railway bus client (Some Nodes) h = cc
+nothing_of names railway bus client (Some (States things)) h = cc
 nothing_of names railway bus client (Some (Place placement)) h = cc
 
 pub nothing_received : (client byte : ℕ) (applied : List LoggedEvent) (old new : ServerState) → outcome_in old (Receives client byte) ≡ Nothing → RunsEventWithReports (Receives client byte) applied old new

@@ -8,7 +8,7 @@ use Rattle.bus_server.specs.ServerState.{LoggedEvent, ServerState, events_of, ob
 use Rattle.bus_server.specs.Observations.{Observation}
 use Rattle.bus_server.specs.Repeats.{BeginsInTurns, InOrder, IsAlike, IsSettled, follows, in_order, inputs_of, left_after, unmissed}
 use Rattle.bus_server.specs.Running.{Round, RunsRounds, logged_in}
-use Rattle.bus_server.specs.Sensors.{IsDue, is_report, reports_after}
+use Rattle.bus_server.specs.Sensors.{IsDue, is_report, reports_after, running_in}
 use Rattle.bus_server.proofs.Following.{begins, left_at_end, rounds_lead, settled}
 use Rattle.bus_server.proofs.Repeating.{Core, Course, alike_core, core, head_same, input_same, no_cons, no_report, none_due, report_same, rounds_course, runs_repeat, tail_same}
 
@@ -106,7 +106,7 @@ none_first false n event more is inputs = no_cons (record { left = n; event = un
 none_more : {P : Type 0} (turns n : ℕ) (one : LoggedEvent) (applied : List LoggedEvent) (start a : Core) → Course (one ∷ applied) start a → start.unreported ≡ [] → n ≡ 0 → [] ≡ in_order turns n (one ∷ applied) → P
 none_more turns n one applied start a h none nothing inputs =
     let out : (is_report one.event || follows n one.event) ≡ false =
-    ap₂ (λ (b c : Bool). b || c) (no_report one.event (reports_after start.names start.bus start.nodes one.event start.railway) start.unreported h.0.unreported none h.1.unreported) (none_follows n one.event nothing) in
+    ap₂ (λ (b c : Bool). b || c) (no_report one.event (reports_after start.names start.bus (running_in one.event start.nodes h.0.nodes) one.event start.railway) start.unreported h.0.unreported none h.1.unreported) (none_follows n one.event nothing) in
     absurd (none_first (is_report one.event || follows n one.event) n one.event (in_order turns (left_after turns n one.event one.observed) applied) out inputs)
 
 -- What is missed of an event decides neither.
@@ -138,7 +138,7 @@ inputs_same turns n (one ∷ first) (two ∷ second) start a b h k ends too none
     let left = left_after turns n one.event one.observed in
     let left' = left_after turns n two.event two.observed in
     let heads = start_same (is_report one.event) (is_report two.event) (follows n one.event) (follows n two.event) n one.event two.event (in_order turns left first) (in_order turns left' second)
-    (reports_after start.names start.bus start.nodes one.event start.railway) (reports_after start.names start.bus start.nodes two.event start.railway) start.unreported h.0.unreported k.0.unreported
+    (reports_after start.names start.bus (running_in one.event start.nodes h.0.nodes) one.event start.railway) (reports_after start.names start.bus (running_in two.event start.nodes k.0.nodes) two.event start.railway) start.unreported h.0.unreported k.0.unreported
     refl refl refl refl h.1.unreported k.1.unreported
     (λ is rest input comes. omega (arith, comes_below turns left first rest input comes, fewer_left turns n one.event one.observed is))
     (λ is rest input comes. omega (arith, comes_below turns left' second rest input comes, fewer_left turns n two.event two.observed is)) inputs in

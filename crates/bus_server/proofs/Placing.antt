@@ -6,12 +6,12 @@ use Rattle.std.proofs.lemmas.Bool.{and_from}
 use Rattle.std.proofs.lemmas.Bool.Decides.{nat_tests}
 use Rattle.std.proofs.lemmas.List.{length-append, length-drop, length-set}
 use Rattle.loconet_tcp.specs.declared.request.Request.{Request}
-use Rattle.loconet_tcp.specs.declared.request.Request.TheVariants.{Send, Invalid, Turns, Nodes, Place}
-use Rattle.station_core.specs.Moved.{packet_of_turn}
+use Rattle.loconet_tcp.specs.declared.request.Request.TheVariants.{Send, Invalid, Turns, States, Place}
+use Rattle.station_core.specs.Station.{packet_of_turn}
 use Rattle.bus.specs.declared.event.Event.{Event}
 use Rattle.bus.specs.declared.event.Event.TheVariants.{Connects, Receives, Disconnects, Reports, Elapses, Turn}
 use Rattle.bus.specs.declared.outcome.Outcome.{Outcome}
-use Rattle.bus.specs.declared.outcome.Outcome.TheVariants.{Nothing, Connected, Disconnected, Rejected, Reported, Sent, TurnBegan, TurnsRequested, NodesRequested, PlaceRequested, Placed}
+use Rattle.bus.specs.declared.outcome.Outcome.TheVariants.{Nothing, Connected, Disconnected, Rejected, Reported, Sent, TurnBegan, TurnsRequested, StatesRequested, PlaceRequested, Placed}
 use Rattle.bus.specs.Bus.{BusState, request_at, client_of, is_event, outcome_of_request, outcome_of}
 use Rattle.bus.specs.Outcome.{text_for}
 use Rattle.railway.specs.Railway.{RailwayState}
@@ -25,7 +25,7 @@ asked_placed bus client None below = refl
 asked_placed bus client (Some (Invalid reason)) below = below
 asked_placed bus client (Some (Send message)) below = below
 asked_placed bus client (Some (Turns count)) below = below
-asked_placed bus client (Some Nodes) below = below
+asked_placed bus client (Some (States things)) below = below
 asked_placed bus client (Some (Place placement)) below = below
 
 passing_placed : (packet : Option (List ℕ)) (ends : Bool) → names_client (if ends then TurnBegan packet else Nothing) ≡ true
@@ -51,7 +51,7 @@ names-answered names railway (Rejected client reason) = refl
 names-answered names railway (Sent client message reply) = refl
 names-answered names railway (Reported message) = refl
 names-answered names railway (TurnsRequested client turns) = refl
-names-answered names railway (NodesRequested client) = refl
+names-answered names railway (StatesRequested client things) = refl
 names-answered names railway (PlaceRequested client placement) = refl
 names-answered names railway (Placed client answer) = refl
 
@@ -71,7 +71,7 @@ length-after (Rejected client reason) queues = length-outcome (Rejected client r
 length-after (Sent client message reply) queues = length-outcome (Sent client message reply) queues
 length-after (Reported message) queues = length-outcome (Reported message) queues
 length-after (TurnsRequested client turns) queues = length-outcome (TurnsRequested client turns) queues
-length-after (NodesRequested client) queues = refl
+length-after (StatesRequested client things) queues = refl
 length-after (PlaceRequested client placement) queues = refl
 length-after (Placed client answer) queues = length-outcome (Placed client answer) queues
 
@@ -102,7 +102,7 @@ within_capacity-after (Rejected client reason) queues within_capacity = within_c
 within_capacity-after (Sent client message reply) queues within_capacity = within_capacity-outcome (Sent client message reply) queues
 within_capacity-after (Reported message) queues within_capacity = within_capacity-outcome (Reported message) queues
 within_capacity-after (TurnsRequested client turns) queues within_capacity = within_capacity-outcome (TurnsRequested client turns) queues
-within_capacity-after (NodesRequested client) queues within_capacity = within_capacity
+within_capacity-after (StatesRequested client things) queues within_capacity = within_capacity
 within_capacity-after (PlaceRequested client placement) queues within_capacity = within_capacity
 within_capacity-after (Placed client answer) queues within_capacity = within_capacity-outcome (Placed client answer) queues
 

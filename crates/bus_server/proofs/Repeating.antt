@@ -17,7 +17,7 @@ use Rattle.bus_server.specs.Observations.{Observation, Observed}
 use Rattle.bus_server.specs.Placement.{answered}
 use Rattle.bus_server.specs.Repeats.{IsAlike, inputs_of, unmissed}
 use Rattle.bus_server.specs.Running.{Round, RunsRounds, logged_in}
-use Rattle.bus_server.specs.Sensors.{IsDue, is_report, railway_after, reports_after}
+use Rattle.bus_server.specs.Sensors.{IsDue, is_report, railway_after, reports_after, running_in}
 use Rattle.bus_server.specs.TransportEvents.{Accepted, NonePending, PeerClosed, Polled, ReadBlocked, Received, Refused, ServerClosed, TransportEvent, WriteBlocked, Written}
 use Rattle.bus_server.proofs.Hearing.{drawn_same, heard_same, missed_same}
 use Rattle.bus_server.proofs.Rounding.{round_serves}
@@ -40,8 +40,8 @@ pub record HasEffect (event : Event) (observed : Observation) (old new : Core) :
   pub bus : new.bus ≡ after_event old.bus event
   pub nodes : HaveHeard old.bus.station (layout_event old.bus event) old.nodes new.nodes
   pub names : new.names ≡ old.names
-  pub railway : new.railway ≡ railway_after old.names old.bus old.nodes event old.railway
-  pub unreported : IsDue event (reports_after old.names old.bus old.nodes event old.railway) old.unreported new.unreported
+  pub railway : new.railway ≡ railway_after old.names old.bus (running_in event old.nodes new.nodes) event old.railway
+  pub unreported : IsDue event (reports_after old.names old.bus (running_in event old.nodes new.nodes) event old.railway) old.unreported new.unreported
   pub losses : IsDrawn event old.bus (length old.nodes) old.losses new.losses
   pub saw : observed ≡ Observed (answered old.names old.railway (outcome_of old.bus event)) new.nodes new.railway
 
@@ -191,8 +191,10 @@ same_unreported (Reports sensor occupied) made old a b h k = tail_same _ _ a b (
 effect_same : (event : Event) (seen those : Observation) (old a b : Core) → HasEffect event seen old a → HasEffect event those old b → a.losses ≡ b.losses → EndsSame seen those a b
 effect_same event seen those old a b h k losses =
     let nodes = heard_same old.bus.station (layout_event old.bus event) old.nodes a.nodes b.nodes h.nodes k.nodes in
-    let railway : a.railway ≡ b.railway = h.railway ∙ sym k.railway in
-    let unreported = same_unreported event (reports_after old.names old.bus old.nodes event old.railway) old.unreported a.unreported b.unreported h.unreported k.unreported in
+    let during : List Node → List Node = running_in event old.nodes in
+    let railway : a.railway ≡ b.railway = h.railway ∙ ap (λ (n : List Node). railway_after old.names old.bus (during n) event old.railway) nodes ∙ sym k.railway in
+    let made : List Node → List SensorReport = λ n. reports_after old.names old.bus (during n) event old.railway in
+    let unreported = same_unreported event (made b.nodes) old.unreported a.unreported b.unreported (subst (λ (n : List Node). IsDue event (made n) old.unreported a.unreported) nodes h.unreported) k.unreported in
     let first : a ≡ record b { losses = a.losses; unreported = a.unreported; railway = a.railway; nodes = a.nodes } =
     ap₂ (λ (bus : BusState) (names : List (List ℕ)). record a { bus = bus; names = names }) (h.bus ∙ sym k.bus) (h.names ∙ sym k.names) in
     let second : record b { losses = a.losses; unreported = a.unreported; railway = a.railway; nodes = a.nodes } ≡ record b { losses = a.losses; unreported = a.unreported } =
@@ -274,7 +276,7 @@ one_left : {P : Type 0} (one : LoggedEvent) (applied : List LoggedEvent) (start 
 one_left one applied start a h none inputs =
     let effects = h.1 in
     absurd (none_left (is_report one.event) one.event (inputs_of (events_of applied))
-    (no_report one.event (reports_after start.names start.bus start.nodes one.event start.railway) start.unreported h.0.unreported none effects.unreported) inputs)
+    (no_report one.event (reports_after start.names start.bus (running_in one.event start.nodes h.0.nodes) one.event start.railway) start.unreported h.0.unreported none effects.unreported) inputs)
 
 course_same : (first second : List LoggedEvent) (start a b : Core) → Course first start a → Course second start b → a.unreported ≡ [] → b.unreported ≡ [] → inputs_of (events_of first) ≡ inputs_of (events_of second)
     → (a ≡ b) × (observations_of first ≡ observations_of second)
@@ -283,7 +285,7 @@ course_same [] (two ∷ second) start a b h k ends too inputs = one_left two sec
 course_same (one ∷ first) [] start a b h k ends too inputs = one_left one first start a h (ap (λ (c : Core). c.unreported) (sym k) ∙ too) (sym inputs)
 course_same (one ∷ first) (two ∷ second) start a b h k ends too inputs =
     let heads = first_same (is_report one.event) (is_report two.event) one.event two.event (inputs_of (events_of first)) (inputs_of (events_of second))
-    (reports_after start.names start.bus start.nodes one.event start.railway) (reports_after start.names start.bus start.nodes two.event start.railway) start.unreported h.0.unreported k.0.unreported
+    (reports_after start.names start.bus (running_in one.event start.nodes h.0.nodes) one.event start.railway) (reports_after start.names start.bus (running_in two.event start.nodes k.0.nodes) two.event start.railway) start.unreported h.0.unreported k.0.unreported
     refl refl h.1.unreported k.1.unreported inputs in
     let same = input_same one.event two.event one.observed two.observed start h.0 k.0 heads.0 h.1 k.1 in
     let rest = course_same first second h.0 a b h.2 (subst (λ (c : Core). Course second c b) (sym same.1) k.2) ends too heads.1 in

@@ -9,7 +9,7 @@ use Rattle.std.proofs.lemmas.List.{length-append}
 use Rattle.text.specs.Words.{is_blank, words_of}
 use Rattle.ln_frame.specs.Message.{IsWhole, are_data, has_form, is_len, is_whole, message_len}
 use Rattle.ln_ops.specs.Reply.{reply_bytes}
-use Rattle.ln_ops.specs.Sensor.{is_interrogation, report_bytes}
+use Rattle.ln_ops.specs.Sensor.{begins_interrogation, report_bytes}
 use Rattle.ln_ops.specs.declared.reply.Reply.{Reply}
 use Rattle.ln_ops.specs.declared.reply.Reply.TheVariants.{LongAck, SlotData}
 use Rattle.ln_ops.specs.declared.sensor.SensorReport.{SensorReport}
@@ -23,7 +23,7 @@ use Rattle.railway.specs.Railway.{RailwayState, elapsed}
 use Rattle.railway.specs.Reports.{change_of, changes, changes_from, full_from, is_occupied, level_of, onto}
 use Rattle.text.specs.Hex.{hex_words}
 use Rattle.loconet_tcp.specs.ClientLines.{line_end, place_text, receive_text, sent_error_text, sent_ok_text, turns_text}
-use Rattle.loconet_tcp.specs.Requests.{bytes_of, is_nodes, is_place, is_send, is_turns, parse_place, parse_send, request_of, turns_of}
+use Rattle.loconet_tcp.specs.Requests.{ask_states, bytes_of, is_place, is_send, is_turns, parse_place, parse_send, request_of, things_of, turns_of}
 use Rattle.loconet_tcp.specs.Text.{is_end}
 use Rattle.bus.specs.Outcome.{reply_text, text_for}
 use Rattle.bus.specs.declared.outcome.Outcome.{Outcome}
@@ -36,14 +36,15 @@ use Rattle.loconet_tcp.specs.declared.request.Placement.{Placement}
 use Rattle.loconet_tcp.specs.declared.request.TurnsError.{TurnsError}
 use Rattle.loconet_tcp.specs.declared.request.TurnsError.TheVariants.{NoNumber, RealTime}
 use Rattle.loconet_tcp.specs.declared.request.Request.{Request}
-use Rattle.loconet_tcp.specs.declared.request.Request.TheVariants.{Invalid, Nodes, Place, Send, Turns}
+use Rattle.loconet_tcp.specs.declared.request.Things.{Things}
+use Rattle.loconet_tcp.specs.declared.request.Request.TheVariants.{Invalid, States, Place, Send, Turns}
 use Rattle.bus.specs.declared.event.Event.{Event}
 use Rattle.bus.specs.declared.event.Event.TheVariants.{Connects, Disconnects, Elapses, Receives, Reports, Turn}
 use Rattle.bus.specs.Bus.{BusState, client_of, granted, outcome_of_request, reply_to, request_at}
 use Rattle.bus_server.specs.Observations.{Observation}
 use Rattle.bus_server.specs.ServerState.{RunsEvent, ServerState}
 use Rattle.bus_server.specs.Placement.{answered, place_answer, places}
-use Rattle.bus_server.specs.Sensors.{full_report, is_report, railway_after, railway_elapsed, railway_placed, reports_after, reports_due, reports_elapsed, power_of}
+use Rattle.bus_server.specs.Sensors.{full_report, is_report, next_turn, railway_after, railway_elapsed, railway_placed, reports_after, reports_due, reports_elapsed, running_in, power_of}
 
 -- What is sent is a whole message, of at most 127 bytes.
 
@@ -74,12 +75,15 @@ whole_sends : (bytes : Option (List ℕ)) → IsSound (Some (parse_send bytes))
 whole_sends None = tt
 whole_sends (Some bytes) = whole_by (is_whole bytes) (has_form bytes) bytes refl
 
-from_other_line : (turns place nodes : Bool) (count : Option ℕ) (placement : Result Placement PlaceError)
-    → IsSound (if turns then Some (Turns count) else if place then Some (Place placement) else if nodes then Some Nodes else None)
-from_other_line true place nodes count placement = tt
-from_other_line false true nodes count placement = tt
-from_other_line false false true count placement = tt
-from_other_line false false false count placement = tt
+from_states : (things : Option Things) → IsSound (ask_states things)
+from_states None = tt
+from_states (Some things) = tt
+
+from_other_line : (turns place : Bool) (count : Option ℕ) (placement : Result Placement PlaceError) (things : Option Things)
+    → IsSound (if turns then Some (Turns count) else if place then Some (Place placement) else ask_states things)
+from_other_line true place count placement things = tt
+from_other_line false true count placement things = tt
+from_other_line false false count placement things = from_states things
 
 from_line : (sends long : Bool) (bytes : Option (List ℕ)) (other : Option Request) → IsSound other → IsSound (if sends then Some (if long then Invalid TooLong else parse_send bytes) else other)
 from_line false long bytes other h = h
@@ -92,8 +96,8 @@ at_end kept true =
     let rest : List ℕ = after_first is_blank kept in
     let placement : Result Placement PlaceError = if nat_lt 400 (length kept) then Err place_error.TooLong else parse_place (words_of rest) in
     from_line (is_send kept) (nat_lt 400 (length kept)) (bytes_of (words_of rest))
-    (if is_turns kept then Some (Turns (turns_of rest)) else if is_place kept then Some (Place placement) else if is_nodes kept then Some Nodes else None)
-    (from_other_line (is_turns kept) (is_place kept) (is_nodes kept) (turns_of rest) placement)
+    (if is_turns kept then Some (Turns (turns_of rest)) else if is_place kept then Some (Place placement) else ask_states (things_of kept))
+    (from_other_line (is_turns kept) (is_place kept) (turns_of rest) placement (things_of kept))
 
 pub request_sound : (kept : Option (List ℕ)) (byte : ℕ) → IsSound (request_at kept byte)
 request_sound None byte = tt
@@ -151,11 +155,11 @@ answered_request state client request = answered state.names state.railway (outc
 pub request_most : (state : ServerState) (client i : ℕ) (request : Option Request) → IsSound request → length (text_for i (answered_request state client request)) ≤ 789
 request_most state client i None h = omega arith
 request_most state client i (Some (Invalid reason)) h = error_most (client == i) reason
-request_most state client i (Some (Turns count)) h = turns_most (client == i) (granted state.bus.stepped count)
-request_most state client i (Some Nodes) h = omega arith
+request_most state client i (Some (Turns count)) h = turns_most (client == i) (granted state.bus.options.is_stepped count)
+request_most state client i (Some (States things)) h = omega arith
 request_most state client i (Some (Place placement)) h = place_most (client == i) (place_answer state.names state.railway placement)
 request_most state client i (Some (Send message)) h =
-    three_most (receive_text message) (if client == i then sent_ok_text else []) (reply_text (reply_to state.bus.station message)) (receive_most message h) (ok_most (client == i)) (reply_most _)
+    three_most (receive_text message) (if client == i then sent_ok_text else []) (reply_text (reply_to state.bus (Some (Send message)))) (receive_most message h) (ok_most (client == i)) (reply_most _)
 
 -- A report is a line of 21 bytes, and at most 128 are due at once.
 
@@ -207,9 +211,9 @@ placed_most names client (Ok placement) (Some railway) few = changes_most railwa
 requested_most : (names : List (List ℕ)) (bus : BusState) (client : ℕ) (request : Option Request) (railway : Option RailwayState) → HasFewBlocks railway → length (reports_due names (outcome_of_request bus client request) railway []) ≤ 128
 requested_most names bus client None railway few = omega arith
 requested_most names bus client (Some (Invalid reason)) railway few = omega arith
-requested_most names bus client (Some (Send message)) railway few = asked_most (is_interrogation message) railway few
+requested_most names bus client (Some (Send message)) railway few = asked_most (begins_interrogation message) railway few
 requested_most names bus client (Some (Turns count)) railway few = omega arith
-requested_most names bus client (Some Nodes) railway few = omega arith
+requested_most names bus client (Some (States things)) railway few = omega arith
 requested_most names bus client (Some (Place placement)) railway few = placed_most names client placement railway few
 
 made_most : (names : List (List ℕ)) (bus : BusState) (nodes : List Node) (event : Event) (railway : Option RailwayState) → HasFewBlocks railway → length (reports_after names bus nodes event railway) ≤ 128
@@ -218,7 +222,7 @@ made_most names bus nodes (Receives client byte) railway few = requested_most na
 made_most names bus nodes (Disconnects client) railway few = omega arith
 made_most names bus nodes (Reports sensor occupied) railway few = omega arith
 made_most names bus nodes (Elapses micros missed) railway few = elapsed_most railway micros (power_of bus) nodes few
-made_most names bus nodes (Turn missed) railway few = elapsed_most railway bus.remaining (power_of bus) nodes few
+made_most names bus nodes (Turn missed) railway few = elapsed_most railway (next_turn bus) (power_of bus) nodes few
 
 -- what a railway promises: whatever happens, its blocks stay
 abbrev pub SameBlocks : Type 0
@@ -236,7 +240,7 @@ few_placed same names bus client None railway few = few
 few_placed same names bus client (Some (Invalid reason)) railway few = few
 few_placed same names bus client (Some (Send message)) railway few = few
 few_placed same names bus client (Some (Turns count)) railway few = few
-few_placed same names bus client (Some Nodes) railway few = few
+few_placed same names bus client (Some (States things)) railway few = few
 few_placed same names bus client (Some (Place (Err error))) None few = few
 few_placed same names bus client (Some (Place (Err error))) (Some railway) few = few
 few_placed same names bus client (Some (Place (Ok placement))) None few = few
@@ -248,7 +252,7 @@ still_few same names bus nodes (Receives client byte) railway few = few_placed s
 still_few same names bus nodes (Disconnects client) railway few = few
 still_few same names bus nodes (Reports sensor occupied) railway few = few
 still_few same names bus nodes (Elapses micros missed) railway few = few_elapsed same railway micros (power_of bus) nodes few
-still_few same names bus nodes (Turn missed) railway few = few_elapsed same railway bus.remaining (power_of bus) nodes few
+still_few same names bus nodes (Turn missed) railway few = few_elapsed same railway (next_turn bus) (power_of bus) nodes few
 
 -- What is due before an event that is no report, and after it.
 
@@ -260,7 +264,7 @@ none_due (Reports sensor occupied) observed old new none runs = cc
 none_due (Elapses micros missed) observed old new none runs = runs.unreported.0
 none_due (Turn missed) observed old new none runs = runs.unreported.0
 
-made_due : (event : Event) (observed : Observation) (old new : ServerState) → is_report event ≡ false → RunsEvent event observed old new → new.unreported ≡ reports_after old.names old.bus old.nodes event old.railway
+made_due : (event : Event) (observed : Observation) (old new : ServerState) → is_report event ≡ false → RunsEvent event observed old new → new.unreported ≡ reports_after old.names old.bus (running_in event old.nodes new.nodes) event old.railway
 made_due (Connects client) observed old new none runs = runs.unreported.1
 made_due (Receives client byte) observed old new none runs = runs.unreported.1
 made_due (Disconnects client) observed old new none runs = runs.unreported.1
@@ -274,6 +278,6 @@ HasFew state = (length state.unreported ≤ 128) × HasFewBlocks state.railway
 
 pub event_few : SameBlocks → (event : Event) (observed : Observation) (old new : ServerState) → is_report event ≡ false → RunsEvent event observed old new → HasFewBlocks old.railway → HasFew new
 event_few same event observed old new none runs few = (
-  subst (λ (reports : List SensorReport). length reports ≤ 128) (sym (made_due event observed old new none runs)) (made_most old.names old.bus old.nodes event old.railway few),
-  subst HasFewBlocks (sym runs.railway) (still_few same old.names old.bus old.nodes event old.railway few),
+  subst (λ (reports : List SensorReport). length reports ≤ 128) (sym (made_due event observed old new none runs)) (made_most old.names old.bus (running_in event old.nodes new.nodes) event old.railway few),
+  subst HasFewBlocks (sym runs.railway) (still_few same old.names old.bus (running_in event old.nodes new.nodes) event old.railway few),
 )

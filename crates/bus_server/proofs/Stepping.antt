@@ -1,21 +1,22 @@
 -- An event of the bus in parts: trains run, the bus runs the event, and sensors report.
-use Rattle.std.proofs.Common.{◌≡◌, ℕ, ◌≤◌, Bool, true, false, if◌then◌else◌, nat_le, List, [], ◌∷◌, length, drop, Option, Some, None, refl, ap, sym, subst, ◌∙◌}
+use Rattle.std.proofs.Common.{◌≡◌, ℕ, ◌≤◌, Bool, true, false, if◌then◌else◌, nat_le, List, [], ◌∷◌, length, drop, Option, Some, None, refl, ap, ap₂, sym, subst, ◌∙◌}
 use Rattle.std.specs.Prelude.{slice_get, unwrap_or}
-use Rattle.station_core.specs.Moved.{packet_of_turn}
+use Rattle.refresh_ring.specs.declared.pick.Power.{Power}
+use Rattle.station_core.specs.Station.{packet_of_turn}
 use Rattle.ln_ops.specs.declared.sensor.SensorReport.{SensorReport}
 use Rattle.railway.specs.Railway.{RailwayState}
 use Rattle.bus.specs.declared.outcome.Outcome.{Outcome}
 use Rattle.bus.specs.declared.outcome.Outcome.TheVariants.{Nothing, TurnBegan}
 use Rattle.bus.specs.declared.event.Event.{Event}
 use Rattle.bus.specs.declared.event.Event.TheVariants.{Connects, Receives, Disconnects, Reports, Elapses, Turn}
-use Rattle.bus.specs.Bus.{outcome_of}
+use Rattle.bus.specs.Bus.{BusState, outcome_of}
 use Rattle.bus.specs.Course.{is_time}
 use Rattle.bus_server.specs.Observations.{Observation, Observed}
 use Rattle.bus_server.specs.declared.losses.Losses.{Losses}
 use Rattle.bus_server.specs.ServerState.{IsDrawn, RunsEvent, ServerState, outcome_in}
 use Rattle.bus_server.specs.SendQueues.{queues_after}
 use Rattle.bus_server.specs.Placement.{answered}
-use Rattle.bus_server.specs.Sensors.{IsDue, IsWithinTurn, power_of, railway_after, railway_elapsed, railway_placed, reports_after, reports_due, reports_elapsed}
+use Rattle.bus_server.specs.Sensors.{IsDue, IsWithinTurn, next_turn, power_of, railway_after, railway_elapsed, railway_placed, reports_after, reports_due, reports_elapsed, running_in}
 use Rattle.bus_server.specs.Hub.{RunsOnBus, with_trains_run}
 
 -- the bus runs an event once what decoders miss is drawn and trains have run
@@ -23,8 +24,8 @@ runs : (event : Event) (observed : Observation) (losses : Losses) (railway : Opt
     → RunsOnBus event observed (record old { losses = losses; railway = railway; unreported = unreported }) new
     → IsWithinTurn event old.bus → IsDrawn event old.bus (length old.nodes) old.losses losses
     → answered old.names railway (outcome_of old.bus event) ≡ outcome_in old event
-    → railway_placed old.names (outcome_of old.bus event) railway ≡ railway_after old.names old.bus old.nodes event old.railway
-    → IsDue event (reports_after old.names old.bus old.nodes event old.railway) old.unreported new.unreported
+    → railway_placed old.names (outcome_of old.bus event) railway ≡ railway_after old.names old.bus (running_in event old.nodes new.nodes) event old.railway
+    → IsDue event (reports_after old.names old.bus (running_in event old.nodes new.nodes) event old.railway) old.unreported new.unreported
     → RunsEvent event observed old new
 runs event observed losses railway unreported old new h piece drawn told trains reports = record {
   legal = h.legal;
@@ -92,17 +93,43 @@ elapse_runs micros missed observed losses old drawn ready new piece none draws i
     runs (Elapses micros missed) observed losses trains reports old new on_bus piece draws (time_told old.names ends packet old.railway trains) (time_placed old.names ends packet trains)
     (none, on_bus.unreported ∙ time_due old.names ends packet trains reports)
 
-pub turn_runs : (micros missed : ℕ) (observed : Observation) (losses : Losses) (old drawn ready new : ServerState)
-    → micros ≡ old.bus.remaining → old.unreported ≡ [] → IsDrawn (Turn missed) old.bus (length old.nodes) old.losses losses
-    → drawn ≡ record old { losses = losses } → ready ≡ with_trains_run micros drawn
-    → RunsOnBus (Turn missed) observed ready new → RunsEvent (Turn missed) observed old new
-turn_runs micros missed observed losses old drawn ready new lasts none draws is_drawn is_run h =
-    let trains : Option RailwayState = railway_elapsed old.railway old.bus.remaining (power_of old.bus) old.nodes in
-    let reports : List SensorReport = reports_elapsed old.railway old.bus.remaining (power_of old.bus) old.nodes in
-    let on_bus : RunsOnBus (Turn missed) observed (record old { losses = losses; railway = trains; unreported = reports }) new =
-    subst (λ (s : ServerState). RunsOnBus (Turn missed) observed s new)
-    (is_run ∙ ap (with_trains_run micros) is_drawn ∙ ap (λ (n : ℕ). with_trains_run n (record old { losses = losses })) lasts) h in
-    runs (Turn missed) observed losses trains reports old new on_bus tt draws refl refl (none, on_bus.unreported)
+-- a turn is begun, and then trains run
+pub turn_runs : (micros missed : ℕ) (outcome : Outcome) (losses : Losses) (old drawn begun new : ServerState)
+    → micros ≡ begun.bus.remaining → old.unreported ≡ [] → IsDrawn (Turn missed) old.bus (length old.nodes) old.losses losses
+    → drawn ≡ record old { losses = losses } → RunsOnBus (Turn missed) (Observed outcome begun.nodes begun.railway) drawn begun → outcome ≡ outcome_in drawn (Turn missed)
+    → new ≡ with_trains_run micros begun → RunsEvent (Turn missed) (Observed outcome new.nodes new.railway) old new
+turn_runs micros missed outcome losses old drawn begun new lasts none draws is_drawn h told is_run =
+    let start : ServerState = record old { losses = losses } in
+    let on_bus : RunsOnBus (Turn missed) (Observed outcome begun.nodes begun.railway) start begun =
+    subst (λ (s : ServerState). RunsOnBus (Turn missed) (Observed outcome begun.nodes begun.railway) s begun) is_drawn h in
+    let same : outcome ≡ outcome_in old (Turn missed) = told ∙ ap (λ (s : ServerState). outcome_in s (Turn missed)) is_drawn in
+    let length_is : micros ≡ next_turn old.bus = lasts ∙ ap (λ (bus : BusState). bus.remaining) on_bus.bus in
+    let power : power_of begun.bus ≡ power_of old.bus = ap power_of on_bus.bus in
+    let ran : begun.railway ≡ old.railway = on_bus.railway in
+    subst (λ (s : ServerState). RunsEvent (Turn missed) (Observed outcome s.nodes s.railway) old s) (sym is_run) (record {
+      legal = on_bus.legal;
+      bus = on_bus.bus;
+      nodes = on_bus.nodes;
+      piece = tt;
+      railway = ap₂ (λ (railway : Option RailwayState) (power : Power). railway_elapsed railway micros power begun.nodes) ran power
+          ∙ ap (λ (n : ℕ). railway_elapsed old.railway n (power_of old.bus) begun.nodes) length_is;
+      unreported = (
+        none,
+        ap₂ (λ (railway : Option RailwayState) (power : Power). reports_elapsed railway micros power begun.nodes) ran power
+            ∙ ap (λ (n : ℕ). reports_elapsed old.railway n (power_of old.bus) begun.nodes) length_is,
+      );
+      queues = on_bus.queues;
+      names = on_bus.names;
+      answers = on_bus.answers;
+      turns_due = on_bus.turns_due;
+      time_due = on_bus.time_due;
+      losses = subst (λ (l : Losses). IsDrawn (Turn missed) old.bus (length old.nodes) old.losses l) (sym on_bus.losses) draws;
+      pace = on_bus.pace;
+      first_client = on_bus.first_client;
+      has_backlog = on_bus.has_backlog;
+      disconnected = on_bus.disconnected;
+      saw = ap (λ (o : Outcome). Observed o begun.nodes (railway_elapsed begun.railway micros (power_of begun.bus) begun.nodes)) same;
+    })
 
 pub report_runs : (report : SensorReport) (rest : List SensorReport) (observed : Observation) (old ready new : ServerState)
     → old.unreported ≡ report ∷ rest → ready ≡ record old { unreported = rest }

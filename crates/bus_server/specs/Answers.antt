@@ -1,13 +1,22 @@
--- What a client receives that asks how the decoders stand (own): the line of each decoder, one a
--- round, as the decoder stands then, and NODES OK after the last.
-use Rattle.std.specs.Prelude.{ℕ, ◌+◌, nat_lt, if◌then◌else◌, List, [], ◌∷◌, take, Option, Some, None, slice_set}
+-- What a client receives that asks how the decoders, the trains or the turnouts stand (own): the line
+-- of each, one a round, as it stands then, and NODES OK, TRAINS OK or TURNOUTS OK after the last.
+use Rattle.std.specs.Prelude.{ℕ, ◌+◌, nat_lt, if◌then◌else◌, List, [], ◌∷◌, length, map, take, Option, Some, None, slice_set}
 use Rattle.std.specs.List.{slice_index_or}
 use Rattle.layout_core.specs.declared.node.Node.{Node}
 use Rattle.layout_core.specs.Nodes.{spec_of}
 use Rattle.layout_core.specs.DecoderStates.{decoder_line, decoder_state_of}
-use Rattle.loconet_tcp.specs.ClientLines.{node_text, nodes_ok_text}
+use Rattle.loconet_tcp.specs.ClientLines.{node_text, state_text, states_ok_text}
+use Rattle.loconet_tcp.specs.declared.request.Things.{Things}
+use Rattle.loconet_tcp.specs.declared.request.Things.TheVariants.{Nodes, Trains, Turnouts}
+use Rattle.railway.specs.declared.joint.TurnoutState.{TurnoutState}
+use Rattle.railway.specs.declared.train.TrainState.{TrainState}
+use Rattle.railway.specs.Network.{Network}
+use Rattle.railway.specs.Railway.{RailwayState, shown_speed}
+use Rattle.railway_text.specs.TrainPlace.{place_of, train_line}
+use Rattle.railway_text.specs.Turnouts.{turnout_line}
 use Rattle.bus.specs.declared.outcome.Outcome.{Outcome}
-use Rattle.bus.specs.declared.outcome.Outcome.TheVariants.{Disconnected, NodesRequested}
+use Rattle.bus.specs.declared.outcome.Outcome.TheVariants.{Disconnected, StatesRequested}
+use Rattle.bus_server.specs.declared.under_way.UnderWay.{UnderWay}
 
 -- the line of a decoder as it stands now, which has at most 640 bytes
 abbrev pub line_of : (name : List ℕ) → Node → List ℕ
@@ -19,22 +28,66 @@ node_lines [] nodes = []
 node_lines (name ∷ names) [] = []
 node_lines (name ∷ names) (node ∷ nodes) = line_of name node ∷ node_lines names nodes
 
--- for each client, how many decoders it has received; None where no answer is under way
+abbrev pub trains_of : Option RailwayState → List TrainState
+trains_of None = []
+trains_of (Some railway) = railway.trains
+
+abbrev pub turnouts_of : Option RailwayState → List TurnoutState
+turnouts_of None = []
+turnouts_of (Some railway) = railway.network.turnouts
+
+-- of a train, by the name of its decoder, which has at most 160 bytes
+abbrev pub text_of_train : (names : List (List ℕ)) → Network → TrainState → List ℕ
+text_of_train names network train =
+    train_line (slice_index_or names train.decoder []) network.blocks
+    (place_of network.blocks train (shown_speed network train))
+
+abbrev pub line_of_train : (names : List (List ℕ)) → Network → TrainState → List ℕ
+line_of_train names network train = state_text (take 160 (text_of_train names network train))
+
+abbrev pub train_lines : (names : List (List ℕ)) → Option RailwayState → List (List ℕ)
+train_lines names None = []
+train_lines names (Some railway) = map (line_of_train names railway.network) railway.trains
+
+-- and of a turnout
+abbrev pub line_of_turnout : TurnoutState → List ℕ
+line_of_turnout state = state_text (take 160 (turnout_line state))
+
+abbrev pub turnout_lines : Option RailwayState → List (List ℕ)
+turnout_lines railway = map line_of_turnout (turnouts_of railway)
+
+-- the lines of these things
+abbrev pub lines_of : (names : List (List ℕ)) → List Node → Option RailwayState → Things → List (List ℕ)
+lines_of names nodes railway Nodes = node_lines names nodes
+lines_of names nodes railway Trains = train_lines names railway
+lines_of names nodes railway Turnouts = turnout_lines railway
+
+-- for each client, the answer that is under way: of what, and how many lines it has received
 abbrev pub Answers : Type 0
-Answers = List (Option ℕ)
+Answers = List (Option UnderWay)
+
+abbrev pub begun : Things → UnderWay
+begun things = record { things = things; lines = 0 }
 
 -- A request begins the answer, or begins it anew; a client that disconnects receives no more of it.
 abbrev pub answers_after : Outcome → Answers → Answers
-answers_after (NodesRequested client) answers = slice_set answers client (Some 0)
+answers_after (StatesRequested client things) answers = slice_set answers client (Some (begun things))
 answers_after (Disconnected client) answers = slice_set answers client None
 answers_after other answers = answers
 
--- what a client receives next: the line of the next decoder, or NODES OK if there is none
-abbrev pub next_line : (lines : List (List ℕ)) → Option ℕ → List ℕ
+-- what a client receives next: the next line, or that all were sent if there is none
+abbrev pub next_line : (lines : Things → List (List ℕ)) → Option UnderWay → List ℕ
 next_line lines None = []
-next_line lines (Some count) = slice_index_or lines count nodes_ok_text
+next_line lines (Some answer) = slice_index_or (lines answer.things) answer.lines (states_ok_text answer.things)
 
--- and how many decoders it has received then; after NODES OK the answer is over
-abbrev pub after_line : (nodes : ℕ) → Option ℕ → Option ℕ
-after_line nodes None = None
-after_line nodes (Some count) = if nat_lt count nodes then Some (count + 1) else None
+-- how many there are of these things
+abbrev pub count_of : (names : List (List ℕ)) → Option RailwayState → Things → ℕ
+count_of names railway Nodes = length names
+count_of names railway Trains = length (trains_of railway)
+count_of names railway Turnouts = length (turnouts_of railway)
+
+-- how many lines it has received then; after the last of them the answer is over
+abbrev pub after_line : (count : Things → ℕ) → Option UnderWay → Option UnderWay
+after_line count None = None
+after_line count (Some answer) =
+    if nat_lt answer.lines (count answer.things) then Some (record answer { lines = answer.lines + 1 }) else None

@@ -2,7 +2,7 @@
 use Rattle.std.specs.Prelude.{ℕ, ◌+◌, Bool, true, nat_lt, List, [], ◌∷◌, Option, Some, None, slice_set}
 use Rattle.bus_server.specs.SendQueue.{enqueued}
 use Rattle.bus.specs.declared.outcome.Outcome.{Outcome}
-use Rattle.bus.specs.declared.outcome.Outcome.TheVariants.{Nothing, Connected, Disconnected, Rejected, Reported, Sent, TurnBegan, TurnsRequested, NodesRequested, PlaceRequested, Placed}
+use Rattle.bus.specs.declared.outcome.Outcome.TheVariants.{Nothing, Connected, Disconnected, Rejected, Reported, Sent, TurnBegan, TurnsRequested, StatesRequested, PlaceRequested, Placed}
 use Rattle.bus.specs.Outcome.{text_for}
 
 -- the queue of each client; None where it is closed
@@ -27,7 +27,7 @@ queues_after (Rejected client reason) queues = enqueued_all (Rejected client rea
 queues_after (Sent client message reply) queues = enqueued_all (Sent client message reply) queues
 queues_after (Reported message) queues = enqueued_all (Reported message) queues
 queues_after (TurnsRequested client turns) queues = enqueued_all (TurnsRequested client turns) queues
-queues_after (NodesRequested client) queues = queues
+queues_after (StatesRequested client things) queues = queues
 queues_after (PlaceRequested client placement) queues = queues
 queues_after (Placed client answer) queues = enqueued_all (Placed client answer) queues
 
@@ -41,6 +41,6 @@ names_client (Rejected client reason) = nat_lt client 8
 names_client (Sent client message reply) = nat_lt client 8
 names_client (Reported message) = true
 names_client (TurnsRequested client turns) = nat_lt client 8
-names_client (NodesRequested client) = nat_lt client 8
+names_client (StatesRequested client things) = nat_lt client 8
 names_client (PlaceRequested client placement) = nat_lt client 8
 names_client (Placed client answer) = nat_lt client 8

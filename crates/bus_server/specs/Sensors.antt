@@ -2,7 +2,7 @@
 use Rattle.std.specs.Prelude.{ℕ, ◌≡◌, ◌≤◌, Bool, true, false, if◌then◌else◌, List, [], ◌∷◌, Option, Some, None, Ok}
 use Rattle.refresh_ring.specs.declared.pick.Power.{Power}
 use Rattle.layout_core.specs.declared.node.Node.{Node}
-use Rattle.ln_ops.specs.Sensor.{is_interrogation}
+use Rattle.ln_ops.specs.Sensor.{begins_interrogation}
 use Rattle.ln_ops.specs.declared.sensor.SensorReport.{SensorReport}
 use Rattle.bus.specs.declared.outcome.Outcome.{Outcome}
 use Rattle.bus.specs.declared.outcome.Outcome.TheVariants.{PlaceRequested, Sent}
@@ -11,7 +11,7 @@ use Rattle.railway.specs.Railway.{RailwayState, elapsed, reports_in}
 use Rattle.railway.specs.Reports.{full}
 use Rattle.bus.specs.declared.event.Event.{Event}
 use Rattle.bus.specs.declared.event.Event.TheVariants.{Connects, Receives, Disconnects, Reports, Elapses, Turn}
-use Rattle.bus.specs.Bus.{BusState, outcome_of}
+use Rattle.bus.specs.Bus.{BusState, after_event, outcome_of}
 use Rattle.bus_server.specs.Placement.{places}
 
 -- the power of the track
@@ -37,7 +37,7 @@ full_report (Some railway) = full railway.network.blocks railway.trains
 
 -- a message asks all sensors to report
 abbrev pub asks_sensors : Outcome → Bool
-asks_sensors (Sent client message reply) = is_interrogation message
+asks_sensors (Sent client message reply) = begins_interrogation message
 asks_sensors other = false
 
 -- the railway after an outcome: a client may put a train on the track
@@ -52,19 +52,29 @@ railway_placed names other railway = railway
 abbrev pub reports_due : (names : List (List ℕ)) → Outcome → Option RailwayState
     → List SensorReport → List SensorReport
 reports_due names (Sent client message reply) railway unreported =
-    if is_interrogation message then full_report railway else unreported
+    if begins_interrogation message then full_report railway else unreported
 reports_due names (PlaceRequested client (Ok placement)) (Some railway) unreported =
     reports_of railway (places names railway placement)
 reports_due names other railway unreported = unreported
 
--- The railway after an event: in the time of the event trains run as the decoders do before it, with
--- the power that the track has then.
+-- The decoders that trains run by in the time of an event. A time ends with the turn under way or
+-- before it. A turn that is run by itself is run whole: what its packet made of the decoders counts.
+abbrev pub running_in : Event → (old new : List Node) → List Node
+running_in (Turn missed) old new = new
+running_in other old new = old
+
+-- how long a turn lasts that begins now
+abbrev pub next_turn : BusState → ℕ
+next_turn bus = (after_event bus (Turn 0)).remaining
+
+-- The railway after an event: in its time trains run as these decoders do, with the power that the
+-- track has then.
 abbrev pub railway_after : (names : List (List ℕ)) → BusState → List Node → Event
     → Option RailwayState → Option RailwayState
 railway_after names bus nodes (Elapses micros missed) railway =
     railway_elapsed railway micros (power_of bus) nodes
 railway_after names bus nodes (Turn missed) railway =
-    railway_elapsed railway bus.remaining (power_of bus) nodes
+    railway_elapsed railway (next_turn bus) (power_of bus) nodes
 railway_after names bus nodes (Receives client byte) railway =
     railway_placed names (outcome_of bus (Receives client byte)) railway
 railway_after names bus nodes other railway = railway
@@ -80,7 +90,7 @@ reports_after names bus nodes (Receives client byte) railway =
 reports_after names bus nodes (Elapses micros missed) railway =
     reports_elapsed railway micros (power_of bus) nodes
 reports_after names bus nodes (Turn missed) railway =
-    reports_elapsed railway bus.remaining (power_of bus) nodes
+    reports_elapsed railway (next_turn bus) (power_of bus) nodes
 
 -- The reports that are due before an event and after it: each is an event, in order, and no other
 -- event happens before. It makes others due.

@@ -20,9 +20,9 @@ use Rattle.bus.specs.declared.outcome.Outcome.TheVariants.{Disconnected, Sent}
 use Rattle.bus.specs.Bus.{BusState, after_event, client_of, first_bus, is_event, outcome_of}
 use Rattle.bus.specs.Layout.{layout_event}
 use Rattle.bus_server.specs.Observations.{Observed, Observation, Overflowed}
-use Rattle.bus_server.specs.Answers.{Answers, after_line, answers_after, next_line, node_lines}
+use Rattle.bus_server.specs.Answers.{Answers, after_line, answers_after, count_of, lines_of, next_line}
 use Rattle.bus_server.specs.Placement.{answered}
-use Rattle.bus_server.specs.Sensors.{IsDue, IsWithinTurn, is_report, railway_after, reports_after}
+use Rattle.bus_server.specs.Sensors.{IsDue, IsWithinTurn, is_report, railway_after, reports_after, running_in}
 use Rattle.bus_server.specs.SendQueue.{is_more_than_half}
 use Rattle.bus_server.specs.SendQueues.{SendQueues, enqueued_from, queues_after}
 use Rattle.bus_server.specs.TransportEvents.{Polled, ServerClosed, Accepted, PeerClosed, TransportEvent, Written, Received, Refused}
@@ -51,7 +51,7 @@ pub record ServerState : Type 0 where
 -- a new server: new decoders, and no clients
 abbrev pub initial_state : List NodeSpec → (names : List (List ℕ)) → Option RailwayState → Pace → Losses → ServerState
 initial_state nodes names railway pace losses = record {
-  bus = first_bus (follows_messages pace);
+  bus = first_bus (record { is_stepped = follows_messages pace; has_sensors = is_some railway });
   nodes = map node_of nodes;
   names = names;
   railway = railway;
@@ -94,8 +94,8 @@ pub record RunsEvent (event : Event) (observed : Observation) (old new : ServerS
   pub bus : new.bus ≡ after_event old.bus event
   pub nodes : HaveHeard old.bus.station (layout_event old.bus event) old.nodes new.nodes
   pub piece : IsWithinTurn event old.bus
-  pub railway : new.railway ≡ railway_after old.names old.bus old.nodes event old.railway
-  pub unreported : IsDue event (reports_after old.names old.bus old.nodes event old.railway) old.unreported new.unreported
+  pub railway : new.railway ≡ railway_after old.names old.bus (running_in event old.nodes new.nodes) event old.railway
+  pub unreported : IsDue event (reports_after old.names old.bus (running_in event old.nodes new.nodes) event old.railway) old.unreported new.unreported
   pub queues : new.queues ≡ queues_after (outcome_in old event) old.queues
   pub names : new.names ≡ old.names
   pub answers : new.answers ≡ answers_after (outcome_of old.bus event) old.answers
@@ -188,13 +188,13 @@ without_backlog state = record state { has_backlog = false }
 -- what each client receives next: a line of the answer under way to it, and that its turns have passed
 abbrev pub answer_to : ServerState → (client : ℕ) → List ℕ
 answer_to state client =
-    next_line (node_lines state.names state.nodes) (slice_index_or state.answers client None) ++ turns_answer (due_to state.turns_due client)
+    next_line (lines_of state.names state.nodes state.railway) (slice_index_or state.answers client None) ++ turns_answer (due_to state.turns_due client)
 
 -- it is enqueued
 abbrev pub with_answers : ServerState → ServerState
 with_answers state = record state {
   queues = enqueued_from 0 (answer_to state) state.queues;
-  answers = map (after_line (length state.names)) state.answers;
+  answers = map (after_line (count_of state.names state.railway)) state.answers;
   turns_due = map after_answer state.turns_due;
 }
 

@@ -1,31 +1,37 @@
-//! The answers to clients that ask how the decoders stand.
-ghost use Rattle.std.specs.Prelude.{◌≡◌, ◌<◌, ◌≤◌, ℕ, List, IsTrue, None, is_some, length, map, replicate, slice_set};
+//! The answers to clients that ask how the decoders, the trains or the turnouts stand.
+ghost use Rattle.std.specs.Prelude.{◌≡◌, ◌<◌, ◌≤◌, [], ℕ, List, IsTrue, None, Some, is_some, length, map, option_copied, replicate, slice_set};
 ghost use Rattle.std.specs.List.{list_any, slice_index_or};
 ghost use Rattle.arrayvec.specs.ArrayVec.{array_vec_len};
 ghost use Rattle.decoder_node.specs.declared.node.NodeSpec.{NodeSpec as NodeSpecValue};
 ghost use Rattle.layout_core.specs.declared.node.Node.{Node};
 ghost use Rattle.layout_core.specs.DecoderStates.{decoder_line, decoder_state_of};
 ghost use Rattle.layout_core.specs.Nodes.{spec_of};
-ghost use Rattle.loconet_tcp.specs.ClientLines.{nodes_ok_text};
-ghost use Rattle.bus_server.specs.Answers.{after_line, answers_after, next_line, node_lines};
+ghost use Rattle.loconet_tcp.specs.ClientLines.{states_ok_text};
+ghost use Rattle.railway.specs.declared.joint.TurnoutState.{TurnoutState};
+ghost use Rattle.railway.specs.declared.train.TrainState.{TrainState};
+ghost use Rattle.railway_text.specs.Turnouts.{turnout_line};
+ghost use Rattle.bus_server.specs.Answers.{after_line, answers_after, count_of, lines_of, next_line, node_lines, text_of_train, train_lines, turnout_lines};
 ghost use Rattle.bus_server.specs.SendQueues.{names_client};
 ghost use Rattle.bus_server.specs.NamedNodes.{names_of, specs_of};
 
 use crate::CLIENTS;
 use crate::named_node::NamedNodes;
+use crate::under_way::UnderWay;
 use bus::{MAX_CLIENTS, Outcome};
 use decoder_node::{NodeList, NodeSpec};
 use layout_core::World;
-use loconet_tcp::{Text, push_node, push_nodes_ok};
+use loconet_tcp::{Text, Things, push_node, push_state, push_states_ok};
+use railway::Railway;
+use railway_text::{StateLine, TrainPlace, turnout_line};
 use show_text::Line;
 
-/// The answers to clients that ask how the decoders stand: a line for each decoder, and then
-/// `NODES OK`.
+/// The answers to clients that ask how the decoders, the trains or the turnouts stand: a line for
+/// each of them, and then that all were sent.
 #[derive(Drop)]
 pub(crate) struct Answers {
     pub(crate) nodes: NamedNodes,
-    /// For each client, how many decoders it has received; `None` where no answer is under way.
-    pub(crate) under_way: [Option<u8>; MAX_CLIENTS],
+    /// For each client, the answer under way.
+    pub(crate) under_way: [Option<UnderWay>; MAX_CLIENTS],
     ghost eight: { length under_way ≡ 8 },
 }
 
@@ -45,7 +51,7 @@ impl Answers {
     pub(crate) fn is_any_under_way(&self) -> bool
         ensures { result ≡ list_any is_some self.now.under_way }
     {
-        self.under_way.iter().any(|count| count.is_some())
+        self.under_way.iter().any(|answer| answer.is_some())
     }
 
     /// Begins an answer to a client that asks, and ends that to a client that disconnects.
@@ -55,58 +61,146 @@ impl Answers {
         ensures nodes { self.new.nodes ≡ self.old.nodes }
     {
         match outcome {
-            Outcome::NodesRequested { client } => self.under_way[usize::from(*client)] = Some(0),
+            Outcome::StatesRequested { client, things } => {
+                self.under_way[usize::from(*client)] = Some(UnderWay {
+                    things: *things,
+                    lines: 0,
+                });
+            }
             Outcome::Disconnected { client } => self.under_way[usize::from(*client)] = None,
             _ => {}
         }
     }
 
     /// Returns the line that a client, 0 to 7, receives next; nothing where no answer is under way.
-    pub(crate) fn next_line(&self, client: u8, world: &World) -> Text
+    pub(crate) fn next_line(&self, client: u8, world: &World, railway: Option<&Railway>) -> Text
         requires client { client < 8 }
         requires specs { specs_of self.now.nodes.items ≡ map spec_of world.now.nodes }
         ensures line { result.items
-            ≡ next_line (node_lines (names_of self.now.nodes.items) world.now.nodes)
-            (slice_index_or self.now.under_way client None) }
+            ≡ next_line (lines_of (names_of self.now.nodes.items) world.now.nodes
+            (option_copied railway.entry)) (slice_index_or self.now.under_way client None) }
         ensures most { array_vec_len result ≤ 647 }
     {
-        match self.under_way[usize::from(client)] {
-            Some(count) => self.line(usize::from(count), world),
+        match &self.under_way[usize::from(client)] {
+            Some(answer) => self.line(answer, world, railway),
             None => Text::new(),
         }
     }
 
     /// Notes that each client has received its next line.
-    pub(crate) fn advance(&mut self)
+    pub(crate) fn advance(&mut self, railway: Option<&Railway>)
         ensures under_way { self.new.under_way
-            ≡ map (after_line (length (names_of self.old.nodes.items))) self.old.under_way }
+            ≡ map (after_line (count_of (names_of self.old.nodes.items)
+            (option_copied railway.entry))) self.old.under_way }
         ensures nodes { self.new.nodes ≡ self.old.nodes }
     {
         for client in 0..CLIENTS {
-            self.advance_one(client);
+            self.advance_one(client, railway);
         }
     }
 
     /// Notes that a client has received its next line.
-    fn advance_one(&mut self, client: u8)
+    fn advance_one(&mut self, client: u8, railway: Option<&Railway>)
         requires { client < 8 }
         ensures under_way { self.new.under_way
             ≡ slice_set self.old.under_way client
-            (after_line (length (names_of self.old.nodes.items))
+            (after_line (count_of (names_of self.old.nodes.items) (option_copied railway.entry))
             (slice_index_or self.old.under_way client None)) }
         ensures nodes { self.new.nodes ≡ self.old.nodes }
     {
         let index = usize::from(client);
-        let count = self.under_way[index];
-        self.under_way[index] = after_line(self.nodes.len(), count);
+        self.under_way[index] = match self.under_way[index] {
+            Some(answer) => self.after_line(answer, railway),
+            None => None,
+        };
+    }
+
+    /// Returns an answer after its next line; `None` after its last.
+    fn after_line(&self, answer: UnderWay, railway: Option<&Railway>) -> Option<UnderWay>
+        ensures { result
+            ≡ after_line (count_of (names_of self.now.nodes.items) (option_copied railway.entry))
+            (Some answer) }
+    {
+        if usize::from(answer.lines) >= self.count(answer.things, railway) {
+            return None;
+        }
+        Some(UnderWay {
+            things: answer.things,
+            lines: answer.lines + 1,
+        })
+    }
+
+    /// Returns how many there are of these things, at most 64.
+    fn count(&self, things: Things, railway: Option<&Railway>) -> usize
+        ensures count { result
+            ≡ count_of (names_of self.now.nodes.items) (option_copied railway.entry) things }
+        ensures most { result ≤ 64 }
+    {
+        match things {
+            Things::Nodes => self.nodes.len(),
+            Things::Trains => match railway {
+                Some(railway) => railway.trains().len(),
+                None => 0,
+            },
+            Things::Turnouts => match railway {
+                Some(railway) => railway.turnouts().len(),
+                None => 0,
+            },
+        }
+    }
+
+    /// Returns the next line of an answer.
+    fn line(&self, answer: &UnderWay, world: &World, railway: Option<&Railway>) -> Text
+        requires specs { specs_of self.now.nodes.items ≡ map spec_of world.now.nodes }
+        ensures line { result.items
+            ≡ next_line (lines_of (names_of self.now.nodes.items) world.now.nodes
+            (option_copied railway.entry)) (Some answer.now) }
+        ensures most { array_vec_len result ≤ 647 }
+    {
+        let i = usize::from(answer.lines);
+        match answer.things {
+            Things::Nodes => self.node(i, world),
+            Things::Trains => self.train(i, railway),
+            Things::Turnouts => turnout(i, railway),
+        }
+    }
+
+    /// Returns the line of a train; `TRAINS OK` if there is none of this index.
+    fn train(&self, i: usize, railway: Option<&Railway>) -> Text
+        ensures line { result.items
+            ≡ slice_index_or (train_lines (names_of self.now.nodes.items)
+            (option_copied railway.entry)) i (states_ok_text Things.Trains) }
+        ensures most { array_vec_len result ≤ 647 }
+    {
+        let mut text = Text::new();
+        match railway {
+            Some(railway) if i < railway.trains().len() => {
+                push_state(&mut text, self.train_line(i, railway).as_str().as_bytes());
+            }
+            _ => push_states_ok(&mut text, Things::Trains),
+        }
+        text
+    }
+
+    /// Returns the line of a train, without its line end.
+    fn train_line(&self, i: usize, railway: &Railway) -> StateLine
+        requires { i < length railway.now.trains }
+        ensures { (none : TrainState) → result.bytes
+            ≡ text_of_train (names_of self.now.nodes.items) railway.now.network
+            (slice_index_or railway.now.trains i none) }
+    {
+        let blocks = railway.blocks();
+        let train = &railway.trains()[i];
+        let name = self.name_or_none(usize::from(train.decoder));
+        TrainPlace::of(blocks, train, railway.speed(i)).line(name, blocks)
     }
 
     /// Returns the line of a decoder; `NODES OK` if there is no decoder of this index.
-    fn line(&self, decoder: usize, world: &World) -> Text
+    fn node(&self, decoder: usize, world: &World) -> Text
         requires specs { specs_of self.now.nodes.items ≡ map spec_of world.now.nodes }
         ensures line { result.items
             ≡ slice_index_or (node_lines (names_of self.now.nodes.items) world.now.nodes) decoder
-            nodes_ok_text }
+            (states_ok_text Things.Nodes) }
         ensures most { array_vec_len result ≤ 647 }
     {
         let mut text = Text::new();
@@ -116,7 +210,7 @@ impl Answers {
                 self.node_line(decoder, world).as_str().as_bytes(),
             );
         } else {
-            push_nodes_ok(&mut text);
+            push_states_ok(&mut text, Things::Nodes);
         }
         text
     }
@@ -145,6 +239,18 @@ impl Answers {
         self.nodes.as_slice()[decoder].name.as_str()
     }
 
+    /// The name of a decoder, at most 16 bytes; nothing if there is none of this index.
+    fn name_or_none(&self, decoder: usize) -> &str
+        ensures name { result.now ≡ slice_index_or (names_of self.now.nodes.items) decoder [] }
+        ensures most { length result.now ≤ 16 }
+    {
+        if decoder < self.nodes.len() {
+            self.name(decoder)
+        } else {
+            ""
+        }
+    }
+
     /// The description of a decoder.
     fn spec(&self, decoder: usize) -> &NodeSpec
         requires { decoder < length (specs_of self.now.nodes.items) }
@@ -155,15 +261,30 @@ impl Answers {
     }
 }
 
-/// How many of so many decoders a client has received after its next line.
-fn after_line(nodes: usize, count: Option<u8>) -> Option<u8>
-    requires { nodes ≤ 64 }
-    ensures { result ≡ after_line nodes count }
+/// Returns the line of a turnout; `TURNOUTS OK` if there is none of this index.
+fn turnout(i: usize, railway: Option<&Railway>) -> Text
+    ensures line { result.items
+        ≡ slice_index_or (turnout_lines (option_copied railway.entry)) i
+        (states_ok_text Things.Turnouts) }
+    ensures most { array_vec_len result ≤ 647 }
 {
-    match count {
-        Some(count) if usize::from(count) < nodes => Some(count + 1),
-        _ => None,
+    let mut text = Text::new();
+    match railway {
+        Some(railway) if i < railway.turnouts().len() => {
+            push_state(&mut text, line_of_turnout(i, railway).as_str().as_bytes());
+        }
+        _ => push_states_ok(&mut text, Things::Turnouts),
     }
+    text
+}
+
+/// Returns the line of a turnout, without its line end.
+fn line_of_turnout(i: usize, railway: &Railway) -> StateLine
+    requires { i < length railway.now.network.turnouts }
+    ensures { (none : TurnoutState) → result.bytes
+        ≡ turnout_line (slice_index_or railway.now.network.turnouts i none) }
+{
+    turnout_line(&railway.turnouts()[i])
 }
 
 /// The decoders without their names.

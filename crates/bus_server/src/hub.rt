@@ -3,7 +3,7 @@ ghost use Rattle.std.specs.Prelude.{◌≡◌, ◌<◌, ◌≤◌, ◌&&◌, ◌
 ghost use Rattle.std.specs.List.{list_all};
 ghost use Rattle.bus_server.specs.SendQueue.{is_within_capacity, queued};
 ghost use Rattle.layout_core.specs.Nodes.{spec_of};
-ghost use Rattle.bus_server.specs.Answers.{next_line, node_lines};
+ghost use Rattle.bus_server.specs.Answers.{lines_of, next_line};
 ghost use Rattle.bus_server.specs.ServerState.{disconnected_after, first_after};
 ghost use Rattle.bus_server.specs.SendQueues.{names_client, enqueued_all, enqueued_from, queues_after};
 ghost use Rattle.bus_server.specs.TrackDue.{due_to, turns_answer};
@@ -19,7 +19,7 @@ use crate::send_queues::{SendQueues, empty_queues};
 use crate::sensors::Sensors;
 use crate::track_due::TrackDue;
 use crate::transport::{IoOutcome, Transport};
-use bus::{Bus, Event, Outcome};
+use bus::{Bus, BusOptions, Event, Outcome};
 use layout_core::World;
 use loconet_tcp::{Text, push_turns_ok};
 use railway::Railway;
@@ -84,7 +84,11 @@ impl Hub {
             (λ hub. map spec_of hub.bus.world.nodes ≡ specs_of nodes.items) }
         ensures reported { IfOk result HasReported }
     {
-        let bus = match Bus::new(alloc, specs(&nodes), pace.follows_messages()) {
+        let options = BusOptions {
+            is_stepped: pace.follows_messages(),
+            has_sensors: railway.is_some(),
+        };
+        let bus = match Bus::new(alloc, specs(&nodes), options) {
             Ok(bus) => bus,
             Err(_) => return Err(AllocError),
         };
@@ -141,7 +145,7 @@ impl Hub {
         self.step(Event::Elapses { micros, missed })
     }
 
-    /// Runs the trains for the rest of the turn under way, and begins the next one.
+    /// Begins a turn, and runs the trains for as long as it lasts.
     pub(crate) fn turn(&mut self) -> Outcome
         requires reported { HasReported self.old }
         ensures specs { map spec_of self.new.bus.world.nodes
@@ -152,9 +156,10 @@ impl Hub {
             (state_of self.old) (state_of self.new) }
     {
         let missed = self.draw();
-        let rest = self.bus.remaining();
-        self.run_trains(rest);
-        self.step(Event::Turn { missed })
+        let outcome = self.step(Event::Turn { missed });
+        let lasts = self.bus.remaining();
+        self.run_trains(lasts);
+        outcome
     }
 
     /// Reports what is due next. Returns `None`, and changes nothing, if nothing is.
@@ -228,8 +233,9 @@ impl Hub {
             &self.answers,
             &self.track_due,
             self.bus.world(),
+            self.sensors.railway.as_ref(),
         );
-        self.answers.advance();
+        self.answers.advance(self.sensors.railway.as_ref());
         self.track_due.advance();
     }
 
@@ -343,7 +349,7 @@ fn enqueue(queues: &mut SendQueues, outcome: &Outcome)
     match outcome {
         Outcome::Nothing
         | Outcome::TurnBegan { .. }
-        | Outcome::NodesRequested { .. }
+        | Outcome::StatesRequested { .. }
         | Outcome::PlaceRequested { .. } => {}
         Outcome::Disconnected { client } => queues[usize::from(*client)].close(),
         Outcome::Connected { client } => {
@@ -371,31 +377,43 @@ fn enqueue_all(queues: &mut SendQueues, outcome: &Outcome)
 
 /// Enqueues for each client the next line of the answer under way to it, and that its turns have
 /// passed.
-fn enqueue_lines(queues: &mut SendQueues, answers: &Answers, track_due: &TrackDue, world: &World)
+fn enqueue_lines(
+    queues: &mut SendQueues,
+    answers: &Answers,
+    track_due: &TrackDue,
+    world: &World,
+    railway: Option<&Railway>,
+)
     requires { specs_of answers.now.nodes.items ≡ map spec_of world.now.nodes }
     ensures { queues.new
         ≡ enqueued_from 0 (λ client.
-        next_line (node_lines (names_of answers.now.nodes.items) world.now.nodes)
-        (slice_index_or answers.now.under_way client None)
+        next_line (lines_of (names_of answers.now.nodes.items) world.now.nodes
+        (option_copied railway.entry)) (slice_index_or answers.now.under_way client None)
         ++ turns_answer (due_to track_due.now.turns client)) queues.old }
 {
     for client in 0..CLIENTS {
-        let text = answer_to(client, answers, track_due, world);
+        let text = answer_to(client, answers, track_due, world, railway);
         queues[usize::from(client)].enqueue(text.as_slice());
     }
 }
 
 /// What a client receives next: a line of the answer under way to it, and that its turns have
 /// passed.
-fn answer_to(client: u8, answers: &Answers, track_due: &TrackDue, world: &World) -> Text
+fn answer_to(
+    client: u8,
+    answers: &Answers,
+    track_due: &TrackDue,
+    world: &World,
+    railway: Option<&Railway>,
+) -> Text
     requires client { client < 8 }
     requires specs { specs_of answers.now.nodes.items ≡ map spec_of world.now.nodes }
     ensures { result.items
-        ≡ next_line (node_lines (names_of answers.now.nodes.items) world.now.nodes)
-        (slice_index_or answers.now.under_way client None)
+        ≡ next_line (lines_of (names_of answers.now.nodes.items) world.now.nodes
+        (option_copied railway.entry)) (slice_index_or answers.now.under_way client None)
         ++ turns_answer (due_to track_due.now.turns client) }
 {
-    let mut text = answers.next_line(client, world);
+    let mut text = answers.next_line(client, world, railway);
     if track_due.have_passed(client) {
         push_turns_ok(&mut text);
     }

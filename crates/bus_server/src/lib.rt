@@ -26,6 +26,7 @@ mod time_source;
 mod track;
 mod track_due;
 mod transport;
+mod under_way;
 
 pub use crate::losses::Losses;
 pub use after_round::AfterRound;

@@ -11,7 +11,7 @@ use crate::named_node::NamedNodes;
 use crate::placement::place;
 use bus::Outcome;
 use layout_core::World;
-use ln_ops::{SensorReport, is_interrogation};
+use ln_ops::{SensorReport, begins_interrogation};
 use loconet_tcp::{PlaceError, Placement};
 use railway::{Railway, Reports};
 
@@ -132,7 +132,7 @@ fn asks_sensors(outcome: &Outcome) -> bool
     ensures { result ≡ asks_sensors outcome.now }
 {
     match outcome {
-        Outcome::Sent { message, .. } => is_interrogation(message),
+        Outcome::Sent { message, .. } => begins_interrogation(message),
         _ => false,
     }
 }

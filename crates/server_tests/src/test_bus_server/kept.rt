@@ -1,5 +1,5 @@
 //! What the logs of a run hold.
-use loconet_tcp::{PlaceError, Reason, TurnsError};
+use loconet_tcp::{PlaceError, Reason, Things, TurnsError};
 
 /// One call of a transport, and what it returned: what `TransportEvent` is in contracts, but a read is one entry.
 #[derive(Drop)]
@@ -26,7 +26,7 @@ pub enum Seen {
     Sent(u8, Vec<u8>, Option<Vec<u8>>),
     Reported(Vec<u8>),
     TurnsRequested(u8, Result<u16, TurnsError>),
-    NodesRequested(u8),
+    StatesRequested(u8, Things),
     Placed(u8, Result<(), PlaceError>),
     TurnBegan(Option<Vec<u8>>),
     Overflowed(u8),

@@ -236,7 +236,7 @@ fn seen_of<R: Place>(rt: &R, outcome: &Outcome) -> Seen
         } => Seen::Sent(*client, bytes_of(rt, message), reply_of(rt, reply)),
         Outcome::Reported { message } => Seen::Reported(bytes_of(rt, message)),
         Outcome::TurnsRequested { client, turns } => Seen::TurnsRequested(*client, *turns),
-        Outcome::NodesRequested { client } => Seen::NodesRequested(*client),
+        Outcome::StatesRequested { client, things } => Seen::StatesRequested(*client, *things),
         Outcome::PlaceRequested { .. } => panic!(rt; "a server answers it"),
         Outcome::Placed { client, answer } => Seen::Placed(*client, *answer),
         Outcome::TurnBegan { packet } => Seen::TurnBegan(packet_of(rt, packet)),
