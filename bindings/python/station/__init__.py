@@ -9,6 +9,7 @@ from .errors import ClosedError, LibraryError, RefusedError, RosterError, Statio
 from .layout import Answer, Byte, Event, Noise, Station, Turn
 from .messages import Acknowledge, Reply, SensorReport, SlotData, message_bytes, message_hex
 from .throttle import Loco, Throttle, Turnout
+from .trains import Train
 
 __version__ = "1.1.0"
 __all__ = [
@@ -34,6 +35,7 @@ __all__ = [
     "Station",
     "StationError",
     "Throttle",
+    "Train",
     "Turn",
     "Turnout",
     "message_bytes",

@@ -6,12 +6,14 @@ import select
 import socket
 import time
 from collections import deque
+from collections.abc import Callable, Iterator
 from typing import TypeVar
 
 from .decoders import State, in_range, read_node_line
 from .errors import ClosedError, StationError
 from .messages import Reply, SensorReport, checked_message, has_reply, message_hex, reply_of, sensor_report_in
 from .throttle import Throttle
+from .trains import Train, read_train_line, read_turnout_line
 
 # The most turns that a client requests at once.
 MOST_TURNS = 10_000
@@ -19,6 +21,8 @@ LAST_SENSOR = 4096
 READ_BYTES = 8192
 
 SomeClient = TypeVar("SomeClient", bound="Client")
+Key = TypeVar("Key")
+Value = TypeVar("Value")
 
 
 def connect(host: str, port: int, seconds: float = 20, room: int | None = None) -> socket.socket:
@@ -243,13 +247,23 @@ class Client(Throttle):
 
     def nodes(self) -> dict[str, State]:
         """How the decoders of the roster stand now, by their names. Only `lbserver` answers this request."""
-        self._request("NODES")
-        nodes: dict[str, State] = {}
-        while (line := self._next_line("NODES OK")) != "NODES OK":
-            found = read_node_line(line)
+        return dict(self._states("NODES", read_node_line))
+
+    def trains(self) -> dict[str, Train]:
+        """Where the trains of the plan are now, by the names of their decoders. Only `lbserver` answers this request."""
+        return dict(self._states("TRAINS", read_train_line))
+
+    def turnouts(self) -> dict[int, bool]:
+        """Whether the turnouts of the plan lie thrown now, by their switches. Only `lbserver` answers this request."""
+        return dict(self._states("TURNOUTS", read_turnout_line))
+
+    def _states(self, request: str, read: Callable[[str], tuple[Key, Value] | None]) -> Iterator[tuple[Key, Value]]:
+        """What the lines of an answer tell."""
+        self._request(request)
+        while (line := self._next_line(f"{request} OK")) != f"{request} OK":
+            found = read(line)
             if found is not None:
-                nodes[found[0]] = found[1]
-        return nodes
+                yield found
 
     def place(self, train: str, block: str, front: int, facing: str | None = None) -> None:
         """Puts a train on the track, derailed or not: its front in this block, so many millimetres from end a.

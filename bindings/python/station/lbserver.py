@@ -31,6 +31,7 @@ from .log import Conflict, Derailment, Log, kinds_in, option, sensors_at_start
 from .messages import Reply, SensorReport
 from .process import Process, find_page, find_program, free_port, start
 from .throttle import Throttle
+from .trains import Train
 
 __all__ = [
     "Client",
@@ -184,6 +185,14 @@ class Server(Throttle, HasNodes):
     def sensor_reports(self, since: int = 0) -> list[SensorReport]:
         """The reports of sensors so far, in order, or those since a mark."""
         return [report for number, report in self._whole_log(since).reports if number >= since]
+
+    def trains(self) -> dict[str, Train]:
+        """Where the trains of the plan are now, as `Client.trains` tells."""
+        return self._own_client().trains()
+
+    def turnouts(self) -> dict[int, bool]:
+        """Whether the turnouts of the plan lie thrown now, as `Client.turnouts` tells."""
+        return self._own_client().turnouts()
 
     def occupied(self) -> set[int]:
         """The sensors that are high: those of the plan's trains at the start, changed by each report since."""

@@ -4,7 +4,7 @@ from __future__ import annotations
 
 import pathlib
 import re
-from collections.abc import Mapping
+from collections.abc import Iterator, Mapping
 from dataclasses import dataclass, field
 from typing import Any
 
@@ -103,6 +103,25 @@ def kinds_in(roster: Mapping[str, Any]) -> dict[str, type[State]]:
 
 
 def sensors_at_start(plan: Mapping[str, Any]) -> set[int]:
-    """The sensors that are occupied at the start: each train is within one block then."""
+    """The sensors that are occupied at the start, by the blocks of each train."""
     sensors = {block["name"]: block.get("sensor") for block in plan.get("block", [])}
-    return {sensor for train in plan.get("train", []) if (sensor := sensors.get(train["block"])) is not None}
+    blocks = [block for train in plan.get("train", []) for block in _blocks_at_start(plan, train)]
+    return {sensor for block in blocks if (sensor := sensors.get(block)) is not None}
+
+
+def _blocks_at_start(plan: Mapping[str, Any], train: Mapping[str, Any]) -> Iterator[str]:
+    """The blocks of a train at the start: that of its front, and those behind it over joints and closed turnouts."""
+    lengths = {block["name"]: block["length"] for block in plan.get("block", [])}
+    beyond: dict[str, str] = {}
+    joined = [joint["ends"] for joint in plan.get("joint", [])]
+    joined += [(turnout["common"], turnout["closed"]) for turnout in plan.get("turnout", [])]
+    for one, other in joined:
+        beyond.update({one: other, other: one})
+    block, facing = train["block"], train["facing"]
+    yield block
+    left = train["length"] - (train["front"] if facing == "b" else lengths[block] - train["front"])
+    while left > 0 and (end := beyond.get(f"{block}.{'a' if facing == 'b' else 'b'}")) is not None:
+        # It faces the end of this block that leads on to the one before.
+        block, facing = end.split(".")
+        yield block
+        left -= lengths[block]

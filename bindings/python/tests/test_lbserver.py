@@ -31,16 +31,18 @@ from station import (  # noqa: E402
     SensorReport,
     SlotData,
     StationError,
+    Train,
     message_bytes,
     message_hex,
 )
 from station.decoders import read_node_line  # noqa: E402
 from station.lbserver import Client, Server, find_page  # noqa: E402
-from station.log import Conflict, Derailment, Log  # noqa: E402
+from station.log import Conflict, Derailment, Log, sensors_at_start  # noqa: E402
 from station.messages import has_reply  # noqa: E402
 
 LAYOUT = TOP / "examples/layout.toml"
 OVAL, OVAL_ROSTER = TOP / "examples/oval.toml", TOP / "examples/oval-roster.toml"
+SIZES = [("front", 500), ("middle", 200), ("last", 300), ("other", 300)]
 ROSTER = [LocoDecoder.at(3, name="shunter"), AccessoryDecoder(1, "yard")]
 WITHOUT = None if os.environ.get("LBSERVER") else "LBSERVER names no program"
 
@@ -433,6 +435,30 @@ class TestClient(unittest.TestCase):
             with self.assertRaises(ClosedError):
                 client.nodes()
         self.assertEqual(received, ["NODES", "NODES", ""])
+
+    def test_states_of_trains(self):
+        lines = [["TRAIN express back 6 b main 120", "RECEIVE B2 01 50 1C", "TRAIN shunter main 4 a main 0 derailed", "TRAINS OK"]]
+        lines += [["TURNOUT 2 thrown", "TURNOUT 3 closed", "TURNOUTS OK"], ["TRAINS OK"]]
+        with scripted(["VERSION x"], *lines) as (port, received), Client("127.0.0.1", port) as client:
+            express, shunter = Train("back", 6, "b", "main", 120, False), Train("main", 4, "a", "main", 0, True)
+            self.assertEqual(client.trains(), {"express": express, "shunter": shunter})
+            self.assertEqual(client.sensor_report(), SensorReport(3, True))
+            self.assertEqual(client.turnouts(), {2: True, 3: False})
+            self.assertEqual(client.trains(), {})
+        self.assertEqual(received, ["TRAINS", "TURNOUTS", "TRAINS", ""])
+
+    def test_sensors_at_start(self):
+        # A train of 700 mm from 100 mm before end b of a block of 500 back over a joint of a's, 200 mm, and a closed turnout.
+        plan = {
+            "block": [{"name": name, "length": length, "sensor": i} for i, (name, length) in enumerate(SIZES, 1)],
+            "joint": [{"ends": ["front.a", "middle.a"]}],
+            "turnout": [{"switch": 1, "common": "middle.b", "closed": "last.b", "thrown": "other.b"}],
+        }
+        train = {"block": "front", "facing": "b", "front": 400, "length": 700}
+        self.assertEqual(sensors_at_start({**plan, "train": [train]}), {1, 2, 3})
+        self.assertEqual(sensors_at_start({**plan, "train": [{**train, "length": 600}]}), {1, 2})
+        self.assertEqual(sensors_at_start({**plan, "train": [{**train, "length": 400}]}), {1})
+        self.assertEqual(sensors_at_start({}), set())
 
     def test_place(self):
         with scripted(
