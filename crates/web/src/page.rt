@@ -397,6 +397,7 @@ fn text_of(message: Message) -> Option<Utf8Bytes>
 /// Returns the error of the stream, if the error is one.
 fn stream_error(error: Error) -> Option<io::Error>
     ensures some { IfSome result (λ _. IsIo error) }
+    ensures cause { IfSome result (λ cause. error ≡ Io cause) }
     ensures none { result ≡ None → ¬ (IsIo error) }
 {
     match error {
@@ -441,12 +442,24 @@ fn as_written(written: Result<(), Error>) -> io::Result<()>
     ensures full { IfErr result
         (λ e. error_kind e ≡ ErrorKind.WouldBlock → written ≡ Err WriteBufferFull) }
 {
-    match written {
-        Ok(()) => Ok(()),
-        Err(Error::Io(error)) if error.kind() == ErrorKind::WouldBlock => Ok(()),
-        Err(Error::Io(error)) => Err(error),
-        Err(Error::WriteBufferFull) => Err(io::Error::from(ErrorKind::WouldBlock)),
-        Err(Error::OutOfMemory) => Err(io::Error::from(ErrorKind::OutOfMemory)),
-        Err(_) => Err(io::Error::from(ErrorKind::BrokenPipe)),
+    let Err(error) = written else {
+        return Ok(());
+    };
+    let kind = kind_of(&error);
+    match stream_error(error) {
+        Some(error) if error.kind() == ErrorKind::WouldBlock => Ok(()),
+        Some(error) => Err(error),
+        None => Err(io::Error::from(kind)),
+    }
+}
+
+/// Returns the kind of an error that is not the stream's.
+fn kind_of(error: &Error) -> ErrorKind
+    ensures full { result ≡ ErrorKind.WouldBlock → error.now ≡ WriteBufferFull }
+{
+    match error {
+        Error::WriteBufferFull => ErrorKind::WouldBlock,
+        Error::OutOfMemory => ErrorKind::OutOfMemory,
+        _ => ErrorKind::BrokenPipe,
     }
 }
