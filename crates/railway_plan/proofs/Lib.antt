@@ -1,2 +1,3 @@
 pub mod Finding
+mod Keys
 pub mod Lengths

@@ -1,6 +1,6 @@
 -- The format of a track plan. Each part is read in the order in which its faults count, and the
 -- first decides.
-use Rattle.std.specs.Prelude.{ℕ, ℤ, pos, negsuc, ◌+◌, ◌++◌, ◌&&◌, Bool, nat_le, nat_lt, if◌then◌else◌, List, [], ◌∷◌, length, map, Option, Some, None, option_and_then, Result, Ok, Err, codes}
+use Rattle.std.specs.Prelude.{ℕ, ℤ, pos, negsuc, ◌+◌, ◌++◌, ◌&&◌, Bool, nat_le, nat_lt, if◌then◌else◌, List, [], ◌∷◌, length, map, Option, Some, None, is_some, option_and_then, Result, Ok, Err, codes}
 use Rattle.std.specs.List.{list_all}
 use Rattle.std.specs.Str.{bytes_eq}
 use Rattle.toml.specs.Data.{Data, Items, no_items, item, Members, get_member, as_array, as_integer, as_str, as_table}
@@ -20,7 +20,7 @@ use Rattle.railway_plan.specs.declared.fault.PlanTextFault.{PlanTextFault}
 use Rattle.railway_plan.specs.declared.fault.Section.{Section}
 use Rattle.railway_plan.specs.declared.fault.Section.TheVariants as section
 use Rattle.railway_plan.specs.declared.fault.Why.{Why}
-use Rattle.railway_plan.specs.declared.fault.Why.TheVariants.{NotToml, UnknownKey, BadKey, NotTable, UnknownEnd, UnknownBlock, UnknownDecoder, TooMany}
+use Rattle.railway_plan.specs.declared.fault.Why.TheVariants.{NotToml, UnknownKey, BadKey, NotTable, UnknownEnd, UnknownBlock, UnknownDecoder, TooMany, RepeatedName}
 use Rattle.railway_plan.specs.declared.key.Key.{Key}
 use Rattle.railway_plan.specs.declared.key.Key.TheVariants as key
 use Rattle.railway_plan.specs.Entries.{BlockEntry, PlanEntries, name_of}
@@ -157,11 +157,12 @@ abbrev pub end_from : ℕ → List Text → Text → Option BlockEnd
 end_from i [] text = None
 end_from i (name ∷ names) text = found_or i (end_from (i + 1) names text) (end_named name text)
 
-abbrev pub end_of : Key → List Text → Text → Result BlockEnd Why
-end_of k blocks text = or_fault (end_from 0 blocks text) (UnknownEnd k)
+-- the end at a key, and at an index there
+abbrev pub end_of : Key → (index : ℕ) → List Text → Text → Result BlockEnd Why
+end_of k index blocks text = or_fault (end_from 0 blocks text) (UnknownEnd k index)
 
 abbrev pub end_at : List Text → Key → Members → Result BlockEnd Why
-end_at blocks k table = text_at k table >>= end_of k blocks
+end_at blocks k table = text_at k table >>= end_of k 0 blocks
 
 -- Joints: two ends.
 
@@ -174,8 +175,8 @@ joint_of blocks (item one no_items) = Err (BadKey key.Ends)
 joint_of blocks (item first (item second no_items)) = do
   one_text ← text_of_item first
   two_text ← text_of_item second
-  one ← end_of key.Ends blocks one_text
-  two ← end_of key.Ends blocks two_text
+  one ← end_of key.Ends 0 blocks one_text
+  two ← end_of key.Ends 1 blocks two_text
   Ok (record { one = one; two = two })
 joint_of blocks (item one (item two (item more items))) = Err (BadKey key.Ends)
 
@@ -313,6 +314,14 @@ version_in given = only top_keys given >>= number_at key.Version (from_to 1 1)
 abbrev pub blocks_in : Items → Result (List BlockEntry) PlanTextFault
 blocks_in = parts_after block_in section.Block []
 
+-- no block has the name of a later one; the first of them has this number
+abbrev pub named_apart : (number : ℕ) → (blocks : List Text) → Result (Unit {0}) PlanTextFault
+named_apart number [] = Ok tt
+named_apart number (name ∷ names) =
+    if is_some (index_from 0 names name)
+    then Err (record { section = section.Block number; why = RepeatedName; names = None })
+    else named_apart (number + 1) names
+
 abbrev pub joints_in : (blocks : List Text) → Items → Result (List Joint) PlanTextFault
 joints_in blocks = parts_after (joint_in blocks) section.Joint []
 
@@ -326,6 +335,7 @@ abbrev pub plan_with : (decoders : List Text) → (blocks joints turnouts trains
     → Result PlanEntries PlanTextFault
 plan_with decoders block_items joint_items turnout_items train_items = do
   blocks ← blocks_in block_items
+  apart ← named_apart 1 (map name_of blocks)
   joints ← joints_in (map name_of blocks) joint_items
   turnouts ← turnouts_in (map name_of blocks) turnout_items
   trains ← trains_in decoders (map name_of blocks) train_items

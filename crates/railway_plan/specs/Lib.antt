@@ -1,3 +1,5 @@
+pub mod Details
 pub mod Entries
 pub mod Format
+pub mod Located
 pub mod Railways

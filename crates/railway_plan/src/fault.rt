@@ -3,7 +3,7 @@ ghost use Rattle.std.specs.Prelude.{◌≡◌, slice_get};
 ghost use Rattle.roster.specs.Decoders.{decoder_name};
 ghost use Rattle.railway_plan.specs.Railways.{HasNames, IsTextFault, number_of, section_at, section_of, why_of};
 
-use crate::bounds::{Bounds, FRONT, LENGTH, RATE, SENSOR, SPEED, SWITCH, TRAIN_LENGTH};
+use crate::bounds::{Bounds, FRONT, LENGTH, RATE, SENSOR, SPEED, SWITCH};
 use crate::key::Key;
 use arrayvec::ArrayString;
 use railway::{End, Name, Part, PlanFault};
@@ -26,8 +26,8 @@ pub enum Why {
     TooMany(Key),
     /// The member of an array is not a table.
     NotTable,
-    /// No block of the plan has the end at the key, or one of the two ends there.
-    UnknownEnd(Key),
+    /// No block of the plan has the end at the key; of a joint, that of this index of its two.
+    UnknownEnd { key: Key, index: usize },
     /// No block of the plan has this name.
     UnknownBlock,
     /// No decoder of the roster has this name.
@@ -195,12 +195,12 @@ fn words_of(why: Why) -> &'static str {
         Why::RepeatedSensor => "another block has this sensor",
         Why::RepeatedEnd(End::A) => "end a is named twice",
         Why::RepeatedEnd(End::B) => "end b is named twice",
-        Why::NoDecoder => "the roster has no decoder for it",
+        Why::NoDecoder => "no decoder of the roster has its switch",
         Why::RepeatedDecoder => "another train has this decoder",
         Why::OffTrack => "its front is not in its block",
         Why::LongTrain => "longer than the track behind it",
         Why::NoMemory => "no memory",
-        Why::BadKey(_) | Why::TooMany(_) | Why::UnknownEnd(_) => "",
+        Why::BadKey(_) | Why::TooMany(_) | Why::UnknownEnd { .. } => "",
     }
 }
 
@@ -209,7 +209,7 @@ impl fmt::Display for Why {
         match *self {
             Why::BadKey(key) => write_demand(key, f),
             Why::TooMany(key) => write!(f, "there are too many {key}s"),
-            Why::UnknownEnd(key) => write!(f, "{key}: no block has this end"),
+            Why::UnknownEnd { key, .. } => write!(f, "{key}: no block has this end"),
             why => f.write_str(words_of(why)),
         }
     }
@@ -223,28 +223,6 @@ impl fmt::Display for Section {
             Section::Joint(number) => write!(f, "joint {number}"),
             Section::Turnout(number) => write!(f, "turnout {number}"),
             Section::Train(number) => write!(f, "train {number}"),
-        }
-    }
-}
-
-impl fmt::Display for PlanTextFault {
-    fn fmt<W: fmt::Write>(&self, f: &mut fmt::Formatter<W>) -> fmt::Result {
-        let (section, why) = (self.section, self.why);
-        if let Some(names) = &self.names {
-            let (train, block) = (names.train.as_str(), names.block.as_str());
-            return write!(f, "{section} ({train}): {why} (block {block})");
-        }
-        match (section, why) {
-            // `block` is a key of the plan, and one of a train.
-            (Section::Train(_), Why::BadKey(Key::Block)) => {
-                write!(f, "{section}: block must be the name of a block")
-            }
-            // So is `length`.
-            (Section::Train(_), Why::BadKey(Key::Length)) => {
-                let Bounds { least, most } = TRAIN_LENGTH;
-                write!(f, "{section}: length must be {least} to {most}")
-            }
-            _ => write!(f, "{section}: {why}"),
         }
     }
 }

@@ -4,6 +4,30 @@ ghost use Rattle.railway_plan.specs.Format.{spelled};
 
 use std::fmt;
 
+/// The keys of the whole.
+pub(crate) const PLAN_KEYS: [&'static str; 5] = ["version", "block", "joint", "turnout", "train"];
+
+/// The keys of a block.
+pub(crate) const BLOCK_KEYS: [&'static str; 5] = ["name", "length", "sensor", "a", "b"];
+
+/// The key of a joint.
+pub(crate) const JOINT_KEYS: [&'static str; 1] = ["ends"];
+
+/// The keys of a turnout.
+pub(crate) const TURNOUT_KEYS: [&'static str; 4] = ["switch", "common", "closed", "thrown"];
+
+/// The keys of a train.
+pub(crate) const TRAIN_KEYS: [&'static str; 8] = [
+    "decoder",
+    "block",
+    "front",
+    "facing",
+    "length",
+    "speed",
+    "acceleration",
+    "braking",
+];
+
 /// A key of a plan's text.
 #[derive(Clone, Copy)]
 pub enum Key {

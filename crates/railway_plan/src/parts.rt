@@ -7,7 +7,7 @@ ghost use Rattle.railway_plan.specs.Entries.{block_entry, names_of};
 
 use crate::bounds::{FRONT, LENGTH, SPEED, SWITCH, TRAIN_LENGTH};
 use crate::fault::Why;
-use crate::key::Key;
+use crate::key::{BLOCK_KEYS, JOINT_KEYS, Key, TRAIN_KEYS, TURNOUT_KEYS};
 use crate::names::{block_end, block_index, decoder_index};
 use crate::table::{number_at, point, rate, sensor, text_at, value_at};
 use railway::{
@@ -24,7 +24,7 @@ pub(crate) fn block(value: &Value) -> Result<Block, Why>
         (λ why. part_of block_in (view value.now) ≡ Err why) }
 {
     let table = table_of(value)?;
-    if !knows_only(table, &["name", "length", "sensor", "a", "b"]) {
+    if !knows_only(table, &BLOCK_KEYS) {
         return Err(Why::UnknownKey);
     }
     Ok(Block {
@@ -74,7 +74,7 @@ pub(crate) fn joint(blocks: &[Block], value: &Value) -> Result<Joint, Why>
     ensures { result ≡ part_of (joint_in (names_of blocks.now)) (view value.now) }
 {
     let table = table_of(value)?;
-    if !knows_only(table, &["ends"]) {
+    if !knows_only(table, &JOINT_KEYS) {
         return Err(Why::UnknownKey);
     }
     match value_at(table, Key::Ends) {
@@ -93,8 +93,8 @@ fn joint_of(blocks: &[Block], ends: &[Value]) -> Result<Joint, Why>
     match ends {
         [one, two] => match (one.as_str(), two.as_str()) {
             (Some(one), Some(two)) => Ok(Joint {
-                one: end_of(Key::Ends, blocks, one)?,
-                two: end_of(Key::Ends, blocks, two)?,
+                one: end_of(Key::Ends, 0, blocks, one)?,
+                two: end_of(Key::Ends, 1, blocks, two)?,
             }),
             _ => Err(Why::BadKey(Key::Ends)),
         },
@@ -102,14 +102,14 @@ fn joint_of(blocks: &[Block], ends: &[Value]) -> Result<Joint, Why>
     }
 }
 
-/// Returns the end at a key, which is spelled so.
-fn end_of(key: Key, blocks: &[Block], text: &str) -> Result<BlockEnd, Why>
+/// Returns the end at a key and an index there, which is spelled so.
+fn end_of(key: Key, index: usize, blocks: &[Block], text: &str) -> Result<BlockEnd, Why>
     requires { length blocks.now ≤ 64 }
-    ensures { result ≡ end_of key (names_of blocks.now) text.now }
+    ensures { result ≡ end_of key index (names_of blocks.now) text.now }
 {
     match block_end(blocks, text) {
         Some(end) => Ok(end),
-        None => Err(Why::UnknownEnd(key)),
+        None => Err(Why::UnknownEnd { key, index }),
     }
 }
 
@@ -118,7 +118,7 @@ fn end_at(blocks: &[Block], table: &Table, key: Key) -> Result<BlockEnd, Why>
     requires { length blocks.now ≤ 64 }
     ensures { result ≡ end_at (names_of blocks.now) key (table_view table.now) }
 {
-    end_of(key, blocks, text_at(table, key)?)
+    end_of(key, 0, blocks, text_at(table, key)?)
 }
 
 /// Returns the turnout that a table says, between ends of these blocks.
@@ -127,7 +127,7 @@ pub(crate) fn turnout(blocks: &[Block], value: &Value) -> Result<Turnout, Why>
     ensures { result ≡ part_of (turnout_in (names_of blocks.now)) (view value.now) }
 {
     let table = table_of(value)?;
-    if !knows_only(table, &["switch", "common", "closed", "thrown"]) {
+    if !knows_only(table, &TURNOUT_KEYS) {
         return Err(Why::UnknownKey);
     }
     Ok(Turnout {
@@ -145,19 +145,7 @@ pub(crate) fn train(roster: &Roster, blocks: &[Block], value: &Value) -> Result<
         ≡ part_of (train_in (map name_of roster.now) (names_of blocks.now)) (view value.now) }
 {
     let table = table_of(value)?;
-    if !knows_only(
-        table,
-        &[
-            "decoder",
-            "block",
-            "front",
-            "facing",
-            "length",
-            "speed",
-            "acceleration",
-            "braking",
-        ],
-    ) {
+    if !knows_only(table, &TRAIN_KEYS) {
         return Err(Why::UnknownKey);
     }
     let decoder = decoder_at(roster, table)?;

@@ -5,13 +5,14 @@ ghost use Rattle.roster.specs.Entry.{name_of};
 ghost use Rattle.roster.specs.Toml.{table_in};
 ghost use Rattle.railway_plan.specs.declared.fault.Section.TheVariants.{Whole as WholeSection};
 ghost use Rattle.railway_plan.specs.declared.fault.Why.TheVariants.{NoMemory, NotToml};
-ghost use Rattle.railway_plan.specs.Format.{blocks_in, in_section, items_at, plan_in, plan_of, plan_with, version_in};
-ghost use Rattle.railway_plan.specs.Entries.{block_entry, plan_entries};
+ghost use Rattle.railway_plan.specs.Format.{blocks_in, in_section, items_at, named_apart, plan_in, plan_of, plan_with, version_in};
+ghost use Rattle.railway_plan.specs.Entries.{block_entry, names_of, plan_entries};
 
 use crate::bounds::VERSION;
 use crate::fault::{PlanTextFault, Section, Why};
-use crate::key::Key;
+use crate::key::{Key, PLAN_KEYS};
 use crate::members::read_members;
+use crate::names::block_index;
 use crate::parts::block;
 use crate::table::{array, number_at, value_at};
 use arrayvec::ArrayVec;
@@ -117,7 +118,7 @@ fn read_version(table: &Table) -> Result<(), PlanTextFault>
         (λ _. IsOk (in_section WholeSection (version_in (table_view table.now))))
         (λ fault. in_section WholeSection (version_in (table_view table.now)) ≡ Err fault) }
 {
-    if !knows_only(table, &["version", "block", "joint", "turnout", "train"]) {
+    if !knows_only(table, &PLAN_KEYS) {
         return Err(of_whole(Why::UnknownKey));
     }
     match number_at(table, Key::Version, VERSION) {
@@ -163,6 +164,7 @@ fn read_parts(
 {
     let blocks = read_blocks(blocks)?;
     let names = blocks.as_slice();
+    check_names(names)?;
     let joints = read_members(roster, names, joints)?;
     let turnouts = read_members(roster, names, turnouts)?;
     let trains = read_members(roster, names, trains)?;
@@ -188,4 +190,18 @@ fn read_blocks(values: &[Value]) -> Result<ArrayVec<Block, MAX_BLOCKS>, PlanText
         }
     }
     Ok(parts)
+}
+
+/// Checks that no block has the name of a later one.
+fn check_names(blocks: &[Block]) -> Result<(), PlanTextFault>
+    requires few { length blocks.now ≤ 64 }
+    ensures { MatchResult result (λ _. IsOk (named_apart 1 (names_of blocks.now)))
+        (λ fault. named_apart 1 (names_of blocks.now) ≡ Err fault) }
+{
+    for (i, block) in blocks.iter().enumerate() {
+        if block_index(&blocks[i + 1..], block.name.as_str()).is_some() {
+            return Err(fault(Section::Block(i + 1), Why::RepeatedName));
+        }
+    }
+    Ok(())
 }

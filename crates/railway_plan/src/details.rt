@@ -1,0 +1,158 @@
+//! More about a fault of a plan than its kind and its part.
+ghost use Rattle.std.specs.Prelude.{◌≡◌, option_map};
+ghost use Rattle.std.specs.List.{list_all};
+ghost use Rattle.railway_plan.specs.Details.{is_printable, is_shown, shown};
+
+use crate::bounds::{Bounds, TRAIN_LENGTH};
+use crate::fault::{PlanTextFault, Section, Why};
+use crate::key::Key;
+use arrayvec::ArrayString;
+use std::fmt;
+use std::marker::Model;
+
+/// The longest word of a plan that a fault shows, in bytes.
+pub(crate) const LONGEST_WORD: usize = 48;
+
+/// A word of a plan, which a fault shows.
+pub(crate) type Word = ArrayString<LONGEST_WORD>;
+
+/// More about the first fault of a plan than its kind and its part.
+///
+/// Contracts see it as these four.
+#[derive(Drop)]
+pub struct PlanDetails {
+    /// The line at which the text is no TOML, from 1.
+    pub(crate) line: Option<usize>,
+    /// The name of the part: of a block its own, of a train its decoder's.
+    pub(crate) name: Option<Word>,
+    /// The key, the end or the block that is wrong.
+    pub(crate) word: Option<Word>,
+    /// The last part with the same name, sensor, decoder or end.
+    pub(crate) other: Option<Section>,
+}
+
+impl Model for PlanDetails {
+    ghost use Rattle.std.specs.Prelude.{option_map};
+    ghost use Rattle.railway_plan.specs.Details.{PlanDetails};
+
+    ghost Value = { PlanDetails };
+
+    ghost view = { λ details. record {
+      line = details.line;
+      name = option_map (λ name. name.bytes) details.name;
+      word = option_map (λ word. word.bytes) details.word;
+      other = details.other;
+    } };
+}
+
+/// The first fault of a plan, and more about it. It is shown as
+/// `train 1 (express): no block has the name loop`.
+#[derive(Drop)]
+pub struct LocatedFault {
+    pub fault: PlanTextFault,
+    pub details: PlanDetails,
+}
+
+fn is_printable(byte: u8) -> bool
+    ensures { result ≡ is_printable byte }
+{
+    matches!(byte, 32..=126)
+}
+
+fn are_printable(bytes: &[u8]) -> bool
+    ensures { result ≡ list_all is_printable bytes.now }
+{
+    bytes.iter().all(|byte| is_printable(*byte))
+}
+
+fn is_shown(text: &str) -> bool
+    ensures { result ≡ is_shown text.now }
+{
+    matches!(text.len(), 1..=LONGEST_WORD) && are_printable(text.as_bytes())
+}
+
+/// Returns a text as a word, if a fault shows such texts.
+pub(crate) fn shown(text: Option<&str>) -> Option<Word>
+    ensures { option_map (λ word. word.bytes) result
+        ≡ shown (option_map (λ text. text.now) text.entry) }
+{
+    let text = text?;
+    if !is_shown(text) {
+        return None;
+    }
+    Word::from(text).ok()
+}
+
+/// Writes what is wrong with a part that has the same as another.
+fn write_repeated<W: fmt::Write>(
+    why: Why,
+    other: Option<Section>,
+    f: &mut fmt::Formatter<W>,
+) -> fmt::Result {
+    match (why, other) {
+        (Why::RepeatedName, Some(other)) => write!(f, "{other} has this name too"),
+        (Why::RepeatedSensor, Some(other)) => write!(f, "{other} has this sensor too"),
+        (Why::RepeatedDecoder, Some(other)) => write!(f, "{other} has this decoder too"),
+        (Why::RepeatedEnd(_), Some(other)) => write!(f, "{why}, last by {other}"),
+        _ => write!(f, "{why}"),
+    }
+}
+
+/// Writes what is wrong with a word of a part.
+fn write_word<W: fmt::Write>(why: Why, word: &Word, f: &mut fmt::Formatter<W>) -> fmt::Result {
+    match why {
+        Why::UnknownKey => write!(f, "unknown key {word}"),
+        Why::UnknownEnd { key, .. } => write!(f, "{key}: no block has the end {word}"),
+        Why::UnknownBlock => write!(f, "no block has the name {word}"),
+        _ => write!(f, "{why} ({word})"),
+    }
+}
+
+/// Writes what is wrong with a train.
+fn write_train<W: fmt::Write>(why: Why, f: &mut fmt::Formatter<W>) -> fmt::Result {
+    match why {
+        // `block` is a key of the plan, and one of a train.
+        Why::BadKey(Key::Block) => f.write_str("block must be the name of a block"),
+        // So is `length`.
+        Why::BadKey(Key::Length) => {
+            let Bounds { least, most } = TRAIN_LENGTH;
+            write!(f, "length must be {least} to {most}")
+        }
+        Why::NoDecoder => f.write_str("its decoder is not of a locomotive"),
+        _ => write!(f, "{why}"),
+    }
+}
+
+impl LocatedFault {
+    /// Writes where the fault is: in a line, or in a part, with its name.
+    fn write_place<W: fmt::Write>(&self, f: &mut fmt::Formatter<W>) -> fmt::Result {
+        let section = self.fault.section;
+        match (self.details.line, &self.details.name) {
+            (Some(line), _) => write!(f, "line {line}"),
+            (None, Some(name)) => write!(f, "{section} ({name})"),
+            (None, None) => write!(f, "{section}"),
+        }
+    }
+
+    /// Writes what is wrong.
+    fn write_reason<W: fmt::Write>(&self, f: &mut fmt::Formatter<W>) -> fmt::Result {
+        let why = self.fault.why;
+        match (self.fault.section, &self.fault.names, &self.details.word) {
+            (_, Some(names), _) => {
+                let block = names.block.as_str();
+                write!(f, "{why} (block {block})")
+            }
+            (_, None, Some(word)) => write_word(why, word, f),
+            (Section::Train(_), None, None) if self.details.other.is_none() => write_train(why, f),
+            (_, None, None) => write_repeated(why, self.details.other, f),
+        }
+    }
+}
+
+impl fmt::Display for LocatedFault {
+    fn fmt<W: fmt::Write>(&self, f: &mut fmt::Formatter<W>) -> fmt::Result {
+        self.write_place(f)?;
+        f.write_str(": ")?;
+        self.write_reason(f)
+    }
+}
