@@ -7,7 +7,7 @@ ghost use Rattle.lbserver.specs.Execution.{is_output, status_of};
 use crate::roster_line::{NAME, write_roster_fault};
 use command_line::{FileName, OrderFault, open_error_words};
 use console::{RunFault, WriteError, report_as};
-use railway_plan::PlanTextFault;
+use railway_plan::LocatedFault;
 use roster::{FaultDetails, RosterFault};
 use std::alloc::AllocError;
 use std::io;
@@ -38,7 +38,7 @@ pub(crate) enum ServerFault {
     /// Status 3: the track plan in this file has this fault, the first.
     Plan {
         file: FileName,
-        fault: PlanTextFault,
+        fault: LocatedFault,
     },
     /// Status 4: standard output could not be written.
     Output,

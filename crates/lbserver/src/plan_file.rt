@@ -1,16 +1,18 @@
 //! Reading a track plan from its file.
-ghost use Rattle.std.specs.Prelude.{◌≡◌, ◌<◌, IfErr, IfOk, false};
+ghost use Rattle.std.specs.Prelude.{◌≡◌, ◌≢◌, ◌<◌, IfErr, IfOk, List, false};
 ghost use Rattle.roster.specs.Decoders.{entries_of};
+ghost use Rattle.roster.specs.Entry.{Entry};
 ghost use Rattle.lbserver.specs.Execution.{IsRailwayOf, IsEnd, is_output, status_of};
-ghost use Rattle.lbserver.specs.PlanFaults.{HasPlanFault, plan_fault};
-ghost use Rattle.railway_plan.specs.Railways.{IsRailwayIn};
+ghost use Rattle.lbserver.specs.PlanFaults.{HasPlanFault};
+ghost use Rattle.railway_plan.specs.declared.fault.Why.TheVariants.{NoMemory};
+ghost use Rattle.railway_plan.specs.Railways.{IsFaultIn, IsRailwayIn};
 
 use crate::fault::ServerFault;
 use crate::files::read_file;
 use command_line::FileName;
 use console::RunFault;
 use railway::Railway;
-use railway_plan::PlanTextFault;
+use railway_plan::{PlanTextFault, locate};
 use roster::Roster;
 use std::alloc::Global;
 
@@ -40,7 +42,6 @@ pub(crate) fn read_railway(
 }
 
 /// Returns the railway of a text, which is that of the file of this name.
-#[tactic(auto, using(crate::proofs::PlanFaulty::has_fault))]
 fn railway_of(
     alloc: Global,
     file: FileName,
@@ -53,18 +54,23 @@ fn railway_of(
 {
     match railway_plan::read_railway(alloc, text, roster) {
         Ok(railway) => Ok(railway),
-        Err(fault) => Err(fault_of(file, fault)),
+        Err(fault) => Err(fault_of(alloc, file, text, fault)),
     }
 }
 
 /// Returns the fault of a text, which is that of the file of this name.
-fn fault_of(file: FileName, fault: PlanTextFault) -> ServerFault
-    ensures fault { result ≡ plan_fault file fault }
+fn fault_of(alloc: Global, file: FileName, text: &[u8], fault: PlanTextFault) -> ServerFault
+    ensures fault { (entries : List Entry)
+        → (fault.why ≢ NoMemory → IsFaultIn entries text.now fault)
+        → HasPlanFault file entries text.now result }
     ensures output { is_output result ≡ false }
     ensures status { 1 < status_of result }
 {
     if let railway_plan::Why::NoMemory = fault.why {
         return ServerFault::Run(RunFault::NoMemory);
     }
-    ServerFault::Plan { file, fault }
+    match locate(alloc, text, fault) {
+        Ok(fault) => ServerFault::Plan { file, fault },
+        Err(_) => ServerFault::Run(RunFault::NoMemory),
+    }
 }
