@@ -150,7 +150,7 @@ same-marks (x ∷ xs) (y ∷ ys) h =
     let parts = and_parts (beq x y) (pointwise beq xs ys) h in
     ap (λ (b : Bool). b ∷ xs) (same-bool x y parts.0) ∙ ap (λ (m : List Bool). y ∷ m) (same-marks xs ys parts.1)
 
-marks-self : (m : List Bool) → pointwise beq m m ≡ true
+pub marks-self : (m : List Bool) → pointwise beq m m ≡ true
 marks-self [] = refl
 marks-self (x ∷ xs) = and_from (beq x x) (pointwise beq xs xs) (same-bool-self x) (marks-self xs)
 

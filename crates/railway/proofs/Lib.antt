@@ -15,7 +15,8 @@ pub mod Throwing
 pub mod Derailing
 pub mod Changing
 pub mod Meeting
-pub mod Staying
+pub mod Occupying
+pub mod Sets
 pub mod Times
 pub mod Sensors
 pub mod Observing

@@ -1,7 +1,8 @@
 -- Trains of a railway, as their decoders run.
-use Rattle.std.proofs.Common.{◌≡◌, ◌≢◌, ℕ, ◌<◌, ◌≤◌, Bool, true, false, inl, inr, List, [], ◌∷◌, Option, Some, None, map, refl, ap, sym, subst, ◌∙◌, arith}
+use Rattle.std.proofs.Common.{◌≡◌, ◌≢◌, ℕ, ◌<◌, ◌≤◌, Bool, true, false, inl, inr, List, [], ◌∷◌, Option, Some, None, drop, length, map, refl, ap, sym, subst, ◌∙◌, arith}
 use Rattle.std.proofs.lemmas.Bool.{and_from, and_parts, cases_Bool, leb-true}
-use Rattle.std.specs.List.{list_all}
+use Rattle.std.specs.List.{list_all, refill}
+use Rattle.std.proofs.lemmas.List.{length-map, take_at}
 use Rattle.std.specs.Prelude.{if◌then◌else◌, IsTrue, nat_le}
 use Rattle.dcc_packet.specs.declared.steps.Motion.{Motion}
 use Rattle.dcc_packet.specs.declared.steps.Motion.TheVariants.{Stop, Emergency, Step}
@@ -150,6 +151,12 @@ run_all-trains p n micros nodes [] is h = refl
 run_all-trains p n micros nodes (t ∷ ts) is h =
     let parts = and_parts (is_train n t) (list_all (is_train n) ts) h in
     and_from (is_train n (run_under p n micros nodes t)) (list_all (is_train n) (map (run_under p n micros nodes) ts)) (under-train p n micros nodes t is parts.0) (run_all-trains p n micros nodes ts is parts.1)
+
+-- they are where the trains were before
+pub refilled : (f : TrainState → TrainState) (items now new : List TrainState) → now ≡ items → new ≡ map f now → refill (length items) items new ≡ map f items
+refilled f items now new same h =
+    let ran : new ≡ map f items = h ∙ ap (λ (ts : List TrainState). map f ts) same in
+    ap (λ (ts : List TrainState). refill (length items) items ts) ran ∙ take_at (map f items) (drop (length (map f items)) items) (length items) (length-map items f)
 
 pub all-run : (n : Network) (ts : List TrainState) → list_all (is_train n) ts ≡ true → list_all (can_run n.blocks) ts ≡ true
 all-run n [] h = refl

@@ -1,4 +1,5 @@
 pub mod Blocks
+pub mod BlockSets
 pub mod Conflicts
 pub mod Course
 pub mod Decoders
@@ -11,6 +12,5 @@ pub mod Places
 pub mod Railway
 pub mod Reports
 pub mod Running
-pub mod Staying
 pub mod Trains
 pub mod Turnouts

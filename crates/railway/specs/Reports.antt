@@ -1,5 +1,5 @@
 -- What sensors report, and what an observer knows by it.
-use Rattle.std.specs.Prelude.{ℕ, ◌+◌, ◌==◌, ◌&&◌, ◌++◌, Bool, true, false, nat_lt, not, if◌then◌else◌, List, [], ◌∷◌, Option, Some, None}
+use Rattle.std.specs.Prelude.{ℕ, ◌≡◌, ◌<◌, ◌+◌, ◌==◌, ◌&&◌, ◌++◌, Bool, true, false, nat_lt, not, if◌then◌else◌, List, [], ◌∷◌, Option, Some, None}
 use Rattle.std.specs.Bool.{beq}
 use Rattle.std.specs.Cmp.Lexicographic.{pointwise}
 use Rattle.std.specs.List.{list_any, slice_index_or}
@@ -47,6 +47,22 @@ changes_from level was is i (block ∷ blocks) =
 -- what they report as trains move: each block that becomes occupied, then each that becomes free
 abbrev pub changes : List Block → (was is : List TrainState) → List SensorReport
 changes blocks was is = changes_from true was is 0 blocks ++ changes_from false was is 0 blocks
+
+-- these marks are those of the blocks in which a part of one of the trains is
+abbrev pub AreOccupied : List TrainState → (marks : List Bool) → Type 0
+AreOccupied trains marks =
+    (block : ℕ) → block < 64 → slice_index_or marks block false ≡ is_occupied trains block
+
+-- what sensors report as blocks with these marks were occupied and now those with others are
+abbrev pub changes_in : (level : Bool) → (was is : List Bool) → (i : ℕ) → List Block
+    → List SensorReport
+changes_in level was is i [] = []
+changes_in level was is i (block ∷ blocks) =
+    onto (change_of level block.sensor (slice_index_or was i false) (slice_index_or is i false))
+    (changes_in level was is (i + 1) blocks)
+
+abbrev pub changes_of : (was is : List Bool) → List Block → List SensorReport
+changes_of was is blocks = changes_in true was is 0 blocks ++ changes_in false was is 0 blocks
 
 abbrev pub level_of : Option ℕ → Bool → Option SensorReport
 level_of None is = None

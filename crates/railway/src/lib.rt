@@ -20,6 +20,7 @@
 #![tactic(auto)]
 
 mod block;
+mod block_set;
 mod checking;
 mod conflict;
 mod exit;
@@ -35,6 +36,7 @@ mod track;
 mod train;
 
 pub use block::{Block, BlockEnd, End, LONGEST_BLOCK, LONGEST_NAME, Name, Point, block_name};
+pub use block_set::BlockSet;
 pub use conflict::{Conflict, Conflicts};
 pub use exit::Exit;
 pub use fault::{Part, PlaceFault, PlanFault};

@@ -10,7 +10,7 @@ ghost use Rattle.railway.specs.Railway.{replaced};
 ghost use Rattle.railway.specs.Trains.{default_state};
 
 use crate::block::{Block, End, MILLIMETRE, Name};
-use crate::plan::MAX_BLOCKS;
+use crate::block_set::BlockSet;
 use crate::track::Track;
 use crate::train::{Place, Position, STANDSTILL, Train, TrainState, Trains};
 use arrayvec::ArrayVec;
@@ -118,7 +118,7 @@ impl Track {
             rear: back.turned(),
             velocity: STANDSTILL,
             derailed_at: None,
-            under: [false; MAX_BLOCKS],
+            under: BlockSet::empty(),
         })
     }
 }

@@ -16,7 +16,7 @@ use crate::fault::{PlaceFault, PlanFault};
 use crate::joint::{Joint, Turnout, TurnoutState};
 use crate::placement::has_front;
 use crate::plan::{MAX_TURNOUTS, Plan};
-use crate::report::{Reports, changes, full, is_occupied};
+use crate::report::{Reports, changes, full, is_occupied, occupied};
 use crate::track::Track;
 use crate::train::{Position, TrainState, Trains};
 use arrayvec::ArrayVec;
@@ -96,11 +96,10 @@ impl Railway {
     {
         self.lay(world);
         let track = &self.track;
-        let trains = track.run_all(self.trains.as_slice(), micros, world);
-        let blocks = track.blocks.as_slice();
-        let reports = changes(blocks, self.trains.as_slice(), trains.as_slice());
-        self.trains = trains;
-        reports
+        let before = occupied(self.trains.as_slice());
+        track.run_all(self.trains.as_mut_slice(), micros, world);
+        let after = occupied(self.trains.as_slice());
+        changes(track.blocks.as_slice(), before, after)
     }
 
     /// Lays the turnouts as their decoders move them, and derails the trains under which one is
@@ -148,7 +147,8 @@ impl Railway {
         let track = &self.track;
         let old = self.trains.as_slice();
         let trains = track.replaced(old, train, position);
-        let reports = changes(track.blocks.as_slice(), old, trains.as_slice());
+        let (before, after) = (occupied(old), occupied(trains.as_slice()));
+        let reports = changes(track.blocks.as_slice(), before, after);
         self.trains = trains;
         Ok(reports)
     }

@@ -1,10 +1,10 @@
 //! What the sensors report.
-ghost use Rattle.std.specs.Prelude.{◌≡◌, ◌≤◌, ◌<◌, ◌+◌, ◌++◌, length, slice_get, true};
+ghost use Rattle.std.specs.Prelude.{◌≡◌, ◌≤◌, ◌+◌, ◌++◌, length};
 ghost use Rattle.arrayvec.specs.ArrayVec.{array_vec_len};
-ghost use Rattle.railway.specs.Reports.{change_of, changes, changes_from, full, is_occupied, occupies, same_blocks};
-ghost use Rattle.railway.specs.Staying.{AllStay, stays};
+ghost use Rattle.railway.specs.Reports.{AreOccupied, change_of, changes_in, changes_of, full, is_occupied, occupies, same_blocks};
 
 use crate::block::Block;
+use crate::block_set::BlockSet;
 use crate::plan::MAX_BLOCKS;
 use crate::train::TrainState;
 use arrayvec::ArrayVec;
@@ -21,14 +21,14 @@ impl TrainState {
     pub fn occupies(&self, block: usize) -> bool
         ensures occupies { result ≡ occupies block self.now }
     {
-        block < MAX_BLOCKS && self.under[block]
+        block < MAX_BLOCKS && self.under.has(block)
     }
 
     /// Whether the train is in the same blocks as another.
     pub fn is_in_blocks_of(&self, other: &TrainState) -> bool
         ensures same { result ≡ same_blocks self.now other.now }
     {
-        self.under == other.under
+        self.under.is(other.under)
     }
 }
 
@@ -39,15 +39,26 @@ pub(crate) fn is_occupied(trains: &[TrainState], block: usize) -> bool
     trains.iter().any(|train| train.occupies(block))
 }
 
-/// Returns what the sensors report as trains move: first those whose block becomes occupied, then
-/// those whose block becomes free. No block is looked at while each train stays where it is.
-#[tactic(auto, using(crate::proofs::Staying::no_changes))]
-pub(crate) fn changes(blocks: &[Block], was: &[TrainState], is: &[TrainState]) -> Reports
+/// Returns the blocks in which a part of one of the trains is.
+pub(crate) fn occupied(trains: &[TrainState]) -> BlockSet
+    ensures { AreOccupied trains.now result }
+{
+    let mut blocks = BlockSet::empty();
+    for train in trains {
+        blocks = blocks.union(train.under);
+    }
+    blocks
+}
+
+/// Returns what the sensors report as these blocks were occupied and now those are: first the sensors
+/// whose block becomes occupied, then those whose block becomes free.
+#[tactic(auto, using(crate::proofs::Occupying::no_changes))]
+pub(crate) fn changes(blocks: &[Block], was: BlockSet, is: BlockSet) -> Reports
     requires { length blocks.now ≤ 64 }
-    ensures { result.items ≡ changes blocks.now was.now is.now }
+    ensures { result.items ≡ changes_of was is blocks.now }
 {
     let mut reports = ArrayVec::new();
-    if all_stay(was, is) {
+    if was.is(is) {
         return reports;
     }
     add_changes(&mut reports, true, blocks, was, is);
@@ -55,47 +66,16 @@ pub(crate) fn changes(blocks: &[Block], was: &[TrainState], is: &[TrainState]) -
     reports
 }
 
-/// Returns whether each train is in the blocks in which it was.
-fn all_stay(was: &[TrainState], is: &[TrainState]) -> bool
-    ensures { result ≡ true → AllStay was.now is.now }
-{
-    if was.len() != is.len() {
-        return false;
-    }
-    for i in 0..is.len() {
-        if !stays(was, is, i) {
-            return false;
-        }
-    }
-    true
-}
-
-fn stays(was: &[TrainState], is: &[TrainState], i: usize) -> bool
-    ensures { result ≡ stays (slice_get was.now i) (slice_get is.now i) }
-{
-    match (was.get(i), is.get(i)) {
-        (None, None) => true,
-        (Some(was), Some(is)) => was.is_in_blocks_of(is),
-        _ => false,
-    }
-}
-
 /// Adds the reports of those that change to one level.
-fn add_changes(
-    reports: &mut Reports,
-    level: bool,
-    blocks: &[Block],
-    was: &[TrainState],
-    is: &[TrainState],
-)
+fn add_changes(reports: &mut Reports, level: bool, blocks: &[Block], was: BlockSet, is: BlockSet)
+    requires blocks { length blocks.now ≤ 64 }
     requires room { array_vec_len reports.old + length blocks.now ≤ 128 }
     ensures added { reports.new.items
-        ≡ reports.old.items ++ changes_from level was.now is.now 0 blocks.now }
+        ≡ reports.old.items ++ changes_in level was is 0 blocks.now }
     ensures few { array_vec_len reports.new ≤ array_vec_len reports.old + length blocks.now }
 {
     for (i, block) in blocks.iter().enumerate() {
-        let (before, after) = (is_occupied(was, i), is_occupied(is, i));
-        if let Some(report) = change_of(level, block.sensor, before, after) {
+        if let Some(report) = change_of(level, block.sensor, was.has(i), is.has(i)) {
             reports.push(report);
         }
     }

@@ -1,5 +1,5 @@
 //! The track, and how a train runs on it.
-ghost use Rattle.std.specs.Prelude.{◌≡◌, ◌+◌, ◌<◌, ◌≤◌, IsTrue, length, IfSome, map, slice_set, None, Some, true};
+ghost use Rattle.std.specs.Prelude.{◌≡◌, ◌+◌, ◌<◌, ◌≤◌, IsTrue, length, IfSome, map, None, Some};
 ghost use Rattle.std.specs.List.{list_all, list_any};
 ghost use Rattle.motion.specs.Velocity.{is_drive};
 ghost use Rattle.railway.specs.Blocks.{length_of, no_blocks};
@@ -9,6 +9,7 @@ ghost use Rattle.railway.specs.Running.{can_run, is_within};
 ghost use Rattle.railway.specs.Turnouts.{is_moved, is_moved_end};
 
 use crate::block::{Block, BlockEnd, End};
+use crate::block_set::BlockSet;
 use crate::exit::{Exit, Onward};
 use crate::joint::{Joint, TurnoutState};
 use crate::plan::{MAX_BLOCKS, MAX_JOINTS, MAX_TURNOUTS};
@@ -144,14 +145,6 @@ fn is_moved_end(world: &World, turnouts: &[TurnoutState], end: BlockEnd) -> bool
     turnouts
         .iter()
         .any(|turnout| turnout.has_end(end) && is_moved(world, turnout))
-}
-
-/// Marks a block.
-fn mark(marks: &mut [bool], block: u8)
-    requires { block < length marks.old }
-    ensures { marks.new ≡ slice_set marks.old block true }
-{
-    marks[usize::from(block)] = true;
 }
 
 impl Track {
@@ -292,13 +285,12 @@ impl Track {
     }
 
     /// Returns which blocks there are on the way to the place `way` femtometres ahead.
-    fn covered(&self, place: Place, way: u64) -> [bool; MAX_BLOCKS]
+    fn covered(&self, place: Place, way: u64) -> BlockSet
         requires { IsTrue (is_on_track self.now.blocks place) }
         ensures { result ≡ covered self.now place way no_blocks }
     {
         let _blocks = self.blocks.as_slice();
-        let mut marks = [false; MAX_BLOCKS];
-        mark(&mut marks, place.block);
+        let mut marks = BlockSet::empty().with(place.block);
         let mut place = place;
         let mut left = way;
         while left > 0 {
@@ -306,7 +298,7 @@ impl Track {
                 Some(next) => (place, left) = next,
                 None => return marks,
             }
-            mark(&mut marks, place.block);
+            marks = marks.with(place.block);
         }
         marks
     }
@@ -463,19 +455,16 @@ impl Track {
         self.marked(&self.ridden(train, drive(train, running), micros))
     }
 
-    /// Returns these trains after `micros` microseconds: each has run as its decoder runs.
-    pub(crate) fn run_all(&self, trains: &[TrainState], micros: u32, world: &World) -> Trains
-        requires few { length trains.now ≤ 64 }
-        requires run { IsTrue (list_all (can_run self.now.blocks) trains.now) }
-        ensures { result.items
+    /// Lets `micros` microseconds pass for these trains: each runs as its decoder runs.
+    pub(crate) fn run_all(&self, trains: &mut [TrainState], micros: u32, world: &World)
+        requires run { IsTrue (list_all (can_run self.now.blocks) trains.old) }
+        ensures { trains.new
             ≡ map (run_under world.now.station.powered.power self.now micros world.now.nodes)
-            trains.now }
+            trains.old }
     {
-        let mut after = ArrayVec::new();
-        for train in trains {
-            after.push(self.run_under(train, micros, world));
+        for i in 0..trains.len() {
+            trains[i] = self.run_under(&trains[i], micros, world);
         }
-        after
     }
 
     /// Returns this train after `micros` microseconds. Without track power it stands.

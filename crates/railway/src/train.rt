@@ -5,7 +5,8 @@ ghost use Rattle.railway.specs.Places.{end_ahead, further, is_derailed, leading_
 ghost use Rattle.railway.specs.Trains.{default_state, default_train, drive_of, is_forward, momentum_of, speed_at, speed_of};
 
 use crate::block::{BlockEnd, End, MILLIMETRE};
-use crate::plan::{MAX_BLOCKS, MAX_TRAINS};
+use crate::block_set::BlockSet;
+use crate::plan::MAX_TRAINS;
 use arrayvec::ArrayVec;
 use layout_core::{Motion, Running, Steps};
 use motion::{Drive, FASTEST, Momentum, Velocity};
@@ -77,8 +78,8 @@ pub struct TrainState {
     pub velocity: Velocity,
     /// The switch of the turnout that derailed it, until it is placed again; `None` on the rails.
     pub derailed_at: Option<u16>,
-    /// Whether a part of it is in the block of each index.
-    pub under: [bool; MAX_BLOCKS],
+    /// The blocks in which a part of it is.
+    pub under: BlockSet,
 }
 
 impl Place {
@@ -249,7 +250,7 @@ impl Default for TrainState {
             rear: place,
             velocity: STANDSTILL,
             derailed_at: None,
-            under: [false; MAX_BLOCKS],
+            under: BlockSet::empty(),
         }
     }
 }

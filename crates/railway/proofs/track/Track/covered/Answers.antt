@@ -10,7 +10,7 @@ pub loop-left-init : goal.loop-left-init
 loop-left-init c =
     let n = c.args.self.now in
     let p = c.args.place in
-    let first : c.mark.new.marks ≡ slice_set no_blocks p.block true = c.mark.ensures in
+    let first : c.with-marks.result ≡ slice_set no_blocks p.block true = c.with-marks.ensures ∙ ap (λ (m : List Bool). slice_set m p.block true) c.empty.ensures in
     record {
       leads = ap (λ (m : List Bool). covered n p c.args.way m) first ∙ covered-set n p c.args.way no_blocks;
       set = ap (λ (m : List Bool). slice_set m p.block true) first ∙ set-set no_blocks p.block true true ∙ sym first;
@@ -22,7 +22,7 @@ loop-left-preserved c =
     let n = c.args.self.now in
     let p = c.loop-left.place in
     let next = c.in-Some.next in
-    let is : c.mark-in-loop-left.new.marks ≡ slice_set c.loop-left.marks next.0.block true = c.mark-in-loop-left.ensures in
+    let is : c.with-marks-in-loop-left.result ≡ slice_set c.loop-left.marks next.0.block true = c.with-marks-in-loop-left.ensures in
     record {
       leads = ap (λ (m : List Bool). covered n next.0 next.1 m) is ∙ covered-set n next.0 next.1 c.loop-left.marks
           ∙ sym (ap (λ (m : List Bool). covered n next.0 next.1 m) c.loop-left.invariant.set)

@@ -1,9 +1,8 @@
-use Rattle.std.proofs.Common.{◌≡◌, ◌≤◌, length, map, take}
+use Rattle.std.proofs.Common.{◌≡◌, ◌++◌, drop, map, take}
 use Rattle.railway.specs.Railway.{run_under}
 use Rattle.railway.proofs.track.Track.run_all.Given as goal
 
-abbrev pub invariant-loop-train : goal.invariant-loop-train
-invariant-loop-train l = record {
-  ran : l.after.items ≡ map (run_under l.world.station.powered.power l.self l.micros l.world.nodes) (take l.train-index l.trains);
-  few : length l.after.items ≤ l.train-index;
-}
+-- the first of the trains have run
+abbrev pub invariant-loop-i : goal.invariant-loop-i
+invariant-loop-i l =
+    l.trains ≡ map (run_under l.world.station.powered.power l.self l.micros l.world.nodes) (take l.i l.fn.trains) ++ drop l.i l.fn.trains
