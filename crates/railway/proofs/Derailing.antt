@@ -19,7 +19,7 @@ use Rattle.railway.specs.declared.train.Place.{Place}
 use Rattle.railway.specs.declared.train.TrainState.{TrainState}
 use Rattle.railway.specs.Blocks.{length_of, same_block_end}
 use Rattle.railway.specs.Laws.{asked_of, has_switch, train_after}
-use Rattle.railway.specs.Network.{Network, exit_of, exit_to, is_branch, is_end_of, joined, leaves_at, onward, onward_by, partner, run_on, step, switch_at, way_on}
+use Rattle.railway.specs.Network.{Network, exit_of, exit_to, is_against, is_branch, is_end_of, is_moving, joined, leaves_at, onward, onward_by, partner, run_on, step, switch_at, way_on}
 use Rattle.railway.specs.Places.{end_ahead, further, is_derailed, span, still, to_end, turned}
 use Rattle.railway.specs.Railway.{run_in, run_under}
 use Rattle.railway.specs.Running.{moved_at, ridden, run_by}
@@ -63,13 +63,19 @@ against-branch (Some end) branch h = cc
 against-branch None true h = refl
 against-branch None false h = cc
 
-branch-end : (states : List TurnoutState) (end : BlockEnd) → list_any (is_branch end) states ≡ true → HasEnd states end
-branch-end [] end h = cc
-branch-end (state ∷ states) end h = elim (cases_Bool (is_branch end state)) [
-  | inl is ↦ or-left-true (is_end_of end state) (list_any (is_end_of end) states) (or-right-true (same_block_end state.turnout.common end) (is_branch end state) is)
+against-has : (state : TurnoutState) (end : BlockEnd) → is_against end state ≡ true → is_end_of end state ≡ true
+against-has state end h = by (is_moving state) h where
+  by : (b : Bool) → (if b then is_end_of end state else is_branch end state) ≡ true → is_end_of end state ≡ true
+  by true g = g
+  by false g = or-right-true (same_block_end state.turnout.common end) (is_branch end state) g
+
+any-has : (states : List TurnoutState) (end : BlockEnd) → list_any (is_against end) states ≡ true → HasEnd states end
+any-has [] end h = cc
+any-has (state ∷ states) end h = elim (cases_Bool (is_against end state)) [
+  | inl is ↦ or-left-true (is_end_of end state) (list_any (is_end_of end) states) (against-has state end is)
   | inr not ↦
-      let rest : list_any (is_branch end) states ≡ true = sym (ap (λ (b : Bool). b || list_any (is_branch end) states) not) ∙ h in
-      or-right-true (is_end_of end state) (list_any (is_end_of end) states) (branch-end states end rest)
+      let rest : list_any (is_against end) states ≡ true = sym (ap (λ (b : Bool). b || list_any (is_against end) states) not) ∙ h in
+      or-right-true (is_end_of end state) (list_any (is_end_of end) states) (any-has states end rest)
 ]
 
 against-end : (n : Network) (p : Place) → onward n p ≡ Against → HasEnd n.turnouts (end_ahead p)
@@ -78,7 +84,7 @@ against-end n p h = elim (cases_Bool (to_end (length_of n.blocks p.block) p == 0
       let end : BlockEnd = end_ahead p in
       let none : to_end (length_of n.blocks p.block) p ≡ 0 = eqb-true (to_end (length_of n.blocks p.block) p) 0 ends in
       let lies : exit_of n end ≡ Lies = lies-against n.blocks (exit_of n end) (sym (onward-end n p none) ∙ h) in
-      branch-end n.turnouts end (against-branch (partner (joined n) end) (list_any (is_branch end) n.turnouts) lies)
+      any-has n.turnouts end (against-branch (partner (joined n) end) (list_any (is_against end) n.turnouts) lies)
   | inr goes ↦
       let on : onward n p ≡ To (further p 1) = ap (λ (b : Bool). if b then onward_by n.blocks (exit_of n (end_ahead p)) else To (further p 1)) goes in
       absurd (not-both (further p 1) (sym on ∙ h))

@@ -1,5 +1,5 @@
 -- What is joined is joined both ways.
-use Rattle.std.proofs.Common.{◌≡◌, ℕ, ◌++◌, ◌&&◌, Bool, true, false, not, inl, inr, List, [], ◌∷◌, Option, Some, None, map, refl, ap, sym, subst, ◌∙◌}
+use Rattle.std.proofs.Common.{◌≡◌, ℕ, ◌++◌, ◌&&◌, Bool, true, false, not, inl, inr, List, [], ◌∷◌, Option, Some, None, refl, ap, sym, subst, ◌∙◌}
 use Rattle.std.proofs.lemmas.Bool.{and_from, and_parts, both_ways, cases_Bool, eq-eqb, eqb-true, not-true}
 use Rattle.std.specs.Option.{option_or}
 use Rattle.std.specs.Prelude.{if◌then◌else◌, nat_eq}
@@ -10,7 +10,7 @@ use Rattle.railway.specs.declared.joint.Joint.{Joint}
 use Rattle.railway.specs.declared.joint.TurnoutState.{TurnoutState}
 use Rattle.railway.specs.Blocks.{same_block_end, same_end}
 use Rattle.railway.specs.Ends.{are_apart, ends_of, ends_of_joints, ends_of_turnouts, has_end}
-use Rattle.railway.specs.Network.{Network, across, as_joint, joined, partner, turnouts_of}
+use Rattle.railway.specs.Network.{Network, across, as_joint, is_moving, joined, joints_of, partner, turnouts_of}
 use Rattle.railway.proofs.Facts.{or-left, or-right, or-right-true, or-left-true, or-none, not-from}
 
 -- The same end is an equal one.
@@ -25,12 +25,12 @@ pub same_end-self : (end : End) → same_end end end ≡ true
 same_end-self A = refl
 same_end-self B = refl
 
-same-true : (one two : BlockEnd) → same_block_end one two ≡ true → one ≡ two
+pub same-true : (one two : BlockEnd) → same_block_end one two ≡ true → one ≡ two
 same-true one two h =
     let parts = and_parts (nat_eq one.block two.block) (same_end one.end two.end) h in
     ap (λ (b : ℕ). record one { block = b }) (eqb-true one.block two.block parts.0) ∙ ap (λ (e : End). record two { end = e }) (same_end-true one.end two.end parts.1)
 
-same-self : (end : BlockEnd) → same_block_end end end ≡ true
+pub same-self : (end : BlockEnd) → same_block_end end end ≡ true
 same-self end = and_from (nat_eq end.block end.block) (same_end end.end end.end) (eq-eqb end.block end.block refl) (same_end-self end.end)
 
 -- an end that is not among these is none of them
@@ -119,7 +119,7 @@ ends-append : (these those : List Joint) → ends_of_joints (these ++ those) ≡
 ends-append [] those = refl
 ends-append (joint ∷ these) those = ap (λ (ends : List BlockEnd). joint.one ∷ joint.two ∷ ends) (ends-append these those)
 
-has-append : (end : BlockEnd) (these those : List BlockEnd) → has_end end (these ++ those) ≡ false → (has_end end these ≡ false) × (has_end end those ≡ false)
+pub has-append : (end : BlockEnd) (these those : List BlockEnd) → has_end end (these ++ those) ≡ false → (has_end end these ≡ false) × (has_end end those ≡ false)
 has-append end [] those h = (refl, h)
 has-append end (other ∷ these) those h =
     let rest = has-append end these those (or-right (same_block_end end other) _ h) in
@@ -131,7 +131,7 @@ append-has end (other ∷ these) those h g =
     or-none (same_block_end end other) (has_end end (these ++ those)) (or-left (same_block_end end other) _ h) (append-has end these those (or-right (same_block_end end other) _ h) g)
 
 -- the end is not among fewer ends
-abbrev IsPart : (fewer ends : List BlockEnd) → Type 0
+abbrev pub IsPart : (fewer ends : List BlockEnd) → Type 0
 IsPart fewer ends = (end : BlockEnd) → has_end end ends ≡ false → has_end end fewer ≡ false
 
 apart-part : (these ends fewer : List BlockEnd) → are_apart (these ++ ends) ≡ true → IsPart fewer ends → are_apart fewer ≡ true → are_apart (these ++ fewer) ≡ true
@@ -143,24 +143,32 @@ apart-part (end ∷ these) ends fewer h part apart =
     (apart-part these ends fewer parts.1 part apart)
 
 -- the ends of turnouts as they lie
-abbrev lying : List TurnoutState → List BlockEnd
-lying states = ends_of_joints (map as_joint states)
+abbrev pub lying : List TurnoutState → List BlockEnd
+lying states = ends_of_joints (joints_of states)
 
 branch-not : (b : Bool) (end thrown closed : BlockEnd) → same_block_end end closed ≡ false → same_block_end end thrown ≡ false → same_block_end end (if b then thrown else closed) ≡ false
 branch-not true end thrown closed h g = g
 branch-not false end thrown closed h g = h
 
-lying-part : (states : List TurnoutState) → IsPart (lying states) (ends_of_turnouts (turnouts_of states))
+-- what holds without a turnout that moves, and with one that lies
+pub by-moving : (P : List Joint → Type 0) (state : TurnoutState) (states : List TurnoutState) → P (joints_of states) → P (as_joint state ∷ joints_of states) → P (joints_of (state ∷ states))
+by-moving P state states moves lies = chosen (is_moving state) where
+  chosen : (b : Bool) → P (if b then joints_of states else as_joint state ∷ joints_of states)
+  chosen true = moves
+  chosen false = lies
+
+pub lying-part : (states : List TurnoutState) → IsPart (lying states) (ends_of_turnouts (turnouts_of states))
 lying-part [] end h = refl
 lying-part (state ∷ states) end h =
     let turnout = state.turnout in
     let after-common = or-right (same_block_end end turnout.common) _ h in
     let after-closed = or-right (same_block_end end turnout.closed) _ after-common in
     let after-thrown = or-right (same_block_end end turnout.thrown) _ after-closed in
-    or-none (same_block_end end turnout.common) _ (or-left (same_block_end end turnout.common) _ h)
+    by-moving (λ (joints : List Joint). has_end end (ends_of_joints joints) ≡ false) state states (lying-part states end after-thrown)
+    (or-none (same_block_end end turnout.common) _ (or-left (same_block_end end turnout.common) _ h)
     (or-none (same_block_end end (as_joint state).two) (has_end end (lying states))
     (branch-not state.is_thrown end turnout.thrown turnout.closed (or-left (same_block_end end turnout.closed) _ after-common) (or-left (same_block_end end turnout.thrown) _ after-closed))
-    (lying-part states end after-thrown))
+    (lying-part states end after-thrown)))
 
 branch-has : (b : Bool) (thrown closed : BlockEnd) (ends : List BlockEnd) → has_end thrown ends ≡ false → has_end closed ends ≡ false → has_end (if b then thrown else closed) ends ≡ false
 branch-has true thrown closed ends h g = h
@@ -180,15 +188,16 @@ lying-apart (state ∷ states) h =
     let closed : has_end turnout.closed rest ≡ false = or-right (same_block_end turnout.closed turnout.thrown) _ (not-true _ two.0) in
     let thrown : has_end turnout.thrown rest ≡ false = not-true _ three.0 in
     let branch : BlockEnd = (as_joint state).two in
-    and_from (not (has_end turnout.common (branch ∷ lying states))) (not (has_end branch (lying states)) && are_apart (lying states))
+    by-moving (λ (joints : List Joint). are_apart (ends_of_joints joints) ≡ true) state states (lying-apart states three.1)
+    (and_from (not (has_end turnout.common (branch ∷ lying states))) (not (has_end branch (lying states)) && are_apart (lying states))
     (not-from _ (or-none (same_block_end turnout.common branch) (has_end turnout.common (lying states))
     (branch-not state.is_thrown turnout.common turnout.thrown turnout.closed (or-left (same_block_end turnout.common turnout.closed) _ common) (or-left (same_block_end turnout.common turnout.thrown) _ past-closed))
     (lying-part states turnout.common past-thrown)))
     (and_from (not (has_end branch (lying states))) (are_apart (lying states))
     (not-from _ (branch-has state.is_thrown turnout.thrown turnout.closed (lying states) (lying-part states turnout.thrown thrown) (lying-part states turnout.closed closed)))
-    (lying-apart states three.1))
+    (lying-apart states three.1)))
 
-apart-last : (these those : List BlockEnd) → are_apart (these ++ those) ≡ true → are_apart those ≡ true
+pub apart-last : (these those : List BlockEnd) → are_apart (these ++ those) ≡ true → are_apart those ≡ true
 apart-last [] those h = h
 apart-last (end ∷ these) those h = apart-last these those (and_parts (not (has_end end (these ++ those))) (are_apart (these ++ those)) h).1
 
@@ -198,4 +207,4 @@ joined-back network end next apart h =
     let joints : List BlockEnd = ends_of_joints network.joints in
     let turnouts : List BlockEnd = ends_of_turnouts (turnouts_of network.turnouts) in
     let all = apart-part joints turnouts (lying network.turnouts) apart (lying-part network.turnouts) (lying-apart network.turnouts (apart-last joints turnouts apart)) in
-    partner-back (joined network) end next (subst (λ (ends : List BlockEnd). are_apart ends ≡ true) (sym (ends-append network.joints (map as_joint network.turnouts))) all) h
+    partner-back (joined network) end next (subst (λ (ends : List BlockEnd). are_apart ends ≡ true) (sym (ends-append network.joints (joints_of network.turnouts))) all) h

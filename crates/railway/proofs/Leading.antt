@@ -11,8 +11,9 @@ use Rattle.railway.specs.declared.joint.Turnout.{Turnout}
 use Rattle.railway.specs.declared.joint.TurnoutState.{TurnoutState}
 use Rattle.railway.specs.Blocks.{are_distinct, is_block, same_block_end}
 use Rattle.railway.specs.Ends.{are_apart, ends_of, is_end, is_joint, is_turnout}
-use Rattle.railway.specs.Network.{Network, across, as_joint, is_sound, joined, partner, turnouts_of}
-use Rattle.railway.specs.Turnouts.{laid, observed}
+use Rattle.railway.specs.Network.{Network, across, as_joint, is_sound, joined, joints_of, partner, turnouts_of}
+use Rattle.railway.specs.Turnouts.{advanced, moved_on, laid, observed}
+use Rattle.railway.proofs.Joining.{by-moving}
 
 or_assoc : (first all one two : Option BlockEnd) → all ≡ option_or one two → option_or first all ≡ option_or (option_or first one) two
 or_assoc None all one two h = h
@@ -56,11 +57,13 @@ as_joint-of n state h =
     and_from (is_end n turnout.common) (is_end n (as_joint state).two) first.0
     (cond_both state.is_thrown turnout.thrown turnout.closed (λ end. is_end n end ≡ true) (λ _. parts.1) (λ _. first.1))
 
-as_joints-of : (n : ℕ) (states : List TurnoutState) → list_all (is_turnout n) (turnouts_of states) ≡ true → list_all (is_joint n) (map as_joint states) ≡ true
+as_joints-of : (n : ℕ) (states : List TurnoutState) → list_all (is_turnout n) (turnouts_of states) ≡ true → list_all (is_joint n) (joints_of states) ≡ true
 as_joints-of n [] h = refl
 as_joints-of n (state ∷ states) h =
     let parts = and_parts (is_turnout n state.turnout) (list_all (is_turnout n) (turnouts_of states)) h in
-    and_from (is_joint n (as_joint state)) (list_all (is_joint n) (map as_joint states)) (as_joint-of n state parts.0) (as_joints-of n states parts.1)
+    let rest = as_joints-of n states parts.1 in
+    by-moving (λ (joints : List Joint). list_all (is_joint n) joints ≡ true) state states rest
+    (and_from (is_joint n (as_joint state)) (list_all (is_joint n) (joints_of states)) (as_joint-of n state parts.0) rest)
 
 -- What a sound network is.
 
@@ -96,16 +99,24 @@ pub joined-of : (network : Network) (end : BlockEnd) → IsTrue (is_sound networ
 joined-of network end h =
     let is = sound network h in
     let n = length network.blocks in
-    partner-of n (joined network) end (append-all n network.joints (map as_joint network.turnouts) is.joints (as_joints-of n network.turnouts is.turnouts))
+    partner-of n (joined network) end (append-all n network.joints (joints_of network.turnouts) is.joints (as_joints-of n network.turnouts is.turnouts))
 
--- Turnouts that are laid stay the turnouts of the plan.
+-- Turnouts that move stay the turnouts of the plan.
 
-turnouts-laid : (nodes : List Node) (states : List TurnoutState) → turnouts_of (map (observed nodes) states) ≡ turnouts_of states
-turnouts-laid nodes [] = refl
-turnouts-laid nodes (state ∷ states) = ap (λ (turnouts : List Turnout). state.turnout ∷ turnouts) (turnouts-laid nodes states)
+pub same-turnouts : (f : TurnoutState → TurnoutState) → ((state : TurnoutState) → (f state).turnout ≡ state.turnout) → (states : List TurnoutState) → turnouts_of (map f states) ≡ turnouts_of states
+same-turnouts f keeps [] = refl
+same-turnouts f keeps (state ∷ states) =
+    ap (λ (turnout : Turnout). turnout ∷ turnouts_of (map f states)) (keeps state) ∙ ap (λ (turnouts : List Turnout). state.turnout ∷ turnouts) (same-turnouts f keeps states)
 
-pub laid-sound : (nodes : List Node) (network : Network) → IsTrue (is_sound network) → IsTrue (is_sound (laid nodes network))
-laid-sound nodes network h =
+pub changed-sound : (f : TurnoutState → TurnoutState) → ((state : TurnoutState) → (f state).turnout ≡ state.turnout) → (network : Network) → IsTrue (is_sound network)
+    → IsTrue (is_sound (record network { turnouts = map f network.turnouts }))
+changed-sound f keeps network h =
     let n = length network.blocks in
     let start : Bool = list_all is_block network.blocks && are_distinct network.blocks && list_all (is_joint n) network.joints in
-    subst (λ (turnouts : List Turnout). IsTrue (start && list_all (is_turnout n) turnouts && are_apart (ends_of network.joints turnouts))) (sym (turnouts-laid nodes network.turnouts)) h
+    subst (λ (turnouts : List Turnout). IsTrue (start && list_all (is_turnout n) turnouts && are_apart (ends_of network.joints turnouts))) (sym (same-turnouts f keeps network.turnouts)) h
+
+pub laid-sound : (nodes : List Node) (network : Network) → IsTrue (is_sound network) → IsTrue (is_sound (laid nodes network))
+laid-sound nodes network h = changed-sound (observed nodes) (λ state. refl) network h
+
+pub advanced-sound : (micros : ℕ) (network : Network) → IsTrue (is_sound network) → IsTrue (is_sound (advanced micros network))
+advanced-sound micros network h = changed-sound (moved_on micros) (λ state. refl) network h

@@ -17,6 +17,9 @@ pub mod Changing
 pub mod Meeting
 pub mod Occupying
 pub mod Sets
+pub mod Switching
+pub mod Lying
+pub mod Pieces
 pub mod Times
 pub mod Sensors
 pub mod Observing

@@ -4,6 +4,8 @@ use Rattle.std.proofs.lemmas.Bool.{and_from, and_parts, ltb-true}
 use Rattle.std.specs.List.{list_all, slice_index_or}
 use Rattle.std.specs.Option.{option_or}
 use Rattle.std.specs.Prelude.{nat_lt, slice_set}
+use Rattle.layout_core.specs.declared.node.Node.{Node}
+use Rattle.refresh_ring.specs.declared.pick.Power.{Power}
 use Rattle.railway.specs.declared.fault.PlaceFault.{PlaceFault}
 use Rattle.railway.specs.declared.fault.PlaceFault.TheVariants.{UnknownTrain, UnknownBlock, OffTrack}
 use Rattle.railway.specs.declared.train.Position.{Position}
@@ -12,9 +14,10 @@ use Rattle.railway.specs.Course.{Happening, after, unless_refused}
 use Rattle.railway.specs.Course.Happening.{Elapses, Places}
 use Rattle.railway.specs.Network.{is_sound}
 use Rattle.railway.specs.Placement.{has_front, is_room}
-use Rattle.railway.specs.Railway.{RailwayState, fits_in, is_railway, is_train, place_fault, place_unless, placed_in, replaced, run_under, train_at}
+use Rattle.railway.specs.Railway.{RailwayState, fits_in, is_railway, is_train, laid_in, run_through, place_fault, place_unless, placed_in, ran_in, replaced, run_under, train_at}
 use Rattle.railway.specs.Trains.{default_state}
-use Rattle.railway.specs.Turnouts.{checked, laid}
+use Rattle.railway.specs.Turnouts.{checked}
+use Rattle.railway.proofs.Pieces.{run_through-blocks}
 use Rattle.railway.proofs.Planning.{placed-train}
 use Rattle.railway.proofs.Riding.{movable-of}
 use Rattle.railway.proofs.Running.{under-length}
@@ -80,7 +83,7 @@ places-railway r i position is = either (place_fault r i position) refl where
 
 -- the blocks stay
 pub same-blocks : (r : RailwayState) (happening : Happening) → (after r happening).network.blocks ≡ r.network.blocks
-same-blocks r (Elapses micros power nodes) = refl
+same-blocks r (Elapses micros power nodes) = run_through-blocks power nodes micros (laid_in nodes r)
 same-blocks r (Places i position) = either (place_fault r i position) where
   either : (fault : Option PlaceFault) → (unless_refused fault (placed_in r i position) r).network.blocks ≡ r.network.blocks
   either None = refl
@@ -100,9 +103,17 @@ set-length (u ∷ ts) zero (suc j) t none other h = refl
 set-length (u ∷ ts) (suc i) zero t none other h = refl
 set-length (u ∷ ts) (suc i) (suc j) t none other h = set-length ts i j t none other h
 
+ran-lengths : (p : Power) (micros : ℕ) (nodes : List Node) (r : RailwayState) (i : ℕ) (none : TrainState) → (slice_index_or (ran_in p micros nodes r).trains i none).length ≡ (slice_index_or r.trains i none).length
+ran-lengths p micros nodes r i none = same-length (run_under p r.network micros nodes) (under-length p r.network micros nodes) r.trains i none
+
+run_through-lengths : (p : Power) (nodes : List Node) (k : ℕ) (r : RailwayState) (i : ℕ) (none : TrainState) → (slice_index_or (run_through p k nodes r).trains i none).length ≡ (slice_index_or r.trains i none).length
+unfolding run_through
+run_through-lengths p nodes zero r i none = refl
+run_through-lengths p nodes (suc k) r i none = run_through-lengths p nodes k (ran_in p 1 nodes r) i none ∙ ran-lengths p 1 nodes r i none
+
 pub lengths-stay : (r : RailwayState) (happening : Happening) (i : ℕ) (none : TrainState) → (slice_index_or (after r happening).trains i none).length ≡ (slice_index_or r.trains i none).length
 lengths-stay r (Elapses micros power nodes) i none =
-    same-length (run_under power (laid nodes r.network) micros nodes) (under-length power (laid nodes r.network) micros nodes) (map (checked nodes r.network) r.trains) i none
+    run_through-lengths power nodes micros (laid_in nodes r) i none
     ∙ same-length (checked nodes r.network) (λ t. (checked-same nodes r.network t).length) r.trains i none
 lengths-stay r (Places j position) i none = either (place_fault r j position) where
   either : (fault : Option PlaceFault) → (slice_index_or (unless_refused fault (placed_in r j position) r).trains i none).length ≡ (slice_index_or r.trains i none).length

@@ -1,5 +1,5 @@
 -- Turnouts that are thrown, and trains over them.
-use Rattle.std.proofs.Common.{◌≡◌, ℕ, zero, suc, ◌-◌, ◌<◌, ◌≤◌, ◌==◌, ◌&&◌, ◌||◌, Bool, true, false, not, inl, inr, List, [], ◌∷◌, Option, Some, None, map, refl, ap, sym, subst, ◌∙◌, arith}
+use Rattle.std.proofs.Common.{◌≡◌, ℕ, zero, suc, ◌+◌, ◌-◌, ◌*◌, ◌%◌, ◌<◌, ◌≤◌, ◌==◌, ◌&&◌, ◌||◌, Bool, true, false, not, inl, inr, List, [], ◌∷◌, Option, Some, None, map, refl, ap, sym, subst, ◌∙◌, arith}
 use Rattle.std.proofs.lemmas.Bool.{and_from, and_parts, cases_Bool, eqb-true, ne_eqb}
 use Rattle.std.specs.List.{list_all, list_any}
 use Rattle.std.specs.Option.{option_and_then, option_or}
@@ -9,15 +9,17 @@ use Rattle.railway.specs.declared.block.BlockEnd.{BlockEnd}
 use Rattle.railway.specs.declared.exit.Exit.{Exit}
 use Rattle.railway.specs.declared.exit.Onward.{Onward}
 use Rattle.railway.specs.declared.exit.Onward.TheVariants.{To}
+use Rattle.railway.specs.declared.joint.Joint.{Joint}
+use Rattle.railway.specs.declared.joint.Turnout.{Turnout}
 use Rattle.railway.specs.declared.joint.TurnoutState.{TurnoutState}
 use Rattle.railway.specs.declared.train.Place.{Place}
 use Rattle.railway.specs.declared.train.TrainState.{TrainState}
 use Rattle.railway.specs.Blocks.{length_of, no_blocks, same_block_end}
-use Rattle.railway.specs.Network.{LeadsOn, Network, across, as_joint, covered, exit_of, exit_to, first_at, is_branch, is_end_of, joined, last_by, last_on, leaves_at, off_rails, onward, onward_by, partner, place_of, way_on}
+use Rattle.railway.specs.Network.{LeadsOn, Network, across, as_joint, covered, exit_of, exit_to, first_at, is_against, is_branch, is_end_of, is_moving, joined, joints_of, last_by, last_on, leaves_at, off_rails, onward, onward_by, partner, place_of, way_on}
 use Rattle.railway.specs.Places.{end_ahead, further, is_derailed, span, to_end}
 use Rattle.railway.specs.Railway.{is_train}
 use Rattle.railway.specs.Running.{is_within}
-use Rattle.railway.specs.Turnouts.{checked, derailed_at, is_moved, is_moved_end, laid, observed, same_bool, thrown_under}
+use Rattle.railway.specs.Turnouts.{came_on, checked, derailed_at, is_changed, is_moved, is_on, laid, left_to, observed, outputs_in, pair_of, same_bool, seen_of, side_of, thrown_under}
 use Rattle.railway.proofs.Covering.{covered-ends, covered-suc, covered-zero}
 use Rattle.railway.proofs.Facts.{none-some, or-left, or-none, or-right}
 use Rattle.railway.proofs.Joining.{across-none}
@@ -164,7 +166,164 @@ last-goes n p q way left (inr h) =
     let whole : way ≡ suc left = omega (arith, h.rest) in
     ap (λ (w : ℕ). last_on n p w) whole ∙ last-next n p q left h.on
 
--- An end at which no turnout is moved leads where it did.
+-- A track of which turnouts are changed leads where it did, but from the ends of those.
+
+-- a turnout that leads where another one leads
+pub record Alike (state next : TurnoutState) : Type 0 where
+  pub turnout : next.turnout ≡ state.turnout
+  pub thrown : next.is_thrown ≡ state.is_thrown
+  pub moving : is_moving next ≡ is_moving state
+
+-- turnouts are changed, and all but these lead where they did
+pub record Changes (f : TurnoutState → TurnoutState) (is : TurnoutState → Bool) : Type 0 where
+  pub keeps : (state : TurnoutState) → (f state).turnout ≡ state.turnout
+  pub others : (state : TurnoutState) → is state ≡ false → Alike state (f state)
+
+-- the end is one of a turnout that is one of these
+abbrev pub end_of_any : (TurnoutState → Bool) → List TurnoutState → BlockEnd → Bool
+end_of_any is states end = list_any (λ state. is_end_of end state && is state) states
+
+abbrev pub changed : (TurnoutState → TurnoutState) → Network → Network
+changed f n = record n { turnouts = map f n.turnouts }
+
+across-other : (state : TurnoutState) (end : BlockEnd) → is_end_of end state ≡ false → across (as_joint state) end ≡ None
+across-other state end h =
+    let common = or-left (same_block_end state.turnout.common end) (is_branch end state) h in
+    let branch = or-right (same_block_end state.turnout.common end) (is_branch end state) h in
+    let closed = or-left (same_block_end state.turnout.closed end) (same_block_end state.turnout.thrown end) branch in
+    let is_thrown = or-right (same_block_end state.turnout.closed end) (same_block_end state.turnout.thrown end) branch in
+    across-none (as_joint state) end common (either state.is_thrown closed is_thrown) where
+      either : (b : Bool) → same_block_end state.turnout.closed end ≡ false → same_block_end state.turnout.thrown end ≡ false
+          → same_block_end (if b then state.turnout.thrown else state.turnout.closed) end ≡ false
+      either true closed is_thrown = is_thrown
+      either false closed is_thrown = closed
+
+-- a turnout that has not the end does not count
+skipped : (state : TurnoutState) (rest : List Joint) (end : BlockEnd) → is_end_of end state ≡ false → partner (if is_moving state then rest else as_joint state ∷ rest) end ≡ partner rest end
+skipped state rest end h = by (is_moving state) where
+  by : (b : Bool) → partner (if b then rest else as_joint state ∷ rest) end ≡ partner rest end
+  by true = refl
+  by false = ap (λ (o : Option BlockEnd). option_or o (partner rest end)) (across-other state end h)
+
+same-ends : (state next : TurnoutState) (end : BlockEnd) → next.turnout ≡ state.turnout → is_end_of end next ≡ is_end_of end state
+same-ends state next end h = ap (λ (t : Turnout). same_block_end t.common end || (same_block_end t.closed end || same_block_end t.thrown end)) h
+
+alike-joint : (state next : TurnoutState) → Alike state next → as_joint next ≡ as_joint state
+alike-joint state next h = ap (λ (t : Turnout). as_joint (record next { turnout = t })) h.turnout ∙ ap (λ (b : Bool). as_joint (record state { is_thrown = b })) h.thrown
+
+same-first : (state next : TurnoutState) (rest these : List Joint) (end : BlockEnd) → Alike state next → partner rest end ≡ partner these end
+    → partner (if is_moving next then rest else as_joint next ∷ rest) end ≡ partner (if is_moving state then these else as_joint state ∷ these) end
+same-first state next rest these end h same =
+    ap (λ (b : Bool). partner (if b then rest else as_joint next ∷ rest) end) h.moving
+    ∙ ap (λ (j : Joint). partner (if is_moving state then rest else j ∷ rest) end) (alike-joint state next h)
+    ∙ by (is_moving state) where
+      by : (b : Bool) → partner (if b then rest else as_joint state ∷ rest) end ≡ partner (if b then these else as_joint state ∷ these) end
+      by true = same
+      by false = ap (λ (o : Option BlockEnd). option_or (across (as_joint state) end) o) same
+
+same-partner : (f : TurnoutState → TurnoutState) (is : TurnoutState → Bool) → Changes f is → (states : List TurnoutState) (end : BlockEnd) → end_of_any is states end ≡ false → partner (joints_of (map f states)) end ≡ partner (joints_of states) end
+same-partner f is c [] end h = refl
+same-partner f is c (state ∷ states) end h =
+    let this = or-left (is_end_of end state && is state) (end_of_any is states end) h in
+    let rest = same-partner f is c states end (or-right (is_end_of end state && is state) (end_of_any is states end) h) in
+    elim (cases_Bool (is_end_of end state)) [
+      | inl has ↦ same-first state (f state) (joints_of (map f states)) (joints_of states) end (c.others state (sym (ap (λ (b : Bool). b && is state) has) ∙ this)) rest
+      | inr other ↦
+          skipped (f state) (joints_of (map f states)) end (same-ends state (f state) end (c.keeps state) ∙ other) ∙ rest
+          ∙ sym (skipped state (joints_of states) end other)
+    ]
+
+not-against : (state : TurnoutState) (end : BlockEnd) → is_end_of end state ≡ false → is_against end state ≡ false
+not-against state end h = by (is_moving state) where
+  by : (b : Bool) → (if b then is_end_of end state else is_branch end state) ≡ false
+  by true = h
+  by false = or-right (same_block_end state.turnout.common end) (is_branch end state) h
+
+alike-against : (state next : TurnoutState) (end : BlockEnd) → Alike state next → is_against end next ≡ is_against end state
+alike-against state next end h =
+    ap (λ (t : Turnout). is_against end (record next { turnout = t })) h.turnout ∙ ap (λ (b : Bool). if b then is_end_of end state else is_branch end state) h.moving
+
+same-against : (f : TurnoutState → TurnoutState) (is : TurnoutState → Bool) → Changes f is → (states : List TurnoutState) (end : BlockEnd) → end_of_any is states end ≡ false → list_any (is_against end) (map f states) ≡ list_any (is_against end) states
+same-against f is c [] end h = refl
+same-against f is c (state ∷ states) end h =
+    let this = or-left (is_end_of end state && is state) (end_of_any is states end) h in
+    let rest = same-against f is c states end (or-right (is_end_of end state && is state) (end_of_any is states end) h) in
+    ap (λ (b : Bool). b || list_any (is_against end) (map f states)) (one this) ∙ ap (λ (b : Bool). is_against end state || b) rest where
+      one : (is_end_of end state && is state) ≡ false → is_against end (f state) ≡ is_against end state
+      one this = elim (cases_Bool (is_end_of end state)) [
+        | inl has ↦ alike-against state (f state) end (c.others state (sym (ap (λ (b : Bool). b && is state) has) ∙ this))
+        | inr other ↦ not-against (f state) end (same-ends state (f state) end (c.keeps state) ∙ other) ∙ sym (not-against state end other)
+      ]
+
+pub same-exit : (f : TurnoutState → TurnoutState) (is : TurnoutState → Bool) → Changes f is → (n : Network) (end : BlockEnd) → end_of_any is n.turnouts end ≡ false → exit_of (changed f n) end ≡ exit_of n end
+same-exit f is c n end h =
+    ap (λ (b : Bool). exit_to (partner (joined (changed f n)) end) b) (same-against f is c n.turnouts end h)
+    ∙ ap (λ (found : Option BlockEnd). exit_to found (list_any (is_against end) n.turnouts))
+    (partner-append n.joints (joints_of (map f n.turnouts)) end
+    ∙ ap (λ (o : Option BlockEnd). option_or (partner n.joints end) o) (same-partner f is c n.turnouts end h)
+    ∙ sym (partner-append n.joints (joints_of n.turnouts) end))
+
+same-onward : (f : TurnoutState → TurnoutState) (is : TurnoutState → Bool) → Changes f is → (n : Network) (p : Place) → leaves_at (end_of_any is n.turnouts) n p ≡ false → onward (changed f n) p ≡ onward n p
+same-onward f is c n p h = elim (cases_Bool (to_end (length_of n.blocks p.block) p == 0)) [
+  | inl ends ↦
+      let none : to_end (length_of n.blocks p.block) p ≡ 0 = eqb-true (to_end (length_of n.blocks p.block) p) 0 ends in
+      let other : end_of_any is n.turnouts (end_ahead p) ≡ false = sym (ap (λ (b : Bool). b && end_of_any is n.turnouts (end_ahead p)) ends) ∙ h in
+      onward-end (changed f n) p none ∙ ap (λ (exit : Exit). onward_by n.blocks exit) (same-exit f is c n (end_ahead p) other) ∙ sym (onward-end n p none)
+  | inr goes ↦
+      ap (λ (b : Bool). if b then onward_by n.blocks (exit_of (changed f n) (end_ahead p)) else To (further p 1)) goes
+      ∙ sym (ap (λ (b : Bool). if b then onward_by n.blocks (exit_of n (end_ahead p)) else To (further p 1)) goes)
+]
+
+-- A way over which no turnout is changed stays, with its blocks.
+
+pub way-changed : (f : TurnoutState → TurnoutState) (is : TurnoutState → Bool) → Changes f is → (n : Network) (p : Place) (way : ℕ) → first_at (end_of_any is n.turnouts) n p way ≡ None → way_on (changed f n) p way ≡ way_on n p way
+unfolding way_on
+way-changed f is c n p zero h = refl
+way-changed f is c n p (suc way) h =
+    let other = none-first (end_of_any is n.turnouts) n p way h in
+    let same = same-onward f is c n p other in
+    elim (onward-cases (onward n p)) [
+      | inl next ↦
+          way_on-suc (changed f n) p next.0 way (same ∙ next.1)
+          ∙ way-changed f is c n next.0 way (sym (first-next (end_of_any is n.turnouts) n p next.0 way other next.1) ∙ h)
+          ∙ sym (way_on-suc n p next.0 way next.1)
+      | inr ends ↦
+          way_on-ends (changed f n) p (suc way) (omega arith) (ap (λ (o : Onward). place_of o) same ∙ ends)
+          ∙ sym (way_on-ends n p (suc way) (omega arith) ends)
+    ]
+
+pub covered-changed : (f : TurnoutState → TurnoutState) (is : TurnoutState → Bool) → Changes f is → (n : Network) (p : Place) (way : ℕ) (m : List Bool) → first_at (end_of_any is n.turnouts) n p way ≡ None → covered (changed f n) p way m ≡ covered n p way m
+covered-changed f is c n p zero m h = covered-zero (changed f n) p m ∙ sym (covered-zero n p m)
+covered-changed f is c n p (suc way) m h =
+    let other = none-first (end_of_any is n.turnouts) n p way h in
+    let same = same-onward f is c n p other in
+    elim (onward-cases (onward n p)) [
+      | inl next ↦
+          covered-suc (changed f n) p next.0 way m (same ∙ next.1)
+          ∙ covered-changed f is c n next.0 way (slice_set m p.block true) (sym (first-next (end_of_any is n.turnouts) n p next.0 way other next.1) ∙ h)
+          ∙ sym (covered-suc n p next.0 way m next.1)
+      | inr ends ↦
+          covered-ends (changed f n) p (suc way) m (ap (λ (o : Onward). place_of o) same ∙ ends)
+          ∙ sym (covered-ends n p (suc way) m ends)
+    ]
+
+-- a train whose way is so stays whole
+pub train-changed : (f : TurnoutState → TurnoutState) (is : TurnoutState → Bool) → Changes f is → (n : Network) (t : TrainState) → is_train n t ≡ true → (is_derailed t ≡ false → first_at (end_of_any is n.turnouts) n t.rear (span t) ≡ None)
+    → is_train (changed f n) t ≡ true
+train-changed f is c n t h none =
+    let m : Network = changed f n in
+    let parts = parts-of n t h in
+    let within : is_within m.blocks t ≡ true = and_from _ _ parts.front parts.rear in
+    elim (cases_Bool (is_derailed t)) [
+      | inl derailed ↦ train-from m t parts.size within (derailed-whole m t derailed) parts.movable
+      | inr rails ↦
+          let whole = whole-of n t parts.whole rails in
+          let spanned = way-spans m t (way-changed f is c n t.rear (span t) (none rails) ∙ spans-way n t whole.spanned) in
+          let knows = whole.knows ∙ sym (covered-changed f is c n t.rear (span t) no_blocks (none rails)) in
+          train-from m t parts.size within (whole-from m t (record { spanned = spanned; knows = knows })) parts.movable
+    ]
+
+-- Turnouts that their decoders move.
 
 same-lies : (one two : Bool) → not (same_bool one two) ≡ false → one ≡ two
 same-lies true true h = refl
@@ -172,93 +331,21 @@ same-lies true false h = cc
 same-lies false true h = cc
 same-lies false false h = refl
 
-pub unmoved-observed : (nodes : List Node) (state : TurnoutState) → is_moved nodes state ≡ false → observed nodes state ≡ state
-unmoved-observed nodes state h = ap (λ (thrown : Bool). record state { is_thrown = thrown }) (same-lies (observed nodes state).is_thrown state.is_thrown h)
+not-not : (b : Bool) → not b ≡ false → b ≡ true
+not-not true h = refl
+not-not false h = cc
 
-across-other : (state : TurnoutState) (thrown : Bool) (end : BlockEnd) → is_end_of end state ≡ false → across (as_joint (record state { is_thrown = thrown })) end ≡ None
-across-other state thrown end h =
-    let common = or-left (same_block_end state.turnout.common end) (is_branch end state) h in
-    let branch = or-right (same_block_end state.turnout.common end) (is_branch end state) h in
-    let closed = or-left (same_block_end state.turnout.closed end) (same_block_end state.turnout.thrown end) branch in
-    let is_thrown = or-right (same_block_end state.turnout.closed end) (same_block_end state.turnout.thrown end) branch in
-    across-none (as_joint (record state { is_thrown = thrown })) end common (either thrown closed is_thrown) where
-      either : (b : Bool) → same_block_end state.turnout.closed end ≡ false → same_block_end state.turnout.thrown end ≡ false
-          → same_block_end (if b then state.turnout.thrown else state.turnout.closed) end ≡ false
-      either true closed is_thrown = is_thrown
-      either false closed is_thrown = closed
-
-same-across : (nodes : List Node) (state : TurnoutState) (end : BlockEnd) → (is_end_of end state && is_moved nodes state) ≡ false → across (as_joint (observed nodes state)) end ≡ across (as_joint state) end
-same-across nodes state end h = elim (cases_Bool (is_end_of end state)) [
-  | inl has ↦ ap (λ (s : TurnoutState). across (as_joint s) end) (unmoved-observed nodes state (sym (ap (λ (b : Bool). b && is_moved nodes state) has) ∙ h))
-  | inr other ↦ across-other state (observed nodes state).is_thrown end other ∙ sym (across-other state state.is_thrown end other)
-]
-
-same-partner : (nodes : List Node) (states : List TurnoutState) (end : BlockEnd) → is_moved_end nodes states end ≡ false → partner (map as_joint (map (observed nodes) states)) end ≡ partner (map as_joint states) end
-same-partner nodes [] end h = refl
-same-partner nodes (state ∷ states) end h =
-    let this = or-left (is_end_of end state && is_moved nodes state) (is_moved_end nodes states end) h in
-    let rest = or-right (is_end_of end state && is_moved nodes state) (is_moved_end nodes states end) h in
-    ap (λ (o : Option BlockEnd). option_or o (partner (map as_joint (map (observed nodes) states)) end)) (same-across nodes state end this)
-    ∙ ap (λ (o : Option BlockEnd). option_or (across (as_joint state) end) o) (same-partner nodes states end rest)
-
-same-branch : (nodes : List Node) (states : List TurnoutState) (end : BlockEnd) → list_any (is_branch end) (map (observed nodes) states) ≡ list_any (is_branch end) states
-same-branch nodes [] end = refl
-same-branch nodes (state ∷ states) end = ap (λ (b : Bool). is_branch end state || b) (same-branch nodes states end)
-
-same-exit : (nodes : List Node) (n : Network) (end : BlockEnd) → is_moved_end nodes n.turnouts end ≡ false → exit_of (laid nodes n) end ≡ exit_of n end
-same-exit nodes n end h =
-    ap (λ (branch : Bool). exit_to (partner (joined (laid nodes n)) end) branch) (same-branch nodes n.turnouts end)
-    ∙ ap (λ (found : Option BlockEnd). exit_to found (list_any (is_branch end) n.turnouts))
-    (partner-append n.joints (map as_joint (map (observed nodes) n.turnouts)) end
-    ∙ ap (λ (o : Option BlockEnd). option_or (partner n.joints end) o) (same-partner nodes n.turnouts end h)
-    ∙ sym (partner-append n.joints (map as_joint n.turnouts) end))
-
-abbrev moved-ends : List Node → Network → BlockEnd → Bool
-moved-ends nodes n end = is_moved_end nodes n.turnouts end
-
-same-onward : (nodes : List Node) (n : Network) (p : Place) → leaves_at (is_moved_end nodes n.turnouts) n p ≡ false → onward (laid nodes n) p ≡ onward n p
-same-onward nodes n p h = elim (cases_Bool (to_end (length_of n.blocks p.block) p == 0)) [
-  | inl ends ↦
-      let none : to_end (length_of n.blocks p.block) p ≡ 0 = eqb-true (to_end (length_of n.blocks p.block) p) 0 ends in
-      let unmoved : is_moved_end nodes n.turnouts (end_ahead p) ≡ false = sym (ap (λ (b : Bool). b && is_moved_end nodes n.turnouts (end_ahead p)) ends) ∙ h in
-      onward-end (laid nodes n) p none ∙ ap (λ (exit : Exit). onward_by n.blocks exit) (same-exit nodes n (end_ahead p) unmoved) ∙ sym (onward-end n p none)
-  | inr goes ↦
-      ap (λ (b : Bool). if b then onward_by n.blocks (exit_of (laid nodes n) (end_ahead p)) else To (further p 1)) goes
-      ∙ sym (ap (λ (b : Bool). if b then onward_by n.blocks (exit_of n (end_ahead p)) else To (further p 1)) goes)
-]
-
--- A way over which no turnout is moved stays, with its blocks.
-
-way-laid : (nodes : List Node) (n : Network) (p : Place) (way : ℕ) → first_at (is_moved_end nodes n.turnouts) n p way ≡ None → way_on (laid nodes n) p way ≡ way_on n p way
-unfolding way_on
-way-laid nodes n p zero h = refl
-way-laid nodes n p (suc way) h =
-    let other = none-first (is_moved_end nodes n.turnouts) n p way h in
-    let same = same-onward nodes n p other in
-    elim (onward-cases (onward n p)) [
-      | inl next ↦
-          way_on-suc (laid nodes n) p next.0 way (same ∙ next.1)
-          ∙ way-laid nodes n next.0 way (sym (first-next (is_moved_end nodes n.turnouts) n p next.0 way other next.1) ∙ h)
-          ∙ sym (way_on-suc n p next.0 way next.1)
-      | inr ends ↦
-          way_on-ends (laid nodes n) p (suc way) (omega arith) (ap (λ (o : Onward). place_of o) same ∙ ends)
-          ∙ sym (way_on-ends n p (suc way) (omega arith) ends)
-    ]
-
-covered-laid : (nodes : List Node) (n : Network) (p : Place) (way : ℕ) (m : List Bool) → first_at (is_moved_end nodes n.turnouts) n p way ≡ None → covered (laid nodes n) p way m ≡ covered n p way m
-covered-laid nodes n p zero m h = covered-zero (laid nodes n) p m ∙ sym (covered-zero n p m)
-covered-laid nodes n p (suc way) m h =
-    let other = none-first (is_moved_end nodes n.turnouts) n p way h in
-    let same = same-onward nodes n p other in
-    elim (onward-cases (onward n p)) [
-      | inl next ↦
-          covered-suc (laid nodes n) p next.0 way m (same ∙ next.1)
-          ∙ covered-laid nodes n next.0 way (slice_set m p.block true) (sym (first-next (is_moved_end nodes n.turnouts) n p next.0 way other next.1) ∙ h)
-          ∙ sym (covered-suc n p next.0 way m next.1)
-      | inr ends ↦
-          covered-ends (laid nodes n) p (suc way) m (ap (λ (o : Onward). place_of o) same ∙ ends)
-          ∙ sym (covered-ends n p (suc way) m ends)
-    ]
+pub laid-changes : (nodes : List Node) → Changes (observed nodes) (is_moved nodes)
+laid-changes nodes = record {
+  keeps = λ state. refl;
+  others = λ state h.
+      let side : Bool = (observed nodes state).is_thrown in
+      record {
+        turnout = refl;
+        thrown = same-lies side state.is_thrown h;
+        moving = ap (λ (b : Bool). not ((if b then state.left else state.turnout.time * 1000 - state.left) == 0)) (not-not (same_bool side state.is_thrown) h);
+      };
+}
 
 -- A train whose track is checked.
 
@@ -302,11 +389,7 @@ checked-train nodes n t h =
     let parts = parts-of n t h in
     let within : is_within m.blocks t ≡ true = and_from _ _ parts.front parts.rear in
     checked-by (λ (u : TrainState). is_train m u ≡ true) nodes n t (λ derailed. train-from m t parts.size within (derailed-whole m t derailed) parts.movable)
-    (λ rails none.
-    let whole = whole-of n t parts.whole rails in
-    let spanned = way-spans m t (way-laid nodes n t.rear (span t) none ∙ spans-way n t whole.spanned) in
-    let knows = whole.knows ∙ sym (covered-laid nodes n t.rear (span t) no_blocks none) in
-    train-from m t parts.size within (whole-from m t (record { spanned = spanned; knows = knows })) parts.movable)
+    (λ rails none. train-changed (observed nodes) (is_moved nodes) (laid-changes nodes) n t h (λ _. none))
     (λ p rails some. train-from m (off_rails n p t) parts.size within (derailed-whole m (off_rails n p t) refl) (still-movable t parts.movable))
 
 pub all-checked : (nodes : List Node) (n : Network) (ts : List TrainState) → list_all (is_train n) ts ≡ true → list_all (is_train (laid nodes n)) (map (checked nodes n) ts) ≡ true
@@ -315,35 +398,79 @@ all-checked nodes n (t ∷ ts) h =
     let parts = and_parts (is_train n t) (list_all (is_train n) ts) h in
     and_from (is_train (laid nodes n) (checked nodes n t)) (list_all (is_train (laid nodes n)) (map (checked nodes n) ts)) (checked-train nodes n t parts.0) (all-checked nodes n ts parts.1)
 
--- Where no turnout is moved.
+-- Where no outputs are others than those that were seen last, no turnout is moved.
 
-unmoved-all : (nodes : List Node) (states : List TurnoutState) → list_any (is_moved nodes) states ≡ false → map (observed nodes) states ≡ states
-unmoved-all nodes [] h = refl
-unmoved-all nodes (state ∷ states) h =
-    ap (λ (s : TurnoutState). s ∷ map (observed nodes) states) (unmoved-observed nodes state (or-left (is_moved nodes state) (list_any (is_moved nodes) states) h))
-    ∙ ap (λ (rest : List TurnoutState). state ∷ rest) (unmoved-all nodes states (or-right (is_moved nodes state) (list_any (is_moved nodes) states) h))
+same-bool-self : (b : Bool) → same_bool b b ≡ true
+same-bool-self true = refl
+same-bool-self false = refl
 
-pub unmoved-laid : (nodes : List Node) (n : Network) → list_any (is_moved nodes) n.turnouts ≡ false → laid nodes n ≡ n
-unmoved-laid nodes n h = ap (λ (states : List TurnoutState). record n { turnouts = states }) (unmoved-all nodes n.turnouts h)
+none-came : (outputs output : ℕ) → came_on outputs outputs output ≡ false
+none-came outputs output = by (is_on outputs output) where
+  by : (b : Bool) → (b && not b) ≡ false
+  by true = refl
+  by false = refl
 
-unmoved-end : (nodes : List Node) (states : List TurnoutState) (end : BlockEnd) → list_any (is_moved nodes) states ≡ false → is_moved_end nodes states end ≡ false
-unmoved-end nodes [] end h = refl
-unmoved-end nodes (state ∷ states) end h =
-    or-none (is_end_of end state && is_moved nodes state) (is_moved_end nodes states end)
-    (ap (λ (b : Bool). is_end_of end state && b) (or-left (is_moved nodes state) (list_any (is_moved nodes) states) h) ∙ and-false (is_end_of end state))
-    (unmoved-end nodes states end (or-right (is_moved nodes state) (list_any (is_moved nodes) states) h)) where
+side-stays : (outputs pair : ℕ) (side : Bool) → side_of outputs (Some outputs) pair side ≡ side
+side-stays outputs pair side =
+    ap (λ (b : Bool). if same_bool b (came_on outputs outputs (2 * (pair % 4))) then side else came_on outputs outputs (2 * (pair % 4))) (none-came outputs (2 * (pair % 4) + 1))
+    ∙ ap (λ (b : Bool). if same_bool false b then side else b) (none-came outputs (2 * (pair % 4)))
+
+pub unchanged-observed : (nodes : List Node) (state : TurnoutState) → is_changed nodes state ≡ false → observed nodes state ≡ state
+unchanged-observed nodes state h = by (outputs_in nodes state.decoder) (not-not _ h) where
+  asked : (side : Bool) → TurnoutState
+  asked side = record state { is_thrown = side; left = left_to side state }
+
+  stays : asked state.is_thrown ≡ state
+  stays = ap (λ (b : Bool). record state { left = if b then state.left else state.turnout.time * 1000 - state.left }) (same-bool-self state.is_thrown)
+
+  by : (found : Option ℕ) → (seen_of state.outputs found == state.outputs) ≡ true
+      → record (asked (side_of state.outputs found (pair_of state.turnout.switch) state.is_thrown)) { outputs = seen_of state.outputs found } ≡ state
+  by None e = stays
+  by (Some is) e =
+      ap (λ (o : ℕ). record (asked (side_of state.outputs (Some o) (pair_of state.turnout.switch) state.is_thrown)) { outputs = o }) (eqb-true is state.outputs e)
+      ∙ ap (λ (side : Bool). asked side) (side-stays state.outputs (pair_of state.turnout.switch) state.is_thrown) ∙ stays
+
+unchanged-moved : (nodes : List Node) (state : TurnoutState) → is_changed nodes state ≡ false → is_moved nodes state ≡ false
+unchanged-moved nodes state h =
+    ap (λ (s : TurnoutState). not (same_bool s.is_thrown state.is_thrown)) (unchanged-observed nodes state h) ∙ ap (λ (b : Bool). not b) (same-bool-self state.is_thrown)
+
+unchanged-all : (nodes : List Node) (states : List TurnoutState) → list_any (is_changed nodes) states ≡ false → map (observed nodes) states ≡ states
+unchanged-all nodes [] h = refl
+unchanged-all nodes (state ∷ states) h =
+    ap (λ (s : TurnoutState). s ∷ map (observed nodes) states) (unchanged-observed nodes state (or-left (is_changed nodes state) (list_any (is_changed nodes) states) h))
+    ∙ ap (λ (rest : List TurnoutState). state ∷ rest) (unchanged-all nodes states (or-right (is_changed nodes state) (list_any (is_changed nodes) states) h))
+
+pub unchanged-laid : (nodes : List Node) (n : Network) → list_any (is_changed nodes) n.turnouts ≡ false → laid nodes n ≡ n
+unchanged-laid nodes n h = ap (λ (states : List TurnoutState). record n { turnouts = states }) (unchanged-all nodes n.turnouts h)
+
+pub unchanged-none : (nodes : List Node) (states : List TurnoutState) → list_any (is_changed nodes) states ≡ false → list_any (is_moved nodes) states ≡ false
+unchanged-none nodes [] h = refl
+unchanged-none nodes (state ∷ states) h =
+    or-none (is_moved nodes state) (list_any (is_moved nodes) states) (unchanged-moved nodes state (or-left (is_changed nodes state) (list_any (is_changed nodes) states) h))
+    (unchanged-none nodes states (or-right (is_changed nodes state) (list_any (is_changed nodes) states) h))
+
+pub none-end : (is : TurnoutState → Bool) (states : List TurnoutState) (end : BlockEnd) → list_any is states ≡ false → end_of_any is states end ≡ false
+none-end is [] end h = refl
+none-end is (state ∷ states) end h =
+    or-none (is_end_of end state && is state) (end_of_any is states end)
+    (ap (λ (b : Bool). is_end_of end state && b) (or-left (is state) (list_any is states) h) ∙ and-false (is_end_of end state))
+    (none-end is states end (or-right (is state) (list_any is states) h)) where
       and-false : (b : Bool) → (b && false) ≡ false
       and-false true = refl
       and-false false = refl
 
-pub unmoved-checked : (nodes : List Node) (n : Network) (t : TrainState) → list_any (is_moved nodes) n.turnouts ≡ false → checked nodes n t ≡ t
-unmoved-checked nodes n t h =
-    checked-stays nodes n t (all-none (is_moved_end nodes n.turnouts) n t.rear (span t) (λ part q less there. leaves-unmoved q)) where
-      leaves-unmoved : (q : Place) → leaves_at (is_moved_end nodes n.turnouts) n q ≡ false
-      leaves-unmoved q = ap (λ (b : Bool). to_end (length_of n.blocks q.block) q == 0 && b) (unmoved-end nodes n.turnouts (end_ahead q) h) ∙ and-none (to_end (length_of n.blocks q.block) q == 0) where
+-- so no way is at one of their ends
+pub none-first-at : (is : TurnoutState → Bool) (n : Network) (p : Place) (way : ℕ) → list_any is n.turnouts ≡ false → first_at (end_of_any is n.turnouts) n p way ≡ None
+none-first-at is n p way h =
+    all-none (end_of_any is n.turnouts) n p way (λ part q less there. leaves q) where
+      leaves : (q : Place) → leaves_at (end_of_any is n.turnouts) n q ≡ false
+      leaves q = ap (λ (b : Bool). to_end (length_of n.blocks q.block) q == 0 && b) (none-end is n.turnouts (end_ahead q) h) ∙ and-none (to_end (length_of n.blocks q.block) q == 0) where
         and-none : (b : Bool) → (b && false) ≡ false
         and-none true = refl
         and-none false = refl
+
+pub unmoved-checked : (nodes : List Node) (n : Network) (t : TrainState) → list_any (is_moved nodes) n.turnouts ≡ false → checked nodes n t ≡ t
+unmoved-checked nodes n t h = checked-stays nodes n t (none-first-at (is_moved nodes) n t.rear (span t) h)
 
 pub unmoved-trains : (nodes : List Node) (n : Network) (ts : List TrainState) → list_any (is_moved nodes) n.turnouts ≡ false → map (checked nodes n) ts ≡ ts
 unmoved-trains nodes n [] h = refl

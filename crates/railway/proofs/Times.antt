@@ -1,48 +1,18 @@
 -- Times add up.
-use Rattle.std.proofs.Common.{◌≡◌, ℕ, ◌+◌, ◌*◌, ◌%◌, Bool, true, false, not, inl, inr, List, [], ◌∷◌, Option, Some, None, map, refl, ap, sym, ◌∙◌}
+use Rattle.std.proofs.Common.{◌≡◌, ℕ, ◌+◌, inl, inr, List, [], ◌∷◌, map, refl, ap, sym, ◌∙◌}
 use Rattle.std.proofs.lemmas.Bool.{cases_Bool}
-use Rattle.std.specs.List.{list_any}
-use Rattle.std.specs.Prelude.{if◌then◌else◌}
 use Rattle.layout_core.specs.declared.node.Node.{Node}
 use Rattle.motion.specs.declared.velocity.Drive.{Drive}
 use Rattle.refresh_ring.specs.declared.pick.Power.{Power}
 use Rattle.refresh_ring.specs.declared.pick.Power.TheVariants.{Off, Running as PowerOn, Paused}
-use Rattle.railway.specs.declared.joint.TurnoutState.{TurnoutState}
 use Rattle.railway.specs.declared.train.TrainState.{TrainState}
 use Rattle.railway.specs.Laws.{asked_of}
 use Rattle.railway.specs.Network.{Network, marked, under}
 use Rattle.railway.specs.Places.{is_derailed}
-use Rattle.railway.specs.Railway.{RailwayState, elapsed, run_in, run_under}
+use Rattle.railway.specs.Railway.{run_in, run_under}
 use Rattle.railway.specs.Running.{ridden}
-use Rattle.railway.specs.Turnouts.{checked, is_moved, is_on, laid, lies_thrown, observed, outputs_in, pair_of, same_bool}
-use Rattle.railway.proofs.Facts.{or-none}
 use Rattle.railway.proofs.Riding.{ridden-add, ridden-derailed, ridden-same, ridden-under}
 use Rattle.railway.proofs.Running.{in-derailed, in-itself, same-drive}
-use Rattle.railway.proofs.Throwing.{unmoved-laid, unmoved-trains}
-
--- A turnout that is laid lies so already.
-
-lies-lies : (outputs : Option ℕ) (pair : ℕ) (lay : Bool) → lies_thrown outputs pair (lies_thrown outputs pair lay) ≡ lies_thrown outputs pair lay
-lies-lies None pair lay = refl
-lies-lies (Some outputs) pair lay = chosen (same_bool (is_on outputs (2 * (pair % 4) + 1)) (is_on outputs (2 * (pair % 4)))) where
-  chosen : (same : Bool) → (if same then (if same then lay else is_on outputs (2 * (pair % 4))) else is_on outputs (2 * (pair % 4))) ≡ (if same then lay else is_on outputs (2 * (pair % 4)))
-  chosen true = refl
-  chosen false = refl
-
--- So no turnout is moved then.
-
-same-bool-self : (b : Bool) → not (same_bool b b) ≡ false
-same-bool-self true = refl
-same-bool-self false = refl
-
-lies-already : (nodes : List Node) (state : TurnoutState) → is_moved nodes (observed nodes state) ≡ false
-lies-already nodes state =
-    let lies : Bool = lies_thrown (outputs_in nodes state.decoder) (pair_of state.turnout.switch) state.is_thrown in
-    ap (λ (b : Bool). not (same_bool b lies)) (lies-lies (outputs_in nodes state.decoder) (pair_of state.turnout.switch) state.is_thrown) ∙ same-bool-self lies
-
-all-lie : (nodes : List Node) (states : List TurnoutState) → list_any (is_moved nodes) (map (observed nodes) states) ≡ false
-all-lie nodes [] = refl
-all-lie nodes (state ∷ states) = or-none (is_moved nodes (observed nodes state)) (list_any (is_moved nodes) (map (observed nodes) states)) (lies-already nodes state) (all-lie nodes states)
 
 -- A train that ran, and runs on so, ran for all of the time.
 
@@ -74,18 +44,8 @@ under-under Off n nodes these those t = refl
 under-under PowerOn n nodes these those t = in-in n nodes these those t
 under-under Paused n nodes these those t = in-in n nodes these those t
 
-all-all : (p : Power) (n : Network) (nodes : List Node) (these those : ℕ) (ts : List TrainState) → map (run_under p n those nodes) (map (run_under p n these nodes) ts) ≡ map (run_under p n (these + those) nodes) ts
+pub all-all : (p : Power) (n : Network) (nodes : List Node) (these those : ℕ) (ts : List TrainState) → map (run_under p n those nodes) (map (run_under p n these nodes) ts) ≡ map (run_under p n (these + those) nodes) ts
 all-all p n nodes these those [] = refl
 all-all p n nodes these those (t ∷ ts) =
     ap (λ (u : TrainState). u ∷ map (run_under p n those nodes) (map (run_under p n these nodes) ts)) (under-under p n nodes these those t)
     ∙ ap (λ (us : List TrainState). run_under p n (these + those) nodes t ∷ us) (all-all p n nodes these those ts)
-
-pub elapsed-elapsed : (r : RailwayState) (p : Power) (nodes : List Node) (these those : ℕ) → elapsed (elapsed r these p nodes) those p nodes ≡ elapsed r (these + those) p nodes
-elapsed-elapsed r p nodes these those =
-    let m : Network = laid nodes r.network in
-    let start : List TrainState = map (checked nodes r.network) r.trains in
-    let first : List TrainState = map (run_under p m these nodes) start in
-    let none = all-lie nodes r.network.turnouts in
-    ap (λ (k : Network). record { network = k; trains = map (run_under p k those nodes) (map (checked nodes m) first) }) (unmoved-laid nodes m none)
-    ∙ ap (λ (ts : List TrainState). record { network = m; trains = map (run_under p m those nodes) ts }) (unmoved-trains nodes m first none)
-    ∙ ap (λ (ts : List TrainState). record { network = m; trains = ts }) (all-all p m nodes these those start)

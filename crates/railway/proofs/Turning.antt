@@ -15,7 +15,7 @@ use Rattle.railway.specs.declared.exit.Onward.TheVariants.{To, BufferStop, Again
 use Rattle.railway.specs.declared.train.Place.{Place}
 use Rattle.railway.specs.Blocks.{is_block, is_block_sensor, is_length, length_of, other}
 use Rattle.railway.specs.Ends.{are_apart, ends_of}
-use Rattle.railway.specs.Network.{Network, exit_of, exit_to, is_branch, is_sound, joined, onward, onward_by, partner, place_of, turnouts_of, way_on}
+use Rattle.railway.specs.Network.{Network, exit_of, exit_to, is_against, is_sound, joined, onward, onward_by, partner, place_of, turnouts_of, way_on}
 use Rattle.railway.specs.Places.{end_ahead, end_at, further, is_on_track, left_to, moved_to, start_at, to_end, turned_place}
 use Rattle.railway.proofs.Joining.{joined-back}
 use Rattle.railway.proofs.Leading.{IsOf, joined-of, sound}
@@ -42,7 +42,7 @@ leads-partner None false next h = cc
 
 pub exit-back : (n : Network) (end next : BlockEnd) → Apart n → exit_of n end ≡ Leads next → exit_of n next ≡ Leads end
 exit-back n end next apart h =
-    ap (λ (found : Option BlockEnd). exit_to found (list_any (is_branch next) n.turnouts))
+    ap (λ (found : Option BlockEnd). exit_to found (list_any (is_against next) n.turnouts))
     (joined-back n end next apart (leads-partner (partner (joined n) end) _ next h))
 
 -- One femtometre.

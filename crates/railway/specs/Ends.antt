@@ -10,8 +10,13 @@ abbrev pub default_joint : Joint
 default_joint = record { one = default_end; two = default_end }
 
 abbrev pub default_turnout : Turnout
-default_turnout =
-    record { switch = 0; common = default_end; closed = default_end; thrown = default_end }
+default_turnout = record {
+  switch = 0;
+  common = default_end;
+  closed = default_end;
+  thrown = default_end;
+  time = 0;
+}
 
 -- the end is one of a block of the plan
 abbrev pub is_end : (blocks : ℕ) → BlockEnd → Bool

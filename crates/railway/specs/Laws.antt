@@ -1,23 +1,25 @@
 -- What the laws of a railway speak of.
-use Rattle.std.specs.Prelude.{ℕ, ◌≡◌, ◌*◌, ◌<◌, ◌≤◌, ◌==◌, Bool, false, not, List, [], ◌∷◌, length, Some, IsTrue}
+use Rattle.std.specs.Prelude.{ℕ, ◌≡◌, ◌*◌, ◌<◌, ◌≤◌, ◌==◌, ◌&&◌, Bool, false, not, List, [], ◌∷◌, length, Some, IsTrue}
 use Rattle.std.specs.List.{list_any, slice_index_or}
 use Rattle.layout_core.specs.declared.node.Node.{Node}
 use Rattle.refresh_ring.specs.declared.pick.Power.{Power}
+use Rattle.refresh_ring.specs.declared.pick.Power.TheVariants.{Off, Running, Paused}
 use Rattle.ln_ops.specs.declared.sensor.SensorReport.{SensorReport}
 use Rattle.motion.specs.Velocity.{goes_only, velocity_after, way}
 use Rattle.motion.specs.declared.velocity.Drive.{Drive}
 use Rattle.motion.specs.declared.velocity.Velocity.{Velocity}
 use Rattle.railway.specs.declared.block.Block.{Block}
+use Rattle.railway.specs.declared.block.BlockEnd.{BlockEnd}
 use Rattle.railway.specs.declared.joint.TurnoutState.{TurnoutState}
 use Rattle.railway.specs.declared.train.Place.{Place}
 use Rattle.railway.specs.declared.train.TrainState.{TrainState}
 use Rattle.railway.specs.Blocks.{default_block, length_of}
-use Rattle.railway.specs.Network.{Network, way_on}
+use Rattle.railway.specs.Network.{Network, is_end_of, is_moving, way_on}
 use Rattle.railway.specs.Places.{is_derailed, leading_end, span, turned_place}
 use Rattle.railway.specs.Railway.{run_under}
 use Rattle.railway.specs.Reports.{is_occupied, occupies}
 use Rattle.railway.specs.Trains.{drive_of, is_forward, running_in, speed_of}
-use Rattle.railway.specs.Turnouts.{checked, laid}
+use Rattle.railway.specs.Turnouts.{checked, moved_on, laid}
 
 -- the place is in a block of the plan, within its length
 pub record IsOnTrack (blocks : List Block) (place : Place) : Type 0 where
@@ -77,6 +79,16 @@ leading nodes train = leading_end (is_forward (running_in nodes train.decoder)) 
 abbrev pub speed_times_time : List Node → (micros : ℕ) → TrainState → ℕ
 speed_times_time nodes micros train =
     speed_of train.top (running_in nodes train.decoder) * micros
+
+-- a turnout after so many microseconds, which it moves by track power
+abbrev pub moved_on_under : Power → (micros : ℕ) → TurnoutState → TurnoutState
+moved_on_under Off micros state = state
+moved_on_under Running micros state = moved_on micros state
+moved_on_under Paused micros state = moved_on micros state
+
+-- the end is one of a turnout that moves
+abbrev pub is_moving_end : List TurnoutState → BlockEnd → Bool
+is_moving_end states end = list_any (λ state. is_moving state && is_end_of end state) states
 
 -- one of the turnouts has this switch
 abbrev pub has_switch : List TurnoutState → (switch : ℕ) → Bool

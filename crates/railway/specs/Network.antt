@@ -1,5 +1,5 @@
 -- The track: where it leads, and how a train runs on it.
-use Rattle.std.specs.Prelude.{ℕ, zero, suc, ◌+◌, ◌-◌, ◌≡◌, ◌⊎◌, ◌==◌, ◌<◌, ◌≤◌, ◌&&◌, ◌||◌, ◌++◌, Bool, true, if◌then◌else◌, List, [], ◌∷◌, length, map, Option, Some, None, slice_set}
+use Rattle.std.specs.Prelude.{ℕ, zero, suc, ◌+◌, ◌-◌, ◌≡◌, ◌⊎◌, ◌==◌, ◌<◌, ◌≤◌, ◌&&◌, ◌||◌, ◌++◌, Bool, true, not, if◌then◌else◌, List, [], ◌∷◌, length, map, Option, Some, None, slice_set}
 use Rattle.std.specs.Bool.{beq}
 use Rattle.std.specs.Cmp.Lexicographic.{pointwise}
 use Rattle.std.specs.List.{list_all, list_any}
@@ -43,9 +43,23 @@ abbrev pub partner : List Joint → BlockEnd → Option BlockEnd
 partner [] end = None
 partner (joint ∷ joints) end = option_or (across joint end) (partner joints end)
 
+-- a turnout lies at a side
+abbrev pub lies : TurnoutState → Bool
+lies state = state.left == 0
+
+-- it moves, and lies at neither side
+abbrev pub is_moving : TurnoutState → Bool
+is_moving state = not (lies state)
+
+-- the joints that turnouts are, as they lie: one that moves is none
+abbrev pub joints_of : List TurnoutState → List Joint
+joints_of [] = []
+joints_of (state ∷ states) =
+    if is_moving state then joints_of states else as_joint state ∷ joints_of states
+
 -- what is joined, as the turnouts lie
 abbrev pub joined : Network → List Joint
-joined network = network.joints ++ map as_joint network.turnouts
+joined network = network.joints ++ joints_of network.turnouts
 
 -- the end is one of the two that a turnout chooses from
 abbrev pub is_branch : BlockEnd → TurnoutState → Bool
@@ -56,20 +70,26 @@ is_branch end state =
 abbrev pub is_end_of : BlockEnd → TurnoutState → Bool
 is_end_of end state = same_block_end state.turnout.common end || is_branch end state
 
+-- an end at which a turnout that does not lead on from it derails a train: one of the two that it
+-- chooses from, and each of the three while it moves
+abbrev pub is_against : BlockEnd → TurnoutState → Bool
+is_against end state = if is_moving state then is_end_of end state else is_branch end state
+
 -- The switch of the turnout that an end belongs to; 0 if it belongs to none. No end belongs to two.
 abbrev pub switch_at : List TurnoutState → BlockEnd → ℕ
 switch_at [] end = 0
 switch_at (state ∷ states) end =
     if is_end_of end state then state.turnout.switch else switch_at states end
 
-abbrev pub exit_to : Option BlockEnd → (branch : Bool) → Exit
-exit_to (Some end) branch = Leads end
-exit_to None branch = if branch then Against else BufferStop
+abbrev pub exit_to : Option BlockEnd → (against : Bool) → Exit
+exit_to (Some end) against = Leads end
+exit_to None against = if against then Against else BufferStop
 
--- what lies beyond an end: an end of a block, a turnout that lies against it, or a buffer stop
+-- what lies beyond an end: an end of a block, a turnout that moves or lies against it, or a buffer
+-- stop
 abbrev pub exit_of : Network → BlockEnd → Exit
 exit_of network end =
-    exit_to (partner (joined network) end) (list_any (is_branch end) network.turnouts)
+    exit_to (partner (joined network) end) (list_any (is_against end) network.turnouts)
 
 -- an exit leads to a block of the plan, if it leads anywhere
 abbrev pub LeadsToPlan : Network → Exit → Type 0

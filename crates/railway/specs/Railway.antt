@@ -1,5 +1,5 @@
 -- A railway, and what time makes of it.
-use Rattle.std.specs.Prelude.{ℕ, ◌/◌, ◌&&◌, Bool, List, length, map, nat_le, nat_lt, if◌then◌else◌, Option, Some, None, slice_get, slice_set}
+use Rattle.std.specs.Prelude.{ℕ, zero, suc, ◌/◌, ◌&&◌, Bool, true, List, length, map, nat_le, nat_lt, if◌then◌else◌, Option, Some, None, slice_get, slice_set}
 use Rattle.std.specs.List.{list_all, slice_index_or}
 use Rattle.std.specs.Option.{option_or}
 use Rattle.decoder_node.specs.declared.node.NodeSpec.{NodeSpec}
@@ -21,7 +21,7 @@ use Rattle.railway.specs.Places.{leading_end, still}
 use Rattle.railway.specs.Reports.{changes}
 use Rattle.railway.specs.Running.{is_within, run_for}
 use Rattle.railway.specs.Trains.{default_state, is_movable, running_in}
-use Rattle.railway.specs.Turnouts.{checked, laid, network_of}
+use Rattle.railway.specs.Turnouts.{advanced, checked, is_calm, laid, network_of}
 
 -- the track as the turnouts lie, and the trains as they are
 pub record RailwayState : Type 0 where
@@ -65,14 +65,33 @@ laid_in nodes railway = record {
   trains = map (checked nodes railway.network) railway.trains;
 }
 
--- each train runs as its own decoder runs
+-- turnouts move by track power
+abbrev pub advanced_under : Power → (micros : ℕ) → Network → Network
+advanced_under Off micros network = network
+advanced_under Running micros network = advanced micros network
+advanced_under Paused micros network = advanced micros network
+
+-- each train runs as its own decoder runs, on the track as the turnouts lie at first
 abbrev pub ran_in : Power → (micros : ℕ) → List Node → RailwayState → RailwayState
-ran_in power micros nodes railway =
-    record railway { trains = map (run_under power railway.network micros nodes) railway.trains }
+ran_in power micros nodes railway = record {
+  network = advanced_under power micros railway.network;
+  trains = map (run_under power railway.network micros nodes) railway.trains;
+}
+
+-- so many microseconds pass, one after another
+unfoldable pub run_through : Power → (micros : ℕ) → List Node → RailwayState → RailwayState
+run_through power zero nodes railway = railway
+run_through power (suc micros) nodes railway = run_through power micros nodes (ran_in power 1 nodes railway)
+
+-- no turnout comes to lie before the end of a time
+abbrev pub is_piece : Power → (micros : ℕ) → Network → Bool
+is_piece Off micros network = true
+is_piece Running micros network = is_calm micros network
+is_piece Paused micros network = is_calm micros network
 
 -- so many microseconds pass in which the decoders do this
 abbrev pub elapsed : RailwayState → (micros : ℕ) → Power → List Node → RailwayState
-elapsed railway micros power nodes = ran_in power micros nodes (laid_in nodes railway)
+elapsed railway micros power nodes = run_through power micros nodes (laid_in nodes railway)
 
 -- what the sensors report of it
 abbrev pub reports_in : RailwayState → (micros : ℕ) → Power → List Node → List SensorReport

@@ -1,7 +1,7 @@
--- How turnouts lie.
-use Rattle.std.specs.Prelude.{ℕ, ◌+◌, ◌-◌, ◌*◌, ◌%◌, ◌==◌, ◌&&◌, Bool, false, not, if◌then◌else◌, List, Option, Some, None, slice_get, map}
+-- How turnouts move and lie.
+use Rattle.std.specs.Prelude.{ℕ, ◌+◌, ◌-◌, ◌*◌, ◌%◌, ◌==◌, ◌&&◌, ◌||◌, Bool, false, min, nat_le, not, if◌then◌else◌, List, Option, Some, None, slice_get, map}
 use Rattle.std.specs.Int.{bit_at}
-use Rattle.std.specs.List.{list_any}
+use Rattle.std.specs.List.{list_all, list_any}
 use Rattle.std.specs.Option.{option_and_then}
 use Rattle.decoder_node.specs.declared.node.NodeSpec.{NodeSpec}
 use Rattle.layout_core.specs.declared.node.Node.{Node}
@@ -13,7 +13,7 @@ use Rattle.railway.specs.declared.plan.Plan.{Plan}
 use Rattle.railway.specs.declared.train.Place.{Place}
 use Rattle.railway.specs.declared.train.TrainState.{TrainState}
 use Rattle.railway.specs.Decoders.{decoder_of}
-use Rattle.railway.specs.Network.{Network, first_at, is_end_of, off_rails}
+use Rattle.railway.specs.Network.{Network, first_at, is_end_of, is_moving, off_rails}
 use Rattle.railway.specs.Places.{is_derailed, span}
 
 abbrev pub same_bool : Bool → Bool → Bool
@@ -26,28 +26,57 @@ outputs_in nodes decoder = option_and_then outputs_of (slice_get nodes decoder)
 abbrev pub is_on : (outputs output : ℕ) → Bool
 is_on outputs output = bit_at outputs output == 1
 
--- A pair of outputs has the even one for thrown and the odd one for closed. A turnout lies as the
--- one says that is on; where both are on or none is, as it lay: outputs are pulsed.
-abbrev pub lies_thrown : Option ℕ → (pair : ℕ) → (lay : Bool) → Bool
-lies_thrown None pair lay = lay
-lies_thrown (Some outputs) pair lay =
-    if same_bool (is_on outputs (2 * (pair % 4) + 1)) (is_on outputs (2 * (pair % 4))) then lay else
-    is_on outputs (2 * (pair % 4))
+-- an output is on that was off
+abbrev pub came_on : (was is output : ℕ) → Bool
+came_on was is output = is_on is output && not (is_on was output)
+
+-- A pair of outputs has the even one for thrown and the odd one for closed: outputs are pulsed, and a
+-- turnout moves to the side of the one that came on last. `was` are the outputs that were seen last.
+abbrev pub side_of : (was : ℕ) → Option ℕ → (pair : ℕ) → (side : Bool) → Bool
+side_of was None pair side = side
+side_of was (Some is) pair side =
+    if same_bool (came_on was is (2 * (pair % 4) + 1)) (came_on was is (2 * (pair % 4))) then side else
+    came_on was is (2 * (pair % 4))
+
+-- the outputs that are seen last then
+abbrev pub seen_of : (was : ℕ) → Option ℕ → ℕ
+seen_of was None = was
+seen_of was (Some is) = is
 
 -- the pair of a switch, which counts from 1, among the four of its decoder
 abbrev pub pair_of : (switch : ℕ) → ℕ
 pair_of switch = (switch - 1) % 4
 
+-- the side that a turnout is asked for by its decoder
+abbrev pub side_in : List Node → TurnoutState → Bool
+side_in nodes state =
+    side_of state.outputs (outputs_in nodes state.decoder) (pair_of state.turnout.switch)
+    state.is_thrown
+
+-- The microseconds until a turnout lies that is asked for a side: all of its time, if it lies at the
+-- other one; as long as it has moved, if it moves there.
+abbrev pub left_to : (thrown : Bool) → TurnoutState → ℕ
+left_to thrown state =
+    if same_bool thrown state.is_thrown then state.left else state.turnout.time * 1000 - state.left
+
+-- a turnout that is asked for a side
+abbrev pub asked : (thrown : Bool) → TurnoutState → TurnoutState
+asked thrown state = record state { is_thrown = thrown; left = left_to thrown state }
+
 -- a turnout as its decoder moves it
 abbrev pub observed : List Node → TurnoutState → TurnoutState
-observed nodes state = record state {
-  is_thrown = lies_thrown (outputs_in nodes state.decoder) (pair_of state.turnout.switch)
-      state.is_thrown;
+observed nodes state = record (asked (side_in nodes state) state) {
+  outputs = seen_of state.outputs (outputs_in nodes state.decoder);
 }
 
 -- the network as its turnouts lie
 abbrev pub laid : List Node → Network → Network
 laid nodes network = record network { turnouts = map (observed nodes) network.turnouts }
+
+-- the outputs of a turnout's decoder are not those that were seen last
+abbrev pub is_changed : List Node → TurnoutState → Bool
+is_changed nodes state =
+    not (seen_of state.outputs (outputs_in nodes state.decoder) == state.outputs)
 
 -- its decoder moves a turnout to its other side
 abbrev pub is_moved : List Node → TurnoutState → Bool
@@ -72,6 +101,25 @@ checked nodes network train =
     if is_derailed train then train else
     derailed_at network train (thrown_under nodes network train)
 
+-- a turnout moves on for so many microseconds
+abbrev pub moved_on : (micros : ℕ) → TurnoutState → TurnoutState
+moved_on micros state = record state { left = state.left - micros }
+
+-- each does
+abbrev pub advanced : (micros : ℕ) → Network → Network
+advanced micros network = record network { turnouts = map (moved_on micros) network.turnouts }
+
+abbrev pub is_calm_for : (micros : ℕ) → TurnoutState → Bool
+is_calm_for micros state = state.left == 0 || nat_le micros state.left
+
+-- so much of a time, or less if the turnout moves and comes to lie before
+abbrev pub calmer : (micros : ℕ) → TurnoutState → ℕ
+calmer micros state = if is_moving state then min micros state.left else micros
+
+-- no turnout comes to lie before the end of a time
+abbrev pub is_calm : (micros : ℕ) → Network → Bool
+is_calm micros network = list_all (is_calm_for micros) network.turnouts
+
 abbrev pub index_or_zero : Option ℕ → ℕ
 index_or_zero None = 0
 index_or_zero (Some i) = i
@@ -82,6 +130,8 @@ state_of_turnout specs turnout = record {
   turnout = turnout;
   decoder = index_or_zero (decoder_of specs turnout.switch);
   is_thrown = false;
+  left = 0;
+  outputs = 0;
 }
 
 -- the network of a plan, with these decoders

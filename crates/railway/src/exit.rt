@@ -9,7 +9,7 @@ pub enum Exit {
     Leads(BlockEnd),
     /// Nothing: a train stops.
     BufferStop,
-    /// A turnout that lies against it: a train leaves the rails.
+    /// A turnout that moves or lies against it: a train leaves the rails.
     Against,
 }
 

@@ -21,16 +21,22 @@ pub struct Turnout {
     pub closed: BlockEnd,
     /// The end that it leads to if it is thrown.
     pub thrown: BlockEnd,
+    /// How long it moves from one side to the other, in milliseconds; 0 for at once.
+    pub time: u16,
 }
 
-/// A turnout as it lies.
+/// A turnout as it lies or moves.
 #[derive(Clone, Copy)]
 pub struct TurnoutState {
     pub turnout: Turnout,
     /// The index of the accessory decoder that moves it.
     pub decoder: u8,
-    /// Whether it lies thrown. It is closed until its decoder moves it.
+    /// Whether it lies thrown, or moves there. It is closed until its decoder moves it.
     pub is_thrown: bool,
+    /// The microseconds of track power until it lies there; 0 if it does.
+    pub left: u32,
+    /// The outputs of its decoder when they were seen last: bit i is that of output i.
+    pub outputs: u8,
 }
 
 impl Default for Joint {
@@ -55,6 +61,7 @@ impl Default for Turnout {
             common: BlockEnd::default(),
             closed: BlockEnd::default(),
             thrown: BlockEnd::default(),
+            time: 0,
         }
     }
 }
@@ -68,6 +75,8 @@ impl Default for TurnoutState {
             turnout: Turnout::default(),
             decoder: 0,
             is_thrown: false,
+            left: 0,
+            outputs: 0,
         }
     }
 }

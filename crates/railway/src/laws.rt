@@ -1,6 +1,6 @@
 //! The laws of a railway, each as a function that does nothing and ensures it: a call hands the
 //! law to a proof.
-ghost use Rattle.std.specs.Prelude.{◌≡◌, ◌≢◌, ◌↔◌, ℕ, ◌+◌, ◌/◌, ◌<◌, ◌≤◌, Bool, List, length, not, true, false, IfSome, IsTrue, Some, None};
+ghost use Rattle.std.specs.Prelude.{◌≡◌, ◌≢◌, ◌↔◌, ℕ, ◌+◌, ◌*◌, ◌/◌, ◌<◌, ◌≤◌, Bool, List, length, map, not, true, false, IfSome, IsTrue, Some, None};
 ghost use Rattle.std.specs.List.{slice_index_or};
 ghost use Rattle.dcc_packet.specs.declared.steps.Motion.TheVariants.{Emergency, Stop};
 ghost use Rattle.decoder_node.specs.declared.running.Running.{Running};
@@ -11,20 +11,21 @@ ghost use Rattle.refresh_ring.specs.declared.pick.Power.{Power};
 ghost use Rattle.refresh_ring.specs.declared.pick.Power.TheVariants.{Off};
 ghost use Rattle.railway.specs.declared.block.BlockEnd.{BlockEnd};
 ghost use Rattle.railway.specs.declared.conflict.Conflict.{Conflict};
-ghost use Rattle.railway.specs.declared.exit.Exit.TheVariants.{Leads};
+ghost use Rattle.railway.specs.declared.exit.Exit.TheVariants.{Leads, Against as ExitAgainst};
 ghost use Rattle.railway.specs.declared.exit.Onward.TheVariants.{BufferStop, Against};
+ghost use Rattle.railway.specs.declared.joint.TurnoutState.{TurnoutState};
 ghost use Rattle.railway.specs.declared.train.Place.{Place};
 ghost use Rattle.railway.specs.declared.train.TrainState.{TrainState};
 ghost use Rattle.railway.specs.Blocks.{default_block, length_of};
 ghost use Rattle.railway.specs.Conflicts.{conflict_in};
 ghost use Rattle.railway.specs.Course.{Happening, after, after_all, reports_of_all};
-ghost use Rattle.railway.specs.Laws.{AreChanges, IsConflict, IsOnRails, IsOnWay, StandsBetween, has_switch, leading, runs_only, speed_times_time, train_after, velocity_of, way_of};
-ghost use Rattle.railway.specs.Network.{Network, exit_of, is_sound, onward, switch_at, way_on};
+ghost use Rattle.railway.specs.Laws.{AreChanges, IsConflict, IsOnRails, IsOnWay, StandsBetween, has_switch, is_moving_end, leading, moved_on_under, runs_only, speed_times_time, train_after, velocity_of, way_of};
+ghost use Rattle.railway.specs.Network.{Network, exit_of, is_sound, lies, onward, switch_at, way_on};
 ghost use Rattle.railway.specs.Places.{end_ahead, is_derailed, leading_end, span, still, to_end};
-ghost use Rattle.railway.specs.Railway.{RailwayState, elapsed, is_railway, is_train, reports_in, run_in, run_under};
+ghost use Rattle.railway.specs.Railway.{RailwayState, elapsed, is_piece, is_railway, is_train, laid_in, ran_in, reports_in, run_in, run_under};
 ghost use Rattle.railway.specs.Reports.{full, is_occupied, level_after, occupies};
 ghost use Rattle.railway.specs.Trains.{is_forward, running_in};
-ghost use Rattle.railway.specs.Turnouts.{checked, is_moved_end};
+ghost use Rattle.railway.specs.Turnouts.{asked, checked, is_moved_end, laid, moved_on, observed};
 
 /// Each train is in blocks of the plan, within their lengths. Its ends are as far apart as its
 /// length along the track, in both directions, or it is derailed.
@@ -220,6 +221,33 @@ pub fn thrown_turnouts_derail()
         (nodes : List Node) → is_derailed train ≡ false
         → IfSome (train_after power network micros nodes train).derailed_at
         (λ switch. IsTrue (has_switch network.turnouts switch)) }
+{}
+
+/// A turnout that moves leads nowhere: a train that comes to one of its three ends is derailed.
+pub fn moving_turnouts_derail()
+    ensures exit { (network : Network) (end : BlockEnd) → IsTrue (is_sound network)
+        → IsTrue (is_moving_end network.turnouts end) → exit_of network end ≡ ExitAgainst }
+{}
+
+/// Turnouts move as long as they are to by track power, whatever trains do, and however a time is cut:
+/// from one side to the other their time; asked back meanwhile as long as they have moved; with time 0
+/// at once. Until the first comes to lie, trains run on the track as the turnouts lay at first.
+pub fn turnouts_take_their_time()
+    ensures turnouts { (railway : RailwayState) (micros : ℕ) (power : Power) (nodes : List Node)
+        → (elapsed railway micros power nodes).network.turnouts
+        ≡ map (moved_on_under power micros) (map (observed nodes) railway.network.turnouts) }
+    ensures other { (state : TurnoutState) (micros : ℕ) → IsTrue (lies state)
+        → IsTrue (lies (moved_on micros (asked (not state.is_thrown) state)))
+        ↔ state.turnout.time * 1000 ≤ micros }
+    ensures back { (state : TurnoutState) (part micros : ℕ) → IsTrue (lies state)
+        → part < state.turnout.time * 1000
+        → IsTrue (lies (moved_on micros (asked state.is_thrown
+        (moved_on part (asked (not state.is_thrown) state))))) ↔ part ≤ micros }
+    ensures at_once { (state : TurnoutState) (thrown : Bool) → IsTrue (lies state)
+        → state.turnout.time ≡ 0 → asked thrown state ≡ record state { is_thrown = thrown } }
+    ensures pieces { (railway : RailwayState) (micros : ℕ) (power : Power) (nodes : List Node)
+        → 0 < micros → IsTrue (is_piece power micros (laid nodes railway.network))
+        → elapsed railway micros power nodes ≡ ran_in power micros nodes (laid_in nodes railway) }
 {}
 
 /// The track that leads from an end to another leads back.

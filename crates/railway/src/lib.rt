@@ -13,8 +13,8 @@
 //! Trains run as their decoders run, not as they were asked to: speed step n of N is n / N of the
 //! top speed, at once or as fast as their [`Momentum`] lets them. An emergency stop is at once. A
 //! train stops at an end that nothing joins, and stands without track power. It lies over any number
-//! of blocks. It is derailed by a turnout that lies against it or is thrown under a part of it, and
-//! stands until [`Railway::place`] puts it back. Two trains in a block are a [`Conflict`].
+//! of blocks. It is derailed by a turnout that moves or lies against it or is thrown under a part of
+//! it, and stands until [`Railway::place`] puts it back. Two trains in a block are a [`Conflict`].
 //!
 //! The tests are in `layout_tests/src/test_railway.rt`.
 #![tactic(auto)]
@@ -27,6 +27,7 @@ mod exit;
 mod fault;
 mod joint;
 pub mod laws;
+mod moving;
 mod placement;
 mod plan;
 mod railway;

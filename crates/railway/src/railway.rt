@@ -1,10 +1,10 @@
 //! A railway: the track and the trains on it.
-ghost use Rattle.std.specs.Prelude.{◌≡◌, ◌≤◌, IfErr, IfOk, IsTrue, List, None, OnErr, OnOk, Some, length, map};
+ghost use Rattle.std.specs.Prelude.{◌≡◌, ◌<◌, ◌≤◌, IfErr, IfOk, IsTrue, List, None, OnErr, OnOk, Some, length, map};
 ghost use Rattle.std.specs.List.{list_all};
 ghost use Rattle.railway.specs.Conflicts.{conflicts};
 ghost use Rattle.railway.specs.Faults.{fault_of};
 ghost use Rattle.railway.specs.Network.{exit_of};
-ghost use Rattle.railway.specs.Railway.{elapsed, is_railway, laid_in, place_fault, placed_in, planned, reports_in, speed_in};
+ghost use Rattle.railway.specs.Railway.{elapsed, is_piece, is_railway, laid_in, place_fault, placed_in, planned, reports_in, run_through, speed_in};
 ghost use Rattle.railway.specs.Reports.{changes, full, is_occupied, is_report};
 ghost use Rattle.railway.specs.Turnouts.{state_of_turnout};
 
@@ -83,9 +83,9 @@ impl Railway {
 
     /// Lets `micros` microseconds pass in which the decoders of the layout do what they do now.
     ///
-    /// Turnouts lie as their decoders move them. A train runs as its decoder runs, up to a buffer
-    /// stop. It is derailed if a turnout is thrown under it or lies against it. Without track power
-    /// trains stand. Returns the reports of the sensors whose blocks became occupied, then of those
+    /// A turnout moves to the side of the output that came on last, and takes its time. A train runs as
+    /// its decoder runs, up to a buffer stop. It is derailed if a turnout begins to move under it, or
+    /// moves or lies against it. Without track power trains and turnouts stand. Returns the reports of the sensors whose blocks became occupied, then of those
     /// that became free.
     pub fn elapse(&mut self, micros: u32, world: &World) -> Reports
         ensures railway { self.new
@@ -95,11 +95,38 @@ impl Railway {
         ensures sensors { IsTrue (list_all is_report result.items) }
     {
         self.lay(world);
-        let track = &self.track;
         let before = occupied(self.trains.as_slice());
-        track.run_all(self.trains.as_mut_slice(), micros, world);
+        self.pass(micros, world);
         let after = occupied(self.trains.as_slice());
+        let track = &self.track;
         changes(track.blocks.as_slice(), before, after)
+    }
+
+    /// Lets `micros` microseconds pass in which no decoder does anything else: in pieces, each until
+    /// a turnout comes to lie.
+    fn pass(&mut self, micros: u32, world: &World)
+        ensures { self.new
+            ≡ run_through world.now.station.powered.power micros world.now.nodes self.old }
+    {
+        let mut left = micros;
+        while left > 0 {
+            let piece = self.track.piece(left, world);
+            self.pass_piece(piece, world);
+            left -= piece;
+        }
+    }
+
+    /// Lets a time pass in which no turnout comes to lie before its end.
+    fn pass_piece(&mut self, micros: u32, world: &World)
+        requires goes { 0 < micros }
+        requires piece { IsTrue (is_piece world.now.station.powered.power micros
+            self.old.network) }
+        ensures { self.new
+            ≡ run_through world.now.station.powered.power micros world.now.nodes self.old }
+    {
+        let track = &self.track;
+        track.run_all(self.trains.as_mut_slice(), micros, world);
+        self.track.advance(micros, world);
     }
 
     /// Lays the turnouts as their decoders move them, and derails the trains under which one is
@@ -107,15 +134,16 @@ impl Railway {
     fn lay(&mut self, world: &World)
         ensures { self.new ≡ laid_in world.now.nodes self.old }
     {
-        if self.track.is_moved(world) {
-            self.lay_moved(world);
+        if self.track.is_changed(world) {
+            self.lay_changed(world);
         }
     }
 
-    /// The same, if a decoder moves a turnout. That is rare, and takes room for all trains a second time.
+    /// The same, if the outputs of a turnout's decoder changed. That is rare, and takes room for all
+    /// trains a second time.
     #[cold]
     #[inline(never)]
-    fn lay_moved(&mut self, world: &World)
+    fn lay_changed(&mut self, world: &World)
         ensures { self.new ≡ laid_in world.now.nodes self.old }
     {
         self.trains = self.track.check_all(self.trains.as_slice(), world);
@@ -274,5 +302,7 @@ fn turnout_state(decoders: &[NodeSpec], turnout: &Turnout) -> TurnoutState
         turnout: *turnout,
         decoder,
         is_thrown: false,
+        left: 0,
+        outputs: 0,
     }
 }

@@ -1,10 +1,13 @@
 //! What the decoders of a layout do. They are read, and nothing changes them.
 ghost use Rattle.std.specs.Prelude.{◌≡◌, ◌<◌};
 ghost use Rattle.railway.specs.Trains.{running_in};
-ghost use Rattle.railway.specs.Turnouts.{is_moved, is_on, lies_thrown, observed, outputs_in};
+ghost use Rattle.railway.specs.Turnouts.{came_on, is_changed, is_moved, is_on, observed, outputs_in, pair_of, side_of};
 
 use crate::joint::TurnoutState;
 use layout_core::{Running, World};
+
+/// The microseconds of a millisecond.
+const MICROS: u32 = 1_000;
 
 /// Returns how a decoder runs, or `None` unless it is one of a locomotive.
 pub(crate) fn running(world: &World, decoder: u8) -> Option<Running>
@@ -32,11 +35,23 @@ fn outputs(world: &World, decoder: u8) -> Option<u8>
 pub(crate) fn observed(world: &World, state: &TurnoutState) -> TurnoutState
     ensures { result ≡ observed world.now.nodes state.now }
 {
-    let pair = (state.turnout.switch.saturating_sub(1) % 4) as u8;
-    let is_thrown = lies_thrown(outputs(world, state.decoder), pair, state.is_thrown);
+    let outputs = outputs(world, state.decoder);
+    let is_thrown = side(state, outputs);
     TurnoutState {
         is_thrown,
+        left: state.left_to(is_thrown),
+        outputs: outputs.unwrap_or(state.outputs),
         ..*state
+    }
+}
+
+/// Whether the outputs of a turnout's decoder are others than those that were seen last.
+pub(crate) fn is_changed(world: &World, state: &TurnoutState) -> bool
+    ensures { result ≡ is_changed world.now.nodes state.now }
+{
+    match outputs(world, state.decoder) {
+        Some(outputs) => outputs != state.outputs,
+        None => false,
     }
 }
 
@@ -47,18 +62,53 @@ pub(crate) fn is_moved(world: &World, state: &TurnoutState) -> bool
     observed(world, state).is_thrown != state.is_thrown
 }
 
-/// Whether a turnout with these outputs lies thrown; `lay` is how it lay before.
-fn lies_thrown(outputs: Option<u8>, pair: u8, lay: bool) -> bool
-    ensures { result ≡ lies_thrown outputs pair lay }
-{
-    match outputs {
-        None => lay,
-        Some(outputs) => {
-            let thrown = is_on(outputs, 2 * (pair % 4));
-            let closed = is_on(outputs, 2 * (pair % 4) + 1);
-            if closed == thrown { lay } else { thrown }
+impl TurnoutState {
+    ghost use Rattle.railway.specs.Network.{is_moving};
+    ghost use Rattle.railway.specs.Turnouts.{left_to};
+
+    /// Whether it moves, and lies at neither side.
+    pub fn is_moving(&self) -> bool
+        ensures moving { result ≡ is_moving self.now }
+    {
+        self.left != 0
+    }
+
+    /// Returns the microseconds until it lies if it is asked for a side.
+    fn left_to(&self, thrown: bool) -> u32
+        ensures { result ≡ left_to thrown self.now }
+    {
+        if thrown == self.is_thrown {
+            self.left
+        } else {
+            (u32::from(self.turnout.time) * MICROS).saturating_sub(self.left)
         }
     }
+}
+
+/// Returns the side that a turnout is asked for by a decoder with these outputs: whether thrown.
+fn side(state: &TurnoutState, outputs: Option<u8>) -> bool
+    ensures { result ≡ side_of state.now.outputs outputs (pair_of state.now.turnout.switch)
+        state.now.is_thrown }
+{
+    let Some(outputs) = outputs else {
+        return state.is_thrown;
+    };
+    let pair = (state.turnout.switch.saturating_sub(1) % 4) as u8;
+    let thrown = came_on(state.outputs, outputs, 2 * pair);
+    let closed = came_on(state.outputs, outputs, 2 * pair + 1);
+    if closed == thrown {
+        state.is_thrown
+    } else {
+        thrown
+    }
+}
+
+/// Whether an output is on that was off.
+fn came_on(was: u8, is: u8, output: u8) -> bool
+    requires { output < 8 }
+    ensures { result ≡ came_on was is output }
+{
+    is_on(is, output) && !is_on(was, output)
 }
 
 /// Whether an output is on.

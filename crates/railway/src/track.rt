@@ -3,17 +3,17 @@ ghost use Rattle.std.specs.Prelude.{◌≡◌, ◌+◌, ◌<◌, ◌≤◌, IsTr
 ghost use Rattle.std.specs.List.{list_all, list_any};
 ghost use Rattle.motion.specs.Velocity.{is_drive};
 ghost use Rattle.railway.specs.Blocks.{length_of, no_blocks};
-ghost use Rattle.railway.specs.Network.{LeadsOn, LeadsToPlan, across, as_joint, covered, exit_of, first_at, is_branch, is_end_of, joined, last_on, leaves_at, marked, off_rails, onward, partner, place_of, run_on, switch_at, way_on};
+ghost use Rattle.railway.specs.Network.{LeadsOn, LeadsToPlan, across, as_joint, covered, exit_of, first_at, is_against, is_branch, is_end_of, joined, joints_of, last_on, leaves_at, marked, off_rails, onward, partner, place_of, run_on, switch_at, way_on};
 ghost use Rattle.railway.specs.Places.{is_on_track, start_at, to_end};
 ghost use Rattle.railway.specs.Running.{can_run, is_within};
-ghost use Rattle.railway.specs.Turnouts.{is_moved, is_moved_end};
+ghost use Rattle.railway.specs.Turnouts.{is_moved_end};
 
 use crate::block::{Block, BlockEnd, End};
 use crate::block_set::BlockSet;
 use crate::exit::{Exit, Onward};
 use crate::joint::{Joint, TurnoutState};
 use crate::plan::{MAX_BLOCKS, MAX_JOINTS, MAX_TURNOUTS};
-use crate::reading::{is_moved, observed, running};
+use crate::reading::{is_moved, running};
 use crate::train::{MILLIMETRE_A_SECOND, Place, TrainState, Trains, drive};
 use arrayvec::ArrayVec;
 use layout_core::{Running, World};
@@ -94,6 +94,17 @@ impl TurnoutState {
     {
         self.turnout.closed.is(end) || self.turnout.thrown.is(end)
     }
+
+    /// Whether it derails a train that comes to this end, if it does not lead on from there.
+    fn is_against(&self, end: BlockEnd) -> bool
+        ensures { result ≡ is_against end self.now }
+    {
+        if self.is_moving() {
+            self.has_end(end)
+        } else {
+            self.is_branch(end)
+        }
+    }
 }
 
 /// Returns where the joints lead from an end.
@@ -110,9 +121,12 @@ fn over_joints(joints: &[Joint], end: BlockEnd) -> Option<BlockEnd>
 
 /// Returns where the turnouts lead from an end, as they lie.
 fn over_turnouts(turnouts: &[TurnoutState], end: BlockEnd) -> Option<BlockEnd>
-    ensures { result ≡ partner (map as_joint turnouts.now) end }
+    ensures { result ≡ partner (joints_of turnouts.now) end }
 {
     for turnout in turnouts {
+        if turnout.is_moving() {
+            continue;
+        }
         if let Some(next) = turnout.as_joint().across(end) {
             return Some(next);
         }
@@ -132,10 +146,10 @@ fn switch_at(turnouts: &[TurnoutState], end: BlockEnd) -> u16
     0
 }
 
-fn is_branch(turnouts: &[TurnoutState], end: BlockEnd) -> bool
-    ensures { result ≡ list_any (is_branch end) turnouts.now }
+fn is_against(turnouts: &[TurnoutState], end: BlockEnd) -> bool
+    ensures { result ≡ list_any (is_against end) turnouts.now }
 {
-    turnouts.iter().any(|turnout| turnout.is_branch(end))
+    turnouts.iter().any(|turnout| turnout.is_against(end))
 }
 
 /// Whether an end belongs to a turnout that its decoder moves to its other side.
@@ -166,7 +180,7 @@ impl Track {
         match self.next(end) {
             Some(next) => Exit::Leads(next),
             None => {
-                if is_branch(self.turnouts.as_slice(), end) {
+                if is_against(self.turnouts.as_slice(), end) {
                     Exit::Against
                 } else {
                     Exit::BufferStop
@@ -403,7 +417,7 @@ impl Track {
     ghost use Rattle.std.specs.Prelude.{slice_get};
     ghost use Rattle.railway.specs.Railway.{run_in, run_under, shown_speed, speed_or_none};
     ghost use Rattle.railway.specs.Running.{moved_at, ridden, run_for};
-    ghost use Rattle.railway.specs.Turnouts.{checked, laid, observed};
+    ghost use Rattle.railway.specs.Turnouts.{checked};
 
     /// Returns a train that has run for a part of a time in which it goes in one direction. A derailed
     /// train stays where it is.
@@ -511,13 +525,6 @@ impl Track {
         }
     }
 
-    /// Whether a decoder moves one of the turnouts to its other side.
-    pub(crate) fn is_moved(&self, world: &World) -> bool
-        ensures { result ≡ list_any (is_moved world.now.nodes) self.now.turnouts }
-    {
-        self.turnouts.iter().any(|turnout| is_moved(world, turnout))
-    }
-
     /// Returns a train, derailed by the first turnout from its rear on that is thrown under it.
     fn checked(&self, train: &TrainState, world: &World) -> TrainState
         requires { IsTrue (can_run self.now.blocks train.now) }
@@ -543,23 +550,5 @@ impl Track {
             after.push(self.checked(train, world));
         }
         after
-    }
-
-    /// Returns the turnouts as their decoders move them.
-    fn observed(&self, world: &World) -> ArrayVec<TurnoutState, MAX_TURNOUTS>
-        ensures { result.items ≡ map (observed world.now.nodes) self.now.turnouts }
-    {
-        let mut turnouts = ArrayVec::new();
-        for turnout in self.turnouts.as_slice() {
-            turnouts.push(observed(world, turnout));
-        }
-        turnouts
-    }
-
-    /// Lays the turnouts as their decoders move them.
-    pub(crate) fn lay(&mut self, world: &World)
-        ensures { self.new ≡ laid world.now.nodes self.old }
-    {
-        self.turnouts = self.observed(world);
     }
 }

@@ -52,12 +52,14 @@ pub(super) fn oval() -> Result<Plan, Fail> {
         common: end_b(0),
         closed: end_a(1),
         thrown: end_a(2),
+        time: 0,
     });
     let _ = plan.turnouts.try_push(Turnout {
         switch: 2,
         common: end_a(3),
         closed: end_b(1),
         thrown: end_b(2),
+        time: 0,
     });
     let _ = plan.joints.try_push(Joint {
         one: end_b(3),

@@ -3,17 +3,17 @@ use Rattle.std.specs.List.{list_any}
 use Rattle.railway.specs.declared.train.TrainState.{TrainState}
 use Rattle.railway.specs.Network.{Network}
 use Rattle.railway.specs.Railway.{RailwayState}
-use Rattle.railway.specs.Turnouts.{is_moved, laid}
-use Rattle.railway.proofs.Throwing.{unmoved-laid, unmoved-trains}
+use Rattle.railway.specs.Turnouts.{is_changed, laid}
+use Rattle.railway.proofs.Throwing.{unchanged-laid, unchanged-none, unmoved-trains}
 use Rattle.railway.proofs.railway.Railway.lay.Goals as goal
 
-pub returns-else-is_moved : goal.returns-else-is_moved
-returns-else-is_moved c =
+pub returns-else-is_changed : goal.returns-else-is_changed
+returns-else-is_changed c =
     let n = c.self.inside.track in
     let trains = c.self.inside.trains.items in
     let nodes = c.args.world.now.nodes in
-    let none : list_any (is_moved nodes) n.turnouts ≡ false = sym c.is_moved.ensures ∙ c.if-is_moved.false in
+    let none : list_any (is_changed nodes) n.turnouts ≡ false = sym c.is_changed.ensures ∙ c.if-is_changed.false in
     let laid_one : RailwayState = record { network = laid nodes n; trains = trains } in
     rw (← c.self.view_is)
-    (ap (λ (m : Network). record laid_one { network = m }) (sym (unmoved-laid nodes n none))
-    ∙ ap (λ (ts : List TrainState). record laid_one { trains = ts }) (sym (unmoved-trains nodes n trains none)))
+    (ap (λ (m : Network). record laid_one { network = m }) (sym (unchanged-laid nodes n none))
+    ∙ ap (λ (ts : List TrainState). record laid_one { trains = ts }) (sym (unmoved-trains nodes n trains (unchanged-none nodes n.turnouts none))))

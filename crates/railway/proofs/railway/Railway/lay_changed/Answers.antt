@@ -9,7 +9,7 @@ use Rattle.railway.specs.Turnouts.{checked, laid}
 use Rattle.railway.proofs.Leading.{laid-sound}
 use Rattle.railway.proofs.Running.{all-run}
 use Rattle.railway.proofs.Throwing.{all-checked}
-use Rattle.railway.proofs.railway.Railway.lay_moved.Goals as goal
+use Rattle.railway.proofs.railway.Railway.lay_changed.Goals as goal
 
 pub check_all-self-inside-requires-clause-run : goal.check_all-self-inside-requires-clause-run
 check_all-self-inside-requires-clause-run c =
