@@ -60,6 +60,7 @@ TRAIN = '[[train]]\ndecoder = "express"\nblock = "main"\nfront = 600\nfacing = "
 # Behind a front in the siding the track ends after 600 mm: turnout 1 is closed.
 LONG_TRAIN, BLOCK_6 = TRAIN.replace("main", "siding").replace("200", "601"), '[[block]]\nname = "x"\nlength = '
 BLOCKS_6_AND_7 = BLOCK_6 + "1000\n" + BLOCK_6.replace("x", "y") + "1000\n"
+TIMED_TURNOUT = '[[turnout]]\nswitch = 3\ncommon = "west.a"\nclosed = "west.b"\nthrown = "main.b"\ntime = '
 LONE_TURNOUT = '[[turnout]]\nswitch = 5\ncommon = "x.a"\nclosed = "x.b"\nthrown = "y.a"\n'
 
 # Whole texts, and the words of their fault; none if they have none.
@@ -135,6 +136,9 @@ PARTS = [
     ("[[turnout]]\nswitch = 3\ncommon = 1", "turnout 3: common must be an end of a block"),
     ('[[turnout]]\nswitch = 3\ncommon = "west.a"\nclosed = "west.b"', "turnout 3: thrown must be an end of a block"),
     ('[[turnout]]\nswitch = 3\ncommon = "west.a"\nclosed = "back.c"', "turnout 3: closed: no block has the end back.c"),
+    (TIMED_TURNOUT + "-1", "turnout 3: time must be 0 to 10000"),
+    (TIMED_TURNOUT + "10001", "turnout 3: time must be 0 to 10000"),
+    (TIMED_TURNOUT + "true", "turnout 3: time must be 0 to 10000"),
     ("[[train]]", "train 1: decoder must be a name of the roster"),
     ("[[train]]\ndecoder = 3", "train 1: decoder must be a name of the roster"),
     ('[[train]]\ndecoder = "shunter"', "train 1 (shunter): the roster has no decoder of this name"),

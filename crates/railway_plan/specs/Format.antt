@@ -45,6 +45,7 @@ spelled key.Switch = codes "switch"
 spelled key.Common = codes "common"
 spelled key.Closed = codes "closed"
 spelled key.Thrown = codes "thrown"
+spelled key.Time = codes "time"
 spelled key.Decoder = codes "decoder"
 spelled key.Front = codes "front"
 spelled key.Facing = codes "facing"
@@ -186,10 +187,17 @@ joint_in blocks given = do
   ends ← or_fault (option_and_then as_array (value_at key.Ends table)) (BadKey key.Ends)
   joint_of blocks ends
 
--- Turnouts: the number of the switch, as throttles show it, and three ends.
+-- Turnouts: the number of the switch, as throttles show it, three ends, and how long it moves from one
+-- side to the other, in milliseconds.
+
+-- the time may be left out: then the turnout moves at once
+abbrev pub time_or_none : Option Data → Result ℕ Why
+time_or_none None = Ok 0
+time_or_none (Some value) =
+    or_fault (as_integer value) (BadKey key.Time) >>= in_range key.Time (from_to 0 10000)
 
 abbrev pub turnout_keys : List Key
-turnout_keys = key.Switch ∷ key.Common ∷ key.Closed ∷ key.Thrown ∷ []
+turnout_keys = key.Switch ∷ key.Common ∷ key.Closed ∷ key.Thrown ∷ key.Time ∷ []
 
 abbrev pub turnout_in : List Text → Members → Result Turnout Why
 turnout_in blocks given = do
@@ -198,7 +206,8 @@ turnout_in blocks given = do
   common ← end_at blocks key.Common table
   closed ← end_at blocks key.Closed table
   thrown ← end_at blocks key.Thrown table
-  Ok (record { switch = switch; common = common; closed = closed; thrown = thrown })
+  time ← time_or_none (value_at key.Time table)
+  Ok (record { switch = switch; common = common; closed = closed; thrown = thrown; time = time })
 
 -- Trains: the decoder by its name in the roster, the block, how far the front is from end A, the
 -- end that it faces, the length, the speed at the last step, and how fast it gathers speed and brakes.

@@ -33,6 +33,12 @@ pub(crate) const SWITCH: Bounds = Bounds {
     most: 2040,
 };
 
+/// How long a turnout moves, in milliseconds.
+pub(crate) const TIME: Bounds = Bounds {
+    least: 0,
+    most: 10_000,
+};
+
 /// How far the front of a train is from end A of its block, in millimetres.
 pub(crate) const FRONT: Bounds = Bounds {
     least: 0,

@@ -3,7 +3,7 @@ ghost use Rattle.std.specs.Prelude.{◌≡◌, slice_get};
 ghost use Rattle.roster.specs.Decoders.{decoder_name};
 ghost use Rattle.railway_plan.specs.Railways.{HasNames, IsTextFault, number_of, section_at, section_of, why_of};
 
-use crate::bounds::{Bounds, FRONT, LENGTH, RATE, SENSOR, SPEED, SWITCH};
+use crate::bounds::{Bounds, FRONT, LENGTH, RATE, SENSOR, SPEED, SWITCH, TIME};
 use crate::key::Key;
 use arrayvec::ArrayString;
 use railway::{End, Name, Part, PlanFault};
@@ -175,6 +175,7 @@ fn write_demand<W: fmt::Write>(key: Key, f: &mut fmt::Formatter<W>) -> fmt::Resu
         Key::Switch => write_bounds(key, SWITCH, f),
         Key::Front => write_bounds(key, FRONT, f),
         Key::Speed => write_bounds(key, SPEED, f),
+        Key::Time => write_bounds(key, TIME, f),
         Key::Acceleration | Key::Braking => write_bounds(key, RATE, f),
         Key::A | Key::B => write!(f, "{key} must be two numbers from -10000 to 10000"),
         Key::Ends => f.write_str("ends must be two ends of blocks"),

@@ -14,7 +14,7 @@ pub(crate) const BLOCK_KEYS: [&'static str; 5] = ["name", "length", "sensor", "a
 pub(crate) const JOINT_KEYS: [&'static str; 1] = ["ends"];
 
 /// The keys of a turnout.
-pub(crate) const TURNOUT_KEYS: [&'static str; 4] = ["switch", "common", "closed", "thrown"];
+pub(crate) const TURNOUT_KEYS: [&'static str; 5] = ["switch", "common", "closed", "thrown", "time"];
 
 /// The keys of a train.
 pub(crate) const TRAIN_KEYS: [&'static str; 8] = [
@@ -46,6 +46,7 @@ pub enum Key {
     Common,
     Closed,
     Thrown,
+    Time,
     Decoder,
     Front,
     Facing,
@@ -75,6 +76,7 @@ impl Key {
             Key::Common => "common",
             Key::Closed => "closed",
             Key::Thrown => "thrown",
+            Key::Time => "time",
             Key::Decoder => "decoder",
             Key::Front => "front",
             Key::Facing => "facing",
