@@ -253,8 +253,11 @@ class Client(Throttle):
         """Where the trains of the plan are now, by the names of their decoders. Only `lbserver` answers this request."""
         return dict(self._states("TRAINS", read_train_line))
 
-    def turnouts(self) -> dict[int, bool]:
-        """Whether the turnouts of the plan lie thrown now, by their switches. Only `lbserver` answers this request."""
+    def turnouts(self) -> dict[int, bool | None]:
+        """Whether the turnouts of the plan lie thrown now, by their switches; None of one that moves.
+
+        Only `lbserver` answers this request.
+        """
         return dict(self._states("TURNOUTS", read_turnout_line))
 
     def _states(self, request: str, read: Callable[[str], tuple[Key, Value] | None]) -> Iterator[tuple[Key, Value]]:

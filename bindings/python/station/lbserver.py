@@ -190,7 +190,7 @@ class Server(Throttle, HasNodes):
         """Where the trains of the plan are now, as `Client.trains` tells."""
         return self._own_client().trains()
 
-    def turnouts(self) -> dict[int, bool]:
+    def turnouts(self) -> dict[int, bool | None]:
         """Whether the turnouts of the plan lie thrown now, as `Client.turnouts` tells."""
         return self._own_client().turnouts()
 

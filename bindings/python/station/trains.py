@@ -26,9 +26,9 @@ def read_train_line(line: str) -> tuple[str, Train] | None:
     return name, Train(block, int(tenths), facing, rear, int(speed), bool(derailed))
 
 
-def read_turnout_line(line: str) -> tuple[int, bool] | None:
-    """The switch of a turnout, and whether it lies thrown, by a `TURNOUT` line. None of another line."""
+def read_turnout_line(line: str) -> tuple[int, bool | None] | None:
+    """The switch of a turnout, and whether it lies thrown (None while it moves), by a `TURNOUT` line. None of another line."""
     words = line.split()
     if len(words) != 3 or words[0] != "TURNOUT":
         return None
-    return int(words[1]), words[2] == "thrown"
+    return int(words[1]), {"thrown": True, "closed": False}.get(words[2])

@@ -1,7 +1,7 @@
 //! How trains and turnouts stand, as lines of text for clients and pages.
 //!
 //! A [`TrainPlace`] is what a `TRAIN` line says of a train behind its name. [`turnout_line`] says how
-//! a turnout lies.
+//! a turnout lies or that it moves.
 //!
 //! ```ignore
 //! let place = TrainPlace::of(railway.blocks(), &train, railway.speed(0));
@@ -17,5 +17,5 @@ mod turnouts;
 mod words;
 
 pub use train_place::TrainPlace;
-pub use turnouts::turnout_line;
+pub use turnouts::{side_of, turnout_line};
 pub use words::{LONGEST_STATE, StateLine, letter_of};
