@@ -18,7 +18,7 @@ pub use laws::{results_are_read, tasks_end};
 pub use load::Load;
 pub use programmer::Programmer;
 pub use reply::TaskReply;
-pub use slot_request::SlotRequest;
+pub use slot_request::{SlotRequest, is_for_programmer};
 pub use task::Task;
 pub use task_result::{Status, TaskResult};
 pub use task_state::{Next, Phase, TaskState};

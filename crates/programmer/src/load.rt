@@ -1,7 +1,7 @@
 //! What is drawn from the programming track.
 
 /// What is drawn from the track while a packet is sent, and after it until the next.
-#[derive(Clone, Copy, Debug, PartialEq, Eq)]
+#[derive(Clone, Copy)]
 pub enum Load {
     /// No decoder is on the track.
     Empty,

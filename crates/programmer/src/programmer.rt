@@ -22,7 +22,7 @@ use std::marker::Model;
 const BUSY: u8 = 8;
 
 /// The programmer: at most one task is under way.
-#[derive(Debug, Drop)]
+#[derive(Drop)]
 pub struct Programmer {
     under_way: Option<TaskState>,
     /// The result of the last task that ended.

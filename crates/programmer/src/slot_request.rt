@@ -1,12 +1,12 @@
 //! What a client asks of slot 124.
 ghost use Rattle.std.specs.Prelude.{◌≡◌, ◌<◌, ◌≤◌, ℕ, IfSome, IsTrue, length, slice_index};
-ghost use Rattle.programmer.specs.Requests.{is_legal_request, is_task, request_in, request_of, task_of};
+ghost use Rattle.programmer.specs.Requests.{is_for_programmer, is_legal_request, is_slot_read, is_task, is_task_message, request_in, request_of, task_of};
 
 use crate::task::Task;
 use ln_frame::Msg;
 
 /// What a message asks of slot 124, the programmer's.
-#[derive(Clone, Copy, Debug, PartialEq, Eq)]
+#[derive(Clone, Copy)]
 pub enum SlotRequest {
     /// OPC_RQ_SL_DATA: returns the data of the slot.
     Read,
@@ -23,14 +23,38 @@ impl SlotRequest {
         ensures legal { IfSome result (λ request. IsTrue (is_legal_request request)) }
     {
         let bytes = message.bytes();
-        if bytes.len() == 14 && bytes[0] == 0xEF && bytes[2] == 0x7C {
+        if is_task_message(bytes) {
             Some(request_of(bytes))
-        } else if bytes[0] == 0xBB && bytes[1] == 0x7C {
+        } else if is_slot_read(bytes) {
             Some(SlotRequest::Read)
         } else {
             None
         }
     }
+}
+
+/// Whether a message is for slot 124, the programmer's: a write or a read of its data.
+pub fn is_for_programmer(message: &Msg) -> bool
+    ensures { result ≡ is_for_programmer message.now }
+{
+    let bytes = message.bytes();
+    is_task_message(bytes) || is_slot_read(bytes)
+}
+
+/// Whether the bytes of a message are a write of slot 124.
+fn is_task_message(bytes: &[u8]) -> bool
+    requires { 2 ≤ length bytes.now }
+    ensures { result ≡ is_task_message bytes.now }
+{
+    bytes.len() == 14 && bytes[0] == 0xEF && bytes[2] == 0x7C
+}
+
+/// Whether the bytes of a message are a read of slot 124.
+fn is_slot_read(bytes: &[u8]) -> bool
+    requires { 2 ≤ length bytes.now }
+    ensures { result ≡ is_slot_read bytes.now }
+{
+    bytes[0] == 0xBB && bytes[1] == 0x7C
 }
 
 /// The request of the bytes of a write of slot 124.

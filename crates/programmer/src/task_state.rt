@@ -20,7 +20,7 @@ const BEFORE_RECOVERY: u8 = 8;
 const LAST: u8 = 13;
 
 /// What a task does with its sequences of packets.
-#[derive(Clone, Copy, Debug, PartialEq, Eq)]
+#[derive(Clone, Copy)]
 pub enum Phase {
     /// Writes the byte.
     Writing,
@@ -33,7 +33,7 @@ pub enum Phase {
 }
 
 /// A task under way.
-#[derive(Clone, Copy, Debug, PartialEq, Eq)]
+#[derive(Clone, Copy)]
 pub struct TaskState {
     pub task: Task,
     pub phase: Phase,
@@ -44,7 +44,7 @@ pub struct TaskState {
 }
 
 /// What comes after a packet.
-#[derive(Clone, Copy, Debug, PartialEq, Eq)]
+#[derive(Clone, Copy)]
 pub enum Next {
     /// Another packet.
     Continued(TaskState),
