@@ -5,7 +5,7 @@ use Rattle.station_core.specs.Station.{after_turn, packet_of_turn}
 use Rattle.station_core.specs.Seen.{Seen}
 use Rattle.bus.specs.declared.event.Event.{Event}
 use Rattle.bus.specs.declared.options.BusOptions.{BusOptions}
-use Rattle.bus.specs.declared.event.Event.TheVariants.{Connects, Receives, Disconnects, Reports, Elapses, Turn}
+use Rattle.bus.specs.declared.event.Event.TheVariants.{Connects, Receives, Disconnects, Reports, Programs, Elapses, Turn}
 use Rattle.bus.specs.declared.outcome.Outcome.TheVariants.{Nothing, TurnBegan}
 use Rattle.bus.specs.Bus.{BusState, after_events, duration, outcomes_of, after_turn_boundary}
 use Rattle.bus.specs.Course.{is_time, durations_in, micros_in, turn_durations}
@@ -57,7 +57,8 @@ is_course [] bus all = record { count = 0; turns_are = refl; station = refl; cli
 is_course (Connects client ∷ events) bus all = cc
 is_course (Receives client byte ∷ events) bus all = cc
 is_course (Disconnects client ∷ events) bus all = cc
-is_course (Reports sensor occupied ∷ events) bus all = is_course events bus all
+is_course (Reports message ∷ events) bus all = is_course events bus all
+is_course (Programs packet ∷ events) bus all = is_course events bus all
 is_course (Turn missed ∷ events) bus all = one_more events bus bus.remaining (is_course events (after_turn_boundary bus bus.remaining) all)
 is_course (Elapses micros missed ∷ events) bus all = passing (nat_le bus.remaining micros) events bus micros (λ later. is_course events later all)
 

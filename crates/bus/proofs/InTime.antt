@@ -16,7 +16,7 @@ use Rattle.layout_core.specs.declared.node.Node.{Node}
 use Rattle.layout_core.specs.Cycle.{IsCycleOf, RunsAsWanted}
 use Rattle.layout_core.specs.Events.{NoNoise, calls_in}
 use Rattle.bus.specs.declared.event.Event.{Event}
-use Rattle.bus.specs.declared.event.Event.TheVariants.{Connects, Receives, Disconnects, Reports, Elapses, Turn}
+use Rattle.bus.specs.declared.event.Event.TheVariants.{Connects, Receives, Disconnects, Reports, Programs, Elapses, Turn}
 use Rattle.bus.specs.declared.outcome.Outcome.TheVariants.{Nothing, TurnBegan}
 use Rattle.bus.specs.Bus.{AreEvents, BusState, after_event, after_events, for_station, request_at, client_of, is_event, duration, outcome_of_request, outcome_of, outcomes_of}
 use Rattle.bus.specs.Course.{durations_in, micros_in, turn_durations}
@@ -51,7 +51,8 @@ event_quiet : (i : ℕ) (bus : BusState) (event : Event) → NoNoise i (layout_e
 event_quiet i bus (Connects client) = tt
 event_quiet i bus (Disconnects client) = tt
 event_quiet i bus (Receives client byte) = asked_quiet i client (for_station bus (request_at (client_of bus client) byte))
-event_quiet i bus (Reports sensor occupied) = tt
+event_quiet i bus (Reports message) = tt
+event_quiet i bus (Programs packet) = tt
 event_quiet i bus (Elapses micros missed) = passing_quiet i missed (nat_le bus.remaining micros)
 event_quiet i bus (Turn missed) = tt
 
@@ -92,7 +93,8 @@ event_turns : (bus : BusState) (event : Event) → turns_in (calls_in (layout_ev
 event_turns bus (Connects client) = refl
 event_turns bus (Disconnects client) = refl
 event_turns bus (Receives client byte) = asked_turns bus client (request_at (client_of bus client) byte)
-event_turns bus (Reports sensor occupied) = refl
+event_turns bus (Reports message) = refl
+event_turns bus (Programs packet) = refl
 event_turns bus (Elapses micros missed) = passing_turns missed (packet_of_turn bus.station) (nat_le bus.remaining micros)
 event_turns bus (Turn missed) = refl
 
@@ -131,7 +133,8 @@ passing_short laws bus false = All-nil IsShort
 event_short : TurnsAreBounded → (bus : BusState) (event : Event) → All IsShort (durations_in (outcome_of bus event))
 event_short laws bus (Connects client) = All-nil IsShort
 event_short laws bus (Disconnects client) = All-nil IsShort
-event_short laws bus (Reports sensor occupied) = All-nil IsShort
+event_short laws bus (Reports message) = All-nil IsShort
+event_short laws bus (Programs packet) = All-nil IsShort
 event_short laws bus (Receives client byte) = asked_short bus client (request_at (client_of bus client) byte)
 event_short laws bus (Elapses micros missed) = passing_short laws bus (nat_le bus.remaining micros)
 event_short laws bus (Turn missed) = turn_short laws bus

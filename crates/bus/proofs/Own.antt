@@ -5,13 +5,14 @@ use Rattle.std.specs.List.{list_all, slice_index_or}
 use Rattle.std.specs.Option.{option_to_list}
 use Rattle.std.proofs.lemmas.Bool.{and_parts, cases_Bool, eqb-true, eqb-false, ltb-true}
 use Rattle.std.proofs.lemmas.List.{length-set, get_or-set_same, get_or-set_other}
-use Rattle.ln_ops.specs.Sensor.{is_sensor}
+use Rattle.ln_frame.specs.Message.{is_whole}
+use Rattle.service_mode.specs.Spelling.{is_legal_packet}
 use Rattle.loconet_tcp.specs.declared.request.Request.{Request}
 use Rattle.loconet_tcp.specs.declared.request.Request.TheVariants.{Send, Invalid, Turns, States, Place}
 use Rattle.loconet_tcp.specs.Reading.{request_of_byte, requests_along, requests_of, kept_after}
 use Rattle.station_core.specs.Station.{packet_of_turn}
 use Rattle.bus.specs.declared.event.Event.{Event}
-use Rattle.bus.specs.declared.event.Event.TheVariants.{Connects, Receives, Disconnects, Reports, Elapses, Turn}
+use Rattle.bus.specs.declared.event.Event.TheVariants.{Connects, Receives, Disconnects, Reports, Programs, Elapses, Turn}
 use Rattle.bus.specs.declared.outcome.Outcome.TheVariants.{Nothing, TurnBegan}
 use Rattle.bus.specs.Bus.{AreEvents, BusState, after_event, request_at, client_of, is_event, pending_text_at, outcome_of_request, outcomes_of, after_turn_boundary}
 use Rattle.bus.specs.Own.{stays_connected_in, message_on, messages_on, own_requests, messages_to_send, text_from}
@@ -113,7 +114,8 @@ own (Elapses micros missed ∷ events) bus i legal eight =
     ap₂ (λ (these those : List (List ℕ)). these ++ those) (no_message ends i (packet_of_turn bus.station))
     (own events (after_event bus (Elapses micros missed)) i p.1 (ap length same ∙ eight))
     ∙ ap (λ (clients : List (Option (List ℕ))). messages_to_send (own_requests i (slice_index_or clients i None) events)) same
-own (Reports sensor occupied ∷ events) bus i legal eight = own events bus i (and_parts (is_sensor sensor) (list_all is_event events) legal).1 eight
+own (Reports message ∷ events) bus i legal eight = own events bus i (and_parts (is_whole message) (list_all is_event events) legal).1 eight
+own (Programs packet ∷ events) bus i legal eight = own events bus i (and_parts (is_legal_packet packet) (list_all is_event events) legal).1 eight
 own (Turn missed ∷ events) bus i legal eight = own events (after_event bus (Turn missed)) i legal eight
 
 -- ---- from connecting to disconnecting
@@ -154,7 +156,8 @@ visit i (Receives c byte ∷ events) rest kept stays_connected =
       | inr e ↦ rw e (visit i events rest kept stays_connected)
     ]
 visit i (Elapses micros missed ∷ events) rest kept stays_connected = visit i events rest kept stays_connected
-visit i (Reports sensor occupied ∷ events) rest kept stays_connected = visit i events rest kept stays_connected
+visit i (Reports message ∷ events) rest kept stays_connected = visit i events rest kept stays_connected
+visit i (Programs packet ∷ events) rest kept stays_connected = visit i events rest kept stays_connected
 visit i (Turn missed ∷ events) rest kept stays_connected = visit i events rest kept stays_connected
 
 joined : (i : ℕ) (kept : Option (List ℕ)) (events : List Event) → own_requests i kept (Connects i ∷ events) ≡ own_requests i (Some []) events

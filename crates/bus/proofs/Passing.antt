@@ -7,7 +7,7 @@ use Rattle.loconet_tcp.specs.declared.request.Request.{Request}
 use Rattle.loconet_tcp.specs.declared.request.Request.TheVariants.{Send, Invalid, Turns, States, Place}
 use Rattle.station_core.specs.Station.{packet_of_turn}
 use Rattle.bus.specs.declared.event.Event.{Event}
-use Rattle.bus.specs.declared.event.Event.TheVariants.{Connects, Receives, Disconnects, Reports, Elapses, Turn}
+use Rattle.bus.specs.declared.event.Event.TheVariants.{Connects, Receives, Disconnects, Reports, Programs, Elapses, Turn}
 use Rattle.bus.specs.declared.outcome.Outcome.TheVariants.{Nothing, TurnBegan}
 use Rattle.bus.specs.Below.{TurnsAreBounded}
 use Rattle.bus.specs.Bus.{AreEvents, BusState, after_event, after_events, request_at, client_of, is_event, duration, outcome_of_request, outcome_of, outcomes_of, after_turn_boundary}
@@ -58,7 +58,8 @@ passed_by : TurnsAreBounded → (bus : BusState) (event : Event) → IsInvariant
 passed_by laws bus (Connects client) h legal = nothing bus.remaining h.under_way
 passed_by laws bus (Disconnects client) h legal = nothing bus.remaining h.under_way
 passed_by laws bus (Receives client byte) h legal = no_time bus.remaining _ h.under_way (asked_lasting bus client (request_at (client_of bus client) byte))
-passed_by laws bus (Reports sensor occupied) h legal = nothing bus.remaining h.under_way
+passed_by laws bus (Reports message) h legal = nothing bus.remaining h.under_way
+passed_by laws bus (Programs packet) h legal = nothing bus.remaining h.under_way
 passed_by laws bus (Turn missed) h legal = turn_passed laws bus bus.remaining (omega arith) (omega arith)
 passed_by laws bus (Elapses micros missed) h legal = micros_passed laws bus micros (nat_le bus.remaining micros) refl (leb-true micros 5796 legal) h.under_way
 

@@ -1,6 +1,6 @@
 -- What each event preserves of a bus, and its effect on the layout.
 use Rattle.std.proofs.Common.{◌≡◌, ℕ, ◌+◌, ◌-◌, ◌<◌, ◌≤◌, Bool, true, false, List, [], length, Option, Some, None, refl, ap, sym, subst, ◌∙◌, arith, inl, inr, if◌then◌else◌, nat_lt, replicate}
-use Rattle.std.specs.Prelude.{Err, IfSome, Result, slice_set, ◌&&◌}
+use Rattle.std.specs.Prelude.{Err, IfSome, Result, slice_set}
 use Rattle.std.specs.List.{after_first}
 use Rattle.std.proofs.lemmas.Bool.{cases_lt, ltb-true, leb-true, le-leb, lt-leb}
 use Rattle.std.proofs.lemmas.List.{length-set}
@@ -15,15 +15,14 @@ use Rattle.loconet_tcp.specs.declared.request.Reason.TheVariants.{TooLong, NoMes
 use Rattle.text.specs.Words.{is_blank, words_of}
 use Rattle.loconet_tcp.specs.Requests.{parse_place, parse_send, request_of, ask_states, bytes_of, is_place, is_send, is_turns, things_of, turns_of}
 use Rattle.loconet_tcp.specs.Text.{is_end}
-use Rattle.ln_ops.specs.Sensor.{is_interrogation}
 use Rattle.station_core.specs.Station.{after_message}
 use Rattle.station_core.specs.Seen.{Seen}
 use Rattle.layout_core.specs.declared.event.Event.{Event as LayoutEvent}
 use Rattle.layout_core.specs.Played.{after_events as played}
 use Rattle.bus.specs.declared.event.Event.{Event}
-use Rattle.bus.specs.declared.event.Event.TheVariants.{Connects, Receives, Disconnects, Reports, Elapses, Turn}
+use Rattle.bus.specs.declared.event.Event.TheVariants.{Connects, Receives, Disconnects, Reports, Programs, Elapses, Turn}
 use Rattle.bus.specs.Below.{StationMoves, TurnsAreBounded}
-use Rattle.bus.specs.Bus.{BusState, after_event, for_station, request_at, client_of, is_event, pending_text_at, station_after, after_turn_boundary}
+use Rattle.bus.specs.Bus.{BusState, after_event, for_station, request_at, client_of, is_event, is_for_devices, pending_text_at, station_after, after_turn_boundary}
 use Rattle.bus.specs.Invariant.{IsInvariant}
 use Rattle.bus.specs.Layout.{message_events, layout_event, turn_of}
 use Rattle.bus.proofs.Whole.{whole_after}
@@ -89,7 +88,7 @@ whole_given bus (Some (Invalid reason)) whole = tt
 whole_given bus (Some (Turns count)) whole = tt
 whole_given bus (Some (States things)) whole = tt
 whole_given bus (Some (Place placement)) whole = tt
-whole_given bus (Some (Send message)) whole = whole_unless (bus.options.has_sensors && is_interrogation message) message whole
+whole_given bus (Some (Send message)) whole = whole_unless (is_for_devices bus.options message) message whole
 
 -- A time in which the current turn ends, and one in which it does not.
 
@@ -137,7 +136,8 @@ keeps laws bus (Disconnects client) h legal = kept_clients bus bus.station clien
 keeps laws bus (Receives client byte) h legal =
     let request : Option Request = request_at (client_of bus client) byte in
     kept_clients bus (station_after bus request) client (pending_text_at (client_of bus client) byte) h (asked_lines bus.station (for_station bus request))
-keeps laws bus (Reports sensor occupied) h legal = h
+keeps laws bus (Reports message) h legal = h
+keeps laws bus (Programs packet) h legal = h
 keeps laws bus (Turn missed) h legal = kept_turned laws bus bus.remaining h (omega arith) (omega arith)
 keeps laws bus (Elapses micros missed) h legal = elim (cases_lt micros bus.remaining) [
   | inl less ↦ subst IsInvariant (sym (passes_on bus micros missed less)) (kept_waiting bus micros h less)
@@ -157,7 +157,8 @@ plays laws bus (Disconnects client) h legal = refl
 plays laws bus (Receives client byte) h legal =
     let request : Option Request = request_at (client_of bus client) byte in
     asked_station laws bus.station client (for_station bus request) h.idle (ltb-true client 8 legal) (whole_given bus request (whole_ask (client_of bus client) byte))
-plays laws bus (Reports sensor occupied) h legal = refl
+plays laws bus (Reports message) h legal = refl
+plays laws bus (Programs packet) h legal = refl
 plays laws bus (Turn missed) h legal = laws.turn bus.station
 plays laws bus (Elapses micros missed) h legal = elim (cases_lt micros bus.remaining) [
   | inl less ↦ ap (λ (events : List LayoutEvent). played bus.station events) (waits_for bus micros missed less) ∙ sym (ap (λ (b : BusState). b.station) (passes_on bus micros missed less))

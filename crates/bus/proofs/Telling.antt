@@ -11,7 +11,7 @@ use Rattle.loconet_tcp.specs.declared.request.PlaceError.{PlaceError}
 use Rattle.loconet_tcp.specs.declared.request.TurnsError.{TurnsError}
 use Rattle.loconet_tcp.specs.ClientLines.{receive_text, sent_error_text, sent_ok_text, place_text, turns_text, version_text}
 use Rattle.bus.specs.declared.outcome.Outcome.{Outcome}
-use Rattle.bus.specs.declared.outcome.Outcome.TheVariants.{Nothing, Connected, Disconnected, Rejected, Reported, Sent, TurnBegan, TurnsRequested, StatesRequested, PlaceRequested, Placed}
+use Rattle.bus.specs.declared.outcome.Outcome.TheVariants.{Nothing, Connected, Disconnected, Rejected, Reported, Sent, TurnBegan, TurnsRequested, StatesRequested, PlaceRequested, Placed, Programmed}
 use Rattle.bus.specs.Outcome.{messages_in, reply_text, text_for}
 use Rattle.bus.specs.Since.{makes_request, text_since, is_connecting, is_disconnecting, requests_nothing, is_nonempty, has_connected, changes_connection, since_connected, stays_connected, traffic}
 
@@ -150,6 +150,7 @@ listens i (Disconnected client) m q = refl
 listens i (Rejected client reason) m q = no_error (client == i) reason q
 listens i (Sent client message reply) m q = no_ok (client == i) message reply q
 listens i (Reported message) m q = sym (append-nil (receive_text message))
+listens i (Programmed packet) m q = refl
 listens i (TurnBegan packet) m q = refl
 listens i (TurnsRequested client turns) m q = no_answer (client == i) turns q
 listens i (StatesRequested client things) m q = refl

@@ -9,7 +9,7 @@ use Rattle.loconet_tcp.specs.declared.request.Request.TheVariants.{Send, Invalid
 use Rattle.station_core.specs.Station.{packet_of_turn}
 use Rattle.bus.specs.declared.event.Event.{Event}
 use Rattle.bus.specs.declared.options.BusOptions.{BusOptions}
-use Rattle.bus.specs.declared.event.Event.TheVariants.{Connects, Receives, Disconnects, Reports, Elapses, Turn}
+use Rattle.bus.specs.declared.event.Event.TheVariants.{Connects, Receives, Disconnects, Reports, Programs, Elapses, Turn}
 use Rattle.bus.specs.declared.outcome.Outcome.{Outcome}
 use Rattle.bus.specs.declared.outcome.Outcome.TheVariants.{Nothing, TurnBegan}
 use Rattle.bus.specs.Bus.{AreEvents, BusState, after_event, after_events, request_at, client_of, first_bus, is_event, pending_text_at, outcome_of_request, outcome_of, outcomes_of}
@@ -87,7 +87,8 @@ next_there bus (Elapses micros missed) i legal eight =
     unmoved i (outcome_of bus (Elapses micros missed)) (is_some (client_of bus i)) (is_some (client_of (after_event bus (Elapses micros missed)) i))
     (time_stays i ends (packet_of_turn bus.station))
     (ap (λ (clients : List (Option (List ℕ))). is_some (slice_index_or clients i None)) (same_clients ends bus micros (bus.remaining - micros)))
-next_there bus (Reports sensor occupied) i legal eight = refl
+next_there bus (Reports message) i legal eight = refl
+next_there bus (Programs packet) i legal eight = refl
 next_there bus (Turn missed) i legal eight = refl
 
 kept_eight : (bus : BusState) (event : Event) → length bus.clients ≡ 8 → length (after_event bus event).clients ≡ 8
@@ -95,7 +96,8 @@ kept_eight bus (Connects c) eight = length-set bus.clients c (Some []) ∙ eight
 kept_eight bus (Disconnects c) eight = length-set bus.clients c None ∙ eight
 kept_eight bus (Receives c byte) eight = length-set bus.clients c (pending_text_at (client_of bus c) byte) ∙ eight
 kept_eight bus (Elapses micros missed) eight = ap length (same_clients (nat_le bus.remaining micros) bus micros (bus.remaining - micros)) ∙ eight
-kept_eight bus (Reports sensor occupied) eight = eight
+kept_eight bus (Reports message) eight = eight
+kept_eight bus (Programs packet) eight = eight
 kept_eight bus (Turn missed) eight = eight
 
 -- event by event

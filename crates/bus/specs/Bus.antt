@@ -1,10 +1,13 @@
 -- The effect of an event on a bus, and its outcome.
-use Rattle.std.specs.Prelude.{ℕ, Bool, true, false, ◌&&◌, ◌+◌, ◌-◌, nat_lt, nat_le, if◌then◌else◌, IsTrue, List, [], ◌∷◌, replicate, Option, Some, None, Result, Ok, Err, option_map, slice_set}
+use Rattle.std.specs.Prelude.{ℕ, Bool, true, false, ◌&&◌, ◌||◌, ◌+◌, ◌-◌, nat_lt, nat_le, if◌then◌else◌, IsTrue, List, [], ◌∷◌, replicate, Option, Some, None, Result, Ok, Err, option_map, slice_set}
 use Rattle.std.specs.List.{fold, list_all, slice_index_or}
 use Rattle.dcc_packet.specs.Sent.{idle_bytes}
 use Rattle.half_bits.specs.Halves.{duration_of}
 use Rattle.ln_ops.specs.Reply.{reply_bytes}
-use Rattle.ln_ops.specs.Sensor.{is_interrogation, is_sensor, report_bytes}
+use Rattle.ln_frame.specs.Message.{is_whole}
+use Rattle.ln_ops.specs.Sensor.{is_interrogation}
+use Rattle.programmer.specs.Requests.{is_for_programmer}
+use Rattle.service_mode.specs.Spelling.{bytes_of, is_legal_packet}
 use Rattle.loconet_tcp.specs.declared.request.Request.{Request}
 use Rattle.loconet_tcp.specs.declared.request.Request.TheVariants.{Send, Invalid, Turns, States, Place}
 use Rattle.loconet_tcp.specs.declared.request.TurnsError.{TurnsError}
@@ -14,9 +17,9 @@ use Rattle.station_core.specs.Station.{after_message, answer_to_message, after_t
 use Rattle.station_core.specs.Seen.{Seen, first_seen}
 use Rattle.bus.specs.declared.event.Event.{Event}
 use Rattle.bus.specs.declared.options.BusOptions.{BusOptions}
-use Rattle.bus.specs.declared.event.Event.TheVariants.{Connects, Receives, Disconnects, Reports, Elapses, Turn}
+use Rattle.bus.specs.declared.event.Event.TheVariants.{Connects, Receives, Disconnects, Reports, Programs, Elapses, Turn}
 use Rattle.bus.specs.declared.outcome.Outcome.{Outcome}
-use Rattle.bus.specs.declared.outcome.Outcome.TheVariants.{Nothing, Connected, Disconnected, Rejected, Reported, Sent, TurnBegan, TurnsRequested, StatesRequested, PlaceRequested}
+use Rattle.bus.specs.declared.outcome.Outcome.TheVariants.{Nothing, Connected, Disconnected, Rejected, Reported, Programmed, Sent, TurnBegan, TurnsRequested, StatesRequested, PlaceRequested}
 
 -- the part of a bus that clients and time change: the station, the bytes kept of each client's
 -- text, or None for no client, and the microseconds left of the current turn; and what there is
@@ -35,12 +38,13 @@ client_count = 8
 abbrev pub shortest : ℕ
 shortest = 5796
 
--- an event of one of the eight clients, of a sensor, or of a short time
+-- an event of one of the eight clients, of a device beside the station, or of a short time
 abbrev pub is_event : Event → Bool
 is_event (Connects client) = nat_lt client 8
 is_event (Receives client byte) = nat_lt client 8
 is_event (Disconnects client) = nat_lt client 8
-is_event (Reports sensor occupied) = is_sensor sensor
+is_event (Reports message) = is_whole message
+is_event (Programs packet) = is_legal_packet packet
 is_event (Elapses micros missed) = nat_le micros 5796
 is_event (Turn missed) = true
 
@@ -70,11 +74,21 @@ abbrev pub pending_text_at : Option (List ℕ) → ℕ → Option (List ℕ)
 pending_text_at None byte = None
 pending_text_at (Some kept) byte = Some (kept_after kept byte)
 
--- The message of a request that the station receives: each that is sent, but for an interrogation
--- where there are sensors, which answer it. The turns requested are events of their own.
+-- Devices beside the station answer a message: sensors an interrogation, a programmer what is for
+-- slot 124.
+abbrev pub is_for_devices : BusOptions → (message : List ℕ) → Bool
+is_for_devices options message =
+    (options.has_sensors && is_interrogation message) || (options.has_programmer && is_for_programmer message)
+
+-- The message of a request that the station receives: each that is sent, but for those that devices
+-- answer. The turns requested are events of their own.
 abbrev pub for_station : BusState → Option Request → Option (List ℕ)
-for_station bus (Some (Send message)) = if bus.options.has_sensors && is_interrogation message then None else Some message
-for_station bus other = None
+for_station bus None = None
+for_station bus (Some (Send message)) = if is_for_devices bus.options message then None else Some message
+for_station bus (Some (Invalid reason)) = None
+for_station bus (Some (Turns count)) = None
+for_station bus (Some (States things)) = None
+for_station bus (Some (Place placement)) = None
 
 -- A message is carried out whole; a rejected request has no effect.
 abbrev pub station_after : BusState → Option Request → Seen
@@ -107,7 +121,7 @@ duration (Some packet) = duration_of packet
 abbrev pub after_turn_boundary : BusState → (micros : ℕ) → BusState
 after_turn_boundary bus micros = record bus { station = after_turn bus.station; remaining = bus.remaining + duration (packet_of_turn bus.station) - micros }
 
--- the effect of an event on a bus; a report has none
+-- the effect of an event on a bus; one of a device beside the station has none
 abbrev pub after_event : BusState → Event → BusState
 after_event bus (Connects client) = record bus { clients = slice_set bus.clients client (Some []) }
 after_event bus (Disconnects client) = record bus { clients = slice_set bus.clients client None }
@@ -115,7 +129,8 @@ after_event bus (Receives client byte) = record bus {
   station = station_after bus (request_at (client_of bus client) byte);
   clients = slice_set bus.clients client (pending_text_at (client_of bus client) byte);
 }
-after_event bus (Reports sensor occupied) = bus
+after_event bus (Reports message) = bus
+after_event bus (Programs packet) = bus
 after_event bus (Elapses micros missed) = if nat_le bus.remaining micros then after_turn_boundary bus micros else record bus { remaining = bus.remaining - micros }
 after_event bus (Turn missed) = after_turn_boundary bus bus.remaining
 
@@ -124,7 +139,8 @@ abbrev pub outcome_of : BusState → Event → Outcome
 outcome_of bus (Connects client) = Connected client
 outcome_of bus (Disconnects client) = Disconnected client
 outcome_of bus (Receives client byte) = outcome_of_request bus client (request_at (client_of bus client) byte)
-outcome_of bus (Reports sensor occupied) = Reported (report_bytes sensor occupied)
+outcome_of bus (Reports message) = Reported message
+outcome_of bus (Programs packet) = Programmed (bytes_of packet)
 outcome_of bus (Elapses micros missed) = if nat_le bus.remaining micros then TurnBegan (packet_of_turn bus.station) else Nothing
 outcome_of bus (Turn missed) = TurnBegan (packet_of_turn bus.station)
 

@@ -1,7 +1,7 @@
 -- The track time of events, and the turns that begin in it.
 use Rattle.std.specs.Prelude.{ℕ, ◌+◌, Bool, true, false, List, [], ◌∷◌, ◌++◌}
 use Rattle.bus.specs.declared.event.Event.{Event}
-use Rattle.bus.specs.declared.event.Event.TheVariants.{Reports, Elapses, Turn}
+use Rattle.bus.specs.declared.event.Event.TheVariants.{Reports, Programs, Elapses, Turn}
 use Rattle.bus.specs.declared.outcome.Outcome.{Outcome}
 use Rattle.bus.specs.declared.outcome.Outcome.TheVariants.{TurnBegan}
 use Rattle.bus.specs.Bus.{BusState, after_event, duration}
@@ -25,9 +25,10 @@ abbrev pub turn_durations : List Outcome → List ℕ
 turn_durations [] = []
 turn_durations (outcome ∷ all) = durations_in outcome ++ turn_durations all
 
--- time elapses, or a sensor reports: no event of a client
+-- time elapses, or it is an event of a device beside the station: no event of a client
 abbrev pub is_time : Event → Bool
 is_time (Elapses micros missed) = true
 is_time (Turn missed) = true
-is_time (Reports sensor occupied) = true
+is_time (Reports message) = true
+is_time (Programs packet) = true
 is_time other = false

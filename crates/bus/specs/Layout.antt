@@ -3,7 +3,7 @@ use Rattle.std.specs.Prelude.{ℕ, nat_le, if◌then◌else◌, List, [], ◌∷
 use Rattle.layout_core.specs.declared.event.Event.{Event as LayoutEvent}
 use Rattle.layout_core.specs.declared.event.Event.TheVariants as layout
 use Rattle.bus.specs.declared.event.Event.{Event}
-use Rattle.bus.specs.declared.event.Event.TheVariants.{Connects, Receives, Disconnects, Reports, Elapses, Turn}
+use Rattle.bus.specs.declared.event.Event.TheVariants.{Connects, Receives, Disconnects, Reports, Programs, Elapses, Turn}
 use Rattle.bus.specs.Bus.{BusState, after_event, for_station, request_at, client_of}
 
 -- bytes received on a line
@@ -24,7 +24,8 @@ abbrev pub layout_event : BusState → Event → List LayoutEvent
 layout_event bus (Connects client) = []
 layout_event bus (Disconnects client) = []
 layout_event bus (Receives client byte) = message_events client (for_station bus (request_at (client_of bus client) byte))
-layout_event bus (Reports sensor occupied) = []
+layout_event bus (Reports message) = []
+layout_event bus (Programs packet) = []
 layout_event bus (Elapses micros missed) = if nat_le bus.remaining micros then turn_of missed else []
 layout_event bus (Turn missed) = turn_of missed
 

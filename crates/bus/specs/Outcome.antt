@@ -12,7 +12,8 @@ reply_text None = []
 reply_text (Some reply) = receive_text reply
 
 -- The lines that one client receives of an event. All clients receive the message, its sender too;
--- then the sender receives SENT OK; then all receive the reply. All receive the report of a sensor.
+-- then the sender receives SENT OK; then all receive the reply. All receive what a device reports, and
+-- none the packets of a programming track.
 -- That no turns follow, or a train was placed, is told to the client alone that requested it.
 abbrev pub text_for : (client : ℕ) → Outcome → List ℕ
 text_for i (Connected client) = if client == i then version_text else []
@@ -23,7 +24,7 @@ text_for i (TurnsRequested client turns) = if client == i then turns_text turns 
 text_for i (Placed client answer) = if client == i then place_text answer else []
 text_for i other = []
 
--- the messages seen on LocoNet: each message sent, its reply, and each report of a sensor
+-- the messages seen on LocoNet: each message sent, its reply, and each report of a device
 abbrev pub messages_in : Outcome → List (List ℕ)
 messages_in (Sent client message reply) = message ∷ option_to_list reply
 messages_in (Reported message) = message ∷ []

@@ -5,7 +5,7 @@ use Rattle.std.specs.Option.{option_to_list}
 use Rattle.loconet_tcp.specs.declared.request.Request.{Request}
 use Rattle.loconet_tcp.specs.declared.request.Request.TheVariants.{Send, Invalid, Turns, States, Place}
 use Rattle.bus.specs.declared.event.Event.{Event}
-use Rattle.bus.specs.declared.event.Event.TheVariants.{Connects, Receives, Disconnects, Reports, Elapses, Turn}
+use Rattle.bus.specs.declared.event.Event.TheVariants.{Connects, Receives, Disconnects, Reports, Programs, Elapses, Turn}
 use Rattle.bus.specs.declared.outcome.Outcome.{Outcome}
 use Rattle.bus.specs.declared.outcome.Outcome.TheVariants.{Sent}
 use Rattle.bus.specs.Bus.{request_at, pending_text_at}
@@ -26,7 +26,8 @@ own_requests i kept (Connects client ∷ events) = own_requests i (if client == 
 own_requests i kept (Disconnects client ∷ events) = own_requests i (if client == i then None else kept) events
 own_requests i kept (Receives client byte ∷ events) =
     if client == i then option_to_list (request_at kept byte) ++ own_requests i (pending_text_at kept byte) events else own_requests i kept events
-own_requests i kept (Reports sensor occupied ∷ events) = own_requests i kept events
+own_requests i kept (Reports message ∷ events) = own_requests i kept events
+own_requests i kept (Programs packet ∷ events) = own_requests i kept events
 own_requests i kept (Elapses micros missed ∷ events) = own_requests i kept events
 own_requests i kept (Turn missed ∷ events) = own_requests i kept events
 

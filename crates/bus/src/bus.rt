@@ -1,16 +1,16 @@
 //! The bus.
-ghost use Rattle.std.specs.Prelude.{◌≡◌, ◌&&◌, ℕ, ◌<◌, ◌≤◌, ◌+◌, [], IfErr, IfOk, IsTrue, is_some, length, map, replicate, slice_set};
-ghost use Rattle.ln_ops.specs.Sensor.{is_interrogation};
+ghost use Rattle.std.specs.Prelude.{◌≡◌, ℕ, ◌<◌, ◌≤◌, ◌+◌, [], IfErr, IfOk, IsTrue, is_some, length, map, replicate, slice_set};
 ghost use Rattle.bus.specs.Bus.{granted};
 
 use crate::event::Event;
 use crate::options::BusOptions;
 use crate::outcome::Outcome;
-use crate::sending::send;
+use crate::sending::{copied, send};
 use crate::turning::{SHORTEST_TURN, duration, turn};
 use layout_core::{Msg, NodeList, World};
-use ln_ops::{SensorReport, is_interrogation};
+use ln_ops::is_interrogation;
 use loconet_tcp::{Request, RequestReader, TurnsError};
+use programmer::is_for_programmer;
 use station_core::{MAX_LINES, StationFault};
 use std::alloc::Global;
 
@@ -39,7 +39,7 @@ impl Bus {
     ghost use Rattle.layout_core.specs.World.{HaveHeard, IsSameLayout};
     ghost use Rattle.station_core.specs.Station.{packet_of_turn};
     ghost use Rattle.station_core.specs.Powered.{HasDesk};
-    ghost use Rattle.bus.specs.Bus.{after_event, client_of, first_bus, for_station, is_event, outcome_of, after_turn_boundary, pending_text_at, reply_to, request_at, station_after};
+    ghost use Rattle.bus.specs.Bus.{after_event, client_of, first_bus, for_station, is_event, is_for_devices, outcome_of, after_turn_boundary, pending_text_at, reply_to, request_at, station_after};
     ghost use Rattle.bus.specs.Invariant.{IsInvariant};
     ghost use Rattle.bus.specs.Layout.{layout_event, message_events, turn_of};
     ghost use Rattle.bus.specs.State.{bus_state};
@@ -87,30 +87,34 @@ impl Bus {
     }
 
     /// Runs one event, and returns its outcome.
-    pub fn step(&mut self, event: Event) -> Outcome
-        requires { IsTrue (is_event event) }
-        ensures bus { bus_state self.new ≡ after_event (bus_state self.old) event }
-        ensures outcome { result ≡ outcome_of (bus_state self.old) event }
+    pub fn step(&mut self, event: &Event) -> Outcome
+        requires { IsTrue (is_event event.now) }
+        ensures bus { bus_state self.new ≡ after_event (bus_state self.old) event.now }
+        ensures outcome { result ≡ outcome_of (bus_state self.old) event.now }
         // The decoders hear the packets of the layout, and nothing else.
-        ensures nodes { HaveHeard self.old.world.station (layout_event (bus_state self.old) event)
-            self.old.world.nodes self.new.world.nodes }
+        ensures nodes { HaveHeard self.old.world.station
+            (layout_event (bus_state self.old) event.now) self.old.world.nodes
+            self.new.world.nodes }
         ensures same { IsSameLayout self.old.world self.new.world }
     {
         match event {
             Event::Connects { client } => {
-                self.clients[usize::from(client)] = Some(RequestReader::new());
-                Outcome::Connected { client }
+                self.clients[usize::from(*client)] = Some(RequestReader::new());
+                Outcome::Connected { client: *client }
             }
             Event::Disconnects { client } => {
-                self.clients[usize::from(client)] = None;
-                Outcome::Disconnected { client }
+                self.clients[usize::from(*client)] = None;
+                Outcome::Disconnected { client: *client }
             }
-            Event::Receives { client, byte } => self.receive(client, byte),
-            Event::Reports { sensor, occupied } => Outcome::Reported {
-                message: SensorReport { sensor, occupied }.message(),
+            Event::Receives { client, byte } => self.receive(*client, *byte),
+            Event::Reports { message } => Outcome::Reported {
+                message: copied(message),
             },
-            Event::Elapses { micros, missed } => self.elapse(micros, missed),
-            Event::Turn { missed } => self.begin_turn(self.remaining, missed),
+            Event::Programs { packet } => Outcome::Programmed {
+                packet: packet.packet(),
+            },
+            Event::Elapses { micros, missed } => self.elapse(*micros, *missed),
+            Event::Turn { missed } => self.begin_turn(self.remaining, *missed),
         }
     }
 
@@ -169,7 +173,7 @@ impl Bus {
         }
     }
 
-    /// Gives the station a message, unless sensors answer it, and returns its reply.
+    /// Gives the station a message, unless devices beside it answer it, and returns its reply.
     fn send(&mut self, message: &Msg) -> Option<Msg>
         ensures bus { bus_state self.new ≡ record (bus_state self.old) {
           station = station_after (bus_state self.old) (Some (Request.Send message.now));
@@ -181,17 +185,18 @@ impl Bus {
             self.old.world.nodes self.new.world.nodes }
         ensures same { IsSameLayout self.old.world self.new.world }
     {
-        if self.is_for_sensors(message) {
+        if self.is_for_devices(message) {
             return None;
         }
         send(&mut self.world, message)
     }
 
-    /// Whether sensors answer a message.
-    fn is_for_sensors(&self, message: &Msg) -> bool
-        ensures { result ≡ self.now.options.has_sensors && is_interrogation message.now }
+    /// Whether devices beside the station answer a message: sensors or a programmer.
+    fn is_for_devices(&self, message: &Msg) -> bool
+        ensures { result ≡ is_for_devices self.now.options message.now }
     {
-        self.options.has_sensors && is_interrogation(message)
+        (self.options.has_sensors && is_interrogation(message))
+            || (self.options.has_programmer && is_for_programmer(message))
     }
 
     /// Lets `micros` microseconds elapse.

@@ -44,6 +44,6 @@ pub fn run(bus: &mut Bus, events: &[Event], outcome: &mut [Outcome])
     layout_core::laws::events_add_up();
     bus.invariant_holds();
     for (i, event) in events.iter().enumerate() {
-        outcome[i] = bus.step(*event);
+        outcome[i] = bus.step(event);
     }
 }

@@ -1,7 +1,10 @@
 //! The events of a bus.
 
+use ln_frame::Msg;
+use service_mode::ServicePacket;
+
 /// An event of a bus. Clients are numbered from 0 to 7, as the lines of the station.
-#[derive(Clone, Copy)]
+#[derive(Drop)]
 pub enum Event {
     /// A client connects.
     Connects { client: u8 },
@@ -9,8 +12,10 @@ pub enum Event {
     Receives { client: u8, byte: u8 },
     /// A client disconnects; an unfinished line is discarded.
     Disconnects { client: u8 },
-    /// A sensor, 1 to 4096, reports that its block is occupied or free.
-    Reports { sensor: u16, occupied: bool },
+    /// A device beside the station, like a sensor or a programmer, sends a message to all.
+    Reports { message: Msg },
+    /// A packet has been sent on the programming track beside the station; its address is below 1024.
+    Programs { packet: ServicePacket },
     /// `micros` microseconds of track time elapse, at most 5,796, so that at most one turn begins
     /// in them. Decoder i misses it if bit i of `missed` is set.
     Elapses { micros: u16, missed: u64 },

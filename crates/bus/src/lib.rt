@@ -6,7 +6,7 @@
 //!
 //! ```ignore
 //! let mut bus = Bus::new(alloc, nodes, options)?;
-//! let outcome = bus.step(Event::Receives { client: 0, byte });
+//! let outcome = bus.step(&Event::Receives { client: 0, byte });
 //! outcome.push_text_for(0, &mut text);
 //! ```
 #![tactic(auto)]

@@ -8,4 +8,7 @@ pub struct BusOptions {
     /// There are sensors, which the caller lets answer interrogations: the station does not receive
     /// these.
     pub has_sensors: bool,
+    /// There is a programmer, which the caller lets answer messages for slot 124: the station does
+    /// not receive these.
+    pub has_programmer: bool,
 }

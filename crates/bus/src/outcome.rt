@@ -35,9 +35,13 @@ pub enum Outcome {
         message: Msg,
         reply: Option<Msg>,
     },
-    /// A sensor reported. All clients receive the message.
+    /// A device beside the station reported. All clients receive the message.
     Reported {
         message: Msg,
+    },
+    /// A packet was sent on the programming track. Clients receive nothing.
+    Programmed {
+        packet: Packet,
     },
     /// A client requested this number of turns, which follow, or was refused; it alone receives
     /// the reason. That turns have passed is not of the bus, which does not count them.

@@ -1,4 +1,4 @@
-//! Sending a whole message to the station of a layout.
+//! Whole messages: sending one to the station of a layout, and copying one.
 ghost use Rattle.std.specs.Prelude.{◌≡◌, ℕ, Some, option_map};
 ghost use Rattle.ln_ops.specs.Reply.{reply_bytes};
 ghost use Rattle.layout_core.specs.World.{HaveHeard, IsSameLayout};
@@ -22,5 +22,15 @@ pub(crate) fn send(world: &mut World, message: &Msg) -> Option<Msg>
     match world.message(message) {
         Some(reply) => Some(to_msg(&reply)),
         None => None,
+    }
+}
+
+/// Returns a copy of a message.
+pub(crate) fn copied(message: &Msg) -> Msg
+    ensures { result ≡ message.now }
+{
+    match Msg::whole(message.bytes()) {
+        Some(message) => message,
+        None => unreachable!(),
     }
 }

@@ -5,7 +5,6 @@ use Rattle.station_core.specs.Seen.{Seen}
 use Rattle.layout_core.specs.declared.node.Node.{Node}
 use Rattle.layout_core.specs.World.{HaveHeard}
 use Rattle.bus.specs.declared.event.Event.{Event}
-use Rattle.bus.specs.declared.event.Event.TheVariants.{Connects}
 use Rattle.bus.specs.declared.outcome.Outcome.{Outcome}
 use Rattle.bus.specs.Bus.{BusState, after_event, after_events, is_event, outcome_of, outcomes_of}
 use Rattle.bus.specs.Invariant.{IsInvariant}
@@ -15,7 +14,10 @@ use Rattle.bus.proofs.Passing.{legal_at, one_legal}
 use Rattle.bus.proofs.course.run.Goals as goal
 
 abbrev event_at : goal.After-step → Event
-event_at c = slice_index_or c.args.events.now c.loop-i.i (Connects 0)
+event_at c = c.index-events-i.result
+
+same_event : (c : goal.After-step) → slice_index_or c.args.events.now c.loop-i.i (event_at c) ≡ event_at c
+same_event c = sym c.index-events-i.is
 
 abbrev later : goal.After-step → List Event
 later c = drop (c.loop-i.i + 1) c.args.events.now
@@ -27,7 +29,8 @@ abbrev after : goal.After-step → BusState
 after c = bus_state c.step.new.self
 
 here_legal : (c : goal.After-step) → is_event (event_at c) ≡ true
-here_legal c = legal_at c.args.events.now c.loop-i.i (Connects 0) c.loop-i-test.true c.requires.events
+here_legal c =
+    subst (λ (event : Event). is_event event ≡ true) (same_event c) (legal_at c.args.events.now c.loop-i.i (event_at c) c.loop-i-test.true c.requires.events)
 
 -- the effect on the layout of the step and the rest, together
 next_heard : (c : goal.After-step) (new : List Node) → HaveHeard (after c).station (layout_events (after c) (later c)) c.step.new.self.world.nodes new
@@ -41,7 +44,8 @@ next_heard c new rest =
 
 pub loop-i-preserved : goal.loop-i-preserved
 loop-i-preserved c =
-    let more : drop c.loop-i.i c.args.events.now ≡ event_at c ∷ later c = drop_more c.args.events.now c.loop-i.i (Connects 0) c.loop-i-test.true in
+    let more : drop c.loop-i.i c.args.events.now ≡ event_at c ∷ later c =
+    drop_more c.args.events.now c.loop-i.i (event_at c) c.loop-i-test.true ∙ ap (λ (event : Event). event ∷ later c) (same_event c) in
     record {
       rest =
           ap (λ (bus : BusState). after_events bus (later c)) c.step.ensures.bus

@@ -8,4 +8,4 @@ returns-clause-nodes c = λ client.
     let old = c.args.self.now.world in
     let message = c.args.message.now in
     subst (λ (answered : Bool). HaveHeard old.station (message_events client (if answered then None else Some message)) old.nodes c.send.new.world.nodes)
-    (sym c.if-is_for_sensors.false ∙ c.is_for_sensors.ensures) (c.send.ensures.nodes client)
+    (sym c.if-is_for_devices.false ∙ c.is_for_devices.ensures) (c.send.ensures.nodes client)
