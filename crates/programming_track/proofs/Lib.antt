@@ -3,3 +3,4 @@ pub mod Begins
 pub mod Times
 pub mod Lasting
 pub mod Short
+pub mod Few

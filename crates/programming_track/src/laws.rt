@@ -96,3 +96,12 @@ pub fn tasks_are_short()
 {
     half_bits::durations_are_bounded();
 }
+
+/// A packet takes 5,820 microseconds or more, so that few end in a time: at most two within the longest
+/// turn of the main track.
+pub fn ends_are_few()
+    ensures { (micros : ℕ) (s : ProgrammingTrack)
+        → 5820 * length (ends_within micros s) ≤ micros + 5820 }
+{
+    half_bits::durations_are_bounded();
+}

@@ -9,8 +9,9 @@ mod packet_end;
 mod programming_track;
 
 pub use laws::{
-    bits_are_read_and_written, failures_are_reported, reads_return_the_value, tasks_are_short,
-    tasks_take_their_time, time_adds_up, without_a_decoder, writes_store_the_value,
+    bits_are_read_and_written, ends_are_few, failures_are_reported, reads_return_the_value,
+    tasks_are_short, tasks_take_their_time, time_adds_up, without_a_decoder,
+    writes_store_the_value,
 };
 pub use packet_end::{MAX_ENDS, PacketEnd, PacketEnds};
 pub use programming_track::ProgrammingTrack;

@@ -21,7 +21,7 @@ use service_mode::ServicePacket;
 const LONGER_PREAMBLE: u32 = 6 * 116;
 
 /// A programming track.
-#[derive(Debug, Drop)]
+#[derive(Drop)]
 pub struct ProgrammingTrack {
     pub programmer: Programmer,
     /// The decoder that stands on the track, if one does.
