@@ -7,7 +7,7 @@ use Rattle.std.proofs.lemmas.List.{get_or-set_other}
 use Rattle.bus.specs.declared.event.Event.{Event}
 use Rattle.bus_server.specs.Observations.{Observation}
 use Rattle.bus.specs.declared.outcome.Outcome.{Outcome}
-use Rattle.bus.specs.declared.outcome.Outcome.TheVariants.{Nothing, Connected, Disconnected, Rejected, Reported, Sent, TurnBegan, TurnsRequested, StatesRequested, PlaceRequested, Placed}
+use Rattle.bus.specs.declared.outcome.Outcome.TheVariants.{Nothing, Connected, Disconnected, Rejected, Reported, Sent, Programmed, TurnBegan, TurnsRequested, StatesRequested, PlaceRequested, Placed}
 use Rattle.bus.specs.Outcome.{text_for}
 use Rattle.bus_server.specs.SendQueue.{enqueued}
 use Rattle.bus_server.specs.TransportEvents.{Polled, ServerClosed, Accepted, WriteBlocked, PeerClosed, NonePending, TransportEvent, Written, ReadBlocked, Received, Refused}
@@ -64,6 +64,7 @@ another_joins false written text q t is h = h
 
 front_told : (i : ℕ) (account : Account) (outcome : Outcome) (queues : SendQueues) → Fits i account queues → Fits i (account_after_outcome i account outcome) (queues_after outcome queues)
 front_told i account Nothing queues fits q h = fits q h ∙ sym (append-nil account.text)
+front_told i account (Programmed packet) queues fits q h = fits q h ∙ sym (append-nil account.text)
 front_told i account (TurnBegan packet) queues fits q h = fits q h ∙ sym (append-nil account.text)
 front_told i account (Rejected client reason) queues fits q h = all_told i account (Rejected client reason) queues fits q h
 front_told i account (Sent client message reply) queues fits q h = all_told i account (Sent client message reply) queues fits q h

@@ -6,11 +6,11 @@ use Rattle.std.proofs.lemmas.Bool.{and_parts, cases_eq}
 use Rattle.std.proofs.lemmas.Bool.Decides.{nat_tests}
 use Rattle.std.proofs.lemmas.List.{get_or-set_same, get_or-set_other, length-set}
 use Rattle.bus.specs.declared.outcome.Outcome.{Outcome}
-use Rattle.bus.specs.declared.outcome.Outcome.TheVariants.{Connected, Disconnected, StatesRequested, Nothing, Placed, PlaceRequested, Rejected, Reported, Sent, TurnBegan, TurnsRequested}
+use Rattle.bus.specs.declared.outcome.Outcome.TheVariants.{Connected, Disconnected, StatesRequested, Nothing, Placed, PlaceRequested, Rejected, Reported, Sent, Programmed, TurnBegan, TurnsRequested}
 use Rattle.layout_core.specs.declared.node.Node.{Node}
 use Rattle.railway.specs.Railway.{RailwayState}
 use Rattle.bus.specs.declared.event.Event.{Event}
-use Rattle.bus.specs.declared.event.Event.TheVariants.{Connects, Disconnects, Elapses, Receives, Reports, Turn}
+use Rattle.bus.specs.declared.event.Event.TheVariants.{Connects, Disconnects, Elapses, Receives, Reports, Programs, Turn}
 use Rattle.bus.specs.Bus.{outcome_of}
 use Rattle.bus_server.specs.declared.pace.Pace.{Pace}
 use Rattle.bus_server.specs.declared.pace.Pace.TheVariants.{AfterMessages}
@@ -21,7 +21,9 @@ use Rattle.bus_server.specs.ServerState.{Applies, AppliesAll, Handled, IsWithRep
 use Rattle.bus_server.specs.SendQueues.{names_client}
 use Rattle.bus_server.specs.TrackDue.{after_answer, departed, due_after, due_to, follow_message, is_due, is_message, is_request, less, none_due}
 use Rattle.bus_server.specs.Observations.{Observation, Observed}
+use Rattle.programming_track.specs.declared.programming_track.ProgrammingTrack.{ProgrammingTrack}
 use Rattle.bus_server.specs.Placement.{answered}
+use Rattle.bus_server.specs.Programming.{programmed}
 use Rattle.bus_server.specs.Repeats.{BeginsInTurns, TurnsFollow, is_from_client, is_sent, left_after}
 use Rattle.bus_server.specs.Running.{Round, RunsRounds, logged_in}
 use Rattle.bus_server.specs.Sensors.{is_report}
@@ -168,7 +170,8 @@ abbrev EndsAt : (turns left left' : ℕ) → List LoggedEvent → Type 0
 EndsAt turns left left' applied = TurnsFollow turns left applied × (left_at_end turns left applied ≡ left')
 
 report_leaves : (turns left : ℕ) (event : Event) (observed : Observation) → is_report event ≡ true → (left_after turns left event observed ≡ left) × (is_from_client event ≡ false)
-report_leaves turns left (Reports sensor occupied) observed is = (refl, refl)
+report_leaves turns left (Reports message) observed is = (refl, refl)
+report_leaves turns left (Programs packet) observed is = (refl, refl)
 report_leaves turns left (Connects client) observed is = cc
 report_leaves turns left (Receives client byte) observed is = cc
 report_leaves turns left (Disconnects client) observed is = cc
@@ -189,7 +192,8 @@ turn_leaves turns left (Connects client) observed is = cc
 turn_leaves turns left (Receives client byte) observed is = cc
 turn_leaves turns left (Disconnects client) observed is = cc
 turn_leaves turns left (Elapses micros missed) observed is = cc
-turn_leaves turns left (Reports sensor occupied) observed is = cc
+turn_leaves turns left (Reports message) observed is = cc
+turn_leaves turns left (Programs packet) observed is = cc
 
 step_leaves : (turns left : ℕ) (event : Event) (applied : List LoggedEvent) → is_turn event ≡ true → IsWithReports event (events_of applied) → EndsAt turns left (left - 1) applied
 step_leaves turns left event [] is are = absurd are
@@ -289,24 +293,27 @@ is_sending (Connected client) = false
 is_sending (Disconnected client) = false
 is_sending (Rejected client reason) = false
 is_sending (Reported message) = false
+is_sending (Programmed packet) = false
 is_sending (TurnBegan packet) = false
 is_sending (TurnsRequested client count) = false
 is_sending (StatesRequested client things) = false
 is_sending (PlaceRequested client placement) = false
 is_sending (Placed client answer) = false
 
-sending_sent : (names : List (List ℕ)) (railway now : Option RailwayState) (nodes : List Node) (outcome : Outcome) → is_sent (Observed (answered names railway outcome) nodes now) ≡ is_sending outcome
-sending_sent names railway now nodes (Sent client message reply) = refl
-sending_sent names railway now nodes Nothing = refl
-sending_sent names railway now nodes (Connected client) = refl
-sending_sent names railway now nodes (Disconnected client) = refl
-sending_sent names railway now nodes (Rejected client reason) = refl
-sending_sent names railway now nodes (Reported message) = refl
-sending_sent names railway now nodes (TurnBegan packet) = refl
-sending_sent names railway now nodes (TurnsRequested client count) = refl
-sending_sent names railway now nodes (StatesRequested client things) = refl
-sending_sent names railway now nodes (PlaceRequested client placement) = refl
-sending_sent names railway now nodes (Placed client answer) = refl
+sending_sent : (programming : Option ProgrammingTrack) (names : List (List ℕ)) (railway now : Option RailwayState) (nodes : List Node) (outcome : Outcome)
+    → is_sent (Observed (programmed programming (answered names railway outcome)) nodes now) ≡ is_sending outcome
+sending_sent programming names railway now nodes (Sent client message reply) = refl
+sending_sent programming names railway now nodes Nothing = refl
+sending_sent programming names railway now nodes (Connected client) = refl
+sending_sent programming names railway now nodes (Disconnected client) = refl
+sending_sent programming names railway now nodes (Rejected client reason) = refl
+sending_sent programming names railway now nodes (Reported message) = refl
+sending_sent programming names railway now nodes (Programmed packet) = refl
+sending_sent programming names railway now nodes (TurnBegan packet) = refl
+sending_sent programming names railway now nodes (TurnsRequested client count) = refl
+sending_sent programming names railway now nodes (StatesRequested client things) = refl
+sending_sent programming names railway now nodes (PlaceRequested client placement) = refl
+sending_sent programming names railway now nodes (Placed client answer) = refl
 
 -- What is due after it: nothing was left before.
 sent_owes : (turns : ℕ) (outcome : Outcome) (owed : List TurnsDue) → length owed ≡ 8 → names_client outcome ≡ true → Owes (if is_sending outcome then turns else 0) (due_after outcome (AfterMessages turns) owed)
@@ -320,6 +327,7 @@ sent_owes turns (Connected client) owed eight names = inl refl
 sent_owes turns (Disconnected client) owed eight names = inl refl
 sent_owes turns (Rejected client reason) owed eight names = inl refl
 sent_owes turns (Reported message) owed eight names = inl refl
+sent_owes turns (Programmed packet) owed eight names = inl refl
 sent_owes turns (TurnBegan packet) owed eight names = inl refl
 sent_owes turns (TurnsRequested client count) owed eight names = inl refl
 sent_owes turns (StatesRequested client things) owed eight names = inl refl
@@ -333,6 +341,7 @@ due_length turns (Connected client) owed = refl
 due_length turns (Disconnected client) owed = length-set owed client (departed (due_to owed client))
 due_length turns (Rejected client reason) owed = refl
 due_length turns (Reported message) owed = refl
+due_length turns (Programmed packet) owed = refl
 due_length turns (TurnBegan packet) owed = refl
 due_length turns (TurnsRequested client (Ok count)) owed = length-set owed client (record { left = count; cause = Request })
 due_length turns (TurnsRequested client (Err error)) owed = refl
@@ -344,7 +353,7 @@ receives_first : (turns left client byte : ℕ) (old : ServerState) → left ≡
 receives_first turns left client byte old none f observed mid h =
     let outcome = outcome_of old.bus (Receives client byte) in
     let same : mid.turns_due ≡ due_after outcome (AfterMessages turns) old.turns_due = h.turns_due ∙ ap (λ (pace : Pace). due_after outcome pace old.turns_due) f.pace in
-    let sent : is_sent observed ≡ is_sending outcome = ap is_sent h.saw ∙ sending_sent old.names old.railway mid.railway mid.nodes outcome in
+    let sent : is_sent observed ≡ is_sending outcome = ap is_sent h.saw ∙ sending_sent old.programming old.names old.railway mid.railway mid.nodes outcome in
     let owes = sent_owes turns outcome old.turns_due f.eight (placed_by old.bus (Receives client byte) h.legal) in
     let after : Owes (if is_sent observed then turns else left) (due_after outcome (AfterMessages turns) old.turns_due) =
     subst (λ (n : ℕ). Owes n (due_after outcome (AfterMessages turns) old.turns_due)) (ap₂ (λ (b : Bool) (n : ℕ). if b then turns else n) (sym sent) (sym none)) owes in

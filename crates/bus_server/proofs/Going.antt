@@ -1,5 +1,5 @@
 -- How a hub, its transport and its observer progress, one event after another.
-use Rattle.std.proofs.Common.{◌≡◌, ℕ, zero, suc, ◌<◌, ◌≤◌, Bool, true, false, List, [], ◌∷◌, ◌++◌, length, take, drop, Option, Some, None, Result, Ok, Err, refl, ap, sym, subst, ◌∙◌, arith, append_assoc, append-nil}
+use Rattle.std.proofs.Common.{◌≡◌, ℕ, zero, suc, ◌<◌, ◌≤◌, true, false, List, [], ◌∷◌, ◌++◌, length, take, drop, Option, Some, None, Result, Ok, Err, refl, ap, sym, subst, ◌∙◌, arith, append_assoc, append-nil}
 use Rattle.std.specs.Prelude.{◌==◌, is_some, not, OnOk}
 use Rattle.std.specs.List.{list_all}
 use Rattle.std.proofs.lemmas.Bool.{and_from}
@@ -7,7 +7,7 @@ use Rattle.std.proofs.lemmas.List.{length-take, map-append, take-append-drop, ta
 use Rattle.std.proofs.lemmas.List.Concat.{flat_map-append}
 use Rattle.std.proofs.lemmas.List.Folds.{list_all-append}
 use Rattle.bus.specs.declared.event.Event.{Event}
-use Rattle.bus.specs.declared.event.Event.TheVariants.{Connects, Receives, Disconnects, Reports, Elapses, Turn}
+use Rattle.bus.specs.declared.event.Event.TheVariants.{Connects, Receives, Disconnects, Reports, Programs, Elapses, Turn}
 use Rattle.bus.specs.Bus.{BusState}
 use Rattle.bus.specs.Course.{is_time, micros_in}
 use Rattle.bus_server.specs.Observations.{Observed, Observation}
@@ -135,7 +135,7 @@ pub happened_more : (first second : List LoggedEvent) (old mid new : ServerState
 happened_more [] second old mid new same rest = subst (λ (s : ServerState). RunsEvents second s new) same rest
 happened_more (one ∷ first) second old mid new h rest = (h.0, h.1, happened_more first second h.0 mid new h.2 rest)
 
--- an event, and then what sensors report
+-- an event, and then what devices report
 pub happened_then : (event : Event) (observed : Observation) (first reports : List LoggedEvent) (old mid after new : ServerState) → RunsEvents first old mid → RunsEvent event observed mid after → RunsEvents reports after new
     → RunsEvents (first ++ record { event = event; observed = observed } ∷ reports) old new
 happened_then event observed first reports old mid after new h one rest = happened_more first (record { event = event; observed = observed } ∷ reports) old mid new h (after, one, rest)
@@ -149,39 +149,44 @@ pub none_drawn : (event : Event) (bus : BusState) (nodes : ℕ) (losses : Losses
 none_drawn (Connects client) bus nodes losses h = refl
 none_drawn (Receives client byte) bus nodes losses h = refl
 none_drawn (Disconnects client) bus nodes losses h = refl
-none_drawn (Reports sensor occupied) bus nodes losses h = refl
+none_drawn (Reports message) bus nodes losses h = refl
+none_drawn (Programs packet) bus nodes losses h = refl
 none_drawn (Elapses micros missed) bus nodes losses h = cc
 none_drawn (Turn missed) bus nodes losses h = cc
 
--- What sensors report takes no time.
+-- What devices report takes no time.
 
--- only sensors report
+-- only devices report
 abbrev pub AreReports : List Event → Type 0
 AreReports events = list_all is_report events ≡ true
 
 pub reports_take_none : (reports : List Event) (bus : BusState) → AreReports reports → micros_in bus reports ≡ 0
 reports_take_none [] bus are = refl
-reports_take_none (Reports sensor occupied ∷ reports) bus are = omega (arith, reports_take_none reports bus are)
+reports_take_none (Reports message ∷ reports) bus are = omega (arith, reports_take_none reports bus are)
+reports_take_none (Programs packet ∷ reports) bus are = omega (arith, reports_take_none reports bus are)
 reports_take_none (Connects client ∷ reports) bus are = cc
 reports_take_none (Receives client byte ∷ reports) bus are = cc
 reports_take_none (Disconnects client ∷ reports) bus are = cc
 reports_take_none (Elapses micros missed ∷ reports) bus are = cc
 reports_take_none (Turn missed ∷ reports) bus are = cc
 
--- An outcome was observed, and then what sensors report.
+-- An outcome was observed, and then what devices report.
 
 pub observes_first : (outcome : Outcome) (a b : Option (List Observation)) (old : ServerState) → Extends a b (Observed outcome old.nodes old.railway ∷ []) → ObservesReports outcome a b old old
 observes_first outcome a b old grows = ([], grows, refl, refl)
 
-pub observes_more : (outcome next : Outcome) (sensor : ℕ) (occupied : Bool) (a b c : Option (List Observation)) (old mid new : ServerState) → ObservesReports outcome a b old mid
-    → RunsEvent (Reports sensor occupied) (Observed next new.nodes new.railway) mid new → Extends b c (Observed next new.nodes new.railway ∷ []) → ObservesReports outcome a c old new
-observes_more outcome next sensor occupied a b c old mid new so_far one grows =
-    let last : LoggedEvent = record { event = Reports sensor occupied; observed = Observed next new.nodes new.railway } in (
+one_report : (event : Event) → is_report event ≡ true → list_all is_report (event ∷ []) ≡ true
+one_report event reports = rw reports refl
+
+pub observes_more : (outcome next : Outcome) (event : Event) (a b c : Option (List Observation)) (old mid new : ServerState) → is_report event ≡ true → ObservesReports outcome a b old mid
+    → RunsEvent event (Observed next new.nodes new.railway) mid new → Extends b c (Observed next new.nodes new.railway ∷ []) → ObservesReports outcome a c old new
+observes_more outcome next event a b c old mid new reports so_far one grows =
+    let last : LoggedEvent = record { event = event; observed = Observed next new.nodes new.railway } in (
       so_far.0 ++ last ∷ [],
       subst (λ (more : List Observation). Extends a c (Observed outcome old.nodes old.railway ∷ more)) (sym (map-append (λ (one : LoggedEvent). one.observed) so_far.0 (last ∷ [])))
           (grows_more a b c (Observed outcome old.nodes old.railway ∷ observations_of so_far.0) (Observed next new.nodes new.railway ∷ []) so_far.1 grows),
-      ap (list_all is_report) (map-append (λ (one : LoggedEvent). one.event) so_far.0 (last ∷ [])) ∙ list_all-append is_report (events_of so_far.0) (Reports sensor occupied ∷ [])
-          ∙ and_from (list_all is_report (events_of so_far.0)) true so_far.2 refl,
+      ap (list_all is_report) (map-append (λ (one : LoggedEvent). one.event) so_far.0 (last ∷ [])) ∙ list_all-append is_report (events_of so_far.0) (event ∷ [])
+          ∙ and_from (list_all is_report (events_of so_far.0)) (list_all is_report (event ∷ [])) so_far.2 (one_report event reports),
       happened_more so_far.0 (last ∷ []) old mid new so_far.3 (new, one, refl),
     )
 

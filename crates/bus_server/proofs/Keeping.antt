@@ -6,7 +6,7 @@ use Rattle.std.proofs.lemmas.Bool.{and_parts, and_from, cases_eq}
 use Rattle.std.proofs.lemmas.List.{get_or-set_same, get_or-set_other}
 use Rattle.std.proofs.lemmas.List.Folds.{list_any-append}
 use Rattle.bus.specs.declared.event.Event.{Event}
-use Rattle.bus.specs.declared.event.Event.TheVariants.{Connects, Receives, Disconnects, Reports, Elapses, Turn}
+use Rattle.bus.specs.declared.event.Event.TheVariants.{Connects, Receives, Disconnects, Reports, Programs, Elapses, Turn}
 use Rattle.bus.specs.declared.outcome.Outcome.{Outcome}
 use Rattle.bus.specs.declared.outcome.Outcome.TheVariants.{Connected}
 use Rattle.bus_server.specs.Observations.{Observation}
@@ -156,7 +156,7 @@ left_is_not_late client observed old new happened =
     ap (λ (bus : BusState). is_some (slice_index_or bus.clients client None) && not (is_some (slice_index_or new.queues client None))) happened.bus
     ∙ ap (λ (w : Option (List ℕ)). is_some w && not (is_some (slice_index_or new.queues client None))) (none_set old.bus.clients client)
 
--- After an event that makes no sensor report, none reports.
+-- After an event that makes no device report, none reports.
 
 no_cons : {A B : Type 0} (x : A) (xs : List A) → [] ≡ x ∷ xs → B
 no_cons x xs h = cc
@@ -167,9 +167,10 @@ nothing_due (Receives client byte) observed old new reports none h = cc
 nothing_due (Disconnects client) observed old new reports none h = cc
 nothing_due (Elapses micros missed) observed old new reports none h = cc
 nothing_due (Turn missed) observed old new reports none h = cc
-nothing_due (Reports sensor occupied) observed old new reports none h = no_cons (record { sensor = sensor; occupied = occupied }) new.unreported (sym none ∙ h.unreported)
+nothing_due (Reports message) observed old new reports none h = no_cons h.unreported.0 new.unreported (sym none ∙ h.unreported.1)
+nothing_due (Programs packet) observed old new reports none h = no_cons h.unreported.0 new.unreported (sym none ∙ h.unreported.1)
 
--- the event makes no sensor report
+-- the event makes no device report
 abbrev pub IsSilent : Event → ServerState → Type 0
 IsSilent event old = (observed : Observation) (new : ServerState) → RunsEvent event observed old new → new.unreported ≡ []
 

@@ -6,7 +6,6 @@ use Rattle.std.proofs.lemmas.Bool.{and_parts, cases_eq, le-leb}
 use Rattle.std.proofs.lemmas.Bool.Decides.{nat_tests}
 use Rattle.std.proofs.lemmas.List.{get_or-set_other, length-append, length-take}
 use Rattle.std.proofs.lemmas.List.Folds.{list_any-append}
-use Rattle.ln_ops.specs.Sensor.{report_bytes}
 use Rattle.layout_core.specs.declared.node.Node.{Node}
 use Rattle.layout_core.specs.DecoderStates.{decoder_line, decoder_state_of}
 use Rattle.layout_core.specs.Nodes.{spec_of}
@@ -24,7 +23,7 @@ use Rattle.loconet_tcp.specs.declared.request.Request.TheVariants.{Invalid, Stat
 use Rattle.bus.specs.Bus.{BusState, after_event, client_of, granted, pending_text_at, reply_to, request_at}
 use Rattle.bus.specs.Course.{is_time}
 use Rattle.bus.specs.declared.event.Event.{Event}
-use Rattle.bus.specs.declared.event.Event.TheVariants.{Connects, Disconnects, Elapses, Receives, Reports, Turn}
+use Rattle.bus.specs.declared.event.Event.TheVariants.{Connects, Disconnects, Elapses, Receives, Reports, Programs, Turn}
 use Rattle.bus_server.specs.declared.under_way.UnderWay.{UnderWay}
 use Rattle.bus_server.specs.Answers.{line_of_train, line_of_turnout, lines_of, next_line, node_lines, train_lines, turnouts_of}
 use Rattle.bus_server.specs.ServerState.{answer_to, Applies, AppliesAll, Handled, IsWithReports, LoggedEvent, RunsEvent, RunsEventWithReports, RunsEvents, ServerState, events_of, has_overflowed, is_connected, is_crowded, outcome_in, transport_events, with_backlog, round_start}
@@ -32,7 +31,10 @@ use Rattle.bus_server.specs.SendQueues.{SendQueues, enqueued_all, enqueued_from,
 use Rattle.bus_server.specs.TrackDue.{due_to, have_passed, turns_answer}
 use Rattle.bus_server.specs.KeepUp.{IsAtRest, IsUpToDate, KeepsUp, is_blocked, is_closed}
 use Rattle.bus_server.specs.Observations.{Observation}
+use Rattle.service_mode.specs.declared.packet.ServicePacket.{ServicePacket}
+use Rattle.programming_track.specs.declared.programming_track.ProgrammingTrack.{ProgrammingTrack}
 use Rattle.bus_server.specs.Placement.{answered, place_answer}
+use Rattle.bus_server.specs.Programming.{programmed, reply_by}
 use Rattle.bus_server.specs.SendQueue.{enqueued, is_more_than_half, queued}
 use Rattle.bus_server.specs.Rounds.{IsReadOn, IsRound, IsUnread, Reads, ReadsOn, ServesClient, ServesClients, is_read, is_reading, is_write_blocked, nth_client}
 use Rattle.bus_server.specs.declared.pace.Pace.{Pace}
@@ -45,9 +47,9 @@ use Rattle.bus_server.proofs.Going.{log-append}
 use Rattle.bus_server.proofs.Keeping.{enqueued_there, joined_one, none_of_both, none_set, only_joins, only_leaves, left_is_not_late, put_keeps, row_before, row_behind, set_at}
 use Rattle.bus_server.proofs.Placing.{length-enqueued}
 use Rattle.bus_server.proofs.Rounding.{accepts_apply, accepts_unread, early_applies, early_unread}
-use Rattle.bus_server.proofs.Sizes.{HasFew, HasFewBlocks, SameBlocks, answered_request, event_few, none_due, report_size, request_most, request_sound}
+use Rattle.bus_server.proofs.Sizes.{HasFew, HasFewBlocks, Limits, answered_request, text_size, event_few, message_size, none_due, owed, request_most, request_sound}
 
--- What is queued for a client, and with it the reports that are still due, which are at most as many bytes; nothing has overflowed.
+-- What is queued for a client, and with it what is still due, which is at most as many bytes; nothing has overflowed.
 
 abbrev size : (client : ℕ) → ServerState → ℕ
 size client state = length (queued (slice_index_or state.queues client None))
@@ -56,7 +58,7 @@ abbrev Sized : (client n : ℕ) → ServerState → Type 0
 Sized client n state = (client < length state.queues) × (size client state ≤ n) × (has_overflowed state client ≡ false) × HasFew state
 
 abbrev Within : (client n : ℕ) → ServerState → Type 0
-Within client n state = (client < length state.queues) × (size client state + 21 * length state.unreported ≤ n) × (has_overflowed state client ≡ false) × HasFew state
+Within client n state = (client < length state.queues) × (size client state + owed state.unreported ≤ n) × (has_overflowed state client ≡ false) × HasFew state
 
 within_more : (client n m : ℕ) (state : ServerState) → n ≤ m → Within client n state → Within client m state
 within_more client n m state more h = (h.0, omega (arith, more, h.1), h.2, h.3)
@@ -65,11 +67,11 @@ as_sized : (client n : ℕ) (state : ServerState) → Within client n state → 
 as_sized client n state h = (h.0, omega (arith, h.1), h.2, h.3)
 
 -- with the reports that may be due
-as_within : (client n : ℕ) (state : ServerState) → Sized client n state → Within client (n + 2688) state
+as_within : (client n : ℕ) (state : ServerState) → Sized client n state → Within client (n + 2790) state
 as_within client n state h = (h.0, omega (arith, h.1, h.3.0), h.2, h.3)
 
 when_none_due : (client n : ℕ) (state : ServerState) → state.unreported ≡ [] → Sized client n state → Within client n state
-when_none_due client n state none h = let zero_due : length state.unreported ≡ 0 = ap length none in (h.0, omega (arith, h.1, zero_due), h.2, h.3)
+when_none_due client n state none h = let zero_due : owed state.unreported ≡ 0 = ap owed none in (h.0, omega (arith, h.1, zero_due), h.2, h.3)
 
 length-set_queue : {A : Type 0} (all : List A) (i : ℕ) (a : A) → length (slice_set all i a) ≡ length all
 length-set_queue [] i a = refl
@@ -89,7 +91,7 @@ enqueued_within text (Some bytes) n m has most room =
 
 -- Texts are enqueued for all.
 texts_within : (client n m : ℕ) (text : ℕ → List ℕ) (old new : ServerState) → new.queues ≡ enqueued_from 0 text old.queues → is_connected new client ≡ is_connected old client → HasFew new
-    → size client old + length (text client) + 21 * length new.unreported ≤ m → m ≤ 65536 → Within client n old → Within client m new
+    → size client old + length (text client) + owed new.unreported ≤ m → m ≤ 65536 → Within client n old → Within client m new
 texts_within client n m text old new queues connected few most room h =
     let queue = slice_index_or old.queues client None in
     let at_most : size client old + length (text client) ≤ size client old + length (text client) = omega arith in
@@ -104,12 +106,12 @@ texts_within client n m text old new queues connected few most room h =
     )
 
 enqueues_within : (client n m : ℕ) (outcome : Outcome) (old new : ServerState) → new.queues ≡ enqueued_all outcome old.queues → is_connected new client ≡ is_connected old client → HasFew new
-    → size client old + length (text_for client outcome) + 21 * length new.unreported ≤ m → m ≤ 65536 → Within client n old → Within client m new
+    → size client old + length (text_for client outcome) + owed new.unreported ≤ m → m ≤ 65536 → Within client n old → Within client m new
 enqueues_within client n m outcome old new queues connected few most room h = texts_within client n m (λ i. text_for i outcome) old new queues connected few most room h
 
 -- Nothing happens to the queues.
 same_within : (client n m : ℕ) (old new : ServerState) → new.queues ≡ old.queues → is_connected new client ≡ is_connected old client → HasFew new
-    → size client old + 21 * length new.unreported ≤ m → Within client n old → Within client m new
+    → size client old + owed new.unreported ≤ m → Within client n old → Within client m new
 same_within client n m old new queues connected few most h =
     let same : size client new ≡ size client old = ap (λ (all : SendQueues). length (queued (slice_index_or all client None))) queues in (
       subst (λ (all : SendQueues). client < length all) (sym queues) h.0,
@@ -139,36 +141,45 @@ connected_still clients reader client byte = elim (cases_eq client reader) [
 
 -- the text of a request, and the reports that it makes due
 request_within : (client reader n : ℕ) (request : Option Request) (old new : ServerState) → new.queues ≡ queues_after (answered_request old reader request) old.queues
-    → is_connected new client ≡ is_connected old client → HasFew new → length (text_for client (answered_request old reader request)) ≤ 789 → n + 3477 ≤ 65536 → Within client n old → Within client (n + 3477) new
-request_within client reader n None old new queues connected few most room h = same_within client n (n + 3477) old new queues connected few (omega (arith, few.0, h.1)) h
+    → is_connected new client ≡ is_connected old client → HasFew new → length (text_for client (answered_request old reader request)) ≤ 789 → n + 3579 ≤ 65536 → Within client n old → Within client (n + 3579) new
+request_within client reader n None old new queues connected few most room h = same_within client n (n + 3579) old new queues connected few (omega (arith, few.0, h.1)) h
 request_within client reader n (Some (Invalid reason)) old new queues connected few most room h =
-    enqueues_within client n (n + 3477) (Rejected reader reason) old new queues connected few (omega (arith, most, few.0, h.1)) room h
+    enqueues_within client n (n + 3579) (Rejected reader reason) old new queues connected few (omega (arith, most, few.0, h.1)) room h
 request_within client reader n (Some (Send message)) old new queues connected few most room h =
-    enqueues_within client n (n + 3477) (Sent reader message (reply_to old.bus (Some (Send message)))) old new queues connected few (omega (arith, most, few.0, h.1)) room h
+    enqueues_within client n (n + 3579) (Sent reader message (reply_by old.programming message (reply_to old.bus (Some (Send message))))) old new queues connected few (omega (arith, most, few.0, h.1)) room h
 request_within client reader n (Some (Turns count)) old new queues connected few most room h =
-    enqueues_within client n (n + 3477) (TurnsRequested reader (granted old.bus.options.is_stepped count)) old new queues connected few (omega (arith, most, few.0, h.1)) room h
+    enqueues_within client n (n + 3579) (TurnsRequested reader (granted old.bus.options.is_stepped count)) old new queues connected few (omega (arith, most, few.0, h.1)) room h
 request_within client reader n (Some (Place placement)) old new queues connected few most room h =
-    enqueues_within client n (n + 3477) (Placed reader (place_answer old.names old.railway placement)) old new queues connected few (omega (arith, most, few.0, h.1)) room h
-request_within client reader n (Some (States things)) old new queues connected few most room h = same_within client n (n + 3477) old new queues connected few (omega (arith, few.0, h.1)) h
+    enqueues_within client n (n + 3579) (Placed reader (place_answer old.names old.railway placement)) old new queues connected few (omega (arith, most, few.0, h.1)) room h
+request_within client reader n (Some (States things)) old new queues connected few most room h = same_within client n (n + 3579) old new queues connected few (omega (arith, few.0, h.1)) h
 
-receives_within : SameBlocks → (client reader byte n : ℕ) (observed : Observation) (old new : ServerState) → RunsEvent (Receives reader byte) observed old new → n + 3477 ≤ 65536 → Within client n old → Within client (n + 3477) new
+receives_within : Limits → (client reader byte n : ℕ) (observed : Observation) (old new : ServerState) → RunsEvent (Receives reader byte) observed old new → n + 3579 ≤ 65536 → Within client n old → Within client (n + 3579) new
 receives_within same client reader byte n observed old new runs room h =
     request_within client reader n (request_at (client_of old.bus reader) byte) old new runs.queues
     (ap (λ (bus : BusState). is_some (slice_index_or bus.clients client None)) runs.bus ∙ connected_still old.bus.clients reader client byte)
     (event_few same (Receives reader byte) observed old new refl runs h.3.1)
     (request_most old reader client (request_at (client_of old.bus reader) byte) (request_sound (client_of old.bus reader) byte)) room h
 
--- Sensors report.
+-- Devices report.
 
-report_within : (client n sensor : ℕ) (occupied : Bool) (observed : Observation) (old new : ServerState) → RunsEvent (Reports sensor occupied) observed old new → n ≤ 65536 → Within client n old → Within client n new
-report_within client n sensor occupied observed old new runs room h =
-    let less : length old.unreported ≡ suc (length new.unreported) = ap length runs.unreported in
+report_within : (client n : ℕ) (message : List ℕ) (observed : Observation) (old new : ServerState) → RunsEvent (Reports message) observed old new → n ≤ 65536 → Within client n old → Within client n new
+report_within client n message observed old new runs room h =
+    let next = runs.unreported in
+    let less : owed old.unreported ≡ text_size next.0 + owed new.unreported = ap owed next.1 in
     let few : HasFew new = (omega (arith, less, h.3.0), subst HasFewBlocks (sym runs.railway) h.3.1) in
-    enqueues_within client n n (Reported (report_bytes sensor occupied)) old new runs.queues (ap (λ (bus : BusState). is_some (slice_index_or bus.clients client None)) runs.bus) few
-    (omega (arith, report_size sensor occupied, less, h.1)) room h
+    enqueues_within client n n (Reported message) old new runs.queues (ap (λ (bus : BusState). is_some (slice_index_or bus.clients client None)) runs.bus) few
+    (omega (arith, message_size next.0 message next.3, less, h.1)) room h
+
+packet_within : (client n : ℕ) (packet : ServicePacket) (observed : Observation) (old new : ServerState) → RunsEvent (Programs packet) observed old new → Within client n old → Within client n new
+packet_within client n packet observed old new runs h =
+    let next = runs.unreported in
+    let less : owed old.unreported ≡ text_size next.0 + owed new.unreported = ap owed next.1 in
+    let few : HasFew new = (omega (arith, less, h.3.0), subst HasFewBlocks (sym runs.railway) h.3.1) in
+    same_within client n n old new runs.queues (ap (λ (bus : BusState). is_some (slice_index_or bus.clients client None)) runs.bus) few (omega (arith, less, h.1)) h
 
 one_report_within : (client n : ℕ) (event : Event) (observed : Observation) (old new : ServerState) → is_report event ≡ true → RunsEvent event observed old new → n ≤ 65536 → Within client n old → Within client n new
-one_report_within client n (Reports sensor occupied) observed old new reports runs room h = report_within client n sensor occupied observed old new runs room h
+one_report_within client n (Reports message) observed old new reports runs room h = report_within client n message observed old new runs room h
+one_report_within client n (Programs packet) observed old new reports runs room h = packet_within client n packet observed old new runs h
 one_report_within client n (Connects i) observed old new reports runs room h = cc
 one_report_within client n (Receives i byte) observed old new reports runs room h = cc
 one_report_within client n (Disconnects i) observed old new reports runs room h = cc
@@ -189,10 +200,10 @@ first_event event (one ∷ more) old new are runs = (one.observed, runs.0, more,
 
 -- A step of the track.
 
-turn_queues : (names : List (List ℕ)) (railway : Option RailwayState) (ends : Bool) (packet : Option (List ℕ)) (queues : SendQueues)
-    → queues_after (answered names railway (if ends then TurnBegan packet else Nothing)) queues ≡ queues
-turn_queues names railway true packet queues = refl
-turn_queues names railway false packet queues = refl
+turn_queues : (programming : Option ProgrammingTrack) (names : List (List ℕ)) (railway : Option RailwayState) (ends : Bool) (packet : Option (List ℕ)) (queues : SendQueues)
+    → queues_after (programmed programming (answered names railway (if ends then TurnBegan packet else Nothing))) queues ≡ queues
+turn_queues programming names railway true packet queues = refl
+turn_queues programming names railway false packet queues = refl
 
 turn_clients : (ends : Bool) (a b : BusState) → a.clients ≡ b.clients → (if ends then a else b).clients ≡ b.clients
 turn_clients true a b same = same
@@ -202,7 +213,8 @@ clients_in_time : (event : Event) (bus : BusState) → is_time event ≡ true �
 clients_in_time (Connects client) bus h = cc
 clients_in_time (Receives client byte) bus h = cc
 clients_in_time (Disconnects client) bus h = cc
-clients_in_time (Reports sensor occupied) bus h = refl
+clients_in_time (Reports message) bus h = refl
+clients_in_time (Programs packet) bus h = refl
 clients_in_time (Turn missed) bus h = refl
 clients_in_time (Elapses micros missed) bus h = turn_clients (nat_le bus.remaining micros) _ _ refl
 
@@ -210,9 +222,10 @@ queues_in_time : (event : Event) (old : ServerState) → is_time event ≡ true 
 queues_in_time (Connects client) old h none = cc
 queues_in_time (Receives client byte) old h none = cc
 queues_in_time (Disconnects client) old h none = cc
-queues_in_time (Reports sensor occupied) old h none = cc
+queues_in_time (Reports message) old h none = cc
+queues_in_time (Programs packet) old h none = cc
 queues_in_time (Turn missed) old h none = refl
-queues_in_time (Elapses micros missed) old h none = turn_queues old.names old.railway (nat_le old.bus.remaining micros) _ old.queues
+queues_in_time (Elapses micros missed) old h none = turn_queues old.programming old.names old.railway (nat_le old.bus.remaining micros) _ old.queues
 
 -- an event of time that is no report
 abbrev IsStep : Event → Type 0
@@ -223,7 +236,8 @@ turn_is_step (Turn missed) is = (refl, refl)
 turn_is_step (Connects client) is = cc
 turn_is_step (Receives client byte) is = cc
 turn_is_step (Disconnects client) is = cc
-turn_is_step (Reports sensor occupied) is = cc
+turn_is_step (Reports message) is = cc
+turn_is_step (Programs packet) is = cc
 turn_is_step (Elapses micros missed) is = cc
 
 piece_is_step : (event : Event) → is_piece event ≡ true → IsStep event
@@ -232,20 +246,21 @@ piece_is_step (Turn missed) is = cc
 piece_is_step (Connects client) is = cc
 piece_is_step (Receives client byte) is = cc
 piece_is_step (Disconnects client) is = cc
-piece_is_step (Reports sensor occupied) is = cc
+piece_is_step (Reports message) is = cc
+piece_is_step (Programs packet) is = cc
 
-time_within : SameBlocks → (client n : ℕ) (event : Event) (observed : Observation) (old new : ServerState) → IsStep event → RunsEvent event observed old new → n + 2688 ≤ 65536 → Within client n old → Within client (n + 2688) new
+time_within : Limits → (client n : ℕ) (event : Event) (observed : Observation) (old new : ServerState) → IsStep event → RunsEvent event observed old new → n + 2790 ≤ 65536 → Within client n old → Within client (n + 2790) new
 time_within same client n event observed old new step runs room h =
     let clients : new.bus.clients ≡ old.bus.clients = ap (λ (bus : BusState). bus.clients) runs.bus ∙ clients_in_time event old.bus step.0 in
     let few = event_few same event observed old new step.1 runs h.3.1 in
-    same_within client n (n + 2688) old new (runs.queues ∙ queues_in_time event old step.0 step.1)
+    same_within client n (n + 2790) old new (runs.queues ∙ queues_in_time event old step.0 step.1)
     (ap (λ (all : List (Option (List ℕ))). is_some (slice_index_or all client None)) clients) few (omega (arith, few.0, h.1)) h
 
-step_within : SameBlocks → (is_step : Event → Bool) → ((event : Event) → is_step event ≡ true → IsStep event) → (client n : ℕ) (applied : List LoggedEvent) (old new : ServerState) → RunsStep is_step applied old new
-    → n + 2688 ≤ 65536 → Within client n old → Within client (n + 2688) new
+step_within : Limits → (is_step : Event → Bool) → ((event : Event) → is_step event ≡ true → IsStep event) → (client n : ℕ) (applied : List LoggedEvent) (old new : ServerState) → RunsStep is_step applied old new
+    → n + 2790 ≤ 65536 → Within client n old → Within client (n + 2790) new
 step_within same is_step are client n applied old new step room h =
     let first = first_event step.0 applied old new step.2 step.3 in
-    reports_within client (n + 2688) first.2 first.1 new first.5 first.4 room (time_within same client n step.0 first.0 old first.1 (are step.0 step.1) first.3 room h)
+    reports_within client (n + 2790) first.2 first.1 new first.5 first.4 room (time_within same client n step.0 first.0 old first.1 (are step.0 step.1) first.3 room h)
 
 -- while no queue is more than half full
 
@@ -263,38 +278,38 @@ uncrowded_at (queue ∷ queues) (suc i) none = uncrowded_at queues i (unread_par
 uncrowded : (client n : ℕ) (state : ServerState) → is_crowded state ≡ false → Sized client n state → Sized client 32768 state
 uncrowded client n state none h = (h.0, uncrowded_at state.queues client none, h.2, h.3)
 
-steps_within : SameBlocks → (is_step : Event → Bool) → ((event : Event) → is_step event ≡ true → IsStep event) → (client n count : ℕ) (applied : List LoggedEvent) (old new : ServerState)
-    → RunsSteps is_step count applied old new → 35456 ≤ n → n + 2688 ≤ 65536 → Within client n old → Within client (n + 2688) new
-steps_within same is_step are client n zero applied old new steps most room h = subst (λ (s : ServerState). Within client (n + 2688) s) (sym steps.1) (within_more client n (n + 2688) old (omega arith) h)
+steps_within : Limits → (is_step : Event → Bool) → ((event : Event) → is_step event ≡ true → IsStep event) → (client n count : ℕ) (applied : List LoggedEvent) (old new : ServerState)
+    → RunsSteps is_step count applied old new → 35558 ≤ n → n + 2790 ≤ 65536 → Within client n old → Within client (n + 2790) new
+steps_within same is_step are client n zero applied old new steps most room h = subst (λ (s : ServerState). Within client (n + 2790) s) (sym steps.1) (within_more client n (n + 2790) old (omega arith) h)
 steps_within same is_step are client n (suc zero) applied old new steps most room h =
     step_within same is_step are client n steps.1 steps.2 new steps.6 room (subst (λ (s : ServerState). Within client n s) (sym steps.4.1) h)
 steps_within same is_step are client n (suc (suc count)) applied old new steps most room h =
     let some : 0 < suc count = omega arith in
     let before = steps_within same is_step are client n (suc count) steps.0 old steps.2 steps.4 most room h in
-    let half = as_within client 32768 steps.2 (uncrowded client (n + 2688) steps.2 (steps.5 some) (as_sized client (n + 2688) steps.2 before)) in
-    step_within same is_step are client n steps.1 steps.2 new steps.6 room (within_more client 35456 n steps.2 most half)
+    let half = as_within client 32768 steps.2 (uncrowded client (n + 2790) steps.2 (steps.5 some) (as_sized client (n + 2790) steps.2 before)) in
+    step_within same is_step are client n steps.1 steps.2 new steps.6 room (within_more client 35558 n steps.2 most half)
 
-turns_of_within : SameBlocks → (client other n : ℕ) (applied : List LoggedEvent) (old new : ServerState) → RunsTurnsOf other applied old new → 35456 ≤ n → n + 2688 ≤ 65536 → Within client n old → Within client (n + 2688) new
+turns_of_within : Limits → (client other n : ℕ) (applied : List LoggedEvent) (old new : ServerState) → RunsTurnsOf other applied old new → 35558 ≤ n → n + 2790 ≤ 65536 → Within client n old → Within client (n + 2790) new
 turns_of_within same client other n applied old new turns most room h = elim turns [
-  | inl none ↦ subst (λ (s : ServerState). Within client (n + 2688) s) (sym none.2) (within_more client n (n + 2688) old (omega arith) h)
+  | inl none ↦ subst (λ (s : ServerState). Within client (n + 2790) s) (sym none.2) (within_more client n (n + 2790) old (omega arith) h)
   | inr some ↦
-      let ran : Within client (n + 2688) (with_turns_run other some.1 some.2) = steps_within same is_turn turn_is_step client n some.1 applied old some.2 some.3 most room h in
-      subst (λ (s : ServerState). Within client (n + 2688) s) (sym some.5) ran
+      let ran : Within client (n + 2790) (with_turns_run other some.1 some.2) = steps_within same is_turn turn_is_step client n some.1 applied old some.2 some.3 most room h in
+      subst (λ (s : ServerState). Within client (n + 2790) s) (sym some.5) ran
 ]
 
-turns_within : SameBlocks → (client below : ℕ) (applied : List LoggedEvent) (old new : ServerState) → RunsTurns below applied old new → below ≤ 8 → Within client 35456 old → Within client (35456 + 2688 * below) new
-turns_within same client zero applied old new turns most h = subst (λ (s : ServerState). Within client 35456 s) (sym turns.1) h
+turns_within : Limits → (client below : ℕ) (applied : List LoggedEvent) (old new : ServerState) → RunsTurns below applied old new → below ≤ 8 → Within client 35558 old → Within client (35558 + 2790 * below) new
+turns_within same client zero applied old new turns most h = subst (λ (s : ServerState). Within client 35558 s) (sym turns.1) h
 turns_within same client (suc n) applied old new turns most h =
     let before = turns_within same client n turns.0 old turns.2 turns.4 (omega (arith, most)) h in
-    within_more client (35456 + 2688 * n + 2688) (35456 + 2688 * suc n) new (omega arith)
-    (turns_of_within same client n (35456 + 2688 * n) turns.1 turns.2 new turns.5 (omega arith) (omega (arith, most)) before)
+    within_more client (35558 + 2790 * n + 2790) (35558 + 2790 * suc n) new (omega arith)
+    (turns_of_within same client n (35558 + 2790 * n) turns.1 turns.2 new turns.5 (omega arith) (omega (arith, most)) before)
 
-track_within : SameBlocks → (client : ℕ) (pace : Pace) (readings : List ℕ) (applied : List LoggedEvent) (old new : ServerState) → RunsTrack pace readings applied old new → Within client 35456 old → Within client 56960 new
+track_within : Limits → (client : ℕ) (pace : Pace) (readings : List ℕ) (applied : List LoggedEvent) (old new : ServerState) → RunsTrack pace readings applied old new → Within client 35558 old → Within client 57878 new
 track_within same client (AfterMessages turns) readings applied old new h within = turns_within same client 8 applied old new h.1 (omega arith) within
 track_within same client (RealTime rate) readings applied old new h within =
     let time = h.2 in
-    let ran : Within client 38144 (with_time_due (h.0 - time.1) time.2) = steps_within same is_piece piece_is_step client 35456 time.0 applied (with_time_due h.0 old) time.2 time.3 (omega arith) (omega arith) within in
-    subst (λ (s : ServerState). Within client 56960 s) (sym time.6) (within_more client 38144 56960 (with_time_due (h.0 - time.1) time.2) (omega arith) ran)
+    let ran : Within client 38348 (with_time_due (h.0 - time.1) time.2) = steps_within same is_piece piece_is_step client 35558 time.0 applied (with_time_due h.0 old) time.2 time.3 (omega arith) (omega arith) within in
+    subst (λ (s : ServerState). Within client 57878 s) (sym time.6) (within_more client 38348 57878 (with_time_due (h.0 - time.1) time.2) (omega arith) ran)
 
 -- Booleans.
 
@@ -333,7 +348,7 @@ joined_within client observed old new runs there few =
     let queues : new.queues ≡ enqueued_all (Connected client) (slice_set old.queues client (Some [])) = runs.queues in
     let queue : slice_index_or new.queues client None ≡ Some version_text = ap (λ (all : SendQueues). slice_index_or all client None) queues ∙ joined_one old.queues client there in
     let put : size client new ≤ 26 = subst (λ (q : Option (List ℕ)). length (queued q) ≤ 26) (sym queue) (version_most true) in
-    let none : length new.unreported ≡ 0 = ap length runs.unreported.1 in (
+    let none : owed new.unreported ≡ 0 = ap owed runs.unreported.1 in (
       subst (λ (all : SendQueues). client < length all) (sym queues)
           (omega (arith, there, length-enqueued 0 (λ i. text_for i (Connected client)) (slice_set old.queues client (Some [])), length-set_queue old.queues client (Some []))),
       omega (arith, put, none),
@@ -348,7 +363,7 @@ joins_within client other n observed old new least room runs h = elim (cases_eq 
       let before = slice_set old.queues other (Some []) in
       let queue : slice_index_or before client None ≡ slice_index_or old.queues client None = get_or-set_other old.queues other client (Some []) None differs in
       let text : length (text_for client (Connected other)) ≡ 0 = ap (λ (b : Bool). length (if b then version_text else [])) (ne_eqb other client (λ same. differs (sym same))) in
-      let none : length new.unreported ≡ 0 = ap length runs.unreported.1 in
+      let none : owed new.unreported ≡ 0 = ap owed runs.unreported.1 in
       let few : HasFew new = (omega (arith, none), subst HasFewBlocks (sym runs.railway) h.3.1) in
       let opened : ServerState = record old { queues = before } in
       let as_old : size client opened ≡ size client old = ap (λ (q : Option (List ℕ)). length (queued q)) queue in
@@ -367,7 +382,7 @@ leaves_within : (client other n : ℕ) (observed : Observation) (old new : Serve
 leaves_within client other n observed old new runs h =
     let queues : new.queues ≡ slice_set old.queues other None = runs.queues in
     let there : client < length new.queues = subst (λ (all : SendQueues). client < length all) (sym queues) (omega (arith, h.0, length-set_queue old.queues other None)) in
-    let none : length new.unreported ≡ 0 = ap length runs.unreported.1 in
+    let none : owed new.unreported ≡ 0 = ap owed runs.unreported.1 in
     let few : HasFew new = (omega (arith, none), subst HasFewBlocks (sym runs.railway) h.3.1) in
     elim (cases_eq client other) [
       | inl same ↦
@@ -386,27 +401,27 @@ leaves_within client other n observed old new runs h =
 
 -- what is read closes no connection
 abbrev ReadOne : (client n : ℕ) → TransportEvent → ServerState → Type 0
-ReadOne client n log new = Within client (n + 3477) new × (is_closed client log ≡ false)
+ReadOne client n log new = Within client (n + 3579) new × (is_closed client log ≡ false)
 
-received_within : SameBlocks → (client reader byte n : ℕ) (applied : List LoggedEvent) (old new : ServerState) → RunsEventWithReports (Receives reader byte) applied old new → n + 3477 ≤ 65536 → Sized client n old
-    → Within client (n + 3477) new
+received_within : Limits → (client reader byte n : ℕ) (applied : List LoggedEvent) (old new : ServerState) → RunsEventWithReports (Receives reader byte) applied old new → n + 3579 ≤ 65536 → Sized client n old
+    → Within client (n + 3579) new
 received_within same client reader byte n applied old new runs room h =
     let first = first_event (Receives reader byte) applied old new runs.1 runs.2 in
     let ready = when_none_due client n old (none_due (Receives reader byte) first.0 old first.1 refl first.3) h in
-    reports_within client (n + 3477) first.2 first.1 new first.5 first.4 room (receives_within same client reader byte n first.0 old first.1 first.3 room ready)
+    reports_within client (n + 3579) first.2 first.1 new first.5 first.4 room (receives_within same client reader byte n first.0 old first.1 first.3 room ready)
 
-left_within : (client reader n : ℕ) (applied : List LoggedEvent) (old new : ServerState) → RunsEventWithReports (Disconnects reader) applied old new → Sized client n old → Within client (n + 3477) new
+left_within : (client reader n : ℕ) (applied : List LoggedEvent) (old new : ServerState) → RunsEventWithReports (Disconnects reader) applied old new → Sized client n old → Within client (n + 3579) new
 left_within client reader n applied old new runs h =
     let leaves = only_leaves reader applied old new runs in
-    within_more client n (n + 3477) new (omega arith)
+    within_more client n (n + 3579) new (omega arith)
     (leaves_within client reader n leaves.0 old new leaves.1 (when_none_due client n old (none_due (Disconnects reader) leaves.0 old new refl leaves.1) h))
 
-read_one : SameBlocks → (client reader n : ℕ) (log : TransportEvent) (applied : List LoggedEvent) (old new : ServerState) → Applies log applied old new → is_read reader log ≡ true → n + 3477 ≤ 65536 → Sized client n old
+read_one : Limits → (client reader n : ℕ) (log : TransportEvent) (applied : List LoggedEvent) (old new : ServerState) → Applies log applied old new → is_read reader log ≡ true → n + 3579 ≤ 65536 → Sized client n old
     → ReadOne client n log new
 read_one same client reader n (Received i byte) applied old new does is room h = (received_within same client i byte n applied (with_backlog old) new does.1 room h, refl)
 read_one same client reader n (PeerClosed i) applied old new does is room h = (left_within client i n applied old new does h, refl)
 read_one same client reader n (ReadBlocked i) applied old new does is room h =
-    (subst (λ (s : ServerState). Within client (n + 3477) s) (sym does.1) (within_more client (n + 2688) (n + 3477) old (omega arith) (as_within client n old h)), refl)
+    (subst (λ (s : ServerState). Within client (n + 3579) s) (sym does.1) (within_more client (n + 2790) (n + 3579) old (omega arith) (as_within client n old h)), refl)
 read_one same client reader n (Polled longest) applied old new does is room h = cc
 read_one same client reader n (Accepted i) applied old new does is room h = cc
 read_one same client reader n (Written i written) applied old new does is room h = cc
@@ -416,7 +431,7 @@ read_one same client reader n NonePending applied old new does is room h = cc
 read_one same client reader n Refused applied old new does is room h = cc
 
 -- and then it is read on
-read_on : (client reader n : ℕ) (old new : ServerState) → IsReadOn reader old new → 32768 ≤ n → Sized client n old → Within client (n + 3477) new → Sized client n new
+read_on : (client reader n : ℕ) (old new : ServerState) → IsReadOn reader old new → 32768 ≤ n → Sized client n old → Within client (n + 3579) new → Sized client n new
 read_on client reader n old new on most before h = elim on.1 [
   | inl none ↦ (h.0, omega (arith, most, uncrowded_at new.queues client none), h.2, h.3)
   | inr same ↦ (h.0, subst (λ (all : SendQueues). length (queued (slice_index_or all client None)) ≤ n) (sym same) before.1, h.2, h.3)
@@ -426,27 +441,27 @@ read_on client reader n old new on most before h = elim on.1 [
 abbrev ReadAll : (client n : ℕ) → List Handled → ServerState → Type 0
 ReadAll client n handled new = Sized client n new × (list_any (is_closed client) (transport_events handled) ≡ false)
 
-reads_on : SameBlocks → (client reader n : ℕ) (handled : List Handled) (old new : ServerState) → ReadsOn reader handled old new → 32768 ≤ n → n + 3477 ≤ 65536 → Sized client n old → ReadAll client n handled new
+reads_on : Limits → (client reader n : ℕ) (handled : List Handled) (old new : ServerState) → ReadsOn reader handled old new → 32768 ≤ n → n + 3579 ≤ 65536 → Sized client n old → ReadAll client n handled new
 reads_on same client reader n [] old new reads most room h = (subst (λ (s : ServerState). Sized client n s) (sym reads) h, refl)
 reads_on same client reader n (one ∷ handled) old new reads most room h =
     let first = read_one same client reader n one.log one.applied old reads.0 reads.2 reads.1 room h in
     let rest = reads_on same client reader n handled reads.0 new reads.4 most room (read_on client reader n old reads.0 reads.3 most h first.0) in
     (rest.0, none_of_both (is_closed client one.log) (list_any (is_closed client) (transport_events handled)) first.1 rest.1)
 
-reads : SameBlocks → (client reader : ℕ) (handled : List Handled) (old new : ServerState) → Reads reader handled old new → Within client 57617 old
+reads : Limits → (client reader : ℕ) (handled : List Handled) (old new : ServerState) → Reads reader handled old new → Within client 58535 old
     → Within client 65536 new × (list_any (is_closed client) (transport_events handled) ≡ false)
 reads same client reader handled old new does h = elim does [
   | inl waits ↦ (
-    subst (λ (s : ServerState). Within client 65536 s) (sym waits.2) (within_more client 57617 65536 old (omega arith) h),
+    subst (λ (s : ServerState). Within client 65536 s) (sym waits.2) (within_more client 58535 65536 old (omega arith) h),
     subst (λ (all : List Handled). list_any (is_closed client) (transport_events all) ≡ false) (sym waits.1) refl,
   )
   | inr (inl all) ↦
-      let read = reads_on same client reader 57617 handled old new all.1 (omega arith) (omega arith) (as_sized client 57617 old h) in
-      (within_more client 60305 65536 new (omega arith) (as_within client 57617 new read.0), read.1)
+      let read = reads_on same client reader 58535 handled old new all.1 (omega arith) (omega arith) (as_sized client 58535 old h) in
+      (within_more client 61325 65536 new (omega arith) (as_within client 58535 new read.0), read.1)
   | inr (inr ends) ↦
-      let before = reads_on same client reader 57617 ends.1 old ends.3 ends.6 (omega arith) (omega arith) (as_sized client 57617 old h) in
-      let last = read_one same client reader 57617 ends.2.log ends.2.applied ends.3 new ends.8 ends.7 (omega arith) before.0 in (
-        within_more client 61094 65536 new (omega arith) last.0,
+      let before = reads_on same client reader 58535 ends.1 old ends.3 ends.6 (omega arith) (omega arith) (as_sized client 58535 old h) in
+      let last = read_one same client reader 58535 ends.2.log ends.2.applied ends.3 new ends.8 ends.7 (omega arith) before.0 in (
+        within_more client 62114 65536 new (omega arith) last.0,
         subst (λ (all : List Handled). list_any (is_closed client) (transport_events all) ≡ false) (sym ends.4)
             (ap (list_any (is_closed client)) (log-append ends.1 (ends.2 ∷ [])) ∙ list_any-append (is_closed client) (transport_events ends.1) (ends.2.log ∷ [])
             ∙ none_of_both (list_any (is_closed client) (transport_events ends.1)) (list_any (is_closed client) (ends.2.log ∷ [])) before.1 (none_of_both (is_closed client ends.2.log) false last.1 refl)),
@@ -470,7 +485,7 @@ written_within client other n bytes applied old new does h =
     let one : Applies (Written other bytes) [] old changed = (refl, rest, does.2, refl) in
     let unfull = (put_keeps other bytes [] old changed refl one).on_time client h.2 in
     let there : client < length changed.queues = omega (arith, h.0, length-set_queue old.queues other (Some rest)) in
-    let most : size client changed + 21 * length old.unreported ≤ n = elim (cases_eq client other) [
+    let most : size client changed + owed old.unreported ≤ n = elim (cases_eq client other) [
       | inl same ↦
           let queue : slice_index_or changed.queues client None ≡ Some rest =
           subst (λ (i : ℕ). slice_index_or (slice_set old.queues other (Some rest)) i None ≡ Some rest) (sym same) (set_at old.queues other (bytes ++ rest) rest does.2) in
@@ -521,10 +536,10 @@ abbrev is_accepting : (client : ℕ) → TransportEvent → Bool
 is_accepting i (Accepted client) = client == i
 is_accepting i other = false
 
-accepted_one : (client : ℕ) (log : TransportEvent) (applied : List LoggedEvent) (old new : ServerState) → Applies log applied old new → is_accepting client log ≡ true → Within client 65536 old → Within client 3477 new
+accepted_one : (client : ℕ) (log : TransportEvent) (applied : List LoggedEvent) (old new : ServerState) → Applies log applied old new → is_accepting client log ≡ true → Within client 65536 old → Within client 3579 new
 accepted_one client (Accepted i) applied old new does is h =
     let joins = only_joins i applied (with_backlog old) new does.1 in
-    within_more client 26 3477 new (omega arith) (joined_within client joins.0 (with_backlog old) new (subst (λ (k : ℕ). RunsEvent (Connects k) joins.0 (with_backlog old) new) (eqb-true i client is) joins.1) h.0 h.3.1)
+    within_more client 26 3579 new (omega arith) (joined_within client joins.0 (with_backlog old) new (subst (λ (k : ℕ). RunsEvent (Connects k) joins.0 (with_backlog old) new) (eqb-true i client is) joins.1) h.0 h.3.1)
 accepted_one client (Polled longest) applied old new does is h = cc
 accepted_one client (Received i byte) applied old new does is h = cc
 accepted_one client (PeerClosed i) applied old new does is h = cc
@@ -536,14 +551,14 @@ accepted_one client NonePending applied old new does is h = cc
 accepted_one client Refused applied old new does is h = cc
 
 accepted_small : (client : ℕ) (handled : List Handled) (old new : ServerState) → AppliesAll handled old new → IsUnread (transport_events handled) → list_any (is_accepting client) (transport_events handled) ≡ true
-    → Within client 65536 old → Within client 3477 new
+    → Within client 65536 old → Within client 3579 new
 accepted_small client [] old new does unread some h = cc
 accepted_small client (one ∷ handled) old new does unread some h =
     let p = unread_parts (is_reading one.log) (list_any is_reading (transport_events handled)) unread in
     elim (either (is_accepting client one.log) (list_any (is_accepting client) (transport_events handled)) some) [
       | inl now ↦
           let small = accepted_one client one.log one.applied old does.0 does.1 now h in
-          (unread_all client 3477 handled does.0 new does.2 p.1 (omega arith) (omega arith) small).0
+          (unread_all client 3579 handled does.0 new does.2 p.1 (omega arith) (omega arith) small).0
       | inr later ↦
           let first = unread_one client 65536 one.log one.applied old does.0 does.1 p.0 (omega arith) (omega arith) h in
           accepted_small client handled does.0 new does.2 p.1 later first.0
@@ -589,9 +604,9 @@ both_stay : (client n : ℕ) (first second : List TransportEvent) (new : ServerS
 both_stay client n first second new none h =
     (h.0, list_any-append (is_closed client) first second ∙ none_of_both (list_any (is_closed client) first) (list_any (is_closed client) second) none h.1)
 
--- A client has at most 3,477 bytes in its queue after it was written to, with the reports that may be due.
-serve_keeps : SameBlocks → (client reader : ℕ) (handled : List Handled) (old new : ServerState) → client < 8 → ServesClient reader handled old new → KeepsUp client (transport_events handled) → Within client 57617 old
-    → StaysUp client 3477 (transport_events handled) new
+-- A client has at most 3,579 bytes in its queue after it was written to, with the reports that may be due.
+serve_keeps : Limits → (client reader : ℕ) (handled : List Handled) (old new : ServerState) → client < 8 → ServesClient reader handled old new → KeepsUp client (transport_events handled) → Within client 58535 old
+    → StaysUp client 3579 (transport_events handled) new
 serve_keeps same client reader handled old new among serve up h =
     let heard = serve.0 in
     let written = serve.1 in
@@ -600,39 +615,39 @@ serve_keeps same client reader handled old new among serve up h =
     let up_written = up_behind client (transport_events heard) (transport_events written) up_log in
     let read = reads same client reader heard old serve.2 serve.4 h in
     let put = unread_all client 65536 written serve.2 new serve.5 serve.6 (omega arith) (omega arith) read.0 in
-    let small : Within client 3477 new = elim (serve.7 client among).0 [
+    let small : Within client 3579 new = elim (serve.7 client among).0 [
       | inl empty ↦ let none : size client new ≡ 0 = ap length empty in (put.0.0, omega (arith, none, put.0.3.0), put.0.2, put.0.3)
       | inr (inl blocked) ↦ accepted_small client written serve.2 new serve.5 serve.6 (blocked_all client (transport_events written) blocked up_written.0) read.0
       | inr (inr four) ↦ absurd (up_written.1 four)
     ] in
-    subst (λ (all : List TransportEvent). StaysUp client 3477 all new) (sym log) (both_stay client 3477 (transport_events heard) (transport_events written) new read.1 (small, put.1))
+    subst (λ (all : List TransportEvent). StaysUp client 3579 all new) (sym log) (both_stay client 3579 (transport_events heard) (transport_events written) new read.1 (small, put.1))
 
 -- the last of some
-last_keeps : SameBlocks → (client n : ℕ) (handled first last : List Handled) (old mid new : ServerState) → client < 8 → handled ≡ first ++ last → ServesClient n last mid new → KeepsUp client (transport_events handled)
-    → (KeepsUp client (transport_events first) → StaysUp client 57617 (transport_events first) mid) → StaysUp client 3477 (transport_events handled) new
+last_keeps : Limits → (client n : ℕ) (handled first last : List Handled) (old mid new : ServerState) → client < 8 → handled ≡ first ++ last → ServesClient n last mid new → KeepsUp client (transport_events handled)
+    → (KeepsUp client (transport_events first) → StaysUp client 58535 (transport_events first) mid) → StaysUp client 3579 (transport_events handled) new
 last_keeps same client n handled first last old mid new among both serve up before =
     let log : transport_events handled ≡ transport_events first ++ transport_events last = ap transport_events both ∙ log-append first last in
     let up_log : KeepsUp client (transport_events first ++ transport_events last) = subst (KeepsUp client) log up in
     let so_far = before (up_before client (transport_events first) (transport_events last) up_log) in
     let after = serve_keeps same client n last mid new among serve (up_behind client (transport_events first) (transport_events last) up_log) so_far.0 in
-    subst (λ (all : List TransportEvent). StaysUp client 3477 all new) (sym log) (both_stay client 3477 (transport_events first) (transport_events last) new so_far.1 after)
+    subst (λ (all : List TransportEvent). StaysUp client 3579 all new) (sym log) (both_stay client 3579 (transport_events first) (transport_events last) new so_far.1 after)
 
-serves_keep : SameBlocks → (client first count : ℕ) (handled : List Handled) (old new : ServerState) → client < 8 → ServesClients first count handled old new → KeepsUp client (transport_events handled) → Within client 57617 old
-    → StaysUp client 57617 (transport_events handled) new
+serves_keep : Limits → (client first count : ℕ) (handled : List Handled) (old new : ServerState) → client < 8 → ServesClients first count handled old new → KeepsUp client (transport_events handled) → Within client 58535 old
+    → StaysUp client 58535 (transport_events handled) new
 serves_keep same client first zero handled old new among serves up h =
-    subst (λ (all : List Handled). StaysUp client 57617 (transport_events all) new) (sym serves.0) (subst (λ (s : ServerState). Within client 57617 s) (sym serves.1) h, refl)
+    subst (λ (all : List Handled). StaysUp client 58535 (transport_events all) new) (sym serves.0) (subst (λ (s : ServerState). Within client 58535 s) (sym serves.1) h, refl)
 serves_keep same client first (suc n) handled old new among serves up h =
     let all = last_keeps same client (nth_client first n) handled serves.0 serves.1 old serves.2 new among serves.3 serves.5 up (λ before. serves_keep same client first n serves.0 old serves.2 among serves.4 before h) in
-    (within_more client 3477 57617 new (omega arith) all.0, all.1)
+    (within_more client 3579 58535 new (omega arith) all.0, all.1)
 
 -- all eight are served
-all_served : SameBlocks → (client first : ℕ) (handled : List Handled) (old new : ServerState) → client < 8 → ServesClients first 8 handled old new → KeepsUp client (transport_events handled) → Within client 57617 old
-    → StaysUp client 3477 (transport_events handled) new
+all_served : Limits → (client first : ℕ) (handled : List Handled) (old new : ServerState) → client < 8 → ServesClients first 8 handled old new → KeepsUp client (transport_events handled) → Within client 58535 old
+    → StaysUp client 3579 (transport_events handled) new
 all_served same client first handled old new among all up h =
     let serves : ServesClients first (suc 7) handled old new = all in
     last_keeps same client (nth_client first 7) handled serves.0 serves.1 old serves.2 new among serves.3 serves.5 up (λ before. serves_keep same client first 7 serves.0 old serves.2 among serves.4 before h)
 
-round_keeps : SameBlocks → (client : ℕ) (handled : List Handled) (old new : ServerState) → client < 8 → IsRound handled old new → KeepsUp client (transport_events handled) → Within client 57617 old → StaysUp client 3477 (transport_events handled) new
+round_keeps : Limits → (client : ℕ) (handled : List Handled) (old new : ServerState) → client < 8 → IsRound handled old new → KeepsUp client (transport_events handled) → Within client 58535 old → StaysUp client 3579 (transport_events handled) new
 round_keeps same client handled old new among round up h =
     let early = transport_events round.0 in
     let written = transport_events round.1 in
@@ -643,13 +658,13 @@ round_keeps same client handled old new among round up h =
     ∙ ap (λ (rest : List TransportEvent). early ++ rest) (log-append round.1 (round.2 ++ round.3) ∙ ap (λ (rest : List TransportEvent). written ++ rest) (log-append round.2 round.3)) in
     let up_log : KeepsUp client (early ++ (written ++ (served ++ joined))) = subst (KeepsUp client) log up in
     let up_rest = up_behind client written (served ++ joined) (up_behind client early (written ++ (served ++ joined)) up_log) in
-    let begun = unread_all client 57617 round.0 old round.4 (early_applies round.0 old round.4 round.8) (early_unread round.0 old round.4 round.8) (omega arith) (omega arith) h in
-    let told = unread_all client 57617 round.1 round.4 round.5 round.9.0 round.9.1 (omega arith) (omega arith) begun.0 in
+    let begun = unread_all client 58535 round.0 old round.4 (early_applies round.0 old round.4 round.8) (early_unread round.0 old round.4 round.8) (omega arith) (omega arith) h in
+    let told = unread_all client 58535 round.1 round.4 round.5 round.9.0 round.9.1 (omega arith) (omega arith) begun.0 in
     let read = all_served same client round.5.first_client round.2 round.5 round.6 among round.10 (up_before client served joined up_rest) told.0 in
-    let accepted = unread_all client 3477 round.3 round.6 new (accepts_apply round.3 round.6 new round.11) (accepts_unread round.3 round.6 new round.11) (omega arith) (omega arith) read.0 in
-    subst (λ (all : List TransportEvent). StaysUp client 3477 all new) (sym log)
-    (both_stay client 3477 early (written ++ (served ++ joined)) new begun.1
-    (both_stay client 3477 written (served ++ joined) new told.1 (both_stay client 3477 served joined new read.1 accepted)))
+    let accepted = unread_all client 3579 round.3 round.6 new (accepts_apply round.3 round.6 new round.11) (accepts_unread round.3 round.6 new round.11) (omega arith) (omega arith) read.0 in
+    subst (λ (all : List TransportEvent). StaysUp client 3579 all new) (sym log)
+    (both_stay client 3579 early (written ++ (served ++ joined)) new begun.1
+    (both_stay client 3579 written (served ++ joined) new told.1 (both_stay client 3579 served joined new read.1 accepted)))
 
 -- A round starts: a line of an answer has at most 647 bytes, and that turns have passed is told in 10.
 
@@ -691,15 +706,15 @@ turns_answer_most : (is_over : Bool) → length (if is_over then turns_ok_text e
 turns_answer_most true = omega arith
 turns_answer_most false = omega arith
 
-starts_within : (client : ℕ) (old : ServerState) → Within client 56960 old → Within client 57617 (round_start old)
+starts_within : (client : ℕ) (old : ServerState) → Within client 57878 old → Within client 58535 (round_start old)
 starts_within client old h =
     let line = next_line (lines_of old.names old.nodes old.railway) (slice_index_or old.answers client None) in
     let owed = due_to old.turns_due client in
     let answer : length (answer_to old client) ≤ 657 =
     omega (arith, next_most old.names old.nodes old.railway (slice_index_or old.answers client None), turns_answer_most (have_passed owed), length-append line (turns_answer owed)) in
-    texts_within client 56960 57617 (answer_to old) old (round_start old) refl refl h.3 (omega (arith, answer, h.1)) (omega arith) h
+    texts_within client 57878 58535 (answer_to old) old (round_start old) refl refl h.3 (omega (arith, answer, h.1)) (omega arith) h
 
-rounds_keep : SameBlocks → (client most : ℕ) (rounds : List Round) (old new : ServerState) → client < 8 → RunsRounds most rounds old new → KeepsUp client (transport_log rounds) → Within client 56960 old
+rounds_keep : Limits → (client most : ℕ) (rounds : List Round) (old new : ServerState) → client < 8 → RunsRounds most rounds old new → KeepsUp client (transport_log rounds) → Within client 57878 old
     → list_any (is_closed client) (transport_log rounds) ≡ false
 rounds_keep same client most [] old new among h up within = refl
 rounds_keep same client most (round ∷ rounds) old new among h up within =
@@ -707,13 +722,13 @@ rounds_keep same client most (round ∷ rounds) old new among h up within =
     let first = Polled round.longest ∷ transport_events round.handled in
     let up_first = up_behind client (Polled round.longest ∷ []) (transport_events round.handled) (up_before client first (transport_log rounds) up) in
     let served = round_keeps same client round.handled (round_start old) went.1 among went.2 up_first (starts_within client old within) in
-    let ran = track_within same client went.1.pace round.readings round.elapsing went.1 h.1 went.3 (within_more client 3477 35456 went.1 (omega arith) served.0) in
+    let ran = track_within same client went.1.pace round.readings round.elapsing went.1 h.1 went.3 (within_more client 3579 35558 went.1 (omega arith) served.0) in
     let rest = rounds_keep same client most rounds h.1 new among h.3 (up_behind client first (transport_log rounds) up) ran in
     list_any-append (is_closed client) first (transport_log rounds) ∙ none_of_both (list_any (is_closed client) first) (list_any (is_closed client) (transport_log rounds)) served.1 rest
 
-pub stays_connected : SameBlocks → (client most : ℕ) (rounds : List Round) (old new : ServerState) → IsAtRest old → client < 8 → length old.queues ≡ 8 → IsUpToDate client old → RunsRounds most rounds old new
+pub stays_connected : Limits → (client most : ℕ) (rounds : List Round) (old new : ServerState) → IsAtRest old → client < 8 → length old.queues ≡ 8 → IsUpToDate client old → RunsRounds most rounds old new
     → KeepsUp client (transport_log rounds) → list_any (is_closed client) (transport_log rounds) ≡ false
 stays_connected same client most rounds old new rest among eight here runs up =
-    let none : length old.unreported ≡ 0 = ap length rest.0 in
+    let none : owed old.unreported ≡ 0 = ap owed rest.0 in
     let empty : size client old ≡ 0 = ap length here.0 in
     rounds_keep same client most rounds old new among runs up (omega (arith, among, eight), omega (arith, none, empty), here.1, (omega (arith, none), rest.1))

@@ -16,7 +16,7 @@ use Rattle.ln_ops.specs.declared.reply.Reply.TheVariants.{LongAck, SlotData}
 use Rattle.station_core.specs.Station.{answer_to_message, packet_of_turn}
 use Rattle.bus.specs.Outcome.{messages_in}
 use Rattle.bus.specs.declared.outcome.Outcome.{Outcome}
-use Rattle.bus.specs.declared.outcome.Outcome.TheVariants.{Nothing, Reported, Sent, TurnBegan}
+use Rattle.bus.specs.declared.outcome.Outcome.TheVariants.{Nothing, Sent, TurnBegan}
 use Rattle.loconet_tcp.specs.declared.request.Request.{Request}
 use Rattle.loconet_tcp.specs.declared.request.Request.TheVariants.{Invalid, States, Place, Send, Turns}
 use Rattle.railway.specs.declared.block.Block.{Block}
@@ -25,16 +25,28 @@ use Rattle.railway.specs.Course.{Happening, after, after_all, reports_of, report
 use Rattle.railway.specs.Course.Happening.{Elapses as TimeElapses}
 use Rattle.railway.specs.Railway.{RailwayState, is_railway}
 use Rattle.railway.specs.Reports.{full, is_occupied, level_after}
+use Rattle.service_mode.specs.declared.packet.ServicePacket.{ServicePacket}
+use Rattle.programmer.specs.declared.reply.TaskReply.{TaskReply}
+use Rattle.programmer.specs.declared.reply.TaskReply.TheVariants.{Accepted as TaskAccepted, Busy, NotImplemented, Data}
+use Rattle.programmer.specs.declared.task_result.TaskResult.{TaskResult}
+use Rattle.programmer.specs.Machine.{reply_of}
+use Rattle.programmer.specs.Requests.{request_in}
+use Rattle.programming_track.specs.declared.packet_end.PacketEnd.{PacketEnd}
+use Rattle.programming_track.specs.declared.programming_track.ProgrammingTrack.{ProgrammingTrack}
 use Rattle.bus.specs.declared.event.Event.{Event}
-use Rattle.bus.specs.declared.event.Event.TheVariants.{Connects, Receives, Disconnects, Reports, Elapses, Turn}
+use Rattle.bus.specs.declared.event.Event.TheVariants.{Connects, Receives, Disconnects, Reports, Programs, Elapses, Turn}
 use Rattle.bus.specs.Bus.{BusState, client_of, for_station, outcome_of, outcome_of_request, request_at}
 use Rattle.bus_server.specs.Observations.{Observation, Observed}
 use Rattle.bus_server.specs.ServerState.{Applies, AppliesAll, Handled, LoggedEvent, RunsEvent, RunsEvents, ServerState, outcome_in, with_backlog, round_start}
 use Rattle.bus_server.specs.Known.{ClaimNothing, IsKnown, IsSensorOf, is_no_claim, level_by, messages_of, received_in, reports_read}
 use Rattle.bus_server.specs.declared.pace.Pace.{Pace}
 use Rattle.bus_server.specs.Running.{Round, RunsRounds, logged_in}
+use Rattle.bus_server.specs.declared.device_report.DeviceReport.{DeviceReport}
+use Rattle.bus_server.specs.declared.device_report.DeviceReport.TheVariants.{Sensor, Packet, Ended}
+use Rattle.bus_server.specs.DeviceReports.{of_ends, of_result, of_sensors, event_of, is_legal_report, sensors_in}
 use Rattle.bus_server.specs.Placement.{answered, places}
-use Rattle.bus_server.specs.Sensors.{asks_sensors, full_report, next_turn, power_of, railway_elapsed, railway_placed, reports_due, reports_elapsed}
+use Rattle.bus_server.specs.Programming.{ends_elapsed, programmed, reply_by, reply_or}
+use Rattle.bus_server.specs.Sensors.{asks_sensors, reports_of_time, full_report, next_turn, power_of, railway_elapsed, railway_placed, reports_due, reports_elapsed}
 use Rattle.bus_server.specs.TransportEvents.{Accepted, NonePending, PeerClosed, Polled, ReadBlocked, Received, Refused, ServerClosed, TransportEvent, WriteBlocked, Written}
 use Rattle.bus_server.specs.Track.{RunsTrack}
 use Rattle.bus_server.proofs.Rounding.{round_serves}
@@ -71,14 +83,44 @@ known-append sensor first second level =
 claim_parts : (first second : List LoggedEvent) → ClaimNothing (first ++ second) → ClaimNothing first × ClaimNothing second
 claim_parts first second h = and_parts (list_all (λ one. is_no_claim one.observed) first) (list_all (λ one. is_no_claim one.observed) second) (sym (list_all-append (λ (one : LoggedEvent). is_no_claim one.observed) first second) ∙ h)
 
+-- The reports of sensors among what is due.
+
+sensors-append : (first second : List DeviceReport) → sensors_in (first ++ second) ≡ sensors_in first ++ sensors_in second
+sensors-append [] second = refl
+sensors-append (Sensor report ∷ first) second = ap (λ (all : List SensorReport). report ∷ all) (sensors-append first second)
+sensors-append (Packet packet ∷ first) second = sensors-append first second
+sensors-append (Ended ended ∷ first) second = sensors-append first second
+
+sensors-of : (reports : List SensorReport) → sensors_in (of_sensors reports) ≡ reports
+sensors-of [] = refl
+sensors-of (report ∷ reports) = ap (λ (all : List SensorReport). report ∷ all) (sensors-of reports)
+
+none-of_result : (ended : Option TaskResult) → sensors_in (of_result ended) ≡ []
+none-of_result None = refl
+none-of_result (Some ended) = refl
+
+none-of_ends : (ends : List PacketEnd) → sensors_in (of_ends ends) ≡ []
+none-of_ends [] = refl
+none-of_ends (one ∷ ends) =
+    sensors-append (of_result one.result) (of_ends ends)
+    ∙ ap₂ (λ (these those : List SensorReport). these ++ those) (none-of_result one.result) (none-of_ends ends)
+
+sensors-elapsed : (railway : Option RailwayState) (programming : Option ProgrammingTrack) (micros : ℕ) (power : Power) (nodes : List Node)
+    → sensors_in (reports_of_time railway programming micros power nodes) ≡ reports_elapsed railway micros power nodes
+sensors-elapsed railway programming micros power nodes =
+    let reports : List SensorReport = reports_elapsed railway micros power nodes in
+    sensors-append (of_sensors reports) (of_ends (ends_elapsed programming micros))
+    ∙ ap₂ (λ (these those : List SensorReport). these ++ those) (sensors-of reports) (none-of_ends (ends_elapsed programming micros))
+    ∙ append-nil reports
+
 -- One event.
 
 same_known : (block sensor : ℕ) (level : Bool) (old new : ServerState) → new.railway ≡ old.railway → new.unreported ≡ old.unreported → IsKnown block sensor level old → IsKnown block sensor level new
-same_known block sensor level old new railway unreported h = (h.0, railway ∙ h.1, h.2, h.3, ap (λ (d : List SensorReport). level_after d sensor level) unreported ∙ h.4)
+same_known block sensor level old new railway unreported h = (h.0, railway ∙ h.1, h.2, h.3, ap (λ (d : List DeviceReport). level_after (sensors_in d) sensor level) unreported ∙ h.4)
 
 -- what a client knows after the reports of a happening
 happens_known : SensorLaws → (block sensor : ℕ) (level : Bool) (happening : Happening) (railway : RailwayState) (new : ServerState) → new.railway ≡ Some (after railway happening)
-    → new.unreported ≡ reports_of railway happening → IsTrue (is_railway railway) → IsSensorOf block sensor railway → level ≡ is_occupied railway.trains block → IsKnown block sensor level new
+    → sensors_in new.unreported ≡ reports_of railway happening → IsTrue (is_railway railway) → IsSensorOf block sensor railway → level ≡ is_occupied railway.trains block → IsKnown block sensor level new
 happens_known laws block sensor level happening railway new beside unreported whole is known = (
   after railway happening,
   beside,
@@ -90,32 +132,32 @@ happens_known laws block sensor level happening railway new beside unreported wh
       ∙ laws.after railway (happening ∷ []) block sensor whole is.0 is.1,
 )
 
-elapsed_known : SensorLaws → (block sensor micros : ℕ) (level : Bool) (power : Power) (nodes : List Node) (old new : ServerState) → old.unreported ≡ [] → new.railway ≡ railway_elapsed old.railway micros power nodes
-    → new.unreported ≡ reports_elapsed old.railway micros power nodes → IsKnown block sensor level old → IsKnown block sensor level new
-elapsed_known laws block sensor micros level power nodes old new none trains unreported h =
+elapsed_known : SensorLaws → (block sensor micros : ℕ) (level : Bool) (programming : Option ProgrammingTrack) (power : Power) (nodes : List Node) (old new : ServerState) → old.unreported ≡ [] → new.railway ≡ railway_elapsed old.railway micros power nodes
+    → new.unreported ≡ reports_of_time old.railway programming micros power nodes → IsKnown block sensor level old → IsKnown block sensor level new
+elapsed_known laws block sensor micros level programming power nodes old new none trains unreported h =
     happens_known laws block sensor level (TimeElapses micros power nodes) h.0 new
     (trains ∙ ap (λ (r : Option RailwayState). railway_elapsed r micros power nodes) h.1)
-    (unreported ∙ ap (λ (r : Option RailwayState). reports_elapsed r micros power nodes) h.1)
-    h.2 h.3 (sym (ap (λ (d : List SensorReport). level_after d sensor level) none) ∙ h.4)
+    (ap sensors_in unreported ∙ sensors-elapsed old.railway programming micros power nodes ∙ ap (λ (r : Option RailwayState). reports_elapsed r micros power nodes) h.1)
+    h.2 h.3 (sym (ap (λ (d : List DeviceReport). level_after (sensors_in d) sensor level) none) ∙ h.4)
 
 asked_level : SensorLaws → (asks level : Bool) (block sensor : ℕ) (railway : RailwayState) → IsTrue (is_railway railway) → IsSensorOf block sensor railway → level ≡ is_occupied railway.trains block
-    → level_after (if asks then full_report (Some railway) else []) sensor level ≡ is_occupied railway.trains block
-asked_level laws true level block sensor railway whole is known = laws.full railway block sensor level whole is.0 is.1
+    → level_after (sensors_in (if asks then of_sensors (full_report (Some railway)) else [])) sensor level ≡ is_occupied railway.trains block
+asked_level laws true level block sensor railway whole is known = ap (λ (d : List SensorReport). level_after d sensor level) (sensors-of (full railway.network.blocks railway.trains)) ∙ laws.full railway block sensor level whole is.0 is.1
 asked_level laws false level block sensor railway whole is known = known
 
 -- after a request of a client
 request_known : SensorLaws → (names : List (List ℕ)) (block sensor : ℕ) (level : Bool) (bus : BusState) (client : ℕ) (request : Option Request) (railway : RailwayState) (new : ServerState)
     → new.railway ≡ railway_placed names (outcome_of_request bus client request) (Some railway) → new.unreported ≡ reports_due names (outcome_of_request bus client request) (Some railway) []
     → IsTrue (is_railway railway) → IsSensorOf block sensor railway → level ≡ is_occupied railway.trains block → IsKnown block sensor level new
-request_known laws names block sensor level bus client None railway new beside made whole is known = (railway, beside, whole, is, ap (λ (d : List SensorReport). level_after d sensor level) made ∙ known)
-request_known laws names block sensor level bus client (Some (Invalid reason)) railway new beside made whole is known = (railway, beside, whole, is, ap (λ (d : List SensorReport). level_after d sensor level) made ∙ known)
-request_known laws names block sensor level bus client (Some (Turns count)) railway new beside made whole is known = (railway, beside, whole, is, ap (λ (d : List SensorReport). level_after d sensor level) made ∙ known)
-request_known laws names block sensor level bus client (Some (States things)) railway new beside made whole is known = (railway, beside, whole, is, ap (λ (d : List SensorReport). level_after d sensor level) made ∙ known)
-request_known laws names block sensor level bus client (Some (Place (Err error))) railway new beside made whole is known = (railway, beside, whole, is, ap (λ (d : List SensorReport). level_after d sensor level) made ∙ known)
+request_known laws names block sensor level bus client None railway new beside made whole is known = (railway, beside, whole, is, ap (λ (d : List DeviceReport). level_after (sensors_in d) sensor level) made ∙ known)
+request_known laws names block sensor level bus client (Some (Invalid reason)) railway new beside made whole is known = (railway, beside, whole, is, ap (λ (d : List DeviceReport). level_after (sensors_in d) sensor level) made ∙ known)
+request_known laws names block sensor level bus client (Some (Turns count)) railway new beside made whole is known = (railway, beside, whole, is, ap (λ (d : List DeviceReport). level_after (sensors_in d) sensor level) made ∙ known)
+request_known laws names block sensor level bus client (Some (States things)) railway new beside made whole is known = (railway, beside, whole, is, ap (λ (d : List DeviceReport). level_after (sensors_in d) sensor level) made ∙ known)
+request_known laws names block sensor level bus client (Some (Place (Err error))) railway new beside made whole is known = (railway, beside, whole, is, ap (λ (d : List DeviceReport). level_after (sensors_in d) sensor level) made ∙ known)
 request_known laws names block sensor level bus client (Some (Send message)) railway new beside made whole is known =
-    (railway, beside, whole, is, ap (λ (d : List SensorReport). level_after d sensor level) made ∙ asked_level laws (begins_interrogation message) level block sensor railway whole is known)
+    (railway, beside, whole, is, ap (λ (d : List DeviceReport). level_after (sensors_in d) sensor level) made ∙ asked_level laws (begins_interrogation message) level block sensor railway whole is known)
 request_known laws names block sensor level bus client (Some (Place (Ok placement))) railway new beside made whole is known =
-    happens_known laws block sensor level (places names railway placement) railway new beside made whole is known
+    happens_known laws block sensor level (places names railway placement) railway new beside (ap sensors_in made ∙ sensors-of (reports_of railway (places names railway placement))) whole is known
 
 -- after one that asks all sensors to report, whatever the client knew
 asked_known : SensorLaws → (names : List (List ℕ)) (block sensor : ℕ) (level : Bool) (bus : BusState) (client : ℕ) (request : Option Request) (railway : RailwayState) (new : ServerState)
@@ -131,7 +173,8 @@ asked_known laws names block sensor level bus client (Some (Send message)) railw
   beside,
   whole,
   is,
-  ap (λ (d : List SensorReport). level_after d sensor level) (made ∙ ap (λ (a : Bool). if a then full_report (Some railway) else []) asks) ∙ laws.full railway block sensor level whole is.0 is.1,
+  ap (λ (d : List DeviceReport). level_after (sensors_in d) sensor level) (made ∙ ap (λ (a : Bool). if a then of_sensors (full_report (Some railway)) else []) asks)
+      ∙ ap (λ (d : List SensorReport). level_after d sensor level) (sensors-of (full railway.network.blocks railway.trains)) ∙ laws.full railway block sensor level whole is.0 is.1,
 )
 
 -- The messages of an event are no reports, but for that of a sensor.
@@ -141,6 +184,17 @@ no_reply None = refl
 no_reply (Some (SlotData f)) = refl
 no_reply (Some (LongAck opc ack)) = refl
 
+no_own_reply : (own : Option TaskReply) (reply : Option Reply) → reports_read (option_to_list (reply_or own (option_map reply_bytes reply))) ≡ []
+no_own_reply None reply = no_reply reply
+no_own_reply (Some TaskAccepted) reply = refl
+no_own_reply (Some Busy) reply = refl
+no_own_reply (Some NotImplemented) reply = refl
+no_own_reply (Some (Data ended)) reply = refl
+
+no_reply_by : (programming : Option ProgrammingTrack) (message : List ℕ) (reply : Option Reply) → reports_read (option_to_list (reply_by programming message (option_map reply_bytes reply))) ≡ []
+no_reply_by None message reply = no_reply reply
+no_reply_by (Some track) message reply = no_own_reply (reply_of track.programmer (request_in message)) reply
+
 none_read : (report : Option SensorReport) → not (is_some report) ≡ true → option_to_list report ≡ []
 none_read None h = refl
 none_read (Some report) h = cc
@@ -149,23 +203,25 @@ none_read (Some report) h = cc
 abbrev TellsNothing : (sensor : ℕ) → (level : Bool) → Outcome → Type 0
 TellsNothing sensor level outcome = level_by (messages_in outcome) sensor level ≡ level
 
-sent_tells : (sensor : ℕ) (level : Bool) (client : ℕ) (message : List ℕ) (reply : Option Reply) → not (is_some (report_of message)) ≡ true → TellsNothing sensor level (Sent client message (option_map reply_bytes reply))
-sent_tells sensor level client message reply h =
-    ap₂ (λ (a b : List SensorReport). level_after (a ++ b) sensor level) (none_read (report_of message) h) (no_reply reply)
+sent_tells : (programming : Option ProgrammingTrack) (sensor : ℕ) (level : Bool) (client : ℕ) (message : List ℕ) (reply : Option Reply) → not (is_some (report_of message)) ≡ true
+    → TellsNothing sensor level (Sent client message (reply_by programming message (option_map reply_bytes reply)))
+sent_tells programming sensor level client message reply h =
+    ap₂ (λ (a b : List SensorReport). level_after (a ++ b) sensor level) (none_read (report_of message) h) (no_reply_by programming message reply)
 
-request_tells : (names : List (List ℕ)) (beside : Option RailwayState) (bus : BusState) (sensor : ℕ) (level : Bool) (client : ℕ) (request : Option Request) (nodes : List Node) (railway : Option RailwayState)
-    → is_no_claim (Observed (answered names beside (outcome_of_request bus client request)) nodes railway) ≡ true → TellsNothing sensor level (answered names beside (outcome_of_request bus client request))
-request_tells names beside bus sensor level client None nodes railway h = refl
-request_tells names beside bus sensor level client (Some (Invalid reason)) nodes railway h = refl
-request_tells names beside bus sensor level client (Some (Turns count)) nodes railway h = refl
-request_tells names beside bus sensor level client (Some (States things)) nodes railway h = refl
-request_tells names beside bus sensor level client (Some (Place placement)) nodes railway h = refl
-request_tells names beside bus sensor level client (Some (Send message)) nodes railway h = sent_tells sensor level client message (answer_to_message bus.station (for_station bus (Some (Send message)))) h
+request_tells : (programming : Option ProgrammingTrack) (names : List (List ℕ)) (beside : Option RailwayState) (bus : BusState) (sensor : ℕ) (level : Bool) (client : ℕ) (request : Option Request) (nodes : List Node) (railway : Option RailwayState)
+    → is_no_claim (Observed (programmed programming (answered names beside (outcome_of_request bus client request))) nodes railway) ≡ true
+    → TellsNothing sensor level (programmed programming (answered names beside (outcome_of_request bus client request)))
+request_tells programming names beside bus sensor level client None nodes railway h = refl
+request_tells programming names beside bus sensor level client (Some (Invalid reason)) nodes railway h = refl
+request_tells programming names beside bus sensor level client (Some (Turns count)) nodes railway h = refl
+request_tells programming names beside bus sensor level client (Some (States things)) nodes railway h = refl
+request_tells programming names beside bus sensor level client (Some (Place placement)) nodes railway h = refl
+request_tells programming names beside bus sensor level client (Some (Send message)) nodes railway h = sent_tells programming sensor level client message (answer_to_message bus.station (for_station bus (Some (Send message)))) h
 
 -- time tells nothing
-time_tells : (names : List (List ℕ)) (beside : Option RailwayState) (ends : Bool) (packet : Option (List ℕ)) (sensor : ℕ) (level : Bool) → TellsNothing sensor level (answered names beside (if ends then TurnBegan packet else Nothing))
-time_tells names beside true packet sensor level = refl
-time_tells names beside false packet sensor level = refl
+time_tells : (programming : Option ProgrammingTrack) (names : List (List ℕ)) (beside : Option RailwayState) (ends : Bool) (packet : Option (List ℕ)) (sensor : ℕ) (level : Bool) → TellsNothing sensor level (programmed programming (answered names beside (if ends then TurnBegan packet else Nothing)))
+time_tells programming names beside true packet sensor level = refl
+time_tells programming names beside false packet sensor level = refl
 
 -- what a client knows after the messages of an event
 abbrev level_of_event : (sensor : ℕ) → Observation → Bool → Bool
@@ -180,13 +236,32 @@ untold sensor level observed outcome nodes railway saw tells =
 known_still : (block sensor : ℕ) (level : Bool) (observed : Observation) (new : ServerState) → level_of_event sensor observed level ≡ level → IsKnown block sensor level new → IsKnown block sensor (level_of_event sensor observed level) new
 known_still block sensor level observed new same h = subst (λ (l : Bool). IsKnown block sensor l new) (sym same) h
 
--- a report tells what it reports
-reported : SensorLaws → (reporting : ℕ) (occupied : Bool) (sensor : ℕ) (level : Bool) (observed : Observation) (nodes : List Node) (railway : Option RailwayState) → is_sensor reporting ≡ true
-    → observed ≡ Observed (Reported (report_bytes reporting occupied)) nodes railway
-    → level_of_event sensor observed level ≡ (if reporting == sensor then occupied else level)
-reported laws reporting occupied sensor level observed nodes railway legal saw =
-    ap (λ (o : Observation). level_of_event sensor o level) saw
-    ∙ ap (λ (report : Option SensorReport). level_after (option_to_list report ++ []) sensor level) (laws.read reporting occupied legal)
+-- What is due tells what its sensor reports, and else nothing.
+
+message_in : Event → List ℕ
+message_in (Reports message) = message
+message_in other = []
+
+report_tells : SensorLaws → (report : DeviceReport) (rest : List DeviceReport) (sensor : ℕ) (level : Bool) → is_legal_report report ≡ true
+    → level_after (sensors_in rest) sensor (level_by (message_in (event_of report) ∷ []) sensor level) ≡ level_after (sensors_in (report ∷ rest)) sensor level
+unfolding message_in
+report_tells laws (Sensor report) rest sensor level legal =
+    ap (λ (read : Option SensorReport). level_after (sensors_in rest) sensor (level_after (option_to_list read ++ []) sensor level)) (laws.read report.sensor report.occupied legal)
+report_tells laws (Packet packet) rest sensor level legal = refl
+report_tells laws (Ended ended) rest sensor level legal = refl
+
+-- a message that is reported tells it
+reported : SensorLaws → (report : DeviceReport) (message : List ℕ) (rest : List DeviceReport) (sensor : ℕ) (level : Bool) → is_legal_report report ≡ true → event_of report ≡ Reports message
+    → level_after (sensors_in rest) sensor (level_by (message ∷ []) sensor level) ≡ level_after (sensors_in (report ∷ rest)) sensor level
+unfolding message_in
+reported laws report message rest sensor level legal is =
+    subst (λ (told : List ℕ). level_after (sensors_in rest) sensor (level_by (told ∷ []) sensor level) ≡ level_after (sensors_in (report ∷ rest)) sensor level) (ap message_in is) (report_tells laws report rest sensor level legal)
+
+-- a packet is no report of a sensor
+no_sensor : (report : DeviceReport) (packet : ServicePacket) (rest : List DeviceReport) → event_of report ≡ Programs packet → sensors_in (report ∷ rest) ≡ sensors_in rest
+no_sensor (Sensor report) packet rest is = cc
+no_sensor (Packet sent) packet rest is = refl
+no_sensor (Ended ended) packet rest is = cc
 
 event_known : SensorLaws → (block sensor : ℕ) (level : Bool) (event : Event) (observed : Observation) (old new : ServerState) → RunsEvent event observed old new → is_no_claim observed ≡ true → IsKnown block sensor level old
     → IsKnown block sensor (level_of_event sensor observed level) new
@@ -201,21 +276,33 @@ event_known laws block sensor level (Receives client byte) observed old new runs
     let request : Option Request = request_at (client_of old.bus client) byte in
     known_still block sensor level observed new
     (untold sensor level observed (outcome_in old (Receives client byte)) new.nodes new.railway runs.saw
-    (request_tells old.names old.railway old.bus sensor level client request new.nodes new.railway (subst (λ (o : Observation). is_no_claim o ≡ true) runs.saw quiet)))
+    (request_tells old.programming old.names old.railway old.bus sensor level client request new.nodes new.railway (subst (λ (o : Observation). is_no_claim o ≡ true) runs.saw quiet)))
     (request_known laws old.names block sensor level old.bus client request h.0 new
     (runs.railway ∙ ap (λ (r : Option RailwayState). railway_placed old.names outcome r) h.1)
     (runs.unreported.1 ∙ ap (λ (r : Option RailwayState). reports_due old.names outcome r []) h.1)
-    h.2 h.3 (sym (ap (λ (d : List SensorReport). level_after d sensor level) runs.unreported.0) ∙ h.4))
-event_known laws block sensor level (Reports reporting occupied) observed old new runs quiet h =
-    subst (λ (l : Bool). IsKnown block sensor l new) (sym (reported laws reporting occupied sensor level observed new.nodes new.railway runs.legal runs.saw))
-    (h.0, runs.railway ∙ h.1, h.2, h.3, sym (ap (λ (d : List SensorReport). level_after d sensor level) runs.unreported) ∙ h.4)
+    h.2 h.3 (sym (ap (λ (d : List DeviceReport). level_after (sensors_in d) sensor level) runs.unreported.0) ∙ h.4))
+event_known laws block sensor level (Reports message) observed old new runs quiet h =
+    let next = runs.unreported in
+    let read : level_of_event sensor observed level ≡ level_by (message ∷ []) sensor level = ap (λ (o : Observation). level_of_event sensor o level) runs.saw in (
+      h.0,
+      runs.railway ∙ h.1,
+      h.2,
+      h.3,
+      ap (λ (l : Bool). level_after (sensors_in new.unreported) sensor l) read
+          ∙ reported laws next.0 message new.unreported sensor level next.2 next.3
+          ∙ sym (ap (λ (d : List DeviceReport). level_after (sensors_in d) sensor level) next.1) ∙ h.4,
+    )
+event_known laws block sensor level (Programs packet) observed old new runs quiet h =
+    let next = runs.unreported in
+    known_still block sensor level observed new (untold sensor level observed (outcome_in old (Programs packet)) new.nodes new.railway runs.saw refl)
+    (h.0, runs.railway ∙ h.1, h.2, h.3, sym (ap (λ (d : List SensorReport). level_after d sensor level) (ap sensors_in next.1 ∙ no_sensor next.0 packet new.unreported next.3)) ∙ h.4)
 event_known laws block sensor level (Elapses micros missed) observed old new runs quiet h =
     known_still block sensor level observed new
-    (untold sensor level observed (outcome_in old (Elapses micros missed)) new.nodes new.railway runs.saw (time_tells old.names old.railway (nat_le old.bus.remaining micros) (packet_of_turn old.bus.station) sensor level))
-    (elapsed_known laws block sensor micros level (power_of old.bus) old.nodes old new runs.unreported.0 runs.railway runs.unreported.1 h)
+    (untold sensor level observed (outcome_in old (Elapses micros missed)) new.nodes new.railway runs.saw (time_tells old.programming old.names old.railway (nat_le old.bus.remaining micros) (packet_of_turn old.bus.station) sensor level))
+    (elapsed_known laws block sensor micros level old.programming (power_of old.bus) old.nodes old new runs.unreported.0 runs.railway runs.unreported.1 h)
 event_known laws block sensor level (Turn missed) observed old new runs quiet h =
     known_still block sensor level observed new (untold sensor level observed (outcome_in old (Turn missed)) new.nodes new.railway runs.saw refl)
-    (elapsed_known laws block sensor (next_turn old.bus) level (power_of old.bus) new.nodes old new runs.unreported.0 runs.railway runs.unreported.1 h)
+    (elapsed_known laws block sensor (next_turn old.bus) level old.programming (power_of old.bus) new.nodes old new runs.unreported.0 runs.railway runs.unreported.1 h)
 
 pub becomes_known : SensorLaws → (block sensor client byte : ℕ) (level : Bool) (railway : RailwayState) (observed : Observation) (old new : ServerState) → old.railway ≡ Some railway
     → IsTrue (is_railway railway) → IsSensorOf block sensor railway → asks_sensors (outcome_of old.bus (Receives client byte)) ≡ true → RunsEvent (Receives client byte) observed old new

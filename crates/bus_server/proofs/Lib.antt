@@ -18,6 +18,7 @@ pub mod Rounding
 pub mod Sizes
 pub mod Stepping
 pub mod Stopping
+pub mod Taking
 pub mod Times
 pub mod Tracking
 pub mod WholeRuns

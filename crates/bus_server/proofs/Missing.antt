@@ -6,7 +6,7 @@ use Rattle.std.proofs.lemmas.Bool.{and_from}
 use Rattle.std.proofs.lemmas.List.Folds.{list_all-append}
 use Rattle.layout_core.specs.declared.event.Event.{Event as LayoutEvent}
 use Rattle.bus.specs.declared.event.Event.{Event}
-use Rattle.bus.specs.declared.event.Event.TheVariants.{Connects, Receives, Disconnects, Reports, Elapses, Turn}
+use Rattle.bus.specs.declared.event.Event.TheVariants.{Connects, Receives, Disconnects, Reports, Programs, Elapses, Turn}
 use Rattle.bus.specs.Bus.{BusState, for_station, after_event, client_of, request_at}
 use Rattle.bus.specs.Layout.{bytes_on, layout_event, layout_events, message_events, turn_of}
 use Rattle.bus_server.specs.declared.losses.Losses.{Losses}
@@ -39,7 +39,8 @@ event_heard (Connects client) bus nodes old new h lose = record { all = refl; sh
 event_heard (Disconnects client) bus nodes old new h lose = record { all = refl; share = ap (λ (l : Losses). l.lose) h ∙ lose }
 event_heard (Receives client byte) bus nodes old new h lose = record { all = message_heard client (for_station bus (request_at (client_of bus client) byte)); share = ap (λ (l : Losses). l.lose) h ∙ lose }
 event_heard (Elapses micros missed) bus nodes old new h lose = elapsed_heard (nat_le bus.remaining micros) nodes missed old new h lose
-event_heard (Reports sensor occupied) bus nodes old new h lose = record { all = refl; share = ap (λ (l : Losses). l.lose) h ∙ lose }
+event_heard (Reports message) bus nodes old new h lose = record { all = refl; share = ap (λ (l : Losses). l.lose) h ∙ lose }
+event_heard (Programs packet) bus nodes old new h lose = record { all = refl; share = ap (λ (l : Losses). l.lose) h ∙ lose }
 event_heard (Turn missed) bus nodes old new h lose = turn_heard nodes missed old new h lose
 
 pub all_heard : (events : List Event) (bus : BusState) (nodes : ℕ) (old new : Losses) → AreDrawn events bus nodes old new → old.lose ≡ 0 → list_all is_missed_by_none (layout_events bus events) ≡ true

@@ -1,9 +1,9 @@
 -- Where turns follow messages, the order of all else decides.
 use Rattle.std.proofs.Common.{◌≡◌, ℕ, zero, suc, ◌<◌, ◌≤◌, Bool, true, false, if◌then◌else◌, List, [], ◌∷◌, ◌++◌, refl, ap, ap₂, sym, subst, ◌∙◌, arith}
 use Rattle.std.specs.Prelude.{◌||◌, nat_lt}
-use Rattle.ln_ops.specs.declared.sensor.SensorReport.{SensorReport}
+use Rattle.bus_server.specs.declared.device_report.DeviceReport.{DeviceReport}
 use Rattle.bus.specs.declared.event.Event.{Event}
-use Rattle.bus.specs.declared.event.Event.TheVariants.{Connects, Disconnects, Elapses, Receives, Reports, Turn}
+use Rattle.bus.specs.declared.event.Event.TheVariants.{Connects, Disconnects, Elapses, Receives, Reports, Programs, Turn}
 use Rattle.bus_server.specs.ServerState.{LoggedEvent, ServerState, events_of, observations_of}
 use Rattle.bus_server.specs.Observations.{Observation}
 use Rattle.bus_server.specs.Repeats.{BeginsInTurns, InOrder, IsAlike, IsSettled, follows, in_order, inputs_of, left_after, unmissed}
@@ -19,7 +19,8 @@ no_both false h k = cc
 -- An event that is left out leaves no more turns than before.
 
 out_leaves : (turns n : ℕ) (event : Event) (observed : Observation) → (is_report event || follows n event) ≡ true → left_after turns n event observed ≤ n
-out_leaves turns n (Reports sensor occupied) observed out = omega arith
+out_leaves turns n (Reports message) observed out = omega arith
+out_leaves turns n (Programs packet) observed out = omega arith
 out_leaves turns n (Turn missed) observed out = omega arith
 out_leaves turns n (Connects client) observed out = cc
 out_leaves turns n (Receives client byte) observed out = cc
@@ -46,7 +47,8 @@ comes_below turns n (one ∷ applied) rest first h =
 fewer_left : (turns n : ℕ) (event : Event) (observed : Observation) → follows n event ≡ true → left_after turns n event observed < n
 fewer_left turns zero (Turn missed) observed is = cc
 fewer_left turns (suc n) (Turn missed) observed is = omega arith
-fewer_left turns n (Reports sensor occupied) observed is = cc
+fewer_left turns n (Reports message) observed is = cc
+fewer_left turns n (Programs packet) observed is = cc
 fewer_left turns n (Connects client) observed is = cc
 fewer_left turns n (Receives client byte) observed is = cc
 fewer_left turns n (Disconnects client) observed is = cc
@@ -56,12 +58,14 @@ fewer_left turns n (Elapses micros missed) observed is = cc
 
 follow_same : (n : ℕ) (event other : Event) → follows n event ≡ true → follows n other ≡ true → unmissed event ≡ unmissed other
 follow_same n (Turn missed) (Turn lost) is are = refl
-follow_same n (Turn missed) (Reports sensor occupied) is are = cc
+follow_same n (Turn missed) (Reports message) is are = cc
+follow_same n (Turn missed) (Programs packet) is are = cc
 follow_same n (Turn missed) (Connects client) is are = cc
 follow_same n (Turn missed) (Receives client byte) is are = cc
 follow_same n (Turn missed) (Disconnects client) is are = cc
 follow_same n (Turn missed) (Elapses micros lost) is are = cc
-follow_same n (Reports sensor occupied) other is are = cc
+follow_same n (Reports message) other is are = cc
+follow_same n (Programs packet) other is are = cc
 follow_same n (Connects client) other is are = cc
 follow_same n (Receives client byte) other is are = cc
 follow_same n (Disconnects client) other is are = cc
@@ -74,7 +78,7 @@ ComesBelow n event more = follows n event ≡ true → (rest : List InOrder) (fi
 abbrev StartSame : (event other : Event) (more others : List InOrder) → Type 0
 StartSame event other more others = (unmissed event ≡ unmissed other) × (more ≡ others)
 
-start_same : (reports also out also_out : Bool) (n : ℕ) (event other : Event) (more others : List InOrder) (made those old a b : List SensorReport) → is_report event ≡ reports → is_report other ≡ also → follows n event ≡ out → follows n other ≡ also_out
+start_same : (reports also out also_out : Bool) (n : ℕ) (event other : Event) (more others : List InOrder) (made those old a b : List DeviceReport) → is_report event ≡ reports → is_report other ≡ also → follows n event ≡ out → follows n other ≡ also_out
     → IsDue event made old a → IsDue other those old b → ComesBelow n event more → ComesBelow n other others → first_in (reports || out) n event more ≡ first_in (also || also_out) n other others → StartSame event other more others
 start_same true true out also_out n event other more others made those old a b is are goes leaves h k below under inputs = (ap unmissed (report_same event other made those old a b is are h k), inputs)
 start_same true false out also_out n event other more others made those old a b is are goes leaves h k below under inputs = no_both (is_report event) is (no_report event made old a (none_due other those old b are k) h)
@@ -93,7 +97,8 @@ start_same false false false true n event other more others made those old a b i
 
 none_follows : (n : ℕ) (event : Event) → n ≡ 0 → follows n event ≡ false
 none_follows n (Turn missed) none = ap (λ (k : ℕ). nat_lt 0 k) none
-none_follows n (Reports sensor occupied) none = refl
+none_follows n (Reports message) none = refl
+none_follows n (Programs packet) none = refl
 none_follows n (Connects client) none = refl
 none_follows n (Receives client byte) none = refl
 none_follows n (Disconnects client) none = refl
@@ -106,7 +111,7 @@ none_first false n event more is inputs = no_cons (record { left = n; event = un
 none_more : {P : Type 0} (turns n : ℕ) (one : LoggedEvent) (applied : List LoggedEvent) (start a : Core) → Course (one ∷ applied) start a → start.unreported ≡ [] → n ≡ 0 → [] ≡ in_order turns n (one ∷ applied) → P
 none_more turns n one applied start a h none nothing inputs =
     let out : (is_report one.event || follows n one.event) ≡ false =
-    ap₂ (λ (b c : Bool). b || c) (no_report one.event (reports_after start.names start.bus (running_in one.event start.nodes h.0.nodes) one.event start.railway) start.unreported h.0.unreported none h.1.unreported) (none_follows n one.event nothing) in
+    ap₂ (λ (b c : Bool). b || c) (no_report one.event (reports_after start.names start.bus (running_in one.event start.nodes h.0.nodes) one.event start.railway start.programming) start.unreported h.0.unreported none h.1.unreported) (none_follows n one.event nothing) in
     absurd (none_first (is_report one.event || follows n one.event) n one.event (in_order turns (left_after turns n one.event one.observed) applied) out inputs)
 
 -- What is missed of an event decides neither.
@@ -114,7 +119,8 @@ none_more turns n one applied start a h none nothing inputs =
 left_unmissed : (turns n : ℕ) (event : Event) (observed : Observation) → left_after turns n (unmissed event) observed ≡ left_after turns n event observed
 left_unmissed turns n (Turn missed) observed = refl
 left_unmissed turns n (Elapses micros missed) observed = refl
-left_unmissed turns n (Reports sensor occupied) observed = refl
+left_unmissed turns n (Reports message) observed = refl
+left_unmissed turns n (Programs packet) observed = refl
 left_unmissed turns n (Connects client) observed = refl
 left_unmissed turns n (Receives client byte) observed = refl
 left_unmissed turns n (Disconnects client) observed = refl
@@ -122,7 +128,8 @@ left_unmissed turns n (Disconnects client) observed = refl
 report_unmissed : (event : Event) → is_report (unmissed event) ≡ is_report event
 report_unmissed (Turn missed) = refl
 report_unmissed (Elapses micros missed) = refl
-report_unmissed (Reports sensor occupied) = refl
+report_unmissed (Reports message) = refl
+report_unmissed (Programs packet) = refl
 report_unmissed (Connects client) = refl
 report_unmissed (Receives client byte) = refl
 report_unmissed (Disconnects client) = refl
@@ -138,7 +145,7 @@ inputs_same turns n (one ∷ first) (two ∷ second) start a b h k ends too none
     let left = left_after turns n one.event one.observed in
     let left' = left_after turns n two.event two.observed in
     let heads = start_same (is_report one.event) (is_report two.event) (follows n one.event) (follows n two.event) n one.event two.event (in_order turns left first) (in_order turns left' second)
-    (reports_after start.names start.bus (running_in one.event start.nodes h.0.nodes) one.event start.railway) (reports_after start.names start.bus (running_in two.event start.nodes k.0.nodes) two.event start.railway) start.unreported h.0.unreported k.0.unreported
+    (reports_after start.names start.bus (running_in one.event start.nodes h.0.nodes) one.event start.railway start.programming) (reports_after start.names start.bus (running_in two.event start.nodes k.0.nodes) two.event start.railway start.programming) start.unreported h.0.unreported k.0.unreported
     refl refl refl refl h.1.unreported k.1.unreported
     (λ is rest input comes. omega (arith, comes_below turns left first rest input comes, fewer_left turns n one.event one.observed is))
     (λ is rest input comes. omega (arith, comes_below turns left' second rest input comes, fewer_left turns n two.event two.observed is)) inputs in

@@ -9,13 +9,15 @@ use Rattle.loconet_tcp.specs.declared.request.Request.{Request}
 use Rattle.loconet_tcp.specs.declared.request.Request.TheVariants.{Send, Invalid, Turns, States, Place}
 use Rattle.station_core.specs.Station.{packet_of_turn}
 use Rattle.bus.specs.declared.event.Event.{Event}
-use Rattle.bus.specs.declared.event.Event.TheVariants.{Connects, Receives, Disconnects, Reports, Elapses, Turn}
+use Rattle.bus.specs.declared.event.Event.TheVariants.{Connects, Receives, Disconnects, Reports, Programs, Elapses, Turn}
 use Rattle.bus.specs.declared.outcome.Outcome.{Outcome}
-use Rattle.bus.specs.declared.outcome.Outcome.TheVariants.{Nothing, Connected, Disconnected, Rejected, Reported, Sent, TurnBegan, TurnsRequested, StatesRequested, PlaceRequested, Placed}
+use Rattle.bus.specs.declared.outcome.Outcome.TheVariants.{Nothing, Connected, Disconnected, Rejected, Reported, Sent, Programmed, TurnBegan, TurnsRequested, StatesRequested, PlaceRequested, Placed}
 use Rattle.bus.specs.Bus.{BusState, request_at, client_of, is_event, outcome_of_request, outcome_of}
 use Rattle.bus.specs.Outcome.{text_for}
 use Rattle.railway.specs.Railway.{RailwayState}
+use Rattle.programming_track.specs.declared.programming_track.ProgrammingTrack.{ProgrammingTrack}
 use Rattle.bus_server.specs.Placement.{answered}
+use Rattle.bus_server.specs.Programming.{programmed}
 use Rattle.bus_server.specs.SendQueue.{is_within_capacity, enqueued, queued}
 use Rattle.bus_server.specs.SendQueues.{SendQueues, names_client, enqueued_all, enqueued_from, queues_after}
 use Rattle.bus_server.proofs.Keeping.{room_set}
@@ -37,13 +39,15 @@ placed_by bus (Connects client) legal = legal
 placed_by bus (Disconnects client) legal = legal
 placed_by bus (Receives client byte) legal = asked_placed bus client (request_at (client_of bus client) byte) legal
 placed_by bus (Elapses micros missed) legal = passing_placed (packet_of_turn bus.station) (nat_le bus.remaining micros)
-placed_by bus (Reports sensor occupied) legal = refl
+placed_by bus (Reports message) legal = refl
+placed_by bus (Programs packet) legal = refl
 placed_by bus (Turn missed) legal = refl
 
 -- the answer names the same client
 
 pub names-answered : (names : List (List ℕ)) (railway : Option RailwayState) (outcome : Outcome) → names_client (answered names railway outcome) ≡ names_client outcome
 names-answered names railway Nothing = refl
+names-answered names railway (Programmed packet) = refl
 names-answered names railway (TurnBegan packet) = refl
 names-answered names railway (Disconnected client) = refl
 names-answered names railway (Connected client) = refl
@@ -55,6 +59,22 @@ names-answered names railway (StatesRequested client things) = refl
 names-answered names railway (PlaceRequested client placement) = refl
 names-answered names railway (Placed client answer) = refl
 
+-- and so does the reply of the programmer
+
+pub names-programmed : (programming : Option ProgrammingTrack) (outcome : Outcome) → names_client (programmed programming outcome) ≡ names_client outcome
+names-programmed programming Nothing = refl
+names-programmed programming (Programmed packet) = refl
+names-programmed programming (TurnBegan packet) = refl
+names-programmed programming (Disconnected client) = refl
+names-programmed programming (Connected client) = refl
+names-programmed programming (Rejected client reason) = refl
+names-programmed programming (Sent client message reply) = refl
+names-programmed programming (Reported message) = refl
+names-programmed programming (TurnsRequested client turns) = refl
+names-programmed programming (StatesRequested client things) = refl
+names-programmed programming (PlaceRequested client placement) = refl
+names-programmed programming (Placed client answer) = refl
+
 pub length-enqueued : (place : ℕ) (text : ℕ → List ℕ) (queues : SendQueues) → length (enqueued_from place text queues) ≡ length queues
 length-enqueued place text [] = refl
 length-enqueued place text (send_queue ∷ queues) = ap suc (length-enqueued (place + 1) text queues)
@@ -64,6 +84,7 @@ length-outcome outcome queues = length-enqueued 0 (λ client. text_for client ou
 
 pub length-after : (outcome : Outcome) (queues : SendQueues) → length (queues_after outcome queues) ≡ length queues
 length-after Nothing queues = refl
+length-after (Programmed packet) queues = refl
 length-after (TurnBegan packet) queues = refl
 length-after (Disconnected client) queues = length-set queues client None
 length-after (Connected client) queues = length-outcome (Connected client) (slice_set queues client (Some [])) ∙ length-set queues client (Some [])
@@ -95,6 +116,7 @@ within_capacity-outcome outcome queues = within_capacity-all 0 (λ client. text_
 
 pub within_capacity-after : (outcome : Outcome) (queues : SendQueues) → list_all is_within_capacity queues ≡ true → list_all is_within_capacity (queues_after outcome queues) ≡ true
 within_capacity-after Nothing queues within_capacity = within_capacity
+within_capacity-after (Programmed packet) queues within_capacity = within_capacity
 within_capacity-after (TurnBegan packet) queues within_capacity = within_capacity
 within_capacity-after (Disconnected client) queues within_capacity = room_set queues client None within_capacity refl
 within_capacity-after (Connected client) queues within_capacity = within_capacity-outcome (Connected client) (slice_set queues client (Some []))

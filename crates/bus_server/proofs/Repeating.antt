@@ -2,12 +2,14 @@
 use Rattle.std.proofs.Common.{◌≡◌, ℕ, Bool, true, false, if◌then◌else◌, nat_le, List, [], ◌∷◌, ◌++◌, length, Option, refl, ap, ap₂, sym, subst, ◌∙◌}
 use Rattle.std.specs.Prelude.{MatchBool}
 use Rattle.std.specs.List.{flat_map}
-use Rattle.ln_ops.specs.declared.sensor.SensorReport.{SensorReport}
 use Rattle.layout_core.specs.declared.node.Node.{Node}
 use Rattle.layout_core.specs.World.{HaveHeard}
 use Rattle.railway.specs.Railway.{RailwayState}
+use Rattle.programming_track.specs.declared.programming_track.ProgrammingTrack.{ProgrammingTrack}
+use Rattle.bus_server.specs.declared.device_report.DeviceReport.{DeviceReport}
+use Rattle.bus_server.specs.DeviceReports.{IsNext, event_of}
 use Rattle.bus.specs.declared.event.Event.{Event}
-use Rattle.bus.specs.declared.event.Event.TheVariants.{Connects, Disconnects, Elapses, Receives, Reports, Turn}
+use Rattle.bus.specs.declared.event.Event.TheVariants.{Connects, Disconnects, Elapses, Receives, Reports, Programs, Turn}
 use Rattle.bus.specs.Bus.{BusState, after_event, outcome_of}
 use Rattle.bus.specs.Layout.{layout_event}
 use Rattle.bus_server.specs.declared.losses.Losses.{Losses}
@@ -15,9 +17,10 @@ use Rattle.bus_server.specs.Losses.{IsDraw}
 use Rattle.bus_server.specs.ServerState.{Applies, AppliesAll, Handled, IsDrawn, LoggedEvent, RunsEvent, RunsEvents, ServerState, events_of, observations_of, round_start, with_backlog}
 use Rattle.bus_server.specs.Observations.{Observation, Observed}
 use Rattle.bus_server.specs.Placement.{answered}
+use Rattle.bus_server.specs.Programming.{programmed}
 use Rattle.bus_server.specs.Repeats.{IsAlike, inputs_of, unmissed}
 use Rattle.bus_server.specs.Running.{Round, RunsRounds, logged_in}
-use Rattle.bus_server.specs.Sensors.{IsDue, is_report, railway_after, reports_after, running_in}
+use Rattle.bus_server.specs.Sensors.{IsDue, is_report, programming_after, railway_after, reports_after, running_in}
 use Rattle.bus_server.specs.TransportEvents.{Accepted, NonePending, PeerClosed, Polled, ReadBlocked, Received, Refused, ServerClosed, TransportEvent, WriteBlocked, Written}
 use Rattle.bus_server.proofs.Hearing.{drawn_same, heard_same, missed_same}
 use Rattle.bus_server.proofs.Rounding.{round_serves}
@@ -29,11 +32,12 @@ pub record Core : Type 0 where
   pub nodes : List Node
   pub names : List (List ℕ)
   pub railway : Option RailwayState
-  pub unreported : List SensorReport
+  pub programming : Option ProgrammingTrack
+  pub unreported : List DeviceReport
   pub losses : Losses
 
 abbrev pub core : ServerState → Core
-core state = record { bus = state.bus; nodes = state.nodes; names = state.names; railway = state.railway; unreported = state.unreported; losses = state.losses }
+core state = record { bus = state.bus; nodes = state.nodes; names = state.names; railway = state.railway; programming = state.programming; unreported = state.unreported; losses = state.losses }
 
 -- the effect of an event on it
 pub record HasEffect (event : Event) (observed : Observation) (old new : Core) : Type 0 where
@@ -41,12 +45,13 @@ pub record HasEffect (event : Event) (observed : Observation) (old new : Core) :
   pub nodes : HaveHeard old.bus.station (layout_event old.bus event) old.nodes new.nodes
   pub names : new.names ≡ old.names
   pub railway : new.railway ≡ railway_after old.names old.bus (running_in event old.nodes new.nodes) event old.railway
-  pub unreported : IsDue event (reports_after old.names old.bus (running_in event old.nodes new.nodes) event old.railway) old.unreported new.unreported
+  pub programming : new.programming ≡ programming_after old.bus event old.programming
+  pub unreported : IsDue event (reports_after old.names old.bus (running_in event old.nodes new.nodes) event old.railway old.programming) old.unreported new.unreported
   pub losses : IsDrawn event old.bus (length old.nodes) old.losses new.losses
-  pub saw : observed ≡ Observed (answered old.names old.railway (outcome_of old.bus event)) new.nodes new.railway
+  pub saw : observed ≡ Observed (programmed old.programming (answered old.names old.railway (outcome_of old.bus event))) new.nodes new.railway
 
 effect : (event : Event) (observed : Observation) (old new : ServerState) → RunsEvent event observed old new → HasEffect event observed (core old) (core new)
-effect event observed old new h = record { bus = h.bus; nodes = h.nodes; names = h.names; railway = h.railway; unreported = h.unreported; losses = h.losses; saw = h.saw }
+effect event observed old new h = record { bus = h.bus; nodes = h.nodes; names = h.names; railway = h.railway; programming = h.programming; unreported = h.unreported; losses = h.losses; saw = h.saw }
 
 -- one after another
 abbrev pub Course : List LoggedEvent → Core → Core → Type 0
@@ -113,7 +118,8 @@ missed_again : (event : Event) → with_missed (unmissed event) (missed_of event
 missed_again (Connects client) = refl
 missed_again (Receives client byte) = refl
 missed_again (Disconnects client) = refl
-missed_again (Reports sensor occupied) = refl
+missed_again (Reports message) = refl
+missed_again (Programs packet) = refl
 missed_again (Elapses micros missed) = refl
 missed_again (Turn missed) = refl
 
@@ -134,7 +140,8 @@ has_missed : (event : Event) → HasMissed (unmissed event) (missed_of event)
 has_missed (Connects client) = refl
 has_missed (Receives client byte) = refl
 has_missed (Disconnects client) = refl
-has_missed (Reports sensor occupied) = refl
+has_missed (Reports message) = refl
+has_missed (Programs packet) = refl
 has_missed (Elapses micros missed) = tt
 has_missed (Turn missed) = tt
 
@@ -150,7 +157,8 @@ draws_same : (event : Event) (bus : BusState) (nodes m n : ℕ) (old a b : Losse
 draws_same (Connects client) bus nodes m n old a b is are h k = (is ∙ sym are, h ∙ sym k)
 draws_same (Receives client byte) bus nodes m n old a b is are h k = (is ∙ sym are, h ∙ sym k)
 draws_same (Disconnects client) bus nodes m n old a b is are h k = (is ∙ sym are, h ∙ sym k)
-draws_same (Reports sensor occupied) bus nodes m n old a b is are h k = (is ∙ sym are, h ∙ sym k)
+draws_same (Reports message) bus nodes m n old a b is are h k = (is ∙ sym are, h ∙ sym k)
+draws_same (Programs packet) bus nodes m n old a b is are h k = (is ∙ sym are, h ∙ sym k)
 draws_same (Elapses micros none) bus nodes m n old a b is are h k = begun_same (nat_le bus.remaining micros) nodes m n old a b h k
 draws_same (Turn none) bus nodes m n old a b is are h k = (missed_same nodes m n old a b h k, drawn_same nodes m n old a b h k)
 
@@ -180,29 +188,32 @@ no_cons x xs h = cc
 abbrev EndsSame : (seen those : Observation) → (a b : Core) → Type 0
 EndsSame seen those a b = (seen ≡ those) × (a ≡ b)
 
-same_unreported : (event : Event) (made old a b : List SensorReport) → IsDue event made old a → IsDue event made old b → a ≡ b
+same_unreported : (event : Event) (made old a b : List DeviceReport) → IsDue event made old a → IsDue event made old b → a ≡ b
 same_unreported (Connects client) made old a b h k = h.1 ∙ sym k.1
 same_unreported (Receives client byte) made old a b h k = h.1 ∙ sym k.1
 same_unreported (Disconnects client) made old a b h k = h.1 ∙ sym k.1
 same_unreported (Elapses micros missed) made old a b h k = h.1 ∙ sym k.1
 same_unreported (Turn missed) made old a b h k = h.1 ∙ sym k.1
-same_unreported (Reports sensor occupied) made old a b h k = tail_same _ _ a b (sym h ∙ k)
+same_unreported (Reports message) made old a b h k = tail_same h.0 k.0 a b (sym h.1 ∙ k.1)
+same_unreported (Programs packet) made old a b h k = tail_same h.0 k.0 a b (sym h.1 ∙ k.1)
 
 effect_same : (event : Event) (seen those : Observation) (old a b : Core) → HasEffect event seen old a → HasEffect event those old b → a.losses ≡ b.losses → EndsSame seen those a b
 effect_same event seen those old a b h k losses =
     let nodes = heard_same old.bus.station (layout_event old.bus event) old.nodes a.nodes b.nodes h.nodes k.nodes in
     let during : List Node → List Node = running_in event old.nodes in
     let railway : a.railway ≡ b.railway = h.railway ∙ ap (λ (n : List Node). railway_after old.names old.bus (during n) event old.railway) nodes ∙ sym k.railway in
-    let made : List Node → List SensorReport = λ n. reports_after old.names old.bus (during n) event old.railway in
+    let programming : a.programming ≡ b.programming = h.programming ∙ sym k.programming in
+    let made : List Node → List DeviceReport = λ n. reports_after old.names old.bus (during n) event old.railway old.programming in
     let unreported = same_unreported event (made b.nodes) old.unreported a.unreported b.unreported (subst (λ (n : List Node). IsDue event (made n) old.unreported a.unreported) nodes h.unreported) k.unreported in
-    let first : a ≡ record b { losses = a.losses; unreported = a.unreported; railway = a.railway; nodes = a.nodes } =
+    let first : a ≡ record b { losses = a.losses; unreported = a.unreported; programming = a.programming; railway = a.railway; nodes = a.nodes } =
     ap₂ (λ (bus : BusState) (names : List (List ℕ)). record a { bus = bus; names = names }) (h.bus ∙ sym k.bus) (h.names ∙ sym k.names) in
-    let second : record b { losses = a.losses; unreported = a.unreported; railway = a.railway; nodes = a.nodes } ≡ record b { losses = a.losses; unreported = a.unreported } =
-    ap₂ (λ (nodes : List Node) (railway : Option RailwayState). record b { losses = a.losses; unreported = a.unreported; railway = railway; nodes = nodes }) nodes railway in
-    let third : record b { losses = a.losses; unreported = a.unreported } ≡ b =
-    ap₂ (λ (losses : Losses) (unreported : List SensorReport). record b { losses = losses; unreported = unreported }) losses unreported in (
-      h.saw ∙ ap₂ (λ (nodes : List Node) (railway : Option RailwayState). Observed (answered old.names old.railway (outcome_of old.bus event)) nodes railway) nodes railway ∙ sym k.saw,
-      first ∙ second ∙ third,
+    let second : record b { losses = a.losses; unreported = a.unreported; programming = a.programming; railway = a.railway; nodes = a.nodes } ≡ record b { losses = a.losses; unreported = a.unreported; programming = a.programming } =
+    ap₂ (λ (nodes : List Node) (railway : Option RailwayState). record b { losses = a.losses; unreported = a.unreported; programming = a.programming; railway = railway; nodes = nodes }) nodes railway in
+    let third : record b { losses = a.losses; unreported = a.unreported; programming = a.programming } ≡ record b { programming = a.programming } =
+    ap₂ (λ (losses : Losses) (unreported : List DeviceReport). record b { losses = losses; unreported = unreported; programming = a.programming }) losses unreported in
+    let fourth : record b { programming = a.programming } ≡ b = ap (λ (programming : Option ProgrammingTrack). record b { programming = programming }) programming in (
+      h.saw ∙ ap₂ (λ (nodes : List Node) (railway : Option RailwayState). Observed (programmed old.programming (answered old.names old.railway (outcome_of old.bus event))) nodes railway) nodes railway ∙ sym k.saw,
+      first ∙ second ∙ third ∙ fourth,
     )
 
 -- the same input has the same effect
@@ -216,41 +227,40 @@ input_same event other seen those old a b input h k =
     let same : event ≡ other = sym (missed_again event) ∙ ap₂ with_missed input draws.0 ∙ missed_again other in
     effect_same event seen those old a b h (subst (λ (e : Event). HasEffect e those old b) (sym same) k) draws.1
 
--- Sensors report what is due, and nothing else comes before.
+-- Devices report what is due, and nothing else comes before.
 
-pub none_due : (event : Event) (made old new : List SensorReport) → is_report event ≡ false → IsDue event made old new → old ≡ []
+pub none_due : (event : Event) (made old new : List DeviceReport) → is_report event ≡ false → IsDue event made old new → old ≡ []
 none_due (Connects client) made old new is h = h.0
 none_due (Receives client byte) made old new is h = h.0
 none_due (Disconnects client) made old new is h = h.0
 none_due (Elapses micros missed) made old new is h = h.0
 none_due (Turn missed) made old new is h = h.0
-none_due (Reports sensor occupied) made old new is h = cc
+none_due (Reports message) made old new is h = cc
+none_due (Programs packet) made old new is h = cc
 
-pub no_report : (event : Event) (made old new : List SensorReport) → old ≡ [] → IsDue event made old new → is_report event ≡ false
+pub no_report : (event : Event) (made old new : List DeviceReport) → old ≡ [] → IsDue event made old new → is_report event ≡ false
 no_report (Connects client) made old new none h = refl
 no_report (Receives client byte) made old new none h = refl
 no_report (Disconnects client) made old new none h = refl
 no_report (Elapses micros missed) made old new none h = refl
 no_report (Turn missed) made old new none h = refl
-no_report (Reports sensor occupied) made old new none h = no_cons (record { sensor = sensor; occupied = occupied }) new (sym none ∙ h)
+no_report (Reports message) made old new none h = no_cons h.0 new (sym none ∙ h.1)
+no_report (Programs packet) made old new none h = no_cons h.0 new (sym none ∙ h.1)
 
-report_of_due : SensorReport → Event
-report_of_due report = Reports report.sensor report.occupied
+next_of : (event : Event) (made old new : List DeviceReport) → is_report event ≡ true → IsDue event made old new → IsNext event old new
+next_of (Reports message) made old new is h = h
+next_of (Programs packet) made old new is h = h
+next_of (Connects client) made old new is h = cc
+next_of (Receives client byte) made old new is h = cc
+next_of (Disconnects client) made old new is h = cc
+next_of (Elapses micros missed) made old new is h = cc
+next_of (Turn missed) made old new is h = cc
 
-pub report_same : (event other : Event) (made those old a b : List SensorReport) → is_report event ≡ true → is_report other ≡ true → IsDue event made old a → IsDue other those old b → event ≡ other
-unfolding report_of_due
-report_same (Reports sensor occupied) (Reports reporting level) made those old a b is are h k =
-    ap report_of_due (head_same (record { sensor = sensor; occupied = occupied }) (record { sensor = reporting; occupied = level }) a b (sym h ∙ k))
-report_same (Reports sensor occupied) (Connects client) made those old a b is are h k = cc
-report_same (Reports sensor occupied) (Receives client byte) made those old a b is are h k = cc
-report_same (Reports sensor occupied) (Disconnects client) made those old a b is are h k = cc
-report_same (Reports sensor occupied) (Elapses micros missed) made those old a b is are h k = cc
-report_same (Reports sensor occupied) (Turn missed) made those old a b is are h k = cc
-report_same (Connects client) other made those old a b is are h k = cc
-report_same (Receives client byte) other made those old a b is are h k = cc
-report_same (Disconnects client) other made those old a b is are h k = cc
-report_same (Elapses micros missed) other made those old a b is are h k = cc
-report_same (Turn missed) other made those old a b is are h k = cc
+next_same : (event other : Event) (old a b : List DeviceReport) → IsNext event old a → IsNext other old b → event ≡ other
+next_same event other old a b h k = sym h.3 ∙ ap event_of (head_same h.0 k.0 a b (sym h.1 ∙ k.1)) ∙ k.3
+
+pub report_same : (event other : Event) (made those old a b : List DeviceReport) → is_report event ≡ true → is_report other ≡ true → IsDue event made old a → IsDue other those old b → event ≡ other
+report_same event other made those old a b is are h k = next_same event other old a b (next_of event made old a is h) (next_of other those old b are k)
 
 no_both : {P : Type 0} (a : Bool) → a ≡ true → a ≡ false → P
 no_both true h k = cc
@@ -260,7 +270,7 @@ no_both false h k = cc
 abbrev FirstSame : (event other : Event) (more others : List Event) → Type 0
 FirstSame event other more others = (unmissed event ≡ unmissed other) × (more ≡ others)
 
-first_same : (reports also : Bool) (event other : Event) (more others : List Event) (made those old a b : List SensorReport) → is_report event ≡ reports → is_report other ≡ also → IsDue event made old a → IsDue other those old b
+first_same : (reports also : Bool) (event other : Event) (more others : List Event) (made those old a b : List DeviceReport) → is_report event ≡ reports → is_report other ≡ also → IsDue event made old a → IsDue other those old b
     → (if reports then [] else unmissed event ∷ []) ++ more ≡ (if also then [] else unmissed other ∷ []) ++ others → FirstSame event other more others
 first_same true true event other more others made those old a b is are h k inputs = (ap unmissed (report_same event other made those old a b is are h k), inputs)
 first_same false false event other more others made those old a b is are h k inputs = (head_same (unmissed event) (unmissed other) more others inputs, tail_same (unmissed event) (unmissed other) more others inputs)
@@ -276,7 +286,7 @@ one_left : {P : Type 0} (one : LoggedEvent) (applied : List LoggedEvent) (start 
 one_left one applied start a h none inputs =
     let effects = h.1 in
     absurd (none_left (is_report one.event) one.event (inputs_of (events_of applied))
-    (no_report one.event (reports_after start.names start.bus (running_in one.event start.nodes h.0.nodes) one.event start.railway) start.unreported h.0.unreported none effects.unreported) inputs)
+    (no_report one.event (reports_after start.names start.bus (running_in one.event start.nodes h.0.nodes) one.event start.railway start.programming) start.unreported h.0.unreported none effects.unreported) inputs)
 
 course_same : (first second : List LoggedEvent) (start a b : Core) → Course first start a → Course second start b → a.unreported ≡ [] → b.unreported ≡ [] → inputs_of (events_of first) ≡ inputs_of (events_of second)
     → (a ≡ b) × (observations_of first ≡ observations_of second)
@@ -285,7 +295,7 @@ course_same [] (two ∷ second) start a b h k ends too inputs = one_left two sec
 course_same (one ∷ first) [] start a b h k ends too inputs = one_left one first start a h (ap (λ (c : Core). c.unreported) (sym k) ∙ too) (sym inputs)
 course_same (one ∷ first) (two ∷ second) start a b h k ends too inputs =
     let heads = first_same (is_report one.event) (is_report two.event) one.event two.event (inputs_of (events_of first)) (inputs_of (events_of second))
-    (reports_after start.names start.bus (running_in one.event start.nodes h.0.nodes) one.event start.railway) (reports_after start.names start.bus (running_in two.event start.nodes k.0.nodes) two.event start.railway) start.unreported h.0.unreported k.0.unreported
+    (reports_after start.names start.bus (running_in one.event start.nodes h.0.nodes) one.event start.railway start.programming) (reports_after start.names start.bus (running_in two.event start.nodes k.0.nodes) two.event start.railway start.programming) start.unreported h.0.unreported k.0.unreported
     refl refl h.1.unreported k.1.unreported inputs in
     let same = input_same one.event two.event one.observed two.observed start h.0 k.0 heads.0 h.1 k.1 in
     let rest = course_same first second h.0 a b h.2 (subst (λ (c : Core). Course second c b) (sym same.1) k.2) ends too heads.1 in
@@ -297,7 +307,8 @@ pub alike_core : (old old' : ServerState) → IsAlike old old' → core old' ≡
 alike_core old old' h =
     ap₂ (λ (bus : BusState) (nodes : List Node). record (core old') { bus = bus; nodes = nodes }) h.bus h.nodes
     ∙ ap₂ (λ (names : List (List ℕ)) (railway : Option RailwayState). record (core old') { bus = old.bus; nodes = old.nodes; names = names; railway = railway }) h.names h.railway
-    ∙ ap₂ (λ (unreported : List SensorReport) (losses : Losses). record (core old) { unreported = unreported; losses = losses }) h.unreported h.losses
+    ∙ ap₂ (λ (programming : Option ProgrammingTrack) (unreported : List DeviceReport). record (core old) { programming = programming; unreported = unreported; losses = old'.losses }) h.programming h.unreported
+    ∙ ap (λ (losses : Losses). record (core old) { losses = losses }) h.losses
 
 core_alike : (new new' : ServerState) → core new ≡ core new' → IsAlike new new'
 core_alike new new' same = record {
@@ -305,6 +316,7 @@ core_alike new new' same = record {
   nodes = ap (λ (c : Core). c.nodes) (sym same);
   names = ap (λ (c : Core). c.names) (sym same);
   railway = ap (λ (c : Core). c.railway) (sym same);
+  programming = ap (λ (c : Core). c.programming) (sym same);
   unreported = ap (λ (c : Core). c.unreported) (sym same);
   losses = ap (λ (c : Core). c.losses) (sym same);
 }

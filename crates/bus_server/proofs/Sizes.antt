@@ -1,9 +1,9 @@
--- How long the text of a request is, and how many reports are due at once.
-use Rattle.std.proofs.Common.{◌≡◌, ℕ, ◌+◌, ◌*◌, ◌≤◌, Bool, true, false, if◌then◌else◌, List, [], ◌∷◌, ◌++◌, length, Option, Some, None, refl, subst, sym, arith}
+-- How long the text of a request is, and of what is due at once.
+use Rattle.std.proofs.Common.{◌≡◌, ℕ, ◌+◌, ◌*◌, ◌≤◌, Bool, true, false, if◌then◌else◌, List, [], ◌∷◌, ◌++◌, length, Option, Some, None, refl, ap, subst, sym, arith}
 use Rattle.std.specs.Prelude.{◌==◌, Err, IfSome, Ok, Result, nat_lt}
 use Rattle.std.specs.List.{after_first}
 use Rattle.std.specs.Option.{option_map}
-use Rattle.std.proofs.lemmas.Bool.{and_parts}
+use Rattle.std.proofs.lemmas.Bool.{and_parts, leb-true}
 use Rattle.std.proofs.lemmas.Bool.Decides.{nat_tests}
 use Rattle.std.proofs.lemmas.List.{length-append}
 use Rattle.text.specs.Words.{is_blank, words_of}
@@ -39,12 +39,26 @@ use Rattle.loconet_tcp.specs.declared.request.Request.{Request}
 use Rattle.loconet_tcp.specs.declared.request.Things.{Things}
 use Rattle.loconet_tcp.specs.declared.request.Request.TheVariants.{Invalid, States, Place, Send, Turns}
 use Rattle.bus.specs.declared.event.Event.{Event}
-use Rattle.bus.specs.declared.event.Event.TheVariants.{Connects, Disconnects, Elapses, Receives, Reports, Turn}
-use Rattle.bus.specs.Bus.{BusState, client_of, granted, outcome_of_request, reply_to, request_at}
+use Rattle.bus.specs.declared.event.Event.TheVariants.{Connects, Disconnects, Elapses, Receives, Reports, Programs, Turn}
+use Rattle.bus.specs.Bus.{BusState, client_of, granted, is_event, outcome_of_request, reply_to, request_at}
 use Rattle.bus_server.specs.Observations.{Observation}
 use Rattle.bus_server.specs.ServerState.{RunsEvent, ServerState}
+use Rattle.programmer.specs.declared.reply.TaskReply.{TaskReply}
+use Rattle.programmer.specs.declared.reply.TaskReply.TheVariants.{Accepted as TaskAccepted, Busy, NotImplemented, Data}
+use Rattle.programmer.specs.declared.task_result.TaskResult.{TaskResult}
+use Rattle.programmer.specs.Machine.{reply_of}
+use Rattle.programmer.specs.Replies.{reply_bytes as task_reply_bytes}
+use Rattle.programmer.specs.Requests.{request_in, result_bytes}
+use Rattle.programming_track.specs.declared.packet_end.PacketEnd.{PacketEnd}
+use Rattle.programming_track.specs.declared.programming_track.ProgrammingTrack.{ProgrammingTrack}
+use Rattle.programming_track.specs.Time.{ends_within}
+use Rattle.bus.specs.Below.{TurnsAreBounded}
+use Rattle.bus_server.specs.declared.device_report.DeviceReport.{DeviceReport}
+use Rattle.bus_server.specs.declared.device_report.DeviceReport.TheVariants.{Sensor, Packet, Ended}
+use Rattle.bus_server.specs.DeviceReports.{of_ends, of_result, of_sensors, event_of}
 use Rattle.bus_server.specs.Placement.{answered, place_answer, places}
-use Rattle.bus_server.specs.Sensors.{full_report, is_report, next_turn, railway_after, railway_elapsed, railway_placed, reports_after, reports_due, reports_elapsed, running_in, power_of}
+use Rattle.bus_server.specs.Programming.{ends_elapsed, programmed, reply_by, reply_or}
+use Rattle.bus_server.specs.Sensors.{reports_of_time, full_report, is_report, next_turn, railway_after, railway_elapsed, railway_placed, reports_after, reports_due, reports_elapsed, running_in, power_of}
 
 -- What is sent is a whole message, of at most 127 bytes.
 
@@ -117,6 +131,25 @@ reply_most (Some (LongAck opc ack)) =
     let size : length (reply_bytes (LongAck opc ack)) ≡ 4 = refl in
     omega (arith, size, length-words (reply_bytes (LongAck opc ack)), length-append (hex_words (reply_bytes (LongAck opc ack))) line_end)
 
+own_most : (own : Option TaskReply) (reply : Option Reply) → length (reply_text (reply_or own (option_map reply_bytes reply))) ≤ 390
+own_most None reply = reply_most reply
+own_most (Some TaskAccepted) reply =
+    let size : length (task_reply_bytes TaskAccepted) ≡ 4 = refl in
+    omega (arith, size, length-words (task_reply_bytes TaskAccepted), length-append (hex_words (task_reply_bytes TaskAccepted)) line_end)
+own_most (Some Busy) reply =
+    let size : length (task_reply_bytes Busy) ≡ 4 = refl in
+    omega (arith, size, length-words (task_reply_bytes Busy), length-append (hex_words (task_reply_bytes Busy)) line_end)
+own_most (Some NotImplemented) reply =
+    let size : length (task_reply_bytes NotImplemented) ≡ 4 = refl in
+    omega (arith, size, length-words (task_reply_bytes NotImplemented), length-append (hex_words (task_reply_bytes NotImplemented)) line_end)
+own_most (Some (Data ended)) reply =
+    let size : length (result_bytes ended) ≡ 14 = refl in
+    omega (arith, size, length-words (result_bytes ended), length-append (hex_words (result_bytes ended)) line_end)
+
+reply_by_most : (programming : Option ProgrammingTrack) (message : List ℕ) (reply : Option Reply) → length (reply_text (reply_by programming message (option_map reply_bytes reply))) ≤ 390
+reply_by_most None message reply = reply_most reply
+reply_by_most (Some track) message reply = own_most (reply_of track.programmer (request_in message)) reply
+
 ok_most : (sender : Bool) → length (if sender then sent_ok_text else []) ≤ 9
 ok_most true = omega arith
 ok_most false = omega arith
@@ -150,7 +183,7 @@ three_most a b c h k l = omega (arith, h, k, l, length-append (a ++ b) c, length
 
 -- the outcome of a request, with the answer where it puts a train on the track
 abbrev pub answered_request : ServerState → (client : ℕ) → Option Request → Outcome
-answered_request state client request = answered state.names state.railway (outcome_of_request state.bus client request)
+answered_request state client request = programmed state.programming (answered state.names state.railway (outcome_of_request state.bus client request))
 
 pub request_most : (state : ServerState) (client i : ℕ) (request : Option Request) → IsSound request → length (text_for i (answered_request state client request)) ≤ 789
 request_most state client i None h = omega arith
@@ -159,14 +192,55 @@ request_most state client i (Some (Turns count)) h = turns_most (client == i) (g
 request_most state client i (Some (States things)) h = omega arith
 request_most state client i (Some (Place placement)) h = place_most (client == i) (place_answer state.names state.railway placement)
 request_most state client i (Some (Send message)) h =
-    three_most (receive_text message) (if client == i then sent_ok_text else []) (reply_text (reply_to state.bus (Some (Send message)))) (receive_most message h) (ok_most (client == i)) (reply_most _)
+    three_most (receive_text message) (if client == i then sent_ok_text else []) (reply_text (reply_by state.programming message (reply_to state.bus (Some (Send message))))) (receive_most message h) (ok_most (client == i)) (reply_by_most state.programming message _)
 
--- A report is a line of 21 bytes, and at most 128 are due at once.
+-- A report of a sensor is a line of 21 bytes, a result one of 51, and a packet none: the bytes that what
+-- is due adds to the text of a client.
 
-pub report_size : (sensor : ℕ) (occupied : Bool) → length (receive_text (report_bytes sensor occupied)) ≡ 21
+abbrev pub text_size : DeviceReport → ℕ
+text_size (Sensor report) = 21
+text_size (Packet packet) = 0
+text_size (Ended ended) = 51
+
+abbrev pub owed : List DeviceReport → ℕ
+owed [] = 0
+owed (report ∷ items) = text_size report + owed items
+
+report_size : (sensor : ℕ) (occupied : Bool) → length (receive_text (report_bytes sensor occupied)) ≤ 21
 report_size sensor occupied =
     let size : length (report_bytes sensor occupied) ≡ 4 = refl in
     omega (arith, size, length-words (report_bytes sensor occupied), length-append (hex_words (report_bytes sensor occupied)) line_end)
+
+result_size : (ended : TaskResult) → length (receive_text (result_bytes ended)) ≤ 51
+result_size ended =
+    let size : length (result_bytes ended) ≡ 14 = refl in
+    omega (arith, size, length-words (result_bytes ended), length-append (hex_words (result_bytes ended)) line_end)
+
+message_in : Event → List ℕ
+message_in (Reports message) = message
+message_in other = []
+
+pub message_size : (report : DeviceReport) (message : List ℕ) → event_of report ≡ Reports message → length (receive_text message) ≤ text_size report
+unfolding message_in
+message_size (Sensor report) message is = subst (λ (m : List ℕ). length (receive_text m) ≤ 21) (ap message_in is) (report_size report.sensor report.occupied)
+message_size (Packet packet) message is = cc
+message_size (Ended ended) message is = subst (λ (m : List ℕ). length (receive_text m) ≤ 51) (ap message_in is) (result_size ended)
+
+owed-append : (first second : List DeviceReport) → owed (first ++ second) ≡ owed first + owed second
+owed-append [] second = omega arith
+owed-append (report ∷ first) second = omega (arith, owed-append first second)
+
+owed_sensors : (reports : List SensorReport) → owed (of_sensors reports) ≡ 21 * length reports
+owed_sensors [] = refl
+owed_sensors (report ∷ reports) = omega (arith, owed_sensors reports)
+
+owed_result : (ended : Option TaskResult) → owed (of_result ended) ≤ 51
+owed_result None = omega arith
+owed_result (Some ended) = omega arith
+
+owed_ends : (ends : List PacketEnd) → owed (of_ends ends) ≤ 51 * length ends
+owed_ends [] = omega arith
+owed_ends (one ∷ ends) = omega (arith, owed-append (of_result one.result) (of_ends ends), owed_result one.result, owed_ends ends)
 
 onto_most : (report : Option SensorReport) (reports : List SensorReport) → length (onto report reports) ≤ length reports + 1
 onto_most None reports = omega arith
@@ -198,17 +272,22 @@ full_most : (railway : Option RailwayState) → HasFewBlocks railway → length 
 full_most None few = omega arith
 full_most (Some railway) few = omega (arith, few, full_from_most railway.trains 0 railway.network.blocks)
 
-asked_most : (asks : Bool) (railway : Option RailwayState) → HasFewBlocks railway → length (if asks then full_report railway else []) ≤ 128
-asked_most true railway few = full_most railway few
+sensors_most : (reports : List SensorReport) → length reports ≤ 128 → owed (of_sensors reports) ≤ 2790
+sensors_most reports few = omega (arith, few, owed_sensors reports)
+
+asked_most : (asks : Bool) (railway : Option RailwayState) → HasFewBlocks railway → owed (if asks then of_sensors (full_report railway) else []) ≤ 2790
+asked_most true railway few = sensors_most (full_report railway) (full_most railway few)
 asked_most false railway few = omega arith
 
-placed_most : (names : List (List ℕ)) (client : ℕ) (placement : Result Placement PlaceError) (railway : Option RailwayState) → HasFewBlocks railway → length (reports_due names (PlaceRequested client placement) railway []) ≤ 128
+placed_most : (names : List (List ℕ)) (client : ℕ) (placement : Result Placement PlaceError) (railway : Option RailwayState) → HasFewBlocks railway → owed (reports_due names (PlaceRequested client placement) railway []) ≤ 2790
 placed_most names client (Err error) None few = omega arith
 placed_most names client (Err error) (Some railway) few = omega arith
 placed_most names client (Ok placement) None few = omega arith
-placed_most names client (Ok placement) (Some railway) few = changes_most railway.network.blocks railway.trains (after railway (places names railway placement)).trains few
+placed_most names client (Ok placement) (Some railway) few =
+    let trains : List TrainState = (after railway (places names railway placement)).trains in
+    sensors_most (changes railway.network.blocks railway.trains trains) (changes_most railway.network.blocks railway.trains trains few)
 
-requested_most : (names : List (List ℕ)) (bus : BusState) (client : ℕ) (request : Option Request) (railway : Option RailwayState) → HasFewBlocks railway → length (reports_due names (outcome_of_request bus client request) railway []) ≤ 128
+requested_most : (names : List (List ℕ)) (bus : BusState) (client : ℕ) (request : Option Request) (railway : Option RailwayState) → HasFewBlocks railway → owed (reports_due names (outcome_of_request bus client request) railway []) ≤ 2790
 requested_most names bus client None railway few = omega arith
 requested_most names bus client (Some (Invalid reason)) railway few = omega arith
 requested_most names bus client (Some (Send message)) railway few = asked_most (begins_interrogation message) railway few
@@ -216,26 +295,46 @@ requested_most names bus client (Some (Turns count)) railway few = omega arith
 requested_most names bus client (Some (States things)) railway few = omega arith
 requested_most names bus client (Some (Place placement)) railway few = placed_most names client placement railway few
 
-made_most : (names : List (List ℕ)) (bus : BusState) (nodes : List Node) (event : Event) (railway : Option RailwayState) → HasFewBlocks railway → length (reports_after names bus nodes event railway) ≤ 128
-made_most names bus nodes (Connects client) railway few = omega arith
-made_most names bus nodes (Receives client byte) railway few = requested_most names bus client (request_at (client_of bus client) byte) railway few
-made_most names bus nodes (Disconnects client) railway few = omega arith
-made_most names bus nodes (Reports sensor occupied) railway few = omega arith
-made_most names bus nodes (Elapses micros missed) railway few = elapsed_most railway micros (power_of bus) nodes few
-made_most names bus nodes (Turn missed) railway few = elapsed_most railway (next_turn bus) (power_of bus) nodes few
+-- what a railway promises, that its blocks stay whatever happens; a station, how long its turns are; and
+-- a programming track, that few packets end in a time
+pub record Limits : Type 0 where
+  pub blocks : (railway : RailwayState) (happening : Happening) → (after railway happening).network.blocks ≡ railway.network.blocks
+  pub turns : TurnsAreBounded
+  pub ends : (micros : ℕ) (track : ProgrammingTrack) → 5820 * length (ends_within micros track) ≤ micros + 5820
 
--- what a railway promises: whatever happens, its blocks stay
-abbrev pub SameBlocks : Type 0
-SameBlocks = (railway : RailwayState) (happening : Happening) → (after railway happening).network.blocks ≡ railway.network.blocks
+ends_most : Limits → (programming : Option ProgrammingTrack) (micros : ℕ) → micros ≤ 10740 → length (ends_elapsed programming micros) ≤ 2
+ends_most laws None micros short = omega arith
+ends_most laws (Some track) micros short = omega (arith, laws.ends micros track, short)
 
-few_after : SameBlocks → (railway : RailwayState) (happening : Happening) → length railway.network.blocks ≤ 64 → length (after railway happening).network.blocks ≤ 64
-few_after same railway happening few = subst (λ (blocks : List Block). length blocks ≤ 64) (sym (same railway happening)) few
+time_most : Limits → (railway : Option RailwayState) (programming : Option ProgrammingTrack) (micros : ℕ) (power : Power) (nodes : List Node) → HasFewBlocks railway → micros ≤ 10740
+    → owed (reports_of_time railway programming micros power nodes) ≤ 2790
+time_most laws railway programming micros power nodes few short =
+    let reports : List SensorReport = reports_elapsed railway micros power nodes in
+    let ends : List PacketEnd = ends_elapsed programming micros in
+    omega (arith, owed-append (of_sensors reports) (of_ends ends), owed_sensors reports, owed_ends ends, elapsed_most railway micros power nodes few, ends_most laws programming micros short)
 
-few_elapsed : SameBlocks → (railway : Option RailwayState) (micros : ℕ) (power : Power) (nodes : List Node) → HasFewBlocks railway → HasFewBlocks (railway_elapsed railway micros power nodes)
+next_most : Limits → (bus : BusState) → next_turn bus ≤ 10740
+next_most laws bus = let longest = laws.turns.longest bus.station in omega (arith, longest)
+
+made_most : Limits → (names : List (List ℕ)) (bus : BusState) (nodes : List Node) (event : Event) (railway : Option RailwayState) (programming : Option ProgrammingTrack) → is_event event ≡ true → HasFewBlocks railway
+    → owed (reports_after names bus nodes event railway programming) ≤ 2790
+made_most laws names bus nodes (Connects client) railway programming legal few = omega arith
+made_most laws names bus nodes (Receives client byte) railway programming legal few = requested_most names bus client (request_at (client_of bus client) byte) railway few
+made_most laws names bus nodes (Disconnects client) railway programming legal few = omega arith
+made_most laws names bus nodes (Reports message) railway programming legal few = omega arith
+made_most laws names bus nodes (Programs packet) railway programming legal few = omega arith
+made_most laws names bus nodes (Elapses micros missed) railway programming legal few =
+    time_most laws railway programming micros (power_of bus) nodes few (let short = leb-true micros 5796 legal in omega (arith, short))
+made_most laws names bus nodes (Turn missed) railway programming legal few = time_most laws railway programming (next_turn bus) (power_of bus) nodes few (next_most laws bus)
+
+few_after : Limits → (railway : RailwayState) (happening : Happening) → length railway.network.blocks ≤ 64 → length (after railway happening).network.blocks ≤ 64
+few_after same railway happening few = subst (λ (blocks : List Block). length blocks ≤ 64) (sym (same.blocks railway happening)) few
+
+few_elapsed : Limits → (railway : Option RailwayState) (micros : ℕ) (power : Power) (nodes : List Node) → HasFewBlocks railway → HasFewBlocks (railway_elapsed railway micros power nodes)
 few_elapsed same None micros power nodes few = few
 few_elapsed same (Some railway) micros power nodes few = few_after same railway (TimeElapses micros power nodes) few
 
-few_placed : SameBlocks → (names : List (List ℕ)) (bus : BusState) (client : ℕ) (request : Option Request) (railway : Option RailwayState) → HasFewBlocks railway → HasFewBlocks (railway_placed names (outcome_of_request bus client request) railway)
+few_placed : Limits → (names : List (List ℕ)) (bus : BusState) (client : ℕ) (request : Option Request) (railway : Option RailwayState) → HasFewBlocks railway → HasFewBlocks (railway_placed names (outcome_of_request bus client request) railway)
 few_placed same names bus client None railway few = few
 few_placed same names bus client (Some (Invalid reason)) railway few = few
 few_placed same names bus client (Some (Send message)) railway few = few
@@ -246,11 +345,12 @@ few_placed same names bus client (Some (Place (Err error))) (Some railway) few =
 few_placed same names bus client (Some (Place (Ok placement))) None few = few
 few_placed same names bus client (Some (Place (Ok placement))) (Some railway) few = few_after same railway (places names railway placement) few
 
-still_few : SameBlocks → (names : List (List ℕ)) (bus : BusState) (nodes : List Node) (event : Event) (railway : Option RailwayState) → HasFewBlocks railway → HasFewBlocks (railway_after names bus nodes event railway)
+still_few : Limits → (names : List (List ℕ)) (bus : BusState) (nodes : List Node) (event : Event) (railway : Option RailwayState) → HasFewBlocks railway → HasFewBlocks (railway_after names bus nodes event railway)
 still_few same names bus nodes (Connects client) railway few = few
 still_few same names bus nodes (Receives client byte) railway few = few_placed same names bus client (request_at (client_of bus client) byte) railway few
 still_few same names bus nodes (Disconnects client) railway few = few
-still_few same names bus nodes (Reports sensor occupied) railway few = few
+still_few same names bus nodes (Reports message) railway few = few
+still_few same names bus nodes (Programs packet) railway few = few
 still_few same names bus nodes (Elapses micros missed) railway few = few_elapsed same railway micros (power_of bus) nodes few
 still_few same names bus nodes (Turn missed) railway few = few_elapsed same railway (next_turn bus) (power_of bus) nodes few
 
@@ -260,24 +360,26 @@ pub none_due : (event : Event) (observed : Observation) (old new : ServerState) 
 none_due (Connects client) observed old new none runs = runs.unreported.0
 none_due (Receives client byte) observed old new none runs = runs.unreported.0
 none_due (Disconnects client) observed old new none runs = runs.unreported.0
-none_due (Reports sensor occupied) observed old new none runs = cc
+none_due (Reports message) observed old new none runs = cc
+none_due (Programs packet) observed old new none runs = cc
 none_due (Elapses micros missed) observed old new none runs = runs.unreported.0
 none_due (Turn missed) observed old new none runs = runs.unreported.0
 
-made_due : (event : Event) (observed : Observation) (old new : ServerState) → is_report event ≡ false → RunsEvent event observed old new → new.unreported ≡ reports_after old.names old.bus (running_in event old.nodes new.nodes) event old.railway
+made_due : (event : Event) (observed : Observation) (old new : ServerState) → is_report event ≡ false → RunsEvent event observed old new → new.unreported ≡ reports_after old.names old.bus (running_in event old.nodes new.nodes) event old.railway old.programming
 made_due (Connects client) observed old new none runs = runs.unreported.1
 made_due (Receives client byte) observed old new none runs = runs.unreported.1
 made_due (Disconnects client) observed old new none runs = runs.unreported.1
-made_due (Reports sensor occupied) observed old new none runs = cc
+made_due (Reports message) observed old new none runs = cc
+made_due (Programs packet) observed old new none runs = cc
 made_due (Elapses micros missed) observed old new none runs = runs.unreported.1
 made_due (Turn missed) observed old new none runs = runs.unreported.1
 
--- at most 128 reports are due, and the railway has at most 64 blocks
+-- what is due is at most 2,790 bytes, and the railway has at most 64 blocks
 abbrev pub HasFew : ServerState → Type 0
-HasFew state = (length state.unreported ≤ 128) × HasFewBlocks state.railway
+HasFew state = (owed state.unreported ≤ 2790) × HasFewBlocks state.railway
 
-pub event_few : SameBlocks → (event : Event) (observed : Observation) (old new : ServerState) → is_report event ≡ false → RunsEvent event observed old new → HasFewBlocks old.railway → HasFew new
+pub event_few : Limits → (event : Event) (observed : Observation) (old new : ServerState) → is_report event ≡ false → RunsEvent event observed old new → HasFewBlocks old.railway → HasFew new
 event_few same event observed old new none runs few = (
-  subst (λ (reports : List SensorReport). length reports ≤ 128) (sym (made_due event observed old new none runs)) (made_most old.names old.bus (running_in event old.nodes new.nodes) event old.railway few),
+  subst (λ (items : List DeviceReport). owed items ≤ 2790) (sym (made_due event observed old new none runs)) (made_most same old.names old.bus (running_in event old.nodes new.nodes) event old.railway old.programming runs.legal few),
   subst HasFewBlocks (sym runs.railway) (still_few same old.names old.bus (running_in event old.nodes new.nodes) event old.railway few),
 )

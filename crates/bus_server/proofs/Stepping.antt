@@ -1,14 +1,18 @@
--- An event of the bus in parts: trains run, the bus runs the event, and sensors report.
-use Rattle.std.proofs.Common.{◌≡◌, ℕ, ◌≤◌, Bool, true, false, if◌then◌else◌, nat_le, List, [], ◌∷◌, length, drop, Option, Some, None, refl, ap, ap₂, sym, subst, ◌∙◌}
-use Rattle.std.specs.Prelude.{slice_get, unwrap_or}
+-- An event of the bus in parts: time passes beside the station, the bus runs the event, and devices
+-- report.
+use Rattle.std.proofs.Common.{◌≡◌, ℕ, ◌≤◌, Bool, true, false, if◌then◌else◌, nat_le, List, [], ◌∷◌, length, Option, refl, ap, ap₂, sym, subst, ◌∙◌}
 use Rattle.refresh_ring.specs.declared.pick.Power.{Power}
 use Rattle.station_core.specs.Station.{packet_of_turn}
-use Rattle.ln_ops.specs.declared.sensor.SensorReport.{SensorReport}
 use Rattle.railway.specs.Railway.{RailwayState}
+use Rattle.programming_track.specs.declared.programming_track.ProgrammingTrack.{ProgrammingTrack}
+use Rattle.bus_server.specs.declared.device_report.DeviceReport.{DeviceReport}
+use Rattle.bus_server.specs.declared.device_report.DeviceReport.TheVariants.{Sensor, Packet, Ended}
+use Rattle.bus_server.specs.DeviceReports.{event_of, is_legal_report}
+use Rattle.bus_server.specs.Programming.{programmed, programming_elapsed, programming_requested}
 use Rattle.bus.specs.declared.outcome.Outcome.{Outcome}
 use Rattle.bus.specs.declared.outcome.Outcome.TheVariants.{Nothing, TurnBegan}
 use Rattle.bus.specs.declared.event.Event.{Event}
-use Rattle.bus.specs.declared.event.Event.TheVariants.{Connects, Receives, Disconnects, Reports, Elapses, Turn}
+use Rattle.bus.specs.declared.event.Event.TheVariants.{Connects, Receives, Disconnects, Reports, Programs, Elapses, Turn}
 use Rattle.bus.specs.Bus.{BusState, outcome_of}
 use Rattle.bus.specs.Course.{is_time}
 use Rattle.bus_server.specs.Observations.{Observation, Observed}
@@ -16,23 +20,25 @@ use Rattle.bus_server.specs.declared.losses.Losses.{Losses}
 use Rattle.bus_server.specs.ServerState.{IsDrawn, RunsEvent, ServerState, outcome_in}
 use Rattle.bus_server.specs.SendQueues.{queues_after}
 use Rattle.bus_server.specs.Placement.{answered}
-use Rattle.bus_server.specs.Sensors.{IsDue, IsWithinTurn, next_turn, power_of, railway_after, railway_elapsed, railway_placed, reports_after, reports_due, reports_elapsed, running_in}
+use Rattle.bus_server.specs.Sensors.{IsDue, IsWithinTurn, reports_of_time, is_report, next_turn, power_of, programming_after, railway_after, railway_elapsed, railway_placed, reports_after, reports_due, running_in}
 use Rattle.bus_server.specs.Hub.{RunsOnBus, with_trains_run}
 
 -- the bus runs an event once what decoders miss is drawn and trains have run
-runs : (event : Event) (observed : Observation) (losses : Losses) (railway : Option RailwayState) (unreported : List SensorReport) (old new : ServerState)
-    → RunsOnBus event observed (record old { losses = losses; railway = railway; unreported = unreported }) new
+runs : (event : Event) (observed : Observation) (losses : Losses) (railway : Option RailwayState) (programming : Option ProgrammingTrack) (unreported : List DeviceReport) (old new : ServerState)
+    → RunsOnBus event observed (record old { losses = losses; railway = railway; programming = programming; unreported = unreported }) new
     → IsWithinTurn event old.bus → IsDrawn event old.bus (length old.nodes) old.losses losses
-    → answered old.names railway (outcome_of old.bus event) ≡ outcome_in old event
+    → programmed programming (answered old.names railway (outcome_of old.bus event)) ≡ outcome_in old event
     → railway_placed old.names (outcome_of old.bus event) railway ≡ railway_after old.names old.bus (running_in event old.nodes new.nodes) event old.railway
-    → IsDue event (reports_after old.names old.bus (running_in event old.nodes new.nodes) event old.railway) old.unreported new.unreported
+    → programming_requested (outcome_of old.bus event) programming ≡ programming_after old.bus event old.programming
+    → IsDue event (reports_after old.names old.bus (running_in event old.nodes new.nodes) event old.railway old.programming) old.unreported new.unreported
     → RunsEvent event observed old new
-runs event observed losses railway unreported old new h piece drawn told trains reports = record {
+runs event observed losses railway programming unreported old new h piece drawn told trains track reports = record {
   legal = h.legal;
   bus = h.bus;
   nodes = h.nodes;
   piece = piece;
   railway = h.railway ∙ trains;
+  programming = h.programming ∙ track;
   unreported = reports;
   queues = h.queues ∙ ap (λ (outcome : Outcome). queues_after outcome old.queues) told;
   names = h.names;
@@ -50,23 +56,24 @@ runs event observed losses railway unreported old new h piece drawn told trains 
 -- an event of a client takes no time
 pub client_runs : (event : Event) (observed : Observation) (old new : ServerState) → is_time event ≡ false → old.unreported ≡ []
     → RunsOnBus event observed old new → RunsEvent event observed old new
-client_runs (Connects client) observed old new time none h = runs (Connects client) observed old.losses old.railway old.unreported old new h tt refl refl refl (none, h.unreported ∙ none)
-client_runs (Disconnects client) observed old new time none h = runs (Disconnects client) observed old.losses old.railway old.unreported old new h tt refl refl refl (none, h.unreported ∙ none)
+client_runs (Connects client) observed old new time none h = runs (Connects client) observed old.losses old.railway old.programming old.unreported old new h tt refl refl refl refl (none, h.unreported ∙ none)
+client_runs (Disconnects client) observed old new time none h = runs (Disconnects client) observed old.losses old.railway old.programming old.unreported old new h tt refl refl refl refl (none, h.unreported ∙ none)
 client_runs (Receives client byte) observed old new time none h =
-    runs (Receives client byte) observed old.losses old.railway old.unreported old new h tt refl refl refl (
+    runs (Receives client byte) observed old.losses old.railway old.programming old.unreported old new h tt refl refl refl refl (
       none,
-      h.unreported ∙ ap (λ (unreported : List SensorReport). reports_due old.names (outcome_of old.bus (Receives client byte)) old.railway unreported) none,
+      h.unreported ∙ ap (λ (unreported : List DeviceReport). reports_due old.names (outcome_of old.bus (Receives client byte)) old.railway unreported) none,
     )
-client_runs (Reports sensor occupied) observed old new time none h = cc
+client_runs (Reports message) observed old new time none h = cc
+client_runs (Programs packet) observed old new time none h = cc
 client_runs (Elapses micros missed) observed old new time none h = cc
 client_runs (Turn missed) observed old new time none h = cc
 
--- time asks nothing of the railway
+-- time asks nothing of the devices
 
 abbrev time_outcome : (ends : Bool) (packet : Option (List ℕ)) → Outcome
 time_outcome ends packet = if ends then TurnBegan packet else Nothing
 
-time_due : (names : List (List ℕ)) (ends : Bool) (packet : Option (List ℕ)) (railway : Option RailwayState) (unreported : List SensorReport)
+time_due : (names : List (List ℕ)) (ends : Bool) (packet : Option (List ℕ)) (railway : Option RailwayState) (unreported : List DeviceReport)
     → reports_due names (time_outcome ends packet) railway unreported ≡ unreported
 time_due names true packet railway unreported = refl
 time_due names false packet railway unreported = refl
@@ -75,9 +82,14 @@ time_placed : (names : List (List ℕ)) (ends : Bool) (packet : Option (List ℕ
 time_placed names true packet railway = refl
 time_placed names false packet railway = refl
 
-time_told : (names : List (List ℕ)) (ends : Bool) (packet : Option (List ℕ)) (old new : Option RailwayState) → answered names new (time_outcome ends packet) ≡ answered names old (time_outcome ends packet)
-time_told names true packet old new = refl
-time_told names false packet old new = refl
+time_requested : (ends : Bool) (packet : Option (List ℕ)) (programming : Option ProgrammingTrack) → programming_requested (time_outcome ends packet) programming ≡ programming
+time_requested true packet programming = refl
+time_requested false packet programming = refl
+
+time_told : (names : List (List ℕ)) (ends : Bool) (packet : Option (List ℕ)) (old new : Option RailwayState) (before after : Option ProgrammingTrack)
+    → programmed after (answered names new (time_outcome ends packet)) ≡ programmed before (answered names old (time_outcome ends packet))
+time_told names true packet old new before after = refl
+time_told names false packet old new before after = refl
 
 pub elapse_runs : (micros missed : ℕ) (observed : Observation) (losses : Losses) (old drawn ready new : ServerState)
     → micros ≤ old.bus.remaining → old.unreported ≡ [] → IsDrawn (Elapses micros missed) old.bus (length old.nodes) old.losses losses
@@ -85,12 +97,14 @@ pub elapse_runs : (micros missed : ℕ) (observed : Observation) (losses : Losse
     → RunsOnBus (Elapses micros missed) observed ready new → RunsEvent (Elapses micros missed) observed old new
 elapse_runs micros missed observed losses old drawn ready new piece none draws is_drawn is_run h =
     let trains : Option RailwayState = railway_elapsed old.railway micros (power_of old.bus) old.nodes in
-    let reports : List SensorReport = reports_elapsed old.railway micros (power_of old.bus) old.nodes in
-    let on_bus : RunsOnBus (Elapses micros missed) observed (record old { losses = losses; railway = trains; unreported = reports }) new =
+    let track : Option ProgrammingTrack = programming_elapsed old.programming micros in
+    let reports : List DeviceReport = reports_of_time old.railway old.programming micros (power_of old.bus) old.nodes in
+    let on_bus : RunsOnBus (Elapses micros missed) observed (record old { losses = losses; railway = trains; programming = track; unreported = reports }) new =
     subst (λ (s : ServerState). RunsOnBus (Elapses micros missed) observed s new) (is_run ∙ ap (with_trains_run micros) is_drawn) h in
     let ends : Bool = nat_le old.bus.remaining micros in
     let packet : Option (List ℕ) = packet_of_turn old.bus.station in
-    runs (Elapses micros missed) observed losses trains reports old new on_bus piece draws (time_told old.names ends packet old.railway trains) (time_placed old.names ends packet trains)
+    runs (Elapses micros missed) observed losses trains track reports old new on_bus piece draws (time_told old.names ends packet old.railway trains old.programming track) (time_placed old.names ends packet trains)
+    (time_requested ends packet track)
     (none, on_bus.unreported ∙ time_due old.names ends packet trains reports)
 
 -- a turn is begun, and then trains run
@@ -106,6 +120,7 @@ turn_runs micros missed outcome losses old drawn begun new lasts none draws is_d
     let length_is : micros ≡ next_turn old.bus = lasts ∙ ap (λ (bus : BusState). bus.remaining) on_bus.bus in
     let power : power_of begun.bus ≡ power_of old.bus = ap power_of on_bus.bus in
     let ran : begun.railway ≡ old.railway = on_bus.railway in
+    let track : begun.programming ≡ old.programming = on_bus.programming in
     subst (λ (s : ServerState). RunsEvent (Turn missed) (Observed outcome s.nodes s.railway) old s) (sym is_run) (record {
       legal = on_bus.legal;
       bus = on_bus.bus;
@@ -113,10 +128,11 @@ turn_runs micros missed outcome losses old drawn begun new lasts none draws is_d
       piece = tt;
       railway = ap₂ (λ (railway : Option RailwayState) (power : Power). railway_elapsed railway micros power begun.nodes) ran power
           ∙ ap (λ (n : ℕ). railway_elapsed old.railway n (power_of old.bus) begun.nodes) length_is;
+      programming = ap₂ programming_elapsed track length_is;
       unreported = (
         none,
-        ap₂ (λ (railway : Option RailwayState) (power : Power). reports_elapsed railway micros power begun.nodes) ran power
-            ∙ ap (λ (n : ℕ). reports_elapsed old.railway n (power_of old.bus) begun.nodes) length_is,
+        ap₂ (λ (railway : Option RailwayState) (power : Power). reports_of_time railway begun.programming micros power begun.nodes) ran power
+            ∙ ap₂ (λ (programming : Option ProgrammingTrack) (n : ℕ). reports_of_time old.railway programming n (power_of old.bus) begun.nodes) track length_is,
       );
       queues = on_bus.queues;
       names = on_bus.names;
@@ -131,23 +147,28 @@ turn_runs micros missed outcome losses old drawn begun new lasts none draws is_d
       saw = ap (λ (o : Outcome). Observed o begun.nodes (railway_elapsed begun.railway micros (power_of begun.bus) begun.nodes)) same;
     })
 
-pub report_runs : (report : SensorReport) (rest : List SensorReport) (observed : Observation) (old ready new : ServerState)
-    → old.unreported ≡ report ∷ rest → ready ≡ record old { unreported = rest }
-    → RunsOnBus (Reports report.sensor report.occupied) observed ready new → RunsEvent (Reports report.sensor report.occupied) observed old new
-report_runs report rest observed old ready new is is_run h =
-    let event : Event = Reports report.sensor report.occupied in
-    let on_bus : RunsOnBus event observed (record old { unreported = rest }) new = subst (λ (s : ServerState). RunsOnBus event observed s new) is_run h in
-    runs event observed old.losses old.railway rest old new on_bus tt refl refl refl (is ∙ ap (λ (unreported : List SensorReport). report ∷ unreported) (sym on_bus.unreported))
+-- a device reports what is due next
 
--- the report that is due next
+pub is_device_report : (report : DeviceReport) → is_report (event_of report) ≡ true
+is_device_report (Sensor report) = refl
+is_device_report (Packet packet) = refl
+is_device_report (Ended ended) = refl
 
-same_some : (a b : SensorReport) → Some a ≡ Some b → a ≡ b
-same_some a b h = ap (λ (o : Option SensorReport). unwrap_or o a) h
+-- the server once it is taken
+abbrev pub without_first : (rest : List DeviceReport) → ServerState → ServerState
+without_first rest old = record old { unreported = rest }
 
-pub first_due : (unreported : List SensorReport) (report : SensorReport) → Some report ≡ slice_get unreported 0 → unreported ≡ report ∷ drop 1 unreported
-first_due [] report h = cc
-first_due (first ∷ rest) report h = ap (λ (r : SensorReport). r ∷ rest) (sym (same_some report first h))
-
-pub none_due : (unreported : List SensorReport) → None ≡ slice_get unreported 0 → unreported ≡ []
-none_due [] h = refl
-none_due (first ∷ rest) h = cc
+pub report_runs : (report : DeviceReport) (rest : List DeviceReport) (observed : Observation) (old ready new : ServerState) → old.unreported ≡ report ∷ rest → is_legal_report report ≡ true → ready ≡ without_first rest old
+    → RunsOnBus (event_of report) observed ready new → RunsEvent (event_of report) observed old new
+report_runs (Sensor report) rest observed old ready new is legal is_run h =
+    let on_bus : RunsOnBus (event_of (Sensor report)) observed (without_first rest old) new = subst (λ (s : ServerState). RunsOnBus (event_of (Sensor report)) observed s new) is_run h in
+    runs (event_of (Sensor report)) observed old.losses old.railway old.programming rest old new on_bus tt refl refl refl refl
+    (Sensor report, is ∙ ap (λ (unreported : List DeviceReport). Sensor report ∷ unreported) (sym on_bus.unreported), legal, refl)
+report_runs (Packet packet) rest observed old ready new is legal is_run h =
+    let on_bus : RunsOnBus (event_of (Packet packet)) observed (without_first rest old) new = subst (λ (s : ServerState). RunsOnBus (event_of (Packet packet)) observed s new) is_run h in
+    runs (event_of (Packet packet)) observed old.losses old.railway old.programming rest old new on_bus tt refl refl refl refl
+    (Packet packet, is ∙ ap (λ (unreported : List DeviceReport). Packet packet ∷ unreported) (sym on_bus.unreported), legal, refl)
+report_runs (Ended ended) rest observed old ready new is legal is_run h =
+    let on_bus : RunsOnBus (event_of (Ended ended)) observed (without_first rest old) new = subst (λ (s : ServerState). RunsOnBus (event_of (Ended ended)) observed s new) is_run h in
+    runs (event_of (Ended ended)) observed old.losses old.railway old.programming rest old new on_bus tt refl refl refl refl
+    (Ended ended, is ∙ ap (λ (unreported : List DeviceReport). Ended ended ∷ unreported) (sym on_bus.unreported), legal, refl)

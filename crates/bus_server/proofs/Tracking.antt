@@ -8,7 +8,7 @@ use Rattle.std.proofs.lemmas.Bool.{and_parts}
 use Rattle.std.proofs.lemmas.Bool.Decides.{nat_tests}
 use Rattle.std.proofs.lemmas.List.{map-append}
 use Rattle.bus.specs.declared.event.Event.{Event}
-use Rattle.bus.specs.declared.event.Event.TheVariants.{Connects, Disconnects, Elapses, Receives, Reports, Turn}
+use Rattle.bus.specs.declared.event.Event.TheVariants.{Connects, Disconnects, Elapses, Receives, Reports, Programs, Turn}
 use Rattle.bus_server.specs.Sensors.{is_report}
 use Rattle.bus_server.specs.declared.pace.Pace.{Pace}
 use Rattle.bus_server.specs.declared.pace.Pace.TheVariants.{AfterMessages, RealTime}
@@ -34,6 +34,7 @@ event_moved event observed turns micros backlog old new h = record {
   nodes = h.nodes;
   piece = h.piece;
   railway = h.railway;
+  programming = h.programming;
   unreported = h.unreported;
   queues = h.queues;
   names = h.names;
@@ -85,11 +86,13 @@ turn_keeps (Turn missed) observed old new is h = h.turns_due
 turn_keeps (Connects client) observed old new is h = cc
 turn_keeps (Receives client byte) observed old new is h = cc
 turn_keeps (Disconnects client) observed old new is h = cc
-turn_keeps (Reports sensor occupied) observed old new is h = cc
+turn_keeps (Reports message) observed old new is h = cc
+turn_keeps (Programs packet) observed old new is h = cc
 turn_keeps (Elapses micros missed) observed old new is h = cc
 
 report_keeps : (event : Event) (observed : Observation) (old new : ServerState) → is_report event ≡ true → RunsEvent event observed old new → new.turns_due ≡ old.turns_due
-report_keeps (Reports sensor occupied) observed old new is h = h.turns_due
+report_keeps (Reports message) observed old new is h = h.turns_due
+report_keeps (Programs packet) observed old new is h = h.turns_due
 report_keeps (Connects client) observed old new is h = cc
 report_keeps (Receives client byte) observed old new is h = cc
 report_keeps (Disconnects client) observed old new is h = cc

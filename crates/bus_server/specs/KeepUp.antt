@@ -29,7 +29,7 @@ abbrev pub IsAtRest : ServerState → Type 0
 IsAtRest state = (state.unreported ≡ []) × IfSome state.railway (λ railway. length railway.network.blocks ≤ 64)
 
 -- In a run of a server that begins when nothing is queued for a client, the server does not close its
--- connection if it keeps up, whatever the other clients do and however much sensors report.
+-- connection if it keeps up, whatever the other clients do and however much devices report.
 abbrev pub StaysConnected : Type 0
 StaysConnected = (client most : ℕ) (rounds : List Round) (old new : ServerState)
     → IsAtRest old → client < 8 → length old.queues ≡ 8 → IsUpToDate client old

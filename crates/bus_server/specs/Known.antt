@@ -14,6 +14,7 @@ use Rattle.bus.specs.Bus.{outcome_of}
 use Rattle.bus_server.specs.Observations.{Observation, Observed}
 use Rattle.bus_server.specs.ServerState.{LoggedEvent, RunsEvent, ServerState}
 use Rattle.bus_server.specs.Running.{Round, RunsRounds, logged_in}
+use Rattle.bus_server.specs.DeviceReports.{sensors_in}
 use Rattle.bus_server.specs.Sensors.{asks_sensors}
 
 -- the messages that clients receive of an observation: each sent, its reply, and each report
@@ -53,7 +54,7 @@ abbrev pub IsKnown : (block sensor : ℕ) → (level : Bool) → ServerState →
 IsKnown block sensor level state =
     (railway : RailwayState) × (state.railway ≡ Some railway) × IsTrue (is_railway railway)
     × IsSensorOf block sensor railway
-    × (level_after state.unreported sensor level ≡ is_occupied railway.trains block)
+    × (level_after (sensors_in state.unreported) sensor level ≡ is_occupied railway.trains block)
 
 -- It stays so in every run in which no client sends a report, by the messages that clients receive.
 abbrev pub StaysKnown : Type 0

@@ -1,5 +1,6 @@
 pub mod AfterRound
 pub mod Answers
+pub mod DeviceReports
 pub mod Fronts
 pub mod Generator
 pub mod Hub
@@ -10,6 +11,7 @@ pub mod NamedNodes
 pub mod Observations
 pub mod Pace
 pub mod Placement
+pub mod Programming
 pub mod Reading
 pub mod Repeats
 pub mod Rounds

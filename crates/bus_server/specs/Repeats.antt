@@ -16,19 +16,20 @@ unmissed (Turn missed) = Turn 0
 unmissed (Elapses micros missed) = Elapses micros 0
 unmissed event = event
 
--- What comes from outside, in order: each event of a client, and each turn or time. What decoders miss, and what sensors report, does
+-- What comes from outside, in order: each event of a client, and each turn or time. What decoders miss, and what devices report, does
 -- not.
 abbrev pub inputs_of : List Event → List Event
 inputs_of [] = []
 inputs_of (event ∷ events) = (if is_report event then [] else unmissed event ∷ []) ++ inputs_of events
 
--- Two servers have the same bus, the same decoders under the same names, the same railway, and draw the same losses. How far their
+-- Two servers have the same bus, the same decoders under the same names, the same railway and programming track, and draw the same losses. How far their
 -- clients have been read and written to may differ.
 pub record IsAlike (a b : ServerState) : Type 0 where
   pub bus : b.bus ≡ a.bus
   pub nodes : b.nodes ≡ a.nodes
   pub names : b.names ≡ a.names
   pub railway : b.railway ≡ a.railway
+  pub programming : b.programming ≡ a.programming
   pub unreported : b.unreported ≡ a.unreported
   pub losses : b.losses ≡ a.losses
 

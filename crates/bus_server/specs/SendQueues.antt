@@ -2,7 +2,7 @@
 use Rattle.std.specs.Prelude.{ℕ, ◌+◌, Bool, true, nat_lt, List, [], ◌∷◌, Option, Some, None, slice_set}
 use Rattle.bus_server.specs.SendQueue.{enqueued}
 use Rattle.bus.specs.declared.outcome.Outcome.{Outcome}
-use Rattle.bus.specs.declared.outcome.Outcome.TheVariants.{Nothing, Connected, Disconnected, Rejected, Reported, Sent, TurnBegan, TurnsRequested, StatesRequested, PlaceRequested, Placed}
+use Rattle.bus.specs.declared.outcome.Outcome.TheVariants.{Nothing, Connected, Disconnected, Rejected, Reported, Sent, Programmed, TurnBegan, TurnsRequested, StatesRequested, PlaceRequested, Placed}
 use Rattle.bus.specs.Outcome.{text_for}
 
 -- the queue of each client; None where it is closed
@@ -20,6 +20,7 @@ enqueued_all outcome queues = enqueued_from 0 (λ client. text_for client outcom
 -- The queues after an outcome: a client that connects begins with an empty queue, and that of one that disconnects is closed.
 abbrev pub queues_after : Outcome → SendQueues → SendQueues
 queues_after Nothing queues = queues
+queues_after (Programmed packet) queues = queues
 queues_after (TurnBegan packet) queues = queues
 queues_after (Disconnected client) queues = slice_set queues client None
 queues_after (Connected client) queues = enqueued_all (Connected client) (slice_set queues client (Some []))
@@ -34,6 +35,7 @@ queues_after (Placed client answer) queues = enqueued_all (Placed client answer)
 -- a client that it names is one of the eight
 abbrev pub names_client : Outcome → Bool
 names_client Nothing = true
+names_client (Programmed packet) = true
 names_client (TurnBegan packet) = true
 names_client (Disconnected client) = nat_lt client 8
 names_client (Connected client) = nat_lt client 8

@@ -1,18 +1,22 @@
--- The railway beside a bus, and what its sensors report.
-use Rattle.std.specs.Prelude.{ℕ, ◌≡◌, ◌≤◌, Bool, true, false, if◌then◌else◌, List, [], ◌∷◌, Option, Some, None, Ok}
+-- The railway and the programming track beside a bus, and what they report.
+use Rattle.std.specs.Prelude.{ℕ, ◌≡◌, ◌≤◌, Bool, true, false, if◌then◌else◌, List, [], ◌++◌, Option, Some, None, Ok}
 use Rattle.refresh_ring.specs.declared.pick.Power.{Power}
 use Rattle.layout_core.specs.declared.node.Node.{Node}
 use Rattle.ln_ops.specs.Sensor.{begins_interrogation}
 use Rattle.ln_ops.specs.declared.sensor.SensorReport.{SensorReport}
+use Rattle.programming_track.specs.declared.programming_track.ProgrammingTrack.{ProgrammingTrack}
 use Rattle.bus.specs.declared.outcome.Outcome.{Outcome}
 use Rattle.bus.specs.declared.outcome.Outcome.TheVariants.{PlaceRequested, Sent}
 use Rattle.railway.specs.Course.{after, reports_of}
 use Rattle.railway.specs.Railway.{RailwayState, elapsed, reports_in}
 use Rattle.railway.specs.Reports.{full}
 use Rattle.bus.specs.declared.event.Event.{Event}
-use Rattle.bus.specs.declared.event.Event.TheVariants.{Connects, Receives, Disconnects, Reports, Elapses, Turn}
+use Rattle.bus.specs.declared.event.Event.TheVariants.{Connects, Receives, Disconnects, Reports, Programs, Elapses, Turn}
 use Rattle.bus.specs.Bus.{BusState, after_event, outcome_of}
+use Rattle.bus_server.specs.declared.device_report.DeviceReport.{DeviceReport}
+use Rattle.bus_server.specs.DeviceReports.{IsNext, of_ends, of_sensors}
 use Rattle.bus_server.specs.Placement.{places}
+use Rattle.bus_server.specs.Programming.{ends_elapsed, programming_elapsed, programming_requested}
 
 -- the power of the track
 abbrev pub power_of : BusState → Power
@@ -50,11 +54,11 @@ railway_placed names other railway = railway
 -- What is due then: all, if a message asks for that; each change, if a train was put there; else
 -- what was due before.
 abbrev pub reports_due : (names : List (List ℕ)) → Outcome → Option RailwayState
-    → List SensorReport → List SensorReport
+    → List DeviceReport → List DeviceReport
 reports_due names (Sent client message reply) railway unreported =
-    if begins_interrogation message then full_report railway else unreported
+    if begins_interrogation message then of_sensors (full_report railway) else unreported
 reports_due names (PlaceRequested client (Ok placement)) (Some railway) unreported =
-    reports_of railway (places names railway placement)
+    of_sensors (reports_of railway (places names railway placement))
 reports_due names other railway unreported = unreported
 
 -- The decoders that trains run by in the time of an event. A time ends with the turn under way or
@@ -79,24 +83,40 @@ railway_after names bus nodes (Receives client byte) railway =
     railway_placed names (outcome_of bus (Receives client byte)) railway
 railway_after names bus nodes other railway = railway
 
--- What an event makes sensors report: each change in its time, and what its outcome makes due.
-abbrev pub reports_after : (names : List (List ℕ)) → BusState → List Node → Event
-    → Option RailwayState → List SensorReport
-reports_after names bus nodes (Connects client) railway = []
-reports_after names bus nodes (Disconnects client) railway = []
-reports_after names bus nodes (Reports sensor occupied) railway = []
-reports_after names bus nodes (Receives client byte) railway =
-    reports_due names (outcome_of bus (Receives client byte)) railway []
-reports_after names bus nodes (Elapses micros missed) railway =
-    reports_elapsed railway micros (power_of bus) nodes
-reports_after names bus nodes (Turn missed) railway =
-    reports_elapsed railway (next_turn bus) (power_of bus) nodes
+-- The programming track after an event: its packets take time, with or without power of the track.
+abbrev pub programming_after : BusState → Event → Option ProgrammingTrack → Option ProgrammingTrack
+programming_after bus (Elapses micros missed) programming = programming_elapsed programming micros
+programming_after bus (Turn missed) programming = programming_elapsed programming (next_turn bus)
+programming_after bus (Receives client byte) programming =
+    programming_requested (outcome_of bus (Receives client byte)) programming
+programming_after bus other programming = programming
 
--- The reports that are due before an event and after it: each is an event, in order, and no other
--- event happens before. It makes others due.
-abbrev pub IsDue : Event → (made old new : List SensorReport) → Type 0
-IsDue (Reports sensor occupied) made old new =
-    old ≡ record { sensor = sensor; occupied = occupied } ∷ new
+-- what is reported of a time: the changes of the sensors, and then of the programming track
+abbrev pub reports_of_time : Option RailwayState → Option ProgrammingTrack → (micros : ℕ) → Power
+    → List Node → List DeviceReport
+reports_of_time railway programming micros power nodes =
+    of_sensors (reports_elapsed railway micros power nodes)
+    ++ of_ends (ends_elapsed programming micros)
+
+-- What an event makes due: what is reported of its time, and what its outcome makes due.
+abbrev pub reports_after : (names : List (List ℕ)) → BusState → List Node → Event
+    → Option RailwayState → Option ProgrammingTrack → List DeviceReport
+reports_after names bus nodes (Connects client) railway programming = []
+reports_after names bus nodes (Disconnects client) railway programming = []
+reports_after names bus nodes (Reports message) railway programming = []
+reports_after names bus nodes (Programs packet) railway programming = []
+reports_after names bus nodes (Receives client byte) railway programming =
+    reports_due names (outcome_of bus (Receives client byte)) railway []
+reports_after names bus nodes (Elapses micros missed) railway programming =
+    reports_of_time railway programming micros (power_of bus) nodes
+reports_after names bus nodes (Turn missed) railway programming =
+    reports_of_time railway programming (next_turn bus) (power_of bus) nodes
+
+-- What is due before an event and after it: each is an event, in order, and no other event happens
+-- before. It makes others due.
+abbrev pub IsDue : Event → (made old new : List DeviceReport) → Type 0
+IsDue (Reports message) made old new = IsNext (Reports message) old new
+IsDue (Programs packet) made old new = IsNext (Programs packet) old new
 IsDue other made old new = (old ≡ []) × (new ≡ made)
 
 -- A time ends with the turn under way or before it, so that the decoders do the same in all of it.
@@ -104,7 +124,8 @@ abbrev pub IsWithinTurn : Event → BusState → Type 0
 IsWithinTurn (Elapses micros missed) bus = micros ≤ bus.remaining
 IsWithinTurn other bus = Unit {0}
 
--- a sensor reports
+-- a device beside the station reports: a sensor, or the programming track
 abbrev pub is_report : Event → Bool
-is_report (Reports sensor occupied) = true
+is_report (Reports message) = true
+is_report (Programs packet) = true
 is_report other = false

@@ -5,8 +5,9 @@ use Rattle.std.specs.List.{flat_map, list_all, list_any, slice_index_or}
 use Rattle.layout_core.specs.declared.node.Node.{Node}
 use Rattle.layout_core.specs.Nodes.{node_of}
 use Rattle.layout_core.specs.World.{HaveHeard}
-use Rattle.ln_ops.specs.declared.sensor.SensorReport.{SensorReport}
 use Rattle.railway.specs.Railway.{RailwayState}
+use Rattle.programming_track.specs.declared.programming_track.ProgrammingTrack.{ProgrammingTrack}
+use Rattle.bus_server.specs.declared.device_report.DeviceReport.{DeviceReport}
 use Rattle.bus_server.specs.declared.losses.Losses.{Losses}
 use Rattle.bus_server.specs.Losses.{IsDraw}
 use Rattle.bus_server.specs.declared.pace.Pace.{Pace}
@@ -22,13 +23,14 @@ use Rattle.bus.specs.Layout.{layout_event}
 use Rattle.bus_server.specs.Observations.{Observed, Observation, Overflowed}
 use Rattle.bus_server.specs.Answers.{Answers, after_line, answers_after, count_of, lines_of, next_line}
 use Rattle.bus_server.specs.Placement.{answered}
-use Rattle.bus_server.specs.Sensors.{IsDue, IsWithinTurn, is_report, railway_after, reports_after, running_in}
+use Rattle.bus_server.specs.Programming.{programmed}
+use Rattle.bus_server.specs.Sensors.{IsDue, IsWithinTurn, is_report, programming_after, railway_after, reports_after, running_in}
 use Rattle.bus_server.specs.SendQueue.{is_more_than_half}
 use Rattle.bus_server.specs.SendQueues.{SendQueues, enqueued_from, queues_after}
 use Rattle.bus_server.specs.TransportEvents.{Polled, ServerClosed, Accepted, PeerClosed, TransportEvent, Written, Received, Refused}
 
--- A server: its bus, the decoders and their names, the railway beside them (or None) and what its
--- sensors are still to report, the queue of each client, the answer under way to each, the turns due
+-- A server: its bus, the decoders and their names, the railway and the programming track beside them
+-- (or None) and what these are still to report, the queue of each client, the answer under way to each, the turns due
 -- to each and the microseconds that are due, the generator of losses, what turns follow, the client
 -- that is read first in the next round, how many clients have disconnected, and whether there may be
 -- more input than was read.
@@ -37,7 +39,8 @@ pub record ServerState : Type 0 where
   pub nodes : List Node
   pub names : List (List ℕ)
   pub railway : Option RailwayState
-  pub unreported : List SensorReport
+  pub programming : Option ProgrammingTrack
+  pub unreported : List DeviceReport
   pub queues : SendQueues
   pub answers : Answers
   pub turns_due : List TurnsDue
@@ -49,12 +52,13 @@ pub record ServerState : Type 0 where
   pub has_backlog : Bool
 
 -- a new server: new decoders, and no clients
-abbrev pub initial_state : List NodeSpec → (names : List (List ℕ)) → Option RailwayState → Pace → Losses → ServerState
-initial_state nodes names railway pace losses = record {
-  bus = first_bus (record { is_stepped = follows_messages pace; has_sensors = is_some railway });
+abbrev pub initial_state : List NodeSpec → (names : List (List ℕ)) → Option RailwayState → Option ProgrammingTrack → Pace → Losses → ServerState
+initial_state nodes names railway programming pace losses = record {
+  bus = first_bus (record { is_stepped = follows_messages pace; has_sensors = is_some railway; has_programmer = is_some programming });
   nodes = map node_of nodes;
   names = names;
   railway = railway;
+  programming = programming;
   unreported = [];
   queues = replicate 8 None;
   answers = replicate 8 None;
@@ -83,9 +87,10 @@ IsDrawn (Elapses micros missed) bus nodes old new = MatchBool (nat_le bus.remain
 IsDrawn (Turn missed) bus nodes old new = IsDraw nodes missed old new
 IsDrawn other bus nodes old new = new ≡ old
 
--- the outcome of an event, with the answer where a client puts a train on the track
+-- the outcome of an event, with the answer where a client puts a train on the track, and the reply of
+-- the programmer
 abbrev pub outcome_in : ServerState → Event → Outcome
-outcome_in state event = answered state.names state.railway (outcome_of state.bus event)
+outcome_in state event = programmed state.programming (answered state.names state.railway (outcome_of state.bus event))
 
 -- One event of the bus: the decoders heard what it is to the layout, trains ran in its time or were
 -- placed, the text of its outcome was enqueued, and the outcome was observed with the decoders and the railway as they are then.
@@ -95,7 +100,8 @@ pub record RunsEvent (event : Event) (observed : Observation) (old new : ServerS
   pub nodes : HaveHeard old.bus.station (layout_event old.bus event) old.nodes new.nodes
   pub piece : IsWithinTurn event old.bus
   pub railway : new.railway ≡ railway_after old.names old.bus (running_in event old.nodes new.nodes) event old.railway
-  pub unreported : IsDue event (reports_after old.names old.bus (running_in event old.nodes new.nodes) event old.railway) old.unreported new.unreported
+  pub programming : new.programming ≡ programming_after old.bus event old.programming
+  pub unreported : IsDue event (reports_after old.names old.bus (running_in event old.nodes new.nodes) event old.railway old.programming) old.unreported new.unreported
   pub queues : new.queues ≡ queues_after (outcome_in old event) old.queues
   pub names : new.names ≡ old.names
   pub answers : new.answers ≡ answers_after (outcome_of old.bus event) old.answers
@@ -149,12 +155,12 @@ has_turns_to_follow state = list_any follow_message state.turns_due
 abbrev pub waits : ServerState → (client : ℕ) → Bool
 waits state client = must_wait state.turns_due client
 
--- this event, and what sensors report after it
+-- this event, and what devices report after it
 abbrev pub IsWithReports : Event → List Event → Type 0
 IsWithReports event [] = ⊥
 IsWithReports event (first ∷ behind) = (first ≡ event) × (list_all is_report behind ≡ true)
 
--- An event of a client is run, with what sensors report; a client connects at a free index.
+-- An event of a client is run, with what devices report; a client connects at a free index.
 abbrev pub RunsEventWithReports : Event → List LoggedEvent → ServerState → ServerState → Type 0
 RunsEventWithReports event applied old new =
     (is_accepted old event ≡ true) × IsWithReports event (events_of applied) × RunsEvents applied old new

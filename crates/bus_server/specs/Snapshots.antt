@@ -7,6 +7,7 @@ use Rattle.decoder_node.specs.declared.node.NodeSpec.{NodeSpec}
 use Rattle.layout_core.specs.Nodes.{spec_of}
 use Rattle.bus.specs.Log.{Extends}
 use Rattle.bus_server.specs.declared.hub.Hub.{Hub}
+use Rattle.bus_server.specs.DeviceReports.{queue_of}
 use Rattle.bus_server.specs.NamedNodes.{names_of}
 use Rattle.bus_server.specs.Rounds.{HasMoreClients, PreservesRound, HasEmptyQueue, is_accept}
 use Rattle.bus_server.specs.ServerState.{Handled, Applies, LoggedEvent, AppliesAll, ServerState, transport_events, observations_in, observations_of}
@@ -20,7 +21,8 @@ state_of hub = record {
   nodes = hub.bus.world.nodes;
   names = names_of hub.answers.nodes.items;
   railway = hub.sensors.railway;
-  unreported = hub.sensors.unreported.items;
+  programming = hub.sensors.programming;
+  unreported = queue_of hub.sensors.unreported;
   queues = hub.queues;
   answers = hub.answers.under_way;
   turns_due = hub.track_due.turns;
@@ -36,9 +38,9 @@ state_of hub = record {
 abbrev pub ObservesLayout : (decoder_specs : List NodeSpec) → Hub → Type 0
 ObservesLayout decoder_specs hub = map spec_of hub.bus.world.nodes ≡ decoder_specs
 
--- all that sensors were to report has been reported
+-- all that devices were to report has been reported
 abbrev pub HasReported : Hub → Type 0
-HasReported hub = hub.sensors.unreported.items ≡ []
+HasReported hub = queue_of hub.sensors.unreported ≡ []
 
 -- one moment: the transport's log, the observer's, and the server
 pub record Snapshot : Type 0 where

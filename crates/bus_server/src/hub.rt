@@ -1,4 +1,4 @@
-//! The bus, with a railway beside it and a send queue for each client.
+//! The bus, with a railway and a programming track beside it and a send queue for each client.
 ghost use Rattle.std.specs.Prelude.{◌≡◌, ◌<◌, ◌≤◌, ◌&&◌, ◌∷◌, [], ◌++◌, Bool, IfNone, IfOk, IfSome, IsTrue, OnSome, is_some, length, not, slice_index_or, slice_set, drop, take, map, option_copied, None, Some, true};
 ghost use Rattle.std.specs.List.{list_all};
 ghost use Rattle.bus_server.specs.SendQueue.{is_within_capacity, queued};
@@ -22,10 +22,11 @@ use crate::transport::{IoOutcome, Transport};
 use bus::{Bus, BusOptions, Event, Outcome};
 use layout_core::World;
 use loconet_tcp::{Text, push_turns_ok};
+use programming_track::ProgrammingTrack;
 use railway::Railway;
 use std::alloc::{AllocError, Global};
 
-/// The bus, with a railway beside it and a send queue for each client.
+/// The bus, with a railway and a programming track beside it and a send queue for each client.
 #[derive(Drop)]
 pub(crate) struct Hub {
     pub(crate) bus: Bus,
@@ -57,14 +58,17 @@ impl Hub {
     ghost use Rattle.bus.specs.Bus.{client_of, is_event};
     ghost use Rattle.bus.specs.State.{bus_state};
     ghost use Rattle.bus_server.specs.Observations.{Observed};
-    ghost use Rattle.bus.specs.declared.event.Event.TheVariants.{Elapses, Reports, Turn};
+    ghost use Rattle.bus.specs.declared.event.Event.{Event as BusEvent};
+    ghost use Rattle.bus.specs.declared.event.Event.TheVariants.{Elapses, Turn};
+    ghost use Rattle.bus_server.specs.DeviceReports.{queue_of};
+    ghost use Rattle.bus_server.specs.Sensors.{is_report};
     ghost use Rattle.bus_server.specs.Rounds.{accepts_first, backlog_after};
     ghost use Rattle.bus_server.specs.Snapshots.{HasReported, WritesFront, state_of};
     ghost use Rattle.bus_server.specs.Hub.{RunsOnBus, with_trains_run};
     ghost use Rattle.bus_server.specs.ServerState.{RunsEvent, IsDrawn, initial_state, has_overflowed, is_crowded, outcome_in, round_start};
 
-    /// A new layout with these decoders, a railway beside it or none, and no clients. It takes all
-    /// its memory here.
+    /// A new layout with these decoders, a railway and a programming track beside it or none, and no
+    /// clients. It takes all its memory here.
     ///
     /// # Errors
     ///
@@ -73,13 +77,15 @@ impl Hub {
         alloc: Global,
         nodes: NamedNodes,
         railway: Option<Railway>,
+        programming: Option<ProgrammingTrack>,
         pace: Pace,
         losses: Losses,
     ) -> Result<Hub, AllocError>
         requires pace { IsTrue (is_pace pace) }
         ensures hub { IfOk result
             (λ hub. state_of hub
-            ≡ initial_state (specs_of nodes.items) (names_of nodes.items) railway pace losses) }
+            ≡ initial_state (specs_of nodes.items) (names_of nodes.items) railway programming pace
+            losses) }
         ensures specs { IfOk result
             (λ hub. map spec_of hub.bus.world.nodes ≡ specs_of nodes.items) }
         ensures reported { IfOk result HasReported }
@@ -87,6 +93,7 @@ impl Hub {
         let options = BusOptions {
             is_stepped: pace.follows_messages(),
             has_sensors: railway.is_some(),
+            has_programmer: programming.is_some(),
         };
         let bus = match Bus::new(alloc, specs(&nodes), options) {
             Ok(bus) => bus,
@@ -95,7 +102,7 @@ impl Hub {
         let queues = empty_queues(alloc)?;
         Ok(Hub {
             bus,
-            sensors: Sensors::new(railway),
+            sensors: Sensors::new(railway, programming),
             queues,
             answers: Answers::new(nodes),
             track_due: TrackDue::none(),
@@ -109,12 +116,12 @@ impl Hub {
 
     /// Runs one event, and enqueues its text for each client. What decoders miss of it is drawn
     /// already, and trains have run in its time.
-    pub(crate) fn step(&mut self, event: Event) -> Outcome
-        requires { IsTrue (is_event event) }
-        ensures outcome { result ≡ outcome_in (state_of self.old) event }
+    pub(crate) fn step(&mut self, event: &Event) -> Outcome
+        requires { IsTrue (is_event event.now) }
+        ensures outcome { result ≡ outcome_in (state_of self.old) event.now }
         ensures specs { map spec_of self.new.bus.world.nodes
             ≡ map spec_of self.old.bus.world.nodes }
-        ensures runs { RunsOnBus event
+        ensures runs { RunsOnBus event.now
             (Observed result self.new.bus.world.nodes self.new.sensors.railway)
             (state_of self.old) (state_of self.new) }
     {
@@ -142,7 +149,7 @@ impl Hub {
     {
         let missed = self.draw_within(micros);
         self.run_trains(u32::from(micros));
-        self.step(Event::Elapses { micros, missed })
+        self.step(&Event::Elapses { micros, missed })
     }
 
     /// Begins a turn, and runs the trains for as long as it lasts.
@@ -156,7 +163,7 @@ impl Hub {
             (state_of self.old) (state_of self.new) }
     {
         let missed = self.draw();
-        let outcome = self.step(Event::Turn { missed });
+        let outcome = self.step(&Event::Turn { missed });
         let lasts = self.bus.remaining();
         self.run_trains(lasts);
         outcome
@@ -169,17 +176,15 @@ impl Hub {
         ensures none { IfNone result
             (HasReported self.new × (state_of self.new ≡ state_of self.old)) }
         ensures fewer { OnSome result
-            (length self.new.sensors.unreported.items < length self.old.sensors.unreported.items) }
-        ensures happens { IfSome result (λ outcome. (sensor : ℕ) × (occupied : Bool)
-            × RunsEvent (Reports sensor occupied)
+            (length (queue_of self.new.sensors.unreported)
+            < length (queue_of self.old.sensors.unreported)) }
+        ensures happens { IfSome result (λ outcome. (event : BusEvent) × (is_report event ≡ true)
+            × RunsEvent event
             (Observed outcome self.new.bus.world.nodes self.new.sensors.railway)
             (state_of self.old) (state_of self.new)) }
     {
-        let report = self.sensors.next()?;
-        Some(self.step(Event::Reports {
-            sensor: report.sensor,
-            occupied: report.occupied,
-        }))
+        let event = self.sensors.unreported.next()?.event();
+        Some(self.step(&event))
     }
 
     /// The railway, if there is one.
@@ -189,9 +194,10 @@ impl Hub {
         self.sensors.railway.as_ref()
     }
 
-    /// Runs the trains for `micros` microseconds, as the decoders do now. Without power they stand.
+    /// Runs the trains for `micros` microseconds, as the decoders do now, and the programming track.
+    /// Without power trains stand.
     fn run_trains(&mut self, micros: u32)
-        requires reported { HasReported self.old }
+        requires short { micros ≤ 10740 }
         ensures { state_of self.new ≡ with_trains_run micros (state_of self.old) }
     {
         self.sensors.elapse(micros, self.bus.world());
@@ -225,7 +231,8 @@ impl Hub {
     pub(crate) fn start_round(&mut self)
         ensures state { state_of self.new ≡ round_start (state_of self.old) }
         ensures bus { self.new.bus ≡ self.old.bus }
-        ensures unreported { self.new.sensors.unreported.items ≡ self.old.sensors.unreported.items }
+        ensures unreported { queue_of self.new.sensors.unreported
+            ≡ queue_of self.old.sensors.unreported }
     {
         self.has_backlog = false;
         enqueue_lines(
@@ -244,7 +251,8 @@ impl Hub {
         ensures state { state_of self.new ≡ backlog_after refused (state_of self.old) }
         ensures specs { map spec_of self.new.bus.world.nodes
             ≡ map spec_of self.old.bus.world.nodes }
-        ensures unreported { self.new.sensors.unreported.items ≡ self.old.sensors.unreported.items }
+        ensures unreported { queue_of self.new.sensors.unreported
+            ≡ queue_of self.old.sensors.unreported }
     {
         if refused > 0 {
             self.has_backlog = true;
@@ -257,7 +265,8 @@ impl Hub {
         ensures wrote { WritesFront client result (W.log transport.old) (W.log transport.new)
             (state_of self.old) (state_of self.new) }
         ensures bus { self.new.bus ≡ self.old.bus }
-        ensures unreported { self.new.sensors.unreported.items ≡ self.old.sensors.unreported.items }
+        ensures unreported { queue_of self.new.sensors.unreported
+            ≡ queue_of self.old.sensors.unreported }
     {
         let piece = front(&self.queues, client);
         if piece.is_empty() {
@@ -349,6 +358,7 @@ fn enqueue(queues: &mut SendQueues, outcome: &Outcome)
     match outcome {
         Outcome::Nothing
         | Outcome::TurnBegan { .. }
+        | Outcome::Programmed { .. }
         | Outcome::StatesRequested { .. }
         | Outcome::PlaceRequested { .. } => {}
         Outcome::Disconnected { client } => queues[usize::from(*client)].close(),

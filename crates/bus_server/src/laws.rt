@@ -26,11 +26,13 @@ pub fn fronts_are_written()
     ensures { FrontsAreWritten }
 {}
 
-/// A server does not close the connection of a client that keeps up, however much sensors report.
+/// A server does not close the connection of a client that keeps up, however much devices report.
 pub fn stays_connected()
     ensures { StaysConnected }
 {
     railway::laws::railways_are_kept();
+    bus::laws::turns_are_bounded();
+    programming_track::laws::ends_are_few();
 }
 
 /// What a client knows of a sensor by the messages that it receives is whether its block is occupied:

@@ -1,5 +1,5 @@
 //! The server of a bus: clients are accepted, read, written to and disconnected, round after round,
-//! while track time elapses and trains run. A [`Transport`] connects the clients, a [`TimeSource`]
+//! while track time elapses, trains run and a decoder is programmed. A [`Transport`] connects the clients, a [`TimeSource`]
 //! is the clock and a [`Observer`] the log, so there are no sockets, no clock and no printing
 //! here.
 //!
@@ -10,6 +10,8 @@
 
 mod after_round;
 mod answers;
+mod device_report;
+mod device_reports;
 mod hub;
 pub mod laws;
 mod losses;
@@ -34,6 +36,7 @@ pub use bus::MAX_CLIENTS;
 pub use named_node::{Name, NamedNode, NamedNodes};
 pub use observer::Observer;
 pub use pace::Pace;
+pub use programming_track::ProgrammingTrack;
 pub use railway::Railway;
 pub use running::Stop;
 pub use server::Server;

@@ -1,90 +1,135 @@
-//! The railway beside a bus, and what its sensors are still to report.
-ghost use Rattle.std.specs.Prelude.{◌≡◌, ℕ, [], IfSome, IsTrue, drop, if◌then◌else◌, slice_get, true};
+//! The railway and the programming track beside a bus, and what they are still to report.
+ghost use Rattle.std.specs.Prelude.{◌≡◌, ◌≤◌, ℕ, [], IsTrue, if◌then◌else◌, option_map, true};
 ghost use Rattle.std.specs.List.{list_all};
+ghost use Rattle.ln_ops.specs.Sensor.{begins_interrogation};
+ghost use Rattle.programming_track.specs.Time.{is_legal_end};
+ghost use Rattle.programming_track.specs.Track.{requested};
 ghost use Rattle.railway.specs.Reports.{is_report};
 ghost use Rattle.bus.specs.declared.outcome.Outcome.TheVariants.{PlaceRequested};
 ghost use Rattle.bus_server.specs.NamedNodes.{names_of};
 ghost use Rattle.bus_server.specs.Placement.{answered, place_answer};
-ghost use Rattle.bus_server.specs.Sensors.{asks_sensors, full_report, railway_elapsed, railway_placed, reports_due, reports_elapsed};
+ghost use Rattle.bus_server.specs.Programming.{ends_elapsed, programmed, programming_elapsed, programming_requested, reply_by};
+ghost use Rattle.bus_server.specs.Sensors.{reports_of_time, full_report, railway_elapsed, railway_placed, reports_due, reports_elapsed};
 
+use crate::device_reports::DeviceReports;
 use crate::named_node::NamedNodes;
 use crate::placement::place;
 use bus::Outcome;
 use layout_core::World;
-use ln_ops::{SensorReport, begins_interrogation};
+use ln_frame::Msg;
+use ln_ops::begins_interrogation;
 use loconet_tcp::{PlaceError, Placement};
+use programming_track::{PacketEnds, ProgrammingTrack};
 use railway::{Railway, Reports};
 
-/// The trains that run beside a bus, if there are any, and what their sensors are still to report.
+/// The devices beside the station, trains with their sensors and a programming track, if there are
+/// any, and what they are still to report.
 #[derive(Drop)]
 pub(crate) struct Sensors {
     pub(crate) railway: Option<Railway>,
-    /// In the order in which they are reported.
-    pub(crate) unreported: Reports,
-    ghost valid: { list_all is_report unreported.items ≡ true },
+    pub(crate) programming: Option<ProgrammingTrack>,
+    pub(crate) unreported: DeviceReports,
 }
 
 impl Sensors {
-    /// The sensors of a railway, or none. Nothing is due.
-    pub(crate) fn new(railway: Option<Railway>) -> Sensors
+    ghost use Rattle.bus_server.specs.DeviceReports.{queue_of, of_sensors};
+
+    /// The devices beside a station. Nothing is due.
+    pub(crate) fn new(railway: Option<Railway>, programming: Option<ProgrammingTrack>) -> Sensors
         ensures railway { result.railway ≡ railway }
-        ensures unreported { result.unreported.items ≡ [] }
+        ensures programming { result.programming ≡ programming }
+        ensures unreported { queue_of result.unreported ≡ [] }
     {
         Sensors {
             railway,
-            unreported: Reports::new(),
+            programming,
+            unreported: DeviceReports::none(),
         }
     }
 
-    /// Lets the trains run for `micros` microseconds, as the decoders do now; without track power
-    /// they stand. What the sensors report of it is due.
+    /// Lets `micros` microseconds pass: trains run as the decoders do now, without track power they
+    /// stand, and packets of the programming track are sent. What is reported of it is due.
     pub(crate) fn elapse(&mut self, micros: u32, world: &World)
-        requires reported { self.old.unreported.items ≡ [] }
+        requires short { micros ≤ 10740 }
         ensures railway { self.new.railway
             ≡ railway_elapsed self.old.railway micros world.now.station.powered.power
             world.now.nodes }
-        ensures unreported { self.new.unreported.items
-            ≡ reports_elapsed self.old.railway micros world.now.station.powered.power
-            world.now.nodes }
+        ensures programming { self.new.programming
+            ≡ programming_elapsed self.old.programming micros }
+        ensures unreported { queue_of self.new.unreported
+            ≡ reports_of_time self.old.railway self.old.programming micros
+            world.now.station.powered.power world.now.nodes }
     {
-        if let Some(railway) = &mut self.railway {
-            self.unreported = railway.elapse(micros, world);
-        }
+        let reports = run_trains(&mut self.railway, micros, world);
+        let ends = send_packets(&mut self.programming, micros);
+        self.unreported = DeviceReports::new(reports, ends);
     }
 
-    /// Does what an outcome of the bus asks of the railway: a report of each sensor, or to put a
-    /// train on the track. What sensors report of it is due. Returns the outcome, with the answer
-    /// where a client asks to put a train.
+    /// Does what an outcome of the bus asks of the devices: a report of each sensor, to put a train on
+    /// the track, or something of the programmer. What sensors report of it is due. Returns the
+    /// outcome, with the answer where a client asks to put a train, and the programmer's reply.
     pub(crate) fn answer(&mut self, outcome: Outcome, nodes: &NamedNodes) -> Outcome
         ensures railway { self.new.railway
             ≡ railway_placed (names_of nodes.now.items) outcome self.old.railway }
-        ensures unreported { self.new.unreported.items
+        ensures programming { self.new.programming
+            ≡ programming_requested outcome self.old.programming }
+        ensures unreported { queue_of self.new.unreported
             ≡ reports_due (names_of nodes.now.items) outcome self.old.railway
-            self.old.unreported.items }
+            (queue_of self.old.unreported) }
         ensures answered { result
-            ≡ answered (names_of nodes.now.items) self.old.railway outcome }
+            ≡ programmed self.old.programming
+            (answered (names_of nodes.now.items) self.old.railway outcome) }
     {
         match outcome {
             Outcome::PlaceRequested { client, placement } => Outcome::Placed {
                 client,
                 answer: self.place(&placement, nodes),
             },
-            outcome => {
-                self.report_if_asked(&outcome);
-                outcome
+            Outcome::Sent {
+                client,
+                message,
+                reply,
+            } => {
+                self.report_if_asked(&message);
+                let reply = self.reply(&message, reply);
+                Outcome::Sent {
+                    client,
+                    message,
+                    reply,
+                }
             }
+            outcome => outcome,
         }
     }
 
-    /// Makes a report of each sensor due, if an outcome is that of a message that asks for it.
-    fn report_if_asked(&mut self, outcome: &Outcome)
+    /// Makes a report of each sensor due, if a message asks for it.
+    fn report_if_asked(&mut self, message: &Msg)
         ensures railway { self.new.railway ≡ self.old.railway }
-        ensures unreported { self.new.unreported.items
-            ≡ (if asks_sensors outcome.now then full_report self.old.railway
-            else self.old.unreported.items) }
+        ensures programming { self.new.programming ≡ self.old.programming }
+        ensures unreported { queue_of self.new.unreported
+            ≡ (if begins_interrogation message.now then of_sensors (full_report self.old.railway)
+            else queue_of self.old.unreported) }
     {
-        if asks_sensors(outcome) {
-            self.unreported = full_report(&self.railway);
+        if begins_interrogation(message) {
+            self.unreported = DeviceReports::of_sensors(full_report(&self.railway));
+        }
+    }
+
+    /// Lets the programmer do what a message asks for. Returns its reply, or that of the station if
+    /// the message is not for slot 124.
+    fn reply(&mut self, message: &Msg, station: Option<Msg>) -> Option<Msg>
+        ensures railway { self.new.railway ≡ self.old.railway }
+        ensures programming { self.new.programming
+            ≡ option_map (λ track. requested track message.now) self.old.programming }
+        ensures unreported { queue_of self.new.unreported ≡ queue_of self.old.unreported }
+        ensures reply { result ≡ reply_by self.old.programming message.now station }
+    {
+        let Some(track) = &mut self.programming else {
+            return station;
+        };
+        match track.request(message) {
+            Some(own) => Some(own.message()),
+            None => station,
         }
     }
 
@@ -97,9 +142,10 @@ impl Sensors {
         ensures railway { (client : ℕ) → self.new.railway
             ≡ railway_placed (names_of nodes.now.items) (PlaceRequested client placement.now)
             self.old.railway }
-        ensures unreported { (client : ℕ) → self.new.unreported.items
+        ensures programming { self.new.programming ≡ self.old.programming }
+        ensures unreported { (client : ℕ) → queue_of self.new.unreported
             ≡ reports_due (names_of nodes.now.items) (PlaceRequested client placement.now)
-            self.old.railway self.old.unreported.items }
+            self.old.railway (queue_of self.old.unreported) }
         ensures answer { result
             ≡ place_answer (names_of nodes.now.items) self.old.railway placement.now }
     {
@@ -109,31 +155,38 @@ impl Sensors {
                 Err(error) => Err(*error),
                 Ok(placement) => {
                     let (reports, answer) = place(railway, nodes, placement);
-                    self.unreported = reports;
+                    self.unreported = DeviceReports::of_sensors(reports);
                     answer
                 }
             },
         }
     }
+}
 
-    /// Takes the report that is due next.
-    pub(crate) fn next(&mut self) -> Option<SensorReport>
-        ensures railway { self.new.railway ≡ self.old.railway }
-        ensures first { result ≡ slice_get self.old.unreported.items 0 }
-        ensures rest { self.new.unreported.items ≡ drop 1 self.old.unreported.items }
-        ensures sensor { IfSome result (λ report. IsTrue (is_report report)) }
-    {
-        self.unreported.pop_at(0)
+/// Lets the trains run, if there are any. Returns what their sensors report.
+fn run_trains(railway: &mut Option<Railway>, micros: u32, world: &World) -> Reports
+    ensures railway { railway.new
+        ≡ railway_elapsed railway.old micros world.now.station.powered.power world.now.nodes }
+    ensures reports { result.items
+        ≡ reports_elapsed railway.old micros world.now.station.powered.power world.now.nodes }
+    ensures valid { list_all is_report result.items ≡ true }
+{
+    match railway {
+        Some(railway) => railway.elapse(micros, world),
+        None => Reports::new(),
     }
 }
 
-/// Whether an outcome is that of a message that asks all sensors to report.
-fn asks_sensors(outcome: &Outcome) -> bool
-    ensures { result ≡ asks_sensors outcome.now }
+/// Sends the packets of the programming track, if there is one. Returns those that ended.
+fn send_packets(programming: &mut Option<ProgrammingTrack>, micros: u32) -> PacketEnds
+    requires short { micros ≤ 10740 }
+    ensures programming { programming.new ≡ programming_elapsed programming.old micros }
+    ensures ends { result.items ≡ ends_elapsed programming.old micros }
+    ensures legal { list_all is_legal_end result.items ≡ true }
 {
-    match outcome {
-        Outcome::Sent { message, .. } => begins_interrogation(message),
-        _ => false,
+    match programming {
+        Some(track) => track.elapse(micros),
+        None => PacketEnds::new(),
     }
 }
 

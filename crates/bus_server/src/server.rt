@@ -24,6 +24,7 @@ use crate::pace::Pace;
 use crate::transport::{IoOutcome, Transport};
 use bus::{Event, Outcome};
 use layout_core::World;
+use programming_track::ProgrammingTrack;
 use railway::Railway;
 use std::alloc::{AllocError, Global};
 
@@ -40,8 +41,8 @@ pub struct Server {
 }
 
 impl Server {
-    /// A new layout with these decoders, a railway beside it or none, and no clients. It takes all
-    /// its memory here.
+    /// A new layout with these decoders, a railway and a programming track beside it or none, and no
+    /// clients. It takes all its memory here.
     ///
     /// # Errors
     ///
@@ -50,19 +51,21 @@ impl Server {
         alloc: Global,
         nodes: NamedNodes,
         railway: Option<Railway>,
+        programming: Option<ProgrammingTrack>,
         pace: Pace,
         losses: Losses,
     ) -> Result<Server, AllocError>
         requires pace { IsTrue (is_pace pace) }
         ensures hub { IfOk result
             (λ server. state_of server.hub
-            ≡ initial_state (specs_of nodes.items) (names_of nodes.items) railway pace losses) }
+            ≡ initial_state (specs_of nodes.items) (names_of nodes.items) railway programming pace
+            losses) }
         ensures specs { IfOk result
             (λ server. map spec_of server.hub.bus.world.nodes ≡ specs_of nodes.items) }
         ensures reported { IfOk result (λ server. HasReported server.hub) }
     {
         Ok(Server {
-            hub: Hub::new(alloc, nodes, railway, pace, losses)?,
+            hub: Hub::new(alloc, nodes, railway, programming, pace, losses)?,
         })
     }
 
@@ -483,7 +486,7 @@ impl Server {
         Ok(())
     }
 
-    /// Applies an event of a client, with what sensors report. Returns its outcome.
+    /// Applies an event of a client, with what devices report. Returns its outcome.
     fn apply<P: Observer>(&mut self, event: Event, observer: &mut P) -> Result<Outcome, P::Fault>
         requires event { IsTrue (is_event event) }
         requires clients { is_time event ≡ false }
@@ -498,7 +501,7 @@ impl Server {
             RunsEventWithReports event applied (state_of self.old.hub) (state_of self.new.hub))
             (P.observed observer.old) (P.observed observer.new) }
     {
-        let outcome = self.hub.step(event);
+        let outcome = self.hub.step(&event);
         self.observe(&outcome, observer)?;
         Ok(outcome)
     }

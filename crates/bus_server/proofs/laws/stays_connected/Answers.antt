@@ -1,5 +1,8 @@
 use Rattle.bus_server.proofs.KeepingUp.{stays_connected}
+use Rattle.bus_server.proofs.Sizes.{Limits}
 use Rattle.bus_server.proofs.laws.stays_connected.Goals as goal
 
 pub returns : goal.returns
-returns c = stays_connected c.railways_are_kept.ensures.blocks
+returns c =
+    let laws : Limits = record { blocks = c.railways_are_kept.ensures.blocks; turns = c.turns_are_bounded.ensures; ends = c.ends_are_few.ensures } in
+    stays_connected laws

@@ -9,8 +9,8 @@ use Rattle.bus_server.specs.SendQueue.{is_within_capacity}
 use Rattle.bus_server.proofs.Placing.{length-enqueued, within_capacity-all}
 use Rattle.bus_server.proofs.hub.Hub.start_round.Goals as goal
 
-pub invariant_of-self-3 : goal.invariant_of-self-3
-invariant_of-self-3 c =
+pub invariant_of-self : goal.invariant_of-self
+invariant_of-self c =
     let old = c.args.self.now in
     let text : ℕ → List ℕ = λ client. next_line (lines_of (names_of old.answers.nodes.items) c.world.result.now.nodes (option_copied c.as_ref.result)) (slice_index_or old.answers.under_way client None) ++ turns_answer (due_to old.track_due.turns client) in
     record {

@@ -11,26 +11,29 @@ use Rattle.bus_server.specs.SendQueues.{names_client, queues_after}
 use Rattle.arrayvec.specs.ArrayVec.{ArrayVec}
 use Rattle.bus_server.specs.declared.named_node.NamedNode.{NamedNode}
 use Rattle.bus_server.specs.NamedNodes.{names_of, specs_of}
+use Rattle.bus_server.specs.DeviceReports.{queue_of}
 use Rattle.bus_server.specs.Placement.{answered}
+use Rattle.bus_server.specs.Programming.{programmed, programming_requested}
 use Rattle.bus_server.specs.Snapshots.{state_of}
 use Rattle.bus_server.specs.Sensors.{railway_placed, reports_due}
-use Rattle.bus_server.proofs.Placing.{length-after, names-answered, placed_by, within_capacity-after}
+use Rattle.bus_server.proofs.Placing.{length-after, names-answered, names-programmed, placed_by, within_capacity-after}
 use Rattle.bus_server.proofs.hub.Hub.step.Goals as goal
 
 pub update-requires : goal.update-requires
-update-requires c = ap names_client c.step-outcome.ensures.outcome ∙ placed_by (bus_state c.args.self.now.bus) c.args.event c.requires
+update-requires c = ap names_client c.step-outcome.ensures.outcome ∙ placed_by (bus_state c.args.self.now.bus) c.args.event.now c.requires
 
 pub update-requires-2 : goal.update-requires-2
-update-requires-2 c = ap names_client c.step-outcome.ensures.outcome ∙ placed_by (bus_state c.args.self.now.bus) c.args.event c.requires
+update-requires-2 c = ap names_client c.step-outcome.ensures.outcome ∙ placed_by (bus_state c.args.self.now.bus) c.args.event.now c.requires
 
 pub first_after-self-requires-clause-client : goal.first_after-self-requires-clause-client
-first_after-self-requires-clause-client c = ap names_client c.step-outcome.ensures.outcome ∙ placed_by (bus_state c.args.self.now.bus) c.args.event c.requires
+first_after-self-requires-clause-client c = ap names_client c.step-outcome.ensures.outcome ∙ placed_by (bus_state c.args.self.now.bus) c.args.event.now c.requires
 
 pub enqueue-requires : goal.enqueue-requires
 enqueue-requires c =
     ap names_client c.answer-outcome.ensures.answered
+    ∙ names-programmed c.args.self.now.sensors.programming (answered (names_of c.update.new.self.nodes.items) c.args.self.now.sensors.railway c.step-outcome.result)
     ∙ names-answered (names_of c.update.new.self.nodes.items) c.args.self.now.sensors.railway c.step-outcome.result
-    ∙ ap names_client c.step-outcome.ensures.outcome ∙ placed_by (bus_state c.args.self.now.bus) c.args.event c.requires
+    ∙ ap names_client c.step-outcome.ensures.outcome ∙ placed_by (bus_state c.args.self.now.bus) c.args.event.now c.requires
 
 pub invariant_of-self-2 : goal.invariant_of-self-2
 invariant_of-self-2 c = record {
@@ -42,12 +45,12 @@ invariant_of-self-2 c = record {
 }
 
 -- the outcome, with the answer
-told : (c : goal.After-self-2-1) → c.answer-outcome.result ≡ outcome_in (state_of c.args.self.now) c.args.event
+told : (c : goal.After-self-2-1) → c.answer-outcome.result ≡ outcome_in (state_of c.args.self.now) c.args.event.now
 told c =
     let old = c.args.self.now in
     c.answer-outcome.ensures.answered
-    ∙ ap (λ (nodes : ArrayVec NamedNode). answered (names_of nodes.items) old.sensors.railway c.step-outcome.result) c.update.ensures.nodes
-    ∙ ap (answered (names_of old.answers.nodes.items) old.sensors.railway) c.step-outcome.ensures.outcome
+    ∙ ap (λ (nodes : ArrayVec NamedNode). programmed old.sensors.programming (answered (names_of nodes.items) old.sensors.railway c.step-outcome.result)) c.update.ensures.nodes
+    ∙ ap (λ (outcome : Outcome). programmed old.sensors.programming (answered (names_of old.answers.nodes.items) old.sensors.railway outcome)) c.step-outcome.ensures.outcome
 
 pub returns-clause-outcome : goal.returns-clause-outcome
 returns-clause-outcome c = told c
@@ -63,9 +66,10 @@ returns-clause-runs c =
       railway = c.answer-outcome.ensures.railway
           ∙ ap (λ (nodes : ArrayVec NamedNode). railway_placed (names_of nodes.items) c.step-outcome.result old.sensors.railway) c.update.ensures.nodes
           ∙ ap (λ (outcome : Outcome). railway_placed (names_of old.answers.nodes.items) outcome old.sensors.railway) outcome;
+      programming = c.answer-outcome.ensures.programming ∙ ap (λ (outcome : Outcome). programming_requested outcome old.sensors.programming) outcome;
       unreported = c.answer-outcome.ensures.unreported
-          ∙ ap (λ (nodes : ArrayVec NamedNode). reports_due (names_of nodes.items) c.step-outcome.result old.sensors.railway old.sensors.unreported.items) c.update.ensures.nodes
-          ∙ ap (λ (outcome : Outcome). reports_due (names_of old.answers.nodes.items) outcome old.sensors.railway old.sensors.unreported.items) outcome;
+          ∙ ap (λ (nodes : ArrayVec NamedNode). reports_due (names_of nodes.items) c.step-outcome.result old.sensors.railway (queue_of old.sensors.unreported)) c.update.ensures.nodes
+          ∙ ap (λ (outcome : Outcome). reports_due (names_of old.answers.nodes.items) outcome old.sensors.railway (queue_of old.sensors.unreported)) outcome;
       queues = c.enqueue.ensures ∙ ap (λ (outcome : Outcome). queues_after outcome old.queues) (told c);
       names = ap (λ (nodes : ArrayVec NamedNode). names_of nodes.items) c.update.ensures.nodes;
       answers = c.update.ensures.under_way ∙ ap (λ (outcome : Outcome). answers_after outcome old.answers.under_way) outcome;

@@ -2,7 +2,6 @@ use Rattle.std.proofs.Common.{◌<◌, ◌≡◌, ◌+◌, ℕ, List, false, tru
 use Rattle.std.specs.List.{list_all, list_any}
 use Rattle.bus_server.specs.declared.track_due.TurnsDue.{TurnsDue}
 use Rattle.bus_server.specs.TrackDue.{follow_message}
-use Rattle.bus_server.specs.TransportEvents.{TransportEvent}
 use Rattle.bus_server.specs.Snapshots.{snapshot, state_of}
 use Rattle.bus_server.specs.Rounds.{HasMoreClients, AcceptsSome, is_accept}
 use Rattle.bus_server.specs.ServerState.{is_connected}

@@ -22,8 +22,8 @@ loop-report-preserved g c =
     let hub = c.report.new.self in
     record {
       observes = search rules;
-      log = observes_more c.args.outcome.now c.in-Some.report happens.0 happens.1 (observed c.args.observer.now) (observed first.observer) (observed c.observe-in-Some.new.self) (state_of c.args.self.now.hub) (state_of first.self.hub) (state_of hub)
-          first.invariant.log happens.2
+      log = observes_more c.args.outcome.now c.in-Some.report happens.0 (observed c.args.observer.now) (observed first.observer) (observed c.observe-in-Some.new.self) (state_of c.args.self.now.hub) (state_of first.self.hub) (state_of hub)
+          happens.1 first.invariant.log happens.2
           (seen_layout (observed first.observer) (observed c.observe-in-Some.new.self) c.in-Some.report c.world-in-Some.result.now hub.bus.world (option_copied c.railway-in-Some.result) hub.sensors.railway c.world-in-Some.ensures c.railway-in-Some.ensures c.observe-in-Some.ensures.observed);
     }
 
@@ -33,6 +33,6 @@ returns-in_err-observe-2-clause-log g c =
     let first = c.loop-report in
     let happens = c.in-Some.ensures.happens in
     let hub = c.report.new.self in
-    observes_more c.args.outcome.now c.in-Some.report happens.0 happens.1 (observed c.args.observer.now) (observed first.observer) (observed c.observe-in-Some.new.self) (state_of c.args.self.now.hub) (state_of first.self.hub) (state_of hub)
-    first.invariant.log happens.2
+    observes_more c.args.outcome.now c.in-Some.report happens.0 (observed c.args.observer.now) (observed first.observer) (observed c.observe-in-Some.new.self) (state_of c.args.self.now.hub) (state_of first.self.hub) (state_of hub)
+    happens.1 first.invariant.log happens.2
     (seen_layout (observed first.observer) (observed c.observe-in-Some.new.self) c.in-Some.report c.world-in-Some.result.now hub.bus.world (option_copied c.railway-in-Some.result) hub.sensors.railway c.world-in-Some.ensures c.railway-in-Some.ensures c.observe-in-Some.ensures.observed)

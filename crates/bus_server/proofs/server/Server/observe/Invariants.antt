@@ -1,5 +1,6 @@
 use Rattle.std.proofs.Common.{length}
 use Rattle.bus_server.specs.Snapshots.{ObservesLayout, state_of}
+use Rattle.bus_server.specs.DeviceReports.{queue_of}
 use Rattle.bus_server.specs.Hub.{ObservesReports}
 use Rattle.bus_server.proofs.server.Server.observe.Given as goal
 
@@ -10,4 +11,4 @@ invariant-loop-report g l = record {
 }
 
 abbrev pub decreases-loop-report : goal.decreases-loop-report
-decreases-loop-report g l = length l.self.hub.sensors.unreported.items
+decreases-loop-report g l = length (queue_of l.self.hub.sensors.unreported)

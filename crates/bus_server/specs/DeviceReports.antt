@@ -1,0 +1,60 @@
+-- What devices beside the station are still to report.
+use Rattle.std.specs.Prelude.{◌≡◌, Bool, true, List, [], ◌∷◌, ◌++◌, map, Option, Some, None}
+use Rattle.std.specs.List.{flat_map}
+use Rattle.ln_ops.specs.Sensor.{report_bytes}
+use Rattle.ln_ops.specs.declared.sensor.SensorReport.{SensorReport}
+use Rattle.service_mode.specs.Spelling.{is_legal_packet}
+use Rattle.programmer.specs.declared.task_result.TaskResult.{TaskResult}
+use Rattle.programmer.specs.Requests.{is_legal_result, result_bytes}
+use Rattle.programming_track.specs.declared.packet_end.PacketEnd.{PacketEnd}
+use Rattle.railway.specs.Reports.{is_report}
+use Rattle.bus.specs.declared.event.Event.{Event}
+use Rattle.bus.specs.declared.event.Event.TheVariants.{Reports, Programs}
+use Rattle.bus_server.specs.declared.device_report.DeviceReport.{DeviceReport}
+use Rattle.bus_server.specs.declared.device_report.DeviceReport.TheVariants.{Sensor, Packet, Ended}
+use Rattle.bus_server.specs.declared.device_reports.DeviceReports.{DeviceReports}
+
+-- the event of the bus
+abbrev pub event_of : DeviceReport → Event
+event_of (Sensor report) = Reports (report_bytes report.sensor report.occupied)
+event_of (Packet packet) = Programs packet
+event_of (Ended ended) = Reports (result_bytes ended)
+
+-- a sensor is one of 1 to 4096, and a packet and a result can be made
+abbrev pub is_legal_report : DeviceReport → Bool
+is_legal_report (Sensor report) = is_report report
+is_legal_report (Packet packet) = is_legal_packet packet
+is_legal_report (Ended ended) = is_legal_result ended
+
+-- what sensors report
+abbrev pub of_sensors : List SensorReport → List DeviceReport
+of_sensors reports = map (λ report. Sensor report) reports
+
+-- what ended a task
+abbrev pub of_result : Option TaskResult → List DeviceReport
+of_result None = []
+of_result (Some ended) = Ended ended ∷ []
+
+-- of a packet that has been sent: the packet, and then the result if it was the last of its task
+abbrev pub of_end : PacketEnd → List DeviceReport
+of_end one = Packet one.packet ∷ of_result one.result
+
+abbrev pub of_ends : List PacketEnd → List DeviceReport
+of_ends ends = flat_map of_end ends
+
+-- all that is still to report: of the sensors, of the task that has ended, and of the packets after it
+abbrev pub queue_of : DeviceReports → List DeviceReport
+queue_of items =
+    of_sensors items.reports.items ++ (of_result items.ended ++ of_ends items.ends.items)
+
+-- the reports of sensors among them
+abbrev pub sensors_in : List DeviceReport → List SensorReport
+sensors_in [] = []
+sensors_in (Sensor report ∷ items) = report ∷ sensors_in items
+sensors_in (Packet packet ∷ items) = sensors_in items
+sensors_in (Ended ended ∷ items) = sensors_in items
+
+-- The first of them is the event, and the others stay.
+abbrev pub IsNext : Event → (old new : List DeviceReport) → Type 0
+IsNext event old new =
+    (report : DeviceReport) × (old ≡ report ∷ new) × (is_legal_report report ≡ true) × (event_of report ≡ event)

@@ -1,0 +1,85 @@
+//! What devices beside the station are still to report, in order.
+ghost use Rattle.std.specs.Prelude.{◌≡◌, ◌∷◌, ◌++◌, [], IfSome, IsTrue, MatchOption, true};
+ghost use Rattle.std.specs.List.{list_all};
+ghost use Rattle.programming_track.specs.Time.{is_legal_end, is_legal_some};
+ghost use Rattle.railway.specs.Reports.{is_report};
+
+use crate::device_report::DeviceReport;
+use programmer::TaskResult;
+use programming_track::PacketEnds;
+use railway::Reports;
+
+/// What devices beside the station are still to report, in order.
+#[derive(Drop)]
+pub(crate) struct DeviceReports {
+    /// What sensors report.
+    pub(crate) reports: Reports,
+    /// The result of a task whose last packet has been reported.
+    pub(crate) ended: Option<TaskResult>,
+    /// The packets of the programming track after it.
+    pub(crate) ends: PacketEnds,
+    ghost sensors: { list_all is_report reports.items ≡ true },
+    ghost result: { is_legal_some ended ≡ true },
+    ghost packets: { list_all is_legal_end ends.items ≡ true },
+}
+
+impl DeviceReports {
+    ghost use Rattle.bus_server.specs.DeviceReports.{queue_of, of_ends, of_sensors, is_legal_report};
+
+    /// What sensors report, and then the programming track.
+    pub(crate) fn new(reports: Reports, ends: PacketEnds) -> DeviceReports
+        requires sensors { IsTrue (list_all is_report reports.items) }
+        requires packets { IsTrue (list_all is_legal_end ends.items) }
+        ensures { queue_of result ≡ of_sensors reports.items ++ of_ends ends.items }
+    {
+        DeviceReports {
+            reports,
+            ended: None,
+            ends,
+        }
+    }
+
+    /// Nothing.
+    pub(crate) fn none() -> DeviceReports
+        ensures { queue_of result ≡ [] }
+    {
+        DeviceReports::of_sensors(Reports::new())
+    }
+
+    /// What sensors report.
+    pub(crate) fn of_sensors(reports: Reports) -> DeviceReports
+        requires sensors { IsTrue (list_all is_report reports.items) }
+        ensures { queue_of result ≡ of_sensors reports.items }
+    {
+        DeviceReports::new(reports, PacketEnds::new())
+    }
+
+    /// Takes what is reported next.
+    pub(crate) fn next(&mut self) -> Option<DeviceReport>
+        ensures first { MatchOption result
+            ((queue_of self.old ≡ []) × (queue_of self.new ≡ []))
+            (λ report. queue_of self.old ≡ report ∷ queue_of self.new) }
+        ensures legal { IfSome result (λ report. IsTrue (is_legal_report report)) }
+    {
+        if let Some(report) = self.reports.pop_at(0) {
+            return Some(DeviceReport::Sensor(report));
+        }
+        self.next_of_programming()
+    }
+
+    /// Takes what the programming track reports next.
+    fn next_of_programming(&mut self) -> Option<DeviceReport>
+        requires { self.old.reports.items ≡ [] }
+        ensures first { MatchOption result
+            ((queue_of self.old ≡ []) × (queue_of self.new ≡ []))
+            (λ report. queue_of self.old ≡ report ∷ queue_of self.new) }
+        ensures legal { IfSome result (λ report. IsTrue (is_legal_report report)) }
+    {
+        if let Some(ended) = self.ended.take() {
+            return Some(DeviceReport::Ended(ended));
+        }
+        let end = self.ends.pop_at(0)?;
+        self.ended = end.result;
+        Some(DeviceReport::Packet(end.packet))
+    }
+}
