@@ -13,7 +13,7 @@ use Rattle.roster.specs.Entry.{Entry}
 use Rattle.show_text.specs.Lines.{track_text}
 use Rattle.describe.specs.Messages.{message_words}
 use Rattle.bus.specs.declared.outcome.Outcome.{Outcome}
-use Rattle.bus.specs.declared.outcome.Outcome.TheVariants.{Nothing, Connected, Disconnected, Rejected, Reported, Sent, TurnBegan, TurnsRequested, StatesRequested, PlaceRequested, Placed}
+use Rattle.bus.specs.declared.outcome.Outcome.TheVariants.{Nothing, Connected, Disconnected, Rejected, Reported, Programmed, Sent, TurnBegan, TurnsRequested, StatesRequested, PlaceRequested, Placed}
 use Rattle.text.specs.Hex.{hex_words}
 use Rattle.bus.specs.Outcome.{messages_in}
 
@@ -46,6 +46,13 @@ abbrev pub packet_lines : (track : Bool) → (turn : ℕ) → Option (List ℕ) 
 packet_lines track turn None = []
 packet_lines track turn (Some packet) = if track && not (bytes_eq packet idle_bytes) then track_text turn packet ∷ [] else []
 
+-- a packet of the programming track, with the turns of the main track so far, if packets are printed
+abbrev pub programming_line : (turns : ℕ) → (packet : List ℕ) → List ℕ
+programming_line turns packet = codes "programming " ++ decimal turns ++ hex_words packet
+
+abbrev pub programming_lines : (track : Bool) → (turns : ℕ) → (packet : List ℕ) → List (List ℕ)
+programming_lines track turns packet = if track then programming_line turns packet ∷ [] else []
+
 -- each decoder whose state has changed, in the roster's order
 abbrev pub changed_lines : List Entry → (before decoder_states : List DecoderState) → List (List ℕ)
 changed_lines [] before decoder_states = []
@@ -73,8 +80,8 @@ is_slot_read message None = false
 is_slot_read message (Some reply) = is_read (op_of message) (op_of reply)
 
 -- The lines of an outcome: clients that connect and disconnect, each message and then its reply
--- (none for a read of a slot), each report of a sensor, the packet of a turn, and the decoders that
--- it changed.
+-- (none for a read of a slot), each report of a device, the packet of a turn, and the decoders that
+-- it changed; and a packet of the programming track.
 abbrev pub lines_of : (track : Bool) → List Entry → PrinterState → Outcome → (decoder_states : List DecoderState) → List (List ℕ)
 lines_of track entries before Nothing decoder_states = []
 lines_of track entries before (Connected client) decoder_states = client_line client (codes " joins") ∷ []
@@ -88,6 +95,7 @@ lines_of track entries before (Sent client message reply) decoder_states =
     if is_slot_read message reply then []
     else map sent_line (messages_in (Sent client message reply))
 lines_of track entries before (Reported message) decoder_states = sent_line message ∷ []
+lines_of track entries before (Programmed packet) decoder_states = programming_lines track before.turns packet
 lines_of track entries before (TurnBegan packet) decoder_states = packet_lines track (saturating_successor before.turns) packet ++ changed_lines entries before.decoder_states decoder_states
 
 -- none of these lines, if the log is quiet

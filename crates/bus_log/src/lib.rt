@@ -15,6 +15,7 @@ mod log_output;
 mod log_queue;
 mod messages;
 mod printer;
+mod programming_lines;
 mod railway_lines;
 mod verbosity;
 

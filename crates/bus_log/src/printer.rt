@@ -13,6 +13,7 @@ ghost use Rattle.bus_log.specs.Lines.{changed_lines, client_line, is_slot_read, 
 
 use crate::log_queue::LogQueue;
 use crate::messages::print_message;
+use crate::programming_lines::print_programming;
 use crate::railway_lines::{Trains, keep_trains, print_railway, trains_of};
 use crate::verbosity::Verbosity;
 use arrayvec::ArrayVec;
@@ -115,6 +116,10 @@ impl<'a> Printer<'a> {
             Outcome::Disconnected { client } => print_client(&mut self.log, *client, " leaves"),
             Outcome::Sent { message, reply, .. } => print_sent(&mut self.log, message, reply),
             Outcome::Reported { message } => print_message(&mut self.log, message),
+            Outcome::Programmed { packet } => {
+                let track = self.verbosity.prints_packets();
+                print_programming(&mut self.log, track, self.turns, packet);
+            }
             Outcome::TurnBegan { packet } => self.print_turn(packet, world),
         }
     }
