@@ -19,6 +19,7 @@ record HasDefaults (rows : List Row) : Type 0 where
   pub port : one_of (codes "port") rows ≡ Some (codes "1234")
   pub roster : first_of (codes "roster") rows ≡ None
   pub plan : first_of (codes "plan") rows ≡ None
+  pub programmer : first_of (codes "programmer") rows ≡ None
   pub turns : one_of (codes "turns") rows ≡ None
   pub rate : one_of (codes "rate") rows ≡ None
   pub clients : one_of (codes "clients") rows ≡ None
@@ -32,7 +33,7 @@ record HasDefaults (rows : List Row) : Type 0 where
 
 no_words : HasDefaults (matches_of server_app [])
 unfolding server_rules server_app
-no_words = record { address = refl; port = refl; roster = refl; plan = refl; turns = refl; rate = refl; clients = refl; track = refl; quiet = refl; page = refl; page_file = refl; hosts = refl; lose = refl; seed = refl }
+no_words = record { address = refl; port = refl; roster = refl; plan = refl; programmer = refl; turns = refl; rate = refl; clients = refl; track = refl; quiet = refl; page = refl; page_file = refl; hosts = refl; lose = refl; seed = refl }
 
 number_is : (read : Option Text) (text : Text) (least most n : ℕ) → IsNumber read least most n → read ≡ Some text → n ≡ number_of text
 number_is read text least most n is same =
@@ -77,6 +78,7 @@ defaults rows order has is = record {
   at_port = number_is _ (codes "1234") 0 65535 order.port is.at_port has.port;
   without_roster = is.with_roster ∙ has.roster;
   without_plan = is.with_plan ∙ has.plan;
+  without_programmer = is.with_programmer ∙ has.programmer;
   in_real_time = number_is_none _ 0 255 order.turns is.each_turns has.turns;
   without_rate = number_is_none _ 1 100 order.rate is.at_rate has.rate;
   for_ever = number_is_none _ 0 4294967295 order.clients is.most_clients has.clients;

@@ -20,6 +20,7 @@ server_rules =
     ∷ or_else (number (codes "port") 0 65535) (codes "1234")
     ∷ option (codes "roster")
     ∷ option (codes "plan")
+    ∷ option (codes "programmer")
     ∷ number (codes "turns") 0 255
     ∷ number (codes "rate") 1 100
     ∷ number (codes "clients") 0 4294967295
@@ -85,6 +86,7 @@ pub record IsServerOrder (rows : List Row) (order : ServerOrder) : Type 0 where
   pub at_port : IsNumber (one_of (codes "port") rows) 0 65535 order.port
   pub with_roster : order.roster ≡ first_of (codes "roster") rows
   pub with_plan : order.plan ≡ first_of (codes "plan") rows
+  pub with_programmer : order.programmer ≡ first_of (codes "programmer") rows
   pub each_turns : IsNumberIfGiven (one_of (codes "turns") rows) 0 255 order.turns
   pub at_rate : IsNumberIfGiven (one_of (codes "rate") rows) 1 100 order.rate
   pub most_clients : IsNumberIfGiven (one_of (codes "clients") rows) 0 4294967295 order.clients
@@ -113,6 +115,7 @@ pub record IsDefaultOrder (order : ServerOrder) : Type 0 where
   pub at_port : order.port ≡ 1234
   pub without_roster : order.roster ≡ None
   pub without_plan : order.plan ≡ None
+  pub without_programmer : order.programmer ≡ None
   pub in_real_time : order.turns ≡ None
   pub without_rate : order.rate ≡ None
   pub for_ever : order.clients ≡ None

@@ -216,6 +216,7 @@ fn settings(alloc: Global, found: &ArgMatches<'_>) -> Result<Settings, OrderFaul
 struct Files {
     roster: Option<FileName>,
     plan: Option<FileName>,
+    programmer: Option<FileName>,
     page_file: Option<FileName>,
 }
 
@@ -224,11 +225,13 @@ fn file_names(alloc: Global, found: &ArgMatches<'_>) -> Result<Files, AllocError
     ensures { IfOk result (λ files.
         (files.roster ≡ first_of (codes "roster") (rows_of (found_of found.now)))
         × (files.plan ≡ first_of (codes "plan") (rows_of (found_of found.now)))
+        × (files.programmer ≡ first_of (codes "programmer") (rows_of (found_of found.now)))
         × (files.page_file ≡ first_of (codes "page-file") (rows_of (found_of found.now)))) }
 {
     Ok(Files {
         roster: file_name(alloc, found, "roster")?,
         plan: file_name(alloc, found, "plan")?,
+        programmer: file_name(alloc, found, "programmer")?,
         page_file: file_name(alloc, found, "page-file")?,
     })
 }
@@ -248,6 +251,7 @@ fn matched(alloc: Global, found: &ArgMatches<'_>) -> Result<ServerOrder, OrderFa
         port: settings.port,
         roster: files.roster,
         plan: files.plan,
+        programmer: files.programmer,
         turns: settings.turns,
         rate: settings.rate,
         clients: settings.clients,

@@ -9,8 +9,8 @@ pub(crate) const LBSERVER: ProgramText<'static, 'static> = ProgramText {
         about: "A LocoNet command station for clients of LocoNet over TCP, up to eight at once",
         details: "Example: lbserver --roster layout.toml --port 1234 --track",
         arguments: &[
-            ADDRESS, PORT, ROSTER, PLAN, TURNS, RATE, CLIENTS, TRACK, QUIET, PAGE, PAGE_FILE, HOST,
-            LOSE, SEED,
+            ADDRESS, PORT, ROSTER, PLAN, PROGRAMMER, TURNS, RATE, CLIENTS, TRACK, QUIET, PAGE,
+            PAGE_FILE, HOST, LOSE, SEED,
         ],
     },
     subcommands: &[],
@@ -41,6 +41,14 @@ const PLAN: Argument<'static> = Argument {
     value_name: "FILE",
     need: Need::Optional,
     help: "The track plan, on which the trains of the roster run and sensors report; without it no train moves",
+};
+
+const PROGRAMMER: Argument<'static> = Argument {
+    id: "programmer",
+    kind: Kind::Single,
+    value_name: "FILE",
+    need: Need::Optional,
+    help: "A roster whose first locomotive stands on a programming track, to read and write its variables; without it there is no such track",
 };
 
 const TURNS: Argument<'static> = Argument {

@@ -14,6 +14,8 @@ pub struct ServerOrder {
     pub roster: Option<FileName>,
     /// The file of the track plan, with a roster. Without it no train moves.
     pub plan: Option<FileName>,
+    /// The file of the decoder on the programming track. Without it there is no programming track.
+    pub programmer: Option<FileName>,
     /// Track turns after each message, 0 to 255. Without it the track runs in real time.
     pub turns: Option<u8>,
     /// How many times as fast time passes, 1 to 100; never beside `turns`. Without it 1.
