@@ -1,17 +1,18 @@
 -- Explanations of LocoNet messages in plain words (LocoNet Personal Use Edition 1.0).
-use Rattle.std.specs.Prelude.{ℕ, ◌+◌, ◌-◌, ◌*◌, ◌/◌, ◌%◌, ◌==◌, ◌&&◌, Bool, true, false, nat_lt, nat_le, if◌then◌else◌, List, [], ◌∷◌, ◌++◌, map, take, codes}
+use Rattle.std.specs.Prelude.{ℕ, ◌+◌, ◌-◌, ◌*◌, ◌/◌, ◌%◌, ◌==◌, ◌&&◌, Bool, true, false, nat_lt, nat_le, if◌then◌else◌, List, [], ◌∷◌, ◌++◌, length, map, slice_index, take, codes}
 use Rattle.std.specs.Fmt.{decimal}
-use Rattle.ln_frame.specs.Message.{are_data, has_form, is_whole}
+use Rattle.ln_frame.specs.Message.{are_data, check_of, has_form, is_whole}
 use Rattle.ln_ops.specs.Fields.{SlotBytes}
 use Rattle.ln_ops.specs.Message.{op_of}
 use Rattle.ln_ops.specs.Slot.{address_with, is_slot}
 use Rattle.ln_ops.specs.declared.op.Op.{Op}
 use Rattle.ln_ops.specs.declared.op.Op.TheVariants.{PowerOff, PowerOn, ForceIdle, Speed, Dirf, Snd, SwReq, SwAck, LongAck, SlotStat, Move, SlotRead, LocoAddr, SlotData, SlotWrite, Imm, Other}
 use Rattle.dcc_packet.specs.Form.{with_check}
+use Rattle.describe.specs.declared.maker_rows.TheConstants.{MAKER_MESSAGES as maker_messages}
 use Rattle.describe.specs.declared.message_rows.TheConstants.{MESSAGES as messages}
 use Rattle.describe.specs.Fields.{light_and_four}
 use Rattle.describe.specs.Packets.{direction_words, packet_words, switch_words}
-use Rattle.describe.specs.Pieces.{eight_on, four_on, functions_words}
+use Rattle.describe.specs.Pieces.{eight_on, four_on, functions_words, hex_pair}
 use Rattle.describe.specs.Rows.{Row, at, row_text}
 
 -- `slot N` and its explanation
@@ -179,24 +180,49 @@ op_words (SlotWrite f) = written_words f
 op_words (Imm count im1 im2 im3 im4 im5) = imm_words count (im1 ∷ im2 ∷ im3 ∷ im4 ∷ im5 ∷ [])
 op_words op = []
 
--- the table of src/message_rows.rt
+-- the tables of src/message_rows.rt and src/maker_rows.rt
 abbrev pub message_rows : List Row
 message_rows = map (λ row. (at row.0.now, at (map (λ said. (said.0, at (map (λ text. at text.now) said.1.now))) row.1.now))) messages
 
--- the explanation of a whole message by the table
-unfoldable pub table_words : List ℕ → List ℕ
-table_words bytes = row_text message_rows bytes
+abbrev pub maker_rows : List Row
+maker_rows = map (λ row. (at row.0.now, at (map (λ said. (said.0, at (map (λ text. at text.now) said.1.now))) row.1.now))) maker_messages
+
+unfoldable pub standard_words : List ℕ → List ℕ
+standard_words bytes = row_text message_rows bytes
+
+unfoldable pub maker_words : List ℕ → List ℕ
+maker_words bytes = row_text maker_rows bytes
+
+-- Messages that makers added to the standard: A3 and D4, functions of the Intellibox; D0, reports of
+-- Digitrax devices; E4, reports of detectors; E5 0F and ED 0F, variables of modules (LNCV).
+abbrev pub is_of_maker : (opcode second : ℕ) → Bool
+is_of_maker opcode second =
+    if opcode == 0xA3 then true else
+    (if opcode == 0xD0 then true else
+    (if opcode == 0xD4 then true else
+    (if opcode == 0xE4 then true else
+    (if opcode == 0xE5 then second == 15 else
+    (if opcode == 0xED then second == 15 else false)))))
+
+-- the explanation of a whole message by a table
+abbrev pub table_words : List ℕ → List ℕ
+table_words bytes = if is_of_maker (slice_index bytes 0) (slice_index bytes 1) then maker_words bytes else standard_words bytes
 
 -- the explanation of a whole message
 abbrev pub whole_words : Op → List ℕ → List ℕ
 whole_words op bytes = if is_reported op then op_words op else table_words bytes
+
+-- LocoNet, message format: the check byte makes the exclusive or of all bytes FF
+unfoldable pub wrong_check_words : List ℕ → List ℕ
+wrong_check_words bytes =
+    codes "wrong check byte, should be " ++ hex_pair (check_of (take (length bytes - 1) bytes))
 
 -- why bytes are not a whole message
 abbrev pub fault_words : List ℕ → List ℕ
 fault_words [] = codes "no opcode"
 fault_words (first ∷ rest) =
     if nat_lt first 128 then codes "no opcode" else
-    (if are_data rest then (if has_form (first ∷ rest) then codes "wrong check" else codes "wrong length") else codes "data above 7F")
+    (if are_data rest then (if has_form (first ∷ rest) then wrong_check_words (first ∷ rest) else codes "wrong length") else codes "data above 7F")
 
 -- the explanation of the bytes of a message, the check last
 abbrev pub message_words : List ℕ → List ℕ

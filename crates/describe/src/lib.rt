@@ -12,6 +12,7 @@
 #![tactic(auto)]
 
 mod fields;
+mod maker_rows;
 mod message_rows;
 mod messages;
 mod packet_rows;

@@ -6,12 +6,13 @@ ghost use Rattle.dcc_packet.specs.Packet.{xor_of};
 ghost use Rattle.ln_frame.specs.Message.{are_data, is_whole};
 ghost use Rattle.ln_ops.specs.Message.{IsOfData, op_of};
 ghost use Rattle.ln_ops.specs.Slot.{is_slot};
-ghost use Rattle.describe.specs.Messages.{acknowledged_words, dirf_words, dispatch_words, fault_words, imm_words, is_reported, message_words, move_words, moved_words, op_words, read_words, sent_words, slot_label, snd_words, speed_words, status_words, table_words, taken_words, use_words, whole_words, written_words};
+ghost use Rattle.describe.specs.Messages.{acknowledged_words, dirf_words, dispatch_words, fault_words, imm_words, is_of_maker, is_reported, maker_words, message_words, move_words, moved_words, op_words, read_words, sent_words, slot_label, snd_words, speed_words, standard_words, status_words, table_words, taken_words, use_words, whole_words, written_words, wrong_check_words};
 
-use crate::fields::light_and_four;
+use crate::fields::{Field, light_and_four, value_of};
+use crate::maker_rows::MAKER_MESSAGES;
 use crate::message_rows::MESSAGES;
 use crate::packets::{push_direction, push_packet, push_switch};
-use crate::pieces::{Words, push_byte, push_functions, push_halves, push_text};
+use crate::pieces::{Words, push_byte, push_functions, push_halves, push_hex, push_text};
 use crate::rows::push_row;
 use crate::slots::{is_forward, push_slot, push_slot_data, push_spd, push_stat};
 use arrayvec::ArrayVec;
@@ -250,29 +251,76 @@ fn push_address(words: &mut Words, high: u8, low: u8)
     push_halves(words, "take locomotive ", high, low);
 }
 
-/// The explanation of a whole message by the table.
+/// The explanation of a whole message by the table of the standard.
 #[tactic(auto, unfolding(crate::specs::Rows::fits, crate::specs::Rows::most_of, crate::specs::Rows::longest))]
-fn push_by_table(words: &mut Words, bytes: &[u8])
+fn push_standard(words: &mut Words, bytes: &[u8])
     requires size { length bytes.now ≤ 127 }
     requires room { array_vec_len words.old ≤ 0 }
-    ensures text { words.new.items ≡ words.old.items ++ table_words bytes.now }
-    ensures len { array_vec_len words.new ≤ 250 }
+    ensures { words.new.items ≡ words.old.items ++ standard_words bytes.now }
 {
     push_row(words, &MESSAGES, bytes);
 }
 
-/// Why bytes are not a whole message.
-fn fault_words(bytes: &[u8]) -> &'static str
-    requires { is_whole bytes.now ≡ false }
-    ensures text { result.now ≡ fault_words bytes.now }
-    ensures len { length result.now ≤ 20 }
+/// The explanation of a whole message by the table of makers.
+#[tactic(auto, unfolding(crate::specs::Rows::fits, crate::specs::Rows::most_of, crate::specs::Rows::longest))]
+fn push_maker(words: &mut Words, bytes: &[u8])
+    requires size { length bytes.now ≤ 127 }
+    requires room { array_vec_len words.old ≤ 0 }
+    ensures { words.new.items ≡ words.old.items ++ maker_words bytes.now }
+{
+    push_row(words, &MAKER_MESSAGES, bytes);
+}
+
+/// Whether makers added messages with this opcode and this second byte.
+fn is_of_maker(opcode: u16, second: u16) -> bool
+    ensures { result ≡ is_of_maker opcode second }
+{
+    match opcode {
+        0xA3 | 0xD0 | 0xD4 | 0xE4 => true,
+        0xE5 | 0xED => second == 15,
+        _ => false,
+    }
+}
+
+/// The explanation of a whole message by a table.
+fn push_by_table(words: &mut Words, bytes: &[u8])
+    requires size { length bytes.now ≤ 127 }
+    requires room { array_vec_len words.old ≤ 0 }
+    ensures { words.new.items ≡ words.old.items ++ table_words bytes.now }
+{
+    if is_of_maker(
+        value_of(Field::Byte(0), bytes),
+        value_of(Field::Byte(1), bytes),
+    ) {
+        push_maker(words, bytes);
+    } else {
+        push_standard(words, bytes);
+    }
+}
+
+/// Appends why bytes are not a whole message.
+fn push_fault(words: &mut Words, bytes: &[u8])
+    requires fault { is_whole bytes.now ≡ false }
+    requires room { array_vec_len words.old ≤ 0 }
+    ensures { words.new.items ≡ words.old.items ++ fault_words bytes.now }
 {
     match bytes {
-        [128..=255, rest @ ..] if !are_data(rest) => "data above 7F",
-        [128..=255, ..] if !Msg::has_form(bytes) => "wrong length",
-        [128..=255, ..] => "wrong check",
-        _ => "no opcode",
+        [128..=255, rest @ ..] if !are_data(rest) => push_text(words, "data above 7F"),
+        [128..=255, ..] if !Msg::has_form(bytes) => push_text(words, "wrong length"),
+        [128..=255, ..] => push_wrong_check(words, bytes),
+        _ => push_text(words, "no opcode"),
     }
+}
+
+/// Appends that the last byte is a wrong check, and the right one.
+#[tactic(auto, unfolding(crate::specs::Messages::wrong_check_words))]
+fn push_wrong_check(words: &mut Words, bytes: &[u8])
+    requires some { 0 < length bytes.now }
+    requires room { array_vec_len words.old ≤ 0 }
+    ensures { words.new.items ≡ words.old.items ++ wrong_check_words bytes.now }
+{
+    push_text(words, "wrong check byte, should be ");
+    push_hex(words, check_of(&bytes[..bytes.len() - 1]) ^ 0xFF);
 }
 
 /// Whether each byte is below 128.
@@ -285,10 +333,12 @@ fn are_data(bytes: &[u8]) -> bool
 /// Explains the bytes of a LocoNet message, the check last, in plain words (LocoNet Personal Use
 /// Edition 1.0).
 ///
-/// Every message of the standard is explained, including those that a command station ignores.
+/// Every message of the standard is explained, including those that a command station ignores, and
+/// others that are known by their makers' devices are named.
 /// Slots have their own numbers; switches and sensors count from 1. The packet of OPC_IMM_PACKET is
 /// explained by [`packet_words`](crate::packet_words). Bytes that are not a whole message give the
-/// reason: `no opcode`, `data above 7F`, `wrong length` or `wrong check`, the first that applies.
+/// reason: `no opcode`, `data above 7F`, `wrong length`, or `wrong check byte, should be` and the right
+/// one, the first that applies.
 pub fn message_words(bytes: &[u8]) -> Words
     ensures { result.items ≡ message_words bytes.now }
 {
@@ -305,7 +355,7 @@ pub fn describe_message(words: &mut Words, bytes: &[u8])
     words.clear();
     match Msg::whole(bytes) {
         Some(message) => push_whole(words, &message),
-        None => push_text(words, fault_words(bytes)),
+        None => push_fault(words, bytes),
     }
 }
 
