@@ -1,5 +1,6 @@
 pub mod Changed
 pub mod EachLine
+pub mod Ignoring
 pub mod Logging
 pub mod Staying
 pub mod Taking

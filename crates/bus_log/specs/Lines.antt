@@ -1,5 +1,5 @@
 -- The log of a bus, line by line, in the words of docs/CLIENTS.md, *What is printed*.
-use Rattle.std.specs.Prelude.{ℕ, ◌+◌, Bool, true, false, ◌&&◌, not, if◌then◌else◌, nat_lt, List, [], ◌∷◌, ◌++◌, map, Option, Some, None, codes}
+use Rattle.std.specs.Prelude.{ℕ, ◌+◌, Bool, true, false, ◌&&◌, not, if◌then◌else◌, nat_lt, List, [], ◌∷◌, ◌++◌, Option, Some, None, codes}
 use Rattle.std.specs.Fmt.{decimal}
 use Rattle.std.specs.Str.{bytes_eq}
 use Rattle.dcc_packet.specs.Sent.{idle_bytes}
@@ -7,7 +7,7 @@ use Rattle.layout_core.specs.declared.decoder_state.DecoderState.{DecoderState}
 use Rattle.layout_core.specs.DecoderStates.{decoder_line, same_decoder_state}
 use Rattle.ln_ops.specs.Message.{op_of}
 use Rattle.ln_ops.specs.declared.op.Op.{Op}
-use Rattle.ln_ops.specs.declared.op.Op.TheVariants.{SlotRead, SlotData}
+use Rattle.ln_ops.specs.declared.op.Op.TheVariants.{LongAck, Other, SlotRead, SlotData}
 use Rattle.railway.specs.declared.train.TrainState.{TrainState}
 use Rattle.roster.specs.Entry.{Entry}
 use Rattle.show_text.specs.Lines.{track_text}
@@ -15,7 +15,6 @@ use Rattle.describe.specs.Messages.{message_words}
 use Rattle.bus.specs.declared.outcome.Outcome.{Outcome}
 use Rattle.bus.specs.declared.outcome.Outcome.TheVariants.{Nothing, Connected, Disconnected, Rejected, Reported, Programmed, Sent, TurnBegan, TurnsRequested, StatesRequested, PlaceRequested, Placed}
 use Rattle.text.specs.Hex.{hex_words}
-use Rattle.bus.specs.Outcome.{messages_in}
 
 -- The state of a printer: the turns, the state of each decoder when it was last printed, or at the
 -- start, and the trains at the last outcome, or at the start.
@@ -70,14 +69,31 @@ set_off (first ∷ others) = 32 ∷ 32 ∷ first ∷ others
 abbrev pub sent_line : (message : List ℕ) → List ℕ
 sent_line message = codes "message" ++ hex_words message ++ set_off (message_words message)
 
+-- a message that the station neither answers nor obeys
+abbrev pub ignored_line : (message : List ℕ) → List ℕ
+ignored_line message = sent_line message ++ codes ", ignored"
+
+-- LOCONET.md, *What each message does*: what no throttle sends, and what is no operation of the
+-- station
+abbrev pub has_no_effect : Op → Bool
+has_no_effect (LongAck opc ack) = true
+has_no_effect (SlotData fields) = true
+has_no_effect Other = true
+has_no_effect op = false
+
+abbrev pub unanswered_line : (message : List ℕ) → List ℕ
+unanswered_line message = if has_no_effect (op_of message) then ignored_line message else sent_line message
+
 -- a read of a slot (OPC_RQ_SL_DATA) that is answered by its data (OPC_SL_RD_DATA)
 abbrev pub is_read : Op → Op → Bool
 is_read (SlotRead slot) (SlotData fields) = true
 is_read op reply = false
 
-abbrev pub is_slot_read : (message : List ℕ) → (reply : Option (List ℕ)) → Bool
-is_slot_read message None = false
-is_slot_read message (Some reply) = is_read (op_of message) (op_of reply)
+-- a message of a client and the reply to it; none for a read of a slot
+abbrev pub exchange_lines : (message : List ℕ) → (reply : Option (List ℕ)) → List (List ℕ)
+exchange_lines message None = unanswered_line message ∷ []
+exchange_lines message (Some reply) =
+    if is_read (op_of message) (op_of reply) then [] else sent_line message ∷ sent_line reply ∷ []
 
 -- The lines of an outcome: clients that connect and disconnect, each message and then its reply
 -- (none for a read of a slot), each report of a device, the packet of a turn, and the decoders that
@@ -91,9 +107,7 @@ lines_of track entries before (TurnsRequested client turns) decoder_states = []
 lines_of track entries before (StatesRequested client things) decoder_states = []
 lines_of track entries before (PlaceRequested client placement) decoder_states = []
 lines_of track entries before (Placed client answer) decoder_states = []
-lines_of track entries before (Sent client message reply) decoder_states =
-    if is_slot_read message reply then []
-    else map sent_line (messages_in (Sent client message reply))
+lines_of track entries before (Sent client message reply) decoder_states = exchange_lines message reply
 lines_of track entries before (Reported message) decoder_states = sent_line message ∷ []
 lines_of track entries before (Programmed packet) decoder_states = programming_lines track before.turns packet
 lines_of track entries before (TurnBegan packet) decoder_states = packet_lines track (saturating_successor before.turns) packet ++ changed_lines entries before.decoder_states decoder_states

@@ -9,6 +9,8 @@
 //! ```
 #![tactic(auto)]
 
+mod exchanges;
+mod laws;
 mod line_queue;
 mod listening;
 mod log_output;
@@ -19,6 +21,7 @@ mod programming_lines;
 mod railway_lines;
 mod verbosity;
 
+pub use laws::ignored_messages_have_no_effect;
 pub use line_queue::LOG_CAPACITY;
 pub use listening::print_listening;
 pub use log_output::{LogOutput, write_queued};

@@ -1,7 +1,7 @@
 //! The line of a message.
 ghost use Rattle.std.specs.Prelude.{◌≡◌, ◌+◌, ◌*◌, ◌≤◌, ◌++◌, ◌∷◌, [], length};
 ghost use Rattle.arrayvec.specs.ArrayVec.{array_vec_len};
-ghost use Rattle.bus_log.specs.Lines.{sent_line, set_off};
+ghost use Rattle.bus_log.specs.Lines.{ignored_line, sent_line, set_off};
 ghost use Rattle.bus_log.specs.LogQueues.{after_lines};
 
 use crate::log_queue::LogQueue;
@@ -20,6 +20,14 @@ pub(crate) fn print_message(log: &mut LogQueue, message: &Msg)
 {
     log.print(message_line(message).as_slice());
     log.print(b"\n");
+}
+
+/// Prints a message that the station ignores, its explanation, and that it does.
+pub(crate) fn print_ignored(log: &mut LogQueue, message: &Msg)
+    ensures { log.new ≡ after_lines log.old (ignored_line message.now ∷ []) }
+{
+    log.print(message_line(message).as_slice());
+    log.print(b", ignored\n");
 }
 
 /// Returns `message`, the bytes of a message in upper-case hexadecimal digits, two spaces and its

@@ -1,6 +1,5 @@
 //! Printing the outcomes of a bus.
-ghost use Rattle.std.specs.Prelude.{◌≡◌, ◌/◌, None, List, [], ◌∷◌, if◌then◌else◌, length, map, option_copied};
-ghost use Rattle.std.specs.Option.{option_to_list};
+ghost use Rattle.std.specs.Prelude.{◌≡◌, ◌/◌, None, List, [], ◌∷◌, length, map, option_copied};
 ghost use Rattle.dcc_packet.specs.Sent.{idle_bytes};
 ghost use Rattle.layout_core.specs.Nodes.{spec_of};
 ghost use Rattle.layout_core.specs.DecoderStates.{decoder_state_of};
@@ -9,8 +8,9 @@ ghost use Rattle.roster.specs.Entry.{spec_of as entry_spec};
 ghost use Rattle.bus_server.specs.NamedNodes.{names_of as named_names, specs_of as named_specs};
 ghost use Rattle.bus_log.specs.LogQueues.{after_lines};
 ghost use Rattle.bus_log.specs.RailwayLines.{trains_of};
-ghost use Rattle.bus_log.specs.Lines.{changed_lines, client_line, is_slot_read, lines_unless, overflow_line, saturating_successor, packet_lines, sent_line, skipped_line};
+ghost use Rattle.bus_log.specs.Lines.{changed_lines, client_line, lines_unless, overflow_line, saturating_successor, packet_lines, skipped_line};
 
+use crate::exchanges::print_exchange;
 use crate::log_queue::LogQueue;
 use crate::messages::print_message;
 use crate::programming_lines::print_programming;
@@ -22,8 +22,6 @@ use bus_server::{NamedNode, NamedNodes, Observer};
 use dcc_packet::{Packet, idle};
 use decoder_node::{MAX_NODES, NodeSpec};
 use layout_core::{DecoderState, World};
-use ln_frame::Msg;
-use ln_ops::{Op, read};
 use railway::Railway;
 use roster::Roster;
 use show_text::track_line;
@@ -114,7 +112,7 @@ impl<'a> Printer<'a> {
             | Outcome::Placed { .. } => {}
             Outcome::Connected { client } => print_client(&mut self.log, *client, " joins"),
             Outcome::Disconnected { client } => print_client(&mut self.log, *client, " leaves"),
-            Outcome::Sent { message, reply, .. } => print_sent(&mut self.log, message, reply),
+            Outcome::Sent { message, reply, .. } => print_exchange(&mut self.log, message, reply),
             Outcome::Reported { message } => print_message(&mut self.log, message),
             Outcome::Programmed { packet } => {
                 let track = self.verbosity.prints_packets();
@@ -299,34 +297,6 @@ fn print_client(log: &mut LogQueue, client: u8, does: &str)
     ensures { log.new ≡ after_lines log.old (client_line client does.now ∷ []) }
 {
     log.print_count("client ", u64::from(client) + 1, does);
-}
-
-/// Prints a message, and then the reply to it, unless a slot is read.
-fn print_sent(log: &mut LogQueue, message: &Msg, reply: &Option<Msg>)
-    ensures { log.new
-        ≡ after_lines log.old (if is_slot_read message.now reply.now then [] else map sent_line
-        (message.now ∷ option_to_list reply.now)) }
-{
-    if is_slot_read(message, reply) {
-        return;
-    }
-    print_message(log, message);
-    if let Some(reply) = reply {
-        print_message(log, reply);
-    }
-}
-
-/// Returns whether a slot is read, and the reply is its data.
-fn is_slot_read(message: &Msg, reply: &Option<Msg>) -> bool
-    ensures { result ≡ is_slot_read message.now reply.now }
-{
-    match reply {
-        Some(reply) => matches!(
-            (read(message), read(reply)),
-            (Op::SlotRead { .. }, Op::SlotData(_))
-        ),
-        None => false,
-    }
 }
 
 /// Prints the packet of a turn, if packets are printed; idle packets are not.

@@ -1,0 +1,30 @@
+-- A station neither obeys nor answers these operations.
+use Rattle.std.proofs.Common.{◌≡◌, ℕ, true, None, refl}
+use Rattle.ln_ops.specs.declared.op.Op.{Op}
+use Rattle.ln_ops.specs.declared.op.Op.TheVariants.{PowerOff, PowerOn, ForceIdle, Speed, Dirf, Snd, SwReq, SwAck, LongAck, SlotStat, Move, SlotRead, LocoAddr, SlotData, SlotWrite, Imm, Other}
+use Rattle.station_core.specs.After.{after}
+use Rattle.station_core.specs.Answer.{answer}
+use Rattle.station_core.specs.Powered.{PoweredDesk}
+use Rattle.bus_log.specs.Lines.{has_no_effect}
+
+abbrev HasNoEffect : Op → Type 0
+HasNoEffect op = (powered : PoweredDesk) (waiting : ℕ) → (after powered op ≡ powered) × (answer powered op waiting ≡ None)
+
+pub no_effect : (op : Op) → has_no_effect op ≡ true → HasNoEffect op
+no_effect PowerOff e = cc
+no_effect PowerOn e = cc
+no_effect ForceIdle e = cc
+no_effect (Speed slot spd) e = cc
+no_effect (Dirf slot dirf) e = cc
+no_effect (Snd slot snd) e = cc
+no_effect (SwReq number closed on) e = cc
+no_effect (SwAck number closed on) e = cc
+no_effect (LongAck opc ack) e = λ powered waiting. (refl, refl)
+no_effect (SlotStat slot stat) e = cc
+no_effect (Move src dest) e = cc
+no_effect (SlotRead slot) e = cc
+no_effect (LocoAddr high low) e = cc
+no_effect (SlotData fields) e = λ powered waiting. (refl, refl)
+no_effect (SlotWrite fields) e = cc
+no_effect (Imm count im1 im2 im3 im4 im5) e = cc
+no_effect Other e = λ powered waiting. (refl, refl)
