@@ -184,7 +184,7 @@ def nodes_are_left():
                 client.write(send(BUSY))
                 lines = client.lines_until("SENT OK")
                 same("what the next one receives", set(lines), {*receive(POWER_ON, BUSY), "SENT OK"})
-                log = printed_after(server, f"message {BUSY}  busy")
+                log = printed_after(server, f"message {BUSY}  busy, ignored")
             same("clients 2", log.count("client 2 joins"), 2)
             between = log[log.index("client 2 leaves") : len(log) - log[::-1].index("client 2 joins")]
             within("messages from one to the other", 0, between.count(f"message {POWER_ON}  track power on"), 33 * 50)

@@ -32,7 +32,7 @@ from serving import Client, Page, Server, message, message_hex
 
 
 # A message without meaning to the station, which is sent after all others.
-LAST = "message 80 7F  unknown opcode 80"
+LAST = "message 80 7F  unknown opcode 80, ignored"
 
 
 def speed_line(text, slot, spd):
@@ -260,6 +260,33 @@ def slot_reads():
         refused = "message B4 3B 00 70  message BB refused"
         reads = ["message BB 00 00 44  read slot 0", refused, "message BB 7B 00 3F  read the fast clock", refused]
         same("printed", printed_after(server, LAST), ["client 1 joins", *reads, LAST])
+
+
+# Messages that the station neither obeys nor answers, and what they say.
+IGNORED = [
+    ((0x81,), "busy"),
+    ((0xB8, 3, 4), "unlink slot 3 from slot 4"),
+    ((0xB9, 3, 4), "link slot 3 to slot 4"),
+    ((0xB6, 1, 0), "slot 1, in a consist: F0 to F4: all off"),
+    ((0xB4, 0x3F, 0), "no free slot for the locomotive"),
+    ((0xA3, 1, 1), "slot 1: F9 to F12: F9 on"),
+    ((0xD0, 0x20, 5, 0x7D, 3), "transponding: a locomotive came into a section"),
+    ((0xD4, 0x20, 1, 8, 1), "slot 1: F13 to F19: F13 on"),
+    ((0xE4, 8, 0, 0x60, 1, 0x42, 0x35), "Lissy: report of a locomotive"),
+    ((0xE5, 4, 0), "peer transfer of another length"),
+    ((0xED, 0x0F, 1, 5, 0, 0x21, 0x41, 0x29, 0x13, 0, 0, 5, 0, 0), "LNCV: read a variable of a module"),
+]
+
+
+def ignored_messages():
+    """a message that the station neither obeys nor answers is printed as ignored, and no other is"""
+    with serve("--turns", "0") as server, Client(server) as client:
+        for body, _ in IGNORED:
+            client.send(*body)
+        client.send(0x83)
+        last = "message 83 7C  track power on"
+        wanted = [f"message {message_hex(*body)}  {words}, ignored" for body, words in IGNORED]
+        same("printed", printed_after(server, last), ["client 1 joins", *wanted, last])
 
 
 def quiet():

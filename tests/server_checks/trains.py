@@ -340,7 +340,7 @@ def logged(server):
     """The lines of blocks and trains in the log, between the marks, once the power is off."""
     steps = [[]]
     for line in printed_after(server, f"message {POWER_OFF}  track power off"):
-        if line == f"message {BUSY}  busy":
+        if line == f"message {BUSY}  busy, ignored":
             steps.append([])
         elif line.split()[0] in ("block", "derailed", "conflict"):
             steps[-1].append(line)

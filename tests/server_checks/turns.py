@@ -121,7 +121,7 @@ TURN_REQUESTS = [
 
 def requested_turns():
     """TURNS n runs n turns in its place among the messages, is answered to its client alone, and refused in real time"""
-    mark = "message 81 7E  busy"
+    mark = "message 81 7E  busy, ignored"
     with serve(*LAYOUT, "--turns", "0", "--track") as server, Client(server) as client, Client(server) as other:
         client.take(3)
         client.send(0xA0, 1, 0x40)

@@ -77,11 +77,15 @@ const CAPTURED: [Row; 15] = [
     (b"a0 01 40 1e", b"", b"  slot 1: speed 63 of 126"),
     (b"track 2 off", b"", b"  no power, nothing is sent"),
     // The explanation of an invalid message or packet is the reason.
-    (b"83 7D", b"\n", b"  wrong check"),
+    (b"83 7D", b"\n", b"  wrong check byte, should be 7C"),
     (b"83 7C 00", b"\n", b"  wrong length"),
     (b"03", b"\n", b"  no opcode"),
     (b"A0 81 40 1E", b"\n", b"  data above 7F"),
-    (b"RECEIVE 83 7D", b"\r\n", b"  wrong check"),
+    (
+        b"RECEIVE 83 7D",
+        b"\r\n",
+        b"  wrong check byte, should be 7C",
+    ),
     (b"track 4 FF 00 FE", b"\n", b"  wrong check"),
     (b"track 4 FF FF", b"\n", b"  wrong length"),
 ];
