@@ -30,6 +30,7 @@ from .errors import ClosedError, StationError
 from .log import Conflict, Derailment, Log, kinds_in, option, sensors_at_start
 from .messages import Reply, SensorReport
 from .process import Process, find_page, find_program, free_port, start
+from .programmer import Programmer
 from .throttle import Throttle
 from .trains import Train
 
@@ -136,6 +137,10 @@ class Server(Throttle, HasNodes):
     def client(self) -> Client:
         """Connects one more client. Close it, or use it in a `with`. After its calls `sync` waits for the log."""
         return Client(self.host, self.port, self.seconds)
+
+    def programmer(self) -> Programmer:
+        """The programming track, over one more client. The server runs with the option `--programmer FILE`."""
+        return Programmer(self.client(), option(self.options, "--turns") is not None)
 
     def send(self, *body: int) -> Reply | None:
         """Sends a message by the server's own client. Returns the reply, or None if there is none.

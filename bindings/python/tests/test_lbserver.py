@@ -39,6 +39,7 @@ from station.decoders import read_node_line  # noqa: E402
 from station.lbserver import Client, Server, find_page  # noqa: E402
 from station.log import Conflict, Derailment, Log, sensors_at_start  # noqa: E402
 from station.messages import has_reply  # noqa: E402
+from station.programmer import NoAcknowledgeError, NoDecoderError, ProgrammerBusyError  # noqa: E402
 
 LAYOUT = TOP / "examples/layout.toml"
 OVAL, OVAL_ROSTER = TOP / "examples/oval.toml", TOP / "examples/oval-roster.toml"
@@ -645,6 +646,30 @@ class TestServer(unittest.TestCase):
                     other.send(0xA0, slot, speed)
                     other.sync() if speed % 2 else server.sync()
                     self.assertIn(f"message {message_hex(0xA0, slot, speed)} ", "\n".join(server.printed(mark)))
+
+    def test_programmer(self):
+        for options in (["--rate", "100"], ["--turns", "0"]):
+            with Server("--programmer", str(LAYOUT), *options) as server:
+                track = server.programmer()
+                self.assertEqual(track.read(1), 3)
+                # 1234 is 4 * 256 + 210.
+                for cv, value in ((17, 196), (18, 210), (1024, 255)):
+                    track.write(cv, value)
+                    self.assertEqual(track.read(cv), value)
+                with self.assertRaisesRegex(NoAcknowledgeError, "CV7: no ack"):
+                    track.write(7, 1)
+                for cv, value in ((0, 1), (1025, 1), (1, 256)):
+                    with self.assertRaises(ValueError):
+                        track.write(cv, value)
+        with tempfile.NamedTemporaryFile("w") as empty:
+            empty.write('version = 2\n[[node]]\nname = "yard"\nkind = "accessory"\nmodule = 1\n')
+            empty.flush()
+            with Server("--programmer", empty.name, "--rate", "100") as server:
+                with self.assertRaises(NoDecoderError):
+                    server.programmer().read(1)
+        with Server("--rate", "100") as server:
+            with self.assertRaises(ProgrammerBusyError):
+                server.programmer().read(1)
 
     def test_trains(self):
         with Server("--turns", "0", roster=OVAL_ROSTER, plan=OVAL.read_text()) as server, server.client() as client:

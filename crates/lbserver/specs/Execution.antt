@@ -19,8 +19,10 @@ use Rattle.bus_server.specs.declared.pace.Pace.TheVariants.{AfterMessages, RealT
 use Rattle.bus_server.specs.Losses.{IsSeeded}
 use Rattle.bus_server.specs.Pace.{is_pace}
 use Rattle.railway.specs.Railway.{RailwayState}
+use Rattle.programming_track.specs.declared.programming_track.ProgrammingTrack.{ProgrammingTrack}
 use Rattle.railway_plan.specs.Railways.{IsRailwayIn}
 use Rattle.bus_server.specs.Running.{IsRun, RunSnapshot}
+use Rattle.lbserver.specs.Programmers.{IsProgrammingOf}
 use Rattle.lbserver.specs.declared.fault.ServerFault.{ServerFault}
 use Rattle.lbserver.specs.declared.fault.ServerFault.TheVariants.{Listen, Order, Output, Plan, Roster, Run, Unopened}
 
@@ -52,31 +54,36 @@ pace_of None None = RealTime 1
 abbrev pub HasPace : ServerOrder → Type 0
 HasPace order = IsTrue (is_pace (pace_of order.turns order.rate))
 
--- a new server for an order: the decoders of its roster, a railway, its turns and its rate, and
--- losses of its share, drawn from its seed
-abbrev pub IsNewServer : ServerOrder → List Entry → Option RailwayState → ServerState → Type 0
-IsNewServer order entries railway start =
-    (losses : Losses) × IsSeeded order.lose order.seed losses × (start ≡ initial_state (specs_of entries) (names_of entries) railway (pace_of order.turns order.rate) losses)
+-- a new server for an order: the decoders of its roster, a railway and a programming track, its turns
+-- and its rate, and losses of its share, drawn from its seed
+abbrev pub IsNewServer : ServerOrder → List Entry → Option RailwayState → Option ProgrammingTrack → ServerState → Type 0
+IsNewServer order entries railway programming start =
+    (losses : Losses) × IsSeeded order.lose order.seed losses × (start ≡ initial_state (specs_of entries) (names_of entries) railway programming (pace_of order.turns order.rate) losses)
 
 -- A server that is ready to serve an order: new, with the decoders of its roster, and nothing to report.
 pub record IsReady (order : ServerOrder) (entries : List Entry) (hub : Hub) : Type 0 where
   pub observes : ObservesLayout (specs_of entries) hub
   pub reported : HasReported hub
-  pub new : IsNewServer order entries (state_of hub).railway (state_of hub)
+  pub new : IsNewServer order entries (state_of hub).railway (state_of hub).programming (state_of hub)
 
 -- sockets, the system's clock and standard output keep no logs
 abbrev pub unlogged : ServerState → RunSnapshot
 unlogged state = record { log = None; readings = None; observed = None; shown = None; state = state }
 
 -- A run of a new server for this order, until the given number of clients have disconnected.
-abbrev pub ServesOrder : ServerOrder → List Entry → Option RailwayState → Type 0
-ServesOrder order entries railway =
-    (start end : ServerState) × IsNewServer order entries railway start × IsRun (clients_of order.clients) (unlogged start) (unlogged end)
+abbrev pub ServesOrder : ServerOrder → List Entry → Option RailwayState → Option ProgrammingTrack → Type 0
+ServesOrder order entries railway programming =
+    (start end : ServerState) × IsNewServer order entries railway programming start × IsRun (clients_of order.clients) (unlogged start) (unlogged end)
 
--- an order is served, with the railway of its plan
+-- an order is served, with the programming track of its decoder
+abbrev pub ServesProgrammer : ServerOrder → List Entry → Option RailwayState → Type 0
+ServesProgrammer order entries railway =
+    (programming : Option ProgrammingTrack) × IsProgrammingOf order.programmer programming × ServesOrder order entries railway programming
+
+-- and with the railway of its plan
 abbrev pub ServesPlan : ServerOrder → List Entry → Type 0
 ServesPlan order entries =
-    (railway : Option RailwayState) × IsRailwayOf order.plan entries railway × ServesOrder order entries railway
+    (railway : Option RailwayState) × IsRailwayOf order.plan entries railway × ServesProgrammer order entries railway
 
 -- The arguments are those of an order, and it is served, with its roster.
 abbrev pub ServesWords : List (List ℕ) → Type 0

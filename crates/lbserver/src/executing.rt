@@ -4,7 +4,7 @@ ghost use Rattle.roster.specs.Decoders.{entries_of};
 ghost use Rattle.bus_log.specs.Verbosities.{verbosity_of};
 ghost use Rattle.bus_server.specs.Snapshots.{state_of};
 ghost use Rattle.console.specs.Files.{IsRosterOf};
-ghost use Rattle.lbserver.specs.Execution.{HasPace, IsReady, RunsWords, ServesOrder, ServesPlan, AreNoOrder, IsEnd, clients_of, ended_by_output, ended_by_words, entries_in, pace_of};
+ghost use Rattle.lbserver.specs.Execution.{HasPace, IsReady, RunsWords, ServesOrder, ServesPlan, ServesProgrammer, AreNoOrder, IsEnd, clients_of, ended_by_output, ended_by_words, entries_in, pace_of};
 ghost use Rattle.server_orders.specs.declared.words.ServerOrder.{ServerOrder as OrderValue};
 
 use crate::answering::answer;
@@ -12,6 +12,7 @@ use crate::fault::ServerFault;
 use crate::files::read_file;
 use crate::plan_file::read_railway;
 use crate::ports;
+use crate::programmer_file::read_programming;
 use crate::reach::reachable;
 use crate::roster_file::read_roster;
 use crate::standard_output::StandardOutput;
@@ -19,6 +20,7 @@ use bus_log::{LogQueue, Printer, Verbosity, decoders, print_listening, write_que
 use bus_server::{Losses, Pace, Server, Stop};
 use command_line::FileName;
 use console::RunFault;
+use programming_track::ProgrammingTrack;
 use railway::Railway;
 use roster::Roster;
 use server_orders::{ServerOrder, server_order};
@@ -118,11 +120,11 @@ fn with_plan<O: Write>(
     ensures end { IsEnd output.new.failed result }
 {
     let railway = read_railway(rt, order.plan.take(), roster)?;
-    with_server(rt, order, roster, railway, output)
+    with_programming(rt, order, roster, railway, output)
 }
 
-/// Continues with a server for the decoders of this roster, and with this railway.
-fn with_server<O: Write>(
+/// Continues with the programming track of the order's decoder.
+fn with_programming<O: Write>(
     rt: &HostRuntime,
     order: &mut ServerOrder,
     roster: Option<&Roster>,
@@ -131,12 +133,39 @@ fn with_server<O: Write>(
 ) -> Result<(), ServerFault>
     requires works { output.old.failed ≡ false }
     requires pace { HasPace order.old }
-    ensures serves { OnOk result (ServesOrder order.old (entries_of roster.entry) railway) }
+    ensures serves { OnOk result
+        (ServesProgrammer order.old (entries_of roster.entry) railway) }
+    ensures end { IsEnd output.new.failed result }
+{
+    let programming = read_programming(rt, order.programmer.take())?;
+    with_server(rt, order, roster, railway, programming, output)
+}
+
+/// Continues with a server for the decoders of this roster, with this railway and programming track.
+fn with_server<O: Write>(
+    rt: &HostRuntime,
+    order: &mut ServerOrder,
+    roster: Option<&Roster>,
+    railway: Option<Railway>,
+    programming: Option<ProgrammingTrack>,
+    output: &mut StandardOutput<O>,
+) -> Result<(), ServerFault>
+    requires works { output.old.failed ≡ false }
+    requires pace { HasPace order.old }
+    ensures serves { OnOk result
+        (ServesOrder order.old (entries_of roster.entry) railway programming) }
     ensures end { IsEnd output.new.failed result }
 {
     let losses = Losses::new(order.lose, u64::from(order.seed));
     let pace = pace_of(order.turns, order.rate);
-    let mut server = Server::new(rt.alloc(), decoders(roster), railway, pace, losses)?;
+    let mut server = Server::new(
+        rt.alloc(),
+        decoders(roster),
+        railway,
+        programming,
+        pace,
+        losses,
+    )?;
     with_sockets(rt, order, roster, &mut server, output)
 }
 
@@ -151,7 +180,7 @@ fn with_sockets<O: Write>(
     requires works { output.old.failed ≡ false }
     requires ready { IsReady order.old (entries_of roster) server.old.hub }
     ensures serves { OnOk result (ServesOrder order.old (entries_of roster.entry)
-        (state_of server.old.hub).railway) }
+        (state_of server.old.hub).railway (state_of server.old.hub).programming) }
     ensures end { IsEnd output.new.failed result }
 {
     let address = SocketAddr::from((order.address, order.port));
@@ -176,7 +205,7 @@ fn with_page<O: Write>(
     requires works { output.old.failed ≡ false }
     requires ready { IsReady order.old (entries_of roster) server.old.hub }
     ensures serves { OnOk result (ServesOrder order.old (entries_of roster.entry)
-        (state_of server.old.hub).railway) }
+        (state_of server.old.hub).railway (state_of server.old.hub).programming) }
     ensures end { IsEnd output.new.failed result }
 {
     if let Some(page) = order.page {
@@ -199,7 +228,7 @@ fn with_log<O: Write>(
     requires works { output.old.failed ≡ false }
     requires ready { IsReady order.now (entries_of roster) server.old.hub }
     ensures serves { OnOk result (ServesOrder order.now (entries_of roster.entry)
-        (state_of server.old.hub).railway) }
+        (state_of server.old.hub).railway (state_of server.old.hub).programming) }
     ensures end { IsEnd output.new.failed result }
 {
     let mut log = LogQueue::new(rt.alloc())?;
@@ -279,7 +308,7 @@ fn serve<O: Write>(
     requires ready { IsReady order.now (entries_of printer.old.roster) server.old.hub }
     requires verbosity { printer.old.verbosity ≡ verbosity_of order.now.track order.now.quiet }
     ensures serves { OnOk result (ServesOrder order.now (entries_of printer.old.roster)
-        (state_of server.old.hub).railway) }
+        (state_of server.old.hub).railway (state_of server.old.hub).programming) }
     ensures end { IsEnd output.new.failed result }
 {
     let Ok(watch) = Stopwatch::new(rt) else {

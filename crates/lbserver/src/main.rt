@@ -8,6 +8,7 @@ mod fault;
 mod files;
 mod plan_file;
 mod ports;
+mod programmer_file;
 mod reach;
 mod roster_file;
 mod roster_line;

@@ -35,7 +35,7 @@ pub(crate) fn read_roster(
 }
 
 /// Returns the roster of a text, which is that of the file of this name.
-fn roster_of(alloc: Global, file: FileName, text: &[u8]) -> Result<Roster, ServerFault>
+pub(crate) fn roster_of(alloc: Global, file: FileName, text: &[u8]) -> Result<Roster, ServerFault>
     ensures roster { IfOk result (λ roster. roster_in text.now ≡ Ok roster) }
     ensures fault { IfErr result (HasFault file text.now) }
     ensures end { IsEnd false result }

@@ -238,6 +238,7 @@ fn seen_of<R: Place>(rt: &R, outcome: &Outcome) -> Seen
         Outcome::TurnsRequested { client, turns } => Seen::TurnsRequested(*client, *turns),
         Outcome::StatesRequested { client, things } => Seen::StatesRequested(*client, *things),
         Outcome::PlaceRequested { .. } => panic!(rt; "a server answers it"),
+        Outcome::Programmed { .. } => panic!(rt; "a programming track"),
         Outcome::Placed { client, answer } => Seen::Placed(*client, *answer),
         Outcome::TurnBegan { packet } => Seen::TurnBegan(packet_of(rt, packet)),
     }

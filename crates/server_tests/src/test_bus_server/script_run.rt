@@ -43,6 +43,7 @@ pub(crate) fn run_server<'a, R: Place>(rt: &'a R, setup: &Setup<'a>) -> Run {
         rt.alloc(),
         NamedNodes::new(),
         None,
+        None,
         pace_of(setup.turns),
         Losses::new(0, 0),
     )

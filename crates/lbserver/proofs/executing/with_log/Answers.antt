@@ -6,4 +6,4 @@ use Rattle.lbserver.proofs.executing.with_log.Goals as goal
 
 pub returns-clause-serves : goal.returns-clause-serves
 returns-clause-serves g c =
-    subst (λ roster. OnOk c.serve-served.result (ServesOrder c.args.order.now (entries_of roster) (state_of c.args.server.now.hub).railway)) c.new-printer.ensures.roster c.serve-served.ensures.serves
+    subst (λ roster. OnOk c.serve-served.result (ServesOrder c.args.order.now (entries_of roster) (state_of c.args.server.now.hub).railway (state_of c.args.server.now.hub).programming)) c.new-printer.ensures.roster c.serve-served.ensures.serves
