@@ -159,8 +159,9 @@ def words_on_pages():
         same("a page", [page.text() for _ in wanted], wanted)
         same("another client", {client.line().split()[0] for _ in range(2 * len(WORDS) - len(replies))}, {"RECEIVE", "SENT"})
         for text, words in WORDS:
-            # The log leaves out reads of slots, but for those that are refused.
-            holds(f"{words} is printed", server.until_printed(f"message {text}  {words}"))
+            # The log leaves out reads of slots, but for those that are refused, and says what the station ignores.
+            ignored = ", ignored" if words == "busy" else ""
+            holds(f"{words} is printed", server.until_printed(f"message {text}  {words}{ignored}"))
         page.write(send(SPEED_63))
         wanted = [f"RECEIVE {SPEED_63}", "WORDS slot 1: speed 63 of 126", "SENT OK"]
         same("its own message", [page.text() for _ in wanted], wanted)
