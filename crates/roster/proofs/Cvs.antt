@@ -13,7 +13,8 @@ use Rattle.decoder_cv.specs.declared.cv_fault.CvFault.TheVariants.{BadList}
 use Rattle.decoder_cv.specs.Listed.{listed}
 use Rattle.roster.specs.declared.fault.Why.TheVariants.{BadCv, BadCvList}
 use Rattle.roster.specs.declared.pair.Pair.{Pair}
-use Rattle.roster.specs.Format.{loco_listed, loco_of}
+use Rattle.roster.specs.Decoder.{loco_of}
+use Rattle.roster.specs.Format.{loco_listed}
 use Rattle.roster.specs.Pairs.{are_pairs, cv_pair_of, cv_pairs_after, has_byte, has_word, pair_of, pairs_of, values_in}
 
 values_of : (ds : List Data) → values_in (items_of ds) ≡ ds

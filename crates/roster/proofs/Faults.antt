@@ -14,7 +14,10 @@ use Rattle.roster.specs.declared.version.Version.TheVariants.{One, Two}
 use Rattle.roster.specs.declared.fault.Why.{Why}
 use Rattle.roster.specs.declared.fault.Why.TheVariants.{BadShape, BadName, BadCv, BadCvList, BadModule, NoMemory}
 use Rattle.roster.specs.Entry.{Entry}
-use Rattle.roster.specs.Format.{accessory_in, accessory_of, byte_of, described_as, entry_of, loco_in, loco_in_keys, loco_in_list, loco_listed, loco_of, name_after, decoder_of}
+use Rattle.roster.specs.Decoder.{accessory_of, loco_of}
+use Rattle.roster.specs.Format.{accessory_in, described_as, entry_of, loco_in, loco_in_keys, loco_in_list, loco_listed, name_after, decoder_of}
+use Rattle.roster.specs.FourVariables.{byte_of, bytes_of}
+use Rattle.roster.specs.declared.four_variables.FourVariables.{FourVariables}
 use Rattle.roster.specs.Pairs.{cvs_of}
 use Rattle.roster.specs.Steps.{◌>>=◌, or_fault}
 use Rattle.roster.specs.Toml.{integer_or}
@@ -97,10 +100,13 @@ of_module : (z : ℤ) → NeverMemory (accessory_of z)
 of_module (pos n) = in_both (is_module n) _ _ (done _) (bad_module _)
 of_module (negsuc n) = bad_module _
 
+of_bytes : (values : FourVariables ℤ) → NeverMemory (bytes_of values)
+of_bytes values = search (in_turn, of_byte, done) depth 12
+
 of_values : (described : Described) → NeverMemory (decoder_of described)
 of_values (Accessory number) = of_module number
 of_values (Listed pairs) = of_list pairs
-of_values (Loco cv1 cv17 cv18 cv29) = search (in_turn, of_byte, of_settings) depth 12
+of_values (Loco values) = search (in_turn, of_bytes, of_settings)
 
 of_name : (earlier : List Entry) (name : List ℕ) → NeverMemory (name_after earlier name)
 of_name earlier name = search (in_both, done, bad_name)

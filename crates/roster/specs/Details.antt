@@ -1,15 +1,15 @@
 -- More about the first fault of a text than its kind and its node: the line of a text that is no
 -- TOML, the name of the node, and what is wrong with its variables.
-use Rattle.std.specs.Prelude.{ℕ, ℤ, zero, suc, ◌+◌, ◌≡◌, ◌≤◌, ◌==◌, if◌then◌else◌, List, [], ◌∷◌, length, take, Option, Some, None, option_and_then, Result, Ok, Err, codes}
+use Rattle.std.specs.Prelude.{ℕ, zero, suc, ◌+◌, ◌≡◌, ◌≤◌, ◌==◌, if◌then◌else◌, List, [], ◌∷◌, length, take, Option, Some, None, option_and_then, Result, Ok, Err, codes}
 use Rattle.std.specs.Result.{result_err, result_ok}
 use Rattle.toml.specs.Data.{Data, Members, at as item_at, as_table, get_member}
 use Rattle.decoder_cv.specs.Listed.{listed}
-use Rattle.decoder_cv.specs.Settings.{Settings, settings_of}
 use Rattle.decoder_cv.specs.declared.cv_fault.CvFault.{CvFault}
 use Rattle.roster.specs.declared.described.Described.{Described}
 use Rattle.roster.specs.declared.described.Described.TheVariants.{Loco, Listed, Accessory}
 use Rattle.roster.specs.declared.fault.Why.{Why}
-use Rattle.roster.specs.Format.{byte_of, described_as, name_after, version_in}
+use Rattle.roster.specs.Format.{described_as, name_after, version_in}
+use Rattle.roster.specs.FourVariables.{fault_of_four}
 use Rattle.roster.specs.Pairs.{cv_pairs_after}
 use Rattle.roster.specs.Steps.{◌>>=◌}
 use Rattle.roster.specs.Toml.{text_at}
@@ -47,23 +47,9 @@ described_in whole node = do
   kind ← text_at (codes "kind") node
   described_as version kind node
 
--- the fault of settings, if there are any
-abbrev pub fault_in : Result (Result Settings CvFault) Why → Option CvFault
-fault_in (Ok cv) = result_err cv
-fault_in (Err why) = None
-
--- the settings that four values make, if they are bytes
-abbrev pub settings_of_four : (cv1 cv17 cv18 cv29 : ℤ) → Result (Result Settings CvFault) Why
-settings_of_four cv1 cv17 cv18 cv29 = do
-  a ← byte_of cv1
-  b ← byte_of cv17
-  c ← byte_of cv18
-  d ← byte_of cv29
-  Ok (settings_of a b c d)
-
 -- what is wrong with its variables
 abbrev pub cv_fault_of : Described → Option CvFault
-cv_fault_of (Loco cv1 cv17 cv18 cv29) = fault_in (settings_of_four cv1 cv17 cv18 cv29)
+cv_fault_of (Loco values) = fault_of_four values
 cv_fault_of (Listed pairs) = option_and_then (λ taken. result_err (listed taken)) (cv_pairs_after [] pairs)
 cv_fault_of (Accessory number) = None
 

@@ -5,22 +5,19 @@ use Rattle.std.specs.Prelude.{ℕ, ◌+◌, ◌==◌, nat_lt, if◌then◌else�
 use Rattle.std.specs.List.{list_all}
 use Rattle.std.specs.Str.{bytes_eq}
 use Rattle.toml.specs.Data.{Data, Items, no_items, item, Members, get_member, as_array, as_table}
-use Rattle.dcc_packet.specs.Module.{is_module}
-use Rattle.decoder_cv.specs.Settings.{Settings, settings_of}
 use Rattle.decoder_cv.specs.Listed.{listed}
-use Rattle.decoder_cv.specs.declared.cv_fault.CvFault.{CvFault}
-use Rattle.decoder_cv.specs.declared.cv_fault.CvFault.TheVariants.{BadCv1, BadCv17, NotLoco, BadList}
 use Rattle.decoder_node.specs.declared.node.NodeSpec.{NodeSpec}
-use Rattle.decoder_node.specs.declared.node.NodeSpec.TheVariants as node
 use Rattle.roster.specs.declared.fault.Why.{Why}
-use Rattle.roster.specs.declared.fault.Why.TheVariants.{NotToml, BadShape, TooMany, BadName, BadCv, BadModule, Empty, BadCvList}
+use Rattle.roster.specs.declared.fault.Why.TheVariants.{NotToml, BadShape, TooMany, BadName, BadCv, Empty, BadCvList}
 use Rattle.roster.specs.declared.fault.RosterFault.{RosterFault}
 use Rattle.roster.specs.declared.described.Described.{Described}
 use Rattle.roster.specs.declared.described.Described.TheVariants.{Loco, Listed, Accessory}
 use Rattle.roster.specs.declared.pair.Pair.{Pair}
 use Rattle.roster.specs.declared.version.Version.{Version}
 use Rattle.roster.specs.declared.version.Version.TheVariants.{One, Two}
+use Rattle.roster.specs.Decoder.{accessory_of, loco_of}
 use Rattle.roster.specs.Entry.{Entry, is_free}
+use Rattle.roster.specs.FourVariables.{decoder_of_four}
 use Rattle.roster.specs.Pairs.{cv_pair_of, cvs_of, has_byte, has_word}
 use Rattle.roster.specs.Steps.{◌>>=◌, or_fault}
 use Rattle.roster.specs.Toml.{table_in, items_len, knows_only, text_at, integer_at, integer_or}
@@ -36,7 +33,7 @@ variables_in table = do
   cv17 ← integer_or (get_member (codes "cv17") table) (pos 192)
   cv18 ← integer_or (get_member (codes "cv18") table) (pos 0)
   cv29 ← integer_at (codes "cv29") table
-  Ok (Loco cv1 cv17 cv18 cv29)
+  Ok (Loco (record { cv1 = cv1; cv17 = cv17; cv18 = cv18; cv29 = cv29 }))
 
 -- and no other keys
 abbrev pub loco_in_keys : Members → Result Described Why
@@ -79,20 +76,6 @@ name_after earlier name = if is_free earlier name then Ok name else Err BadName
 -- Then its values: those of variables are bytes that make a locomotive decoder, and a module is 1
 -- to 510.
 
-abbrev pub byte_of : ℤ → Result ℕ Why
-byte_of (pos n) = if nat_lt n 256 then Ok n else Err BadCv
-byte_of (negsuc n) = Err BadCv
-
-abbrev pub fault_of : CvFault → Why
-fault_of BadList = BadCvList
-fault_of BadCv1 = BadCv
-fault_of BadCv17 = BadCv
-fault_of NotLoco = BadCv
-
-abbrev pub loco_of : Result Settings CvFault → Result NodeSpec Why
-loco_of (Ok cv) = Ok (node.Loco cv)
-loco_of (Err fault) = Err (fault_of fault)
-
 -- Of a list all values are looked at first, then whether 16 bits hold the numbers, and then the
 -- list as a whole.
 abbrev pub loco_listed : List Pair → Result NodeSpec Why
@@ -101,19 +84,10 @@ loco_listed pairs =
     (if list_all has_word pairs then loco_of (listed (map cv_pair_of pairs)) else Err BadCvList)
     else Err BadCv
 
-abbrev pub accessory_of : ℤ → Result NodeSpec Why
-accessory_of (pos n) = if is_module n then Ok (node.Accessory n) else Err BadModule
-accessory_of (negsuc n) = Err BadModule
-
 abbrev pub decoder_of : Described → Result NodeSpec Why
 decoder_of (Accessory number) = accessory_of number
 decoder_of (Listed pairs) = loco_listed pairs
-decoder_of (Loco cv1 cv17 cv18 cv29) = do
-  a ← byte_of cv1
-  b ← byte_of cv17
-  c ← byte_of cv18
-  d ← byte_of cv29
-  loco_of (settings_of a b c d)
+decoder_of (Loco values) = decoder_of_four values
 
 -- the node with this name and this decoder, after those before it
 abbrev pub entry_with : List Entry → List ℕ → Described → Result Entry Why

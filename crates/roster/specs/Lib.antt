@@ -1,8 +1,10 @@
+pub mod Decoder
 pub mod Decoders
 pub mod Details
 pub mod Entry
 pub mod FaultWords
 pub mod Format
+pub mod FourVariables
 pub mod Pairs
 pub mod Steps
 pub mod Toml

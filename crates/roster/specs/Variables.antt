@@ -1,30 +1,18 @@
 -- The variables of a locomotive that a roster lists, for a decoder on a programming track.
-use Rattle.std.specs.Prelude.{ℕ, List, [], ◌∷◌, Option, Some, None, Result, Ok, Err}
-use Rattle.std.specs.Result.{result_ok}
+use Rattle.std.specs.Prelude.{ℕ, List, [], Option, Some, None, Result, Ok, Err}
 use Rattle.toml.specs.Data.{Members}
 use Rattle.decoder_cv.specs.declared.cv_pair.CvPair.{CvPair}
 use Rattle.roster.specs.declared.described.Described.{Described}
 use Rattle.roster.specs.declared.described.Described.TheVariants.{Loco, Listed, Accessory}
 use Rattle.roster.specs.declared.fault.Why.{Why}
 use Rattle.roster.specs.Details.{described_in, node_table_at}
-use Rattle.roster.specs.Format.{byte_of}
+use Rattle.roster.specs.FourVariables.{pairs_of_four}
 use Rattle.roster.specs.Pairs.{cv_pairs_after}
-use Rattle.roster.specs.Steps.{◌>>=◌}
 
--- version 1: the four variables, if they are bytes
-abbrev pub four_pairs : (cv1 cv17 cv18 cv29 : ℕ) → List CvPair
-four_pairs cv1 cv17 cv18 cv29 =
-    record { number = 1; value = cv1 } ∷ record { number = 17; value = cv17 }
-    ∷ record { number = 18; value = cv18 } ∷ record { number = 29; value = cv29 } ∷ []
-
--- version 2: those of the list, if their numbers and values fit; an accessory has none
+-- in version 1 the four, in version 2 those of the list, if their numbers and values fit; an
+-- accessory has none
 abbrev pub variables_of : Described → Option (List CvPair)
-variables_of (Loco cv1 cv17 cv18 cv29) = result_ok (do
-  a ← byte_of cv1
-  b ← byte_of cv17
-  c ← byte_of cv18
-  d ← byte_of cv29
-  Ok (four_pairs a b c d))
+variables_of (Loco values) = pairs_of_four values
 variables_of (Listed pairs) = cv_pairs_after [] pairs
 variables_of (Accessory number) = None
 

@@ -1,6 +1,6 @@
 //! The decoders that values make.
 ghost use Rattle.std.specs.Prelude.{◌≡◌};
-ghost use Rattle.roster.specs.Format.{accessory_of, fault_of, loco_of};
+ghost use Rattle.roster.specs.Decoder.{accessory_of, fault_of, loco_of};
 
 use crate::fault::Why;
 use dcc_packet::Module;

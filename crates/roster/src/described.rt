@@ -1,17 +1,17 @@
 //! What the table of a node says of its decoder.
 ghost use Rattle.std.specs.Prelude.{◌≡◌, option_map};
 ghost use Rattle.toml.specs.View.{table_view};
-ghost use Rattle.roster.specs.Details.{cv_fault_of, fault_in, settings_of_four};
-ghost use Rattle.roster.specs.Format.{accessory_in, byte_of, decoder_of, described_as, loco_in_keys, loco_in_list, variables_in};
-ghost use Rattle.roster.specs.Variables.{four_pairs, variables_of};
-ghost use Rattle.roster.specs.declared.described.Described.TheVariants.{Loco};
+ghost use Rattle.roster.specs.Details.{cv_fault_of};
+ghost use Rattle.roster.specs.Format.{accessory_in, decoder_of, described_as, loco_in_keys, loco_in_list, variables_in};
+ghost use Rattle.roster.specs.Variables.{variables_of};
 
-use crate::decoder::{accessory, loco};
+use crate::decoder::accessory;
 use crate::fault::Why;
+use crate::four_variables::FourVariables;
 use crate::pairs::{CvPairs, Pairs};
 use crate::table::{integer_at, integer_or, knows_only, value_at};
 use crate::version::Version;
-use decoder_cv::{CvFault, CvPair, CvSet};
+use decoder_cv::CvFault;
 use decoder_node::NodeSpec;
 use toml::Table;
 
@@ -19,20 +19,11 @@ use toml::Table;
 #[derive(Drop)]
 pub(crate) enum Described<'a> {
     /// A locomotive decoder with these configuration variables (version 1).
-    Loco {
-        cv1: i64,
-        cv17: i64,
-        cv18: i64,
-        cv29: i64,
-    },
+    Loco { values: FourVariables<i64> },
     /// A locomotive decoder with this list of them (version 2).
-    Listed {
-        pairs: Pairs<'a>,
-    },
+    Listed { pairs: Pairs<'a> },
     /// The accessory decoder of this module.
-    Accessory {
-        module: i64,
-    },
+    Accessory { module: i64 },
 }
 
 impl<'a> Described<'a> {
@@ -55,12 +46,7 @@ impl<'a> Described<'a> {
         ensures { result ≡ decoder_of self.entry }
     {
         match self {
-            Described::Loco {
-                cv1,
-                cv17,
-                cv18,
-                cv29,
-            } => loco_of_four(cv1, cv17, cv18, cv29),
+            Described::Loco { values } => values.decoder(),
             Described::Listed { pairs } => pairs.decoder(),
             Described::Accessory { module } => accessory(module),
         }
@@ -71,12 +57,7 @@ impl<'a> Described<'a> {
         ensures { option_map (λ pairs. pairs.items) result ≡ variables_of self.now }
     {
         match self {
-            Described::Loco {
-                cv1,
-                cv17,
-                cv18,
-                cv29,
-            } => four_variables(*cv1, *cv17, *cv18, *cv29),
+            Described::Loco { values } => values.variables(),
             Described::Listed { pairs } => pairs.variables(),
             Described::Accessory { .. } => None,
         }
@@ -87,12 +68,7 @@ impl<'a> Described<'a> {
         ensures { result ≡ cv_fault_of self.now }
     {
         match self {
-            Described::Loco {
-                cv1,
-                cv17,
-                cv18,
-                cv29,
-            } => fault_of_four(*cv1, *cv17, *cv18, *cv29),
+            Described::Loco { values } => values.cv_fault(),
             Described::Listed { pairs } => pairs.cv_fault(),
             Described::Accessory { .. } => None,
         }
@@ -121,10 +97,12 @@ fn read_variables<'a>(table: &'a Table) -> Result<Described<'a>, Why>
     );
     match values {
         (Some(cv1), Some(cv17), Some(cv18), Some(cv29)) => Ok(Described::Loco {
-            cv1,
-            cv17,
-            cv18,
-            cv29,
+            values: FourVariables {
+                cv1,
+                cv17,
+                cv18,
+                cv29,
+            },
         }),
         _ => Err(Why::BadShape),
     }
@@ -153,64 +131,5 @@ fn read_accessory<'a>(table: &'a Table) -> Result<Described<'a>, Why>
     match integer_at(table, "module") {
         Some(module) => Ok(Described::Accessory { module }),
         None => Err(Why::BadShape),
-    }
-}
-
-/// The locomotive decoder with these values of its four variables, or `BadCv`.
-fn loco_of_four(cv1: i64, cv17: i64, cv18: i64, cv29: i64) -> Result<NodeSpec, Why>
-    ensures { result ≡ decoder_of (Loco cv1 cv17 cv18 cv29) }
-{
-    match (byte(cv1), byte(cv17), byte(cv18), byte(cv29)) {
-        (Ok(cv1), Ok(cv17), Ok(cv18), Ok(cv29)) => loco(CvSet::new(cv1, cv17, cv18, cv29)),
-        _ => Err(Why::BadCv),
-    }
-}
-
-/// The four variables of a roster of version 1, if their values are bytes.
-fn four_variables(cv1: i64, cv17: i64, cv18: i64, cv29: i64) -> Option<CvPairs>
-    ensures { option_map (λ pairs. pairs.items) result
-        ≡ variables_of (Loco cv1 cv17 cv18 cv29) }
-{
-    match (byte(cv1), byte(cv17), byte(cv18), byte(cv29)) {
-        (Ok(cv1), Ok(cv17), Ok(cv18), Ok(cv29)) => Some(four_pairs(cv1, cv17, cv18, cv29)),
-        _ => None,
-    }
-}
-
-/// The four variables with these values.
-fn four_pairs(cv1: u8, cv17: u8, cv18: u8, cv29: u8) -> CvPairs
-    ensures { result.items ≡ four_pairs cv1 cv17 cv18 cv29 }
-{
-    let mut pairs = CvPairs::new();
-    pairs.push(pair(1, cv1));
-    pairs.push(pair(17, cv17));
-    pairs.push(pair(18, cv18));
-    pairs.push(pair(29, cv29));
-    pairs
-}
-
-fn pair(number: u16, value: u8) -> CvPair
-    ensures { result ≡ record { number = number; value = value } }
-{
-    CvPair { number, value }
-}
-
-/// What is wrong with these values of the four variables, if they are bytes.
-fn fault_of_four(cv1: i64, cv17: i64, cv18: i64, cv29: i64) -> Option<CvFault>
-    ensures { result ≡ fault_in (settings_of_four cv1 cv17 cv18 cv29) }
-{
-    match (byte(cv1), byte(cv17), byte(cv18), byte(cv29)) {
-        (Ok(cv1), Ok(cv17), Ok(cv18), Ok(cv29)) => CvSet::new(cv1, cv17, cv18, cv29).err(),
-        _ => None,
-    }
-}
-
-/// The value of a configuration variable, or `BadCv` outside 0 to 255.
-fn byte(value: i64) -> Result<u8, Why>
-    ensures { result ≡ byte_of value }
-{
-    match value {
-        0..=255 => Ok(value as u8),
-        _ => Err(Why::BadCv),
     }
 }

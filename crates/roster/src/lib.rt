@@ -8,6 +8,7 @@ mod described;
 mod details;
 mod entry;
 mod fault;
+mod four_variables;
 mod locating;
 mod node_variables;
 mod pair;

@@ -2,7 +2,7 @@ use Rattle.std.proofs.Common.{◌≡◌, map, true, ◌∙◌, ap, sym}
 use Rattle.std.specs.List.{list_all}
 use Rattle.toml.specs.View.{view}
 use Rattle.decoder_cv.specs.Listed.{listed}
-use Rattle.roster.specs.Format.{loco_of}
+use Rattle.roster.specs.Decoder.{loco_of}
 use Rattle.roster.specs.Pairs.{has_byte, pairs_of}
 use Rattle.roster.proofs.Cvs.{bytes_wrong, have_bytes_view, list_refused, list_taken}
 use Rattle.roster.proofs.pairs.Pairs.decoder.Goals as goal
