@@ -3,3 +3,4 @@ pub mod Entries
 pub mod Format
 pub mod Located
 pub mod Railways
+pub mod Sought

@@ -1,7 +1,9 @@
 //! The tables of a plan's text.
-ghost use Rattle.std.specs.Prelude.{◌≡◌, ◌≤◌, Ok, Err, MatchResult, length, map};
+ghost use Rattle.std.specs.Prelude.{◌≡◌, ◌≤◌, true, false, Ok, Err, MatchResult, length, map};
 ghost use Rattle.toml.specs.View.{items_view, table_view, view};
 ghost use Rattle.roster.specs.Entry.{name_of};
+ghost use Rattle.roster.specs.Toml.{knows_only};
+ghost use Rattle.railway_plan.specs.declared.fault.Why.TheVariants.{UnknownKey};
 ghost use Rattle.railway_plan.specs.Format.{block_at, block_in, decoder_at, end_at, end_of, facing_at, is_block_name, joint_in, joint_of, momentum_at, momentum_of, name_in, part_of, table_of, train_in, turnout_in};
 ghost use Rattle.railway_plan.specs.Entries.{block_entry, names_of};
 
@@ -24,9 +26,7 @@ pub(crate) fn block(value: &Value) -> Result<Block, Why>
         (λ why. part_of block_in (view value.now) ≡ Err why) }
 {
     let table = table_of(value)?;
-    if !knows_only(table, &BLOCK_KEYS) {
-        return Err(Why::UnknownKey);
-    }
+    check_keys(table, &BLOCK_KEYS)?;
     Ok(Block {
         name: name(table)?,
         length: number_at(table, Key::Length, LENGTH)?,
@@ -44,6 +44,20 @@ fn table_of(value: &Value) -> Result<&Table, Why>
     match value.as_table() {
         Some(table) => Ok(table),
         None => Err(Why::NotTable),
+    }
+}
+
+/// Returns `UnknownKey` if a table has another key than these.
+fn check_keys(table: &Table, keys: &[&str]) -> Result<(), Why>
+    ensures { MatchResult result
+        (λ _. knows_only (map (λ key. key.now) keys.now) (table_view table.now) ≡ true)
+        (λ why. (knows_only (map (λ key. key.now) keys.now) (table_view table.now) ≡ false)
+        × (why ≡ UnknownKey)) }
+{
+    if knows_only(table, keys) {
+        Ok(())
+    } else {
+        Err(Why::UnknownKey)
     }
 }
 
@@ -74,9 +88,7 @@ pub(crate) fn joint(blocks: &[Block], value: &Value) -> Result<Joint, Why>
     ensures { result ≡ part_of (joint_in (names_of blocks.now)) (view value.now) }
 {
     let table = table_of(value)?;
-    if !knows_only(table, &JOINT_KEYS) {
-        return Err(Why::UnknownKey);
-    }
+    check_keys(table, &JOINT_KEYS)?;
     match value_at(table, Key::Ends) {
         Some(value) => match value.as_array() {
             Some(ends) => joint_of(blocks, ends.as_slice()),
@@ -127,9 +139,7 @@ pub(crate) fn turnout(blocks: &[Block], value: &Value) -> Result<Turnout, Why>
     ensures { result ≡ part_of (turnout_in (names_of blocks.now)) (view value.now) }
 {
     let table = table_of(value)?;
-    if !knows_only(table, &TURNOUT_KEYS) {
-        return Err(Why::UnknownKey);
-    }
+    check_keys(table, &TURNOUT_KEYS)?;
     Ok(Turnout {
         switch: number_at(table, Key::Switch, SWITCH)? as u16,
         common: end_at(blocks, table, Key::Common)?,
@@ -146,9 +156,7 @@ pub(crate) fn train(roster: &Roster, blocks: &[Block], value: &Value) -> Result<
         ≡ part_of (train_in (map name_of roster.now) (names_of blocks.now)) (view value.now) }
 {
     let table = table_of(value)?;
-    if !knows_only(table, &TRAIN_KEYS) {
-        return Err(Why::UnknownKey);
-    }
+    check_keys(table, &TRAIN_KEYS)?;
     let decoder = decoder_at(roster, table)?;
     let position = Position {
         block: block_at(blocks, table)?,

@@ -1,6 +1,7 @@
 //! The parts of a plan that have the same name, sensor, decoder or end as another.
 ghost use Rattle.std.specs.Prelude.{◌≡◌, ◌≤◌, None, length, option_map};
 ghost use Rattle.toml.specs.View.{items_view, table_view, view};
+ghost use Rattle.railway_plan.specs.Sought.{is_sought};
 ghost use Rattle.railway_plan.specs.Details.{any_text, end_name, has_value, is_same, joint_names, last_from, last_naming, last_with, member_value, names_at, other_at, part_at, parts_at, same_integer, same_text, turnout_names, value_in};
 
 use crate::details::{LONGEST_WORD, Word, shown};
@@ -115,39 +116,35 @@ fn parts_at(whole: &Table, key: Key) -> &[Value]
     }
 }
 
-/// The number, from 1, of the last of these parts that has this value at a key.
-fn last_with(parts: &[Value], key: Key, wanted: &Value) -> Option<usize>
-    ensures { result ≡ last_from (has_value key (view wanted.now)) 1 (items_view parts.now) None }
-{
-    let mut found = None;
-    for (i, part) in parts.iter().enumerate() {
-        if has_value(part, key, wanted) {
-            found = Some(i + 1);
-        }
-    }
-    found
+/// What a part is looked for by.
+#[derive(Clone, Copy)]
+enum Sought<'a> {
+    /// This value at a key.
+    Value { key: Key, wanted: &'a Value },
+    /// A joint that names this end.
+    JointEnd { end: &'a str },
+    /// A turnout that names this end.
+    TurnoutEnd { end: &'a str },
 }
 
-/// The number of the last joint that names this end.
-fn last_joint(parts: &[Value], end: &str) -> Option<usize>
-    ensures { result ≡ last_from (joint_names end.now) 1 (items_view parts.now) None }
+/// Whether a part is one that is looked for.
+fn is_sought(sought: Sought<'_>, part: &Value) -> bool
+    ensures { result ≡ is_sought sought.entry (view part.now) }
 {
-    let mut found = None;
-    for (i, part) in parts.iter().enumerate() {
-        if joint_names(part, end) {
-            found = Some(i + 1);
-        }
+    match sought {
+        Sought::Value { key, wanted } => has_value(part, key, wanted),
+        Sought::JointEnd { end } => joint_names(part, end),
+        Sought::TurnoutEnd { end } => turnout_names(part, end),
     }
-    found
 }
 
-/// The number of the last turnout that names this end.
-fn last_turnout(parts: &[Value], end: &str) -> Option<usize>
-    ensures { result ≡ last_from (turnout_names end.now) 1 (items_view parts.now) None }
+/// The number, from 1, of the last of these parts that is looked for.
+fn last(parts: &[Value], sought: Sought<'_>) -> Option<usize>
+    ensures { result ≡ last_from (is_sought sought.entry) 1 (items_view parts.now) None }
 {
     let mut found = None;
     for (i, part) in parts.iter().enumerate() {
-        if turnout_names(part, end) {
+        if is_sought(sought, part) {
             found = Some(i + 1);
         }
     }
@@ -158,10 +155,10 @@ fn last_turnout(parts: &[Value], end: &str) -> Option<usize>
 fn last_naming(whole: &Table, end: &str) -> Option<Section>
     ensures { result ≡ last_naming end.now (table_view whole.now) }
 {
-    if let Some(number) = last_turnout(parts_at(whole, Key::Turnout), end) {
+    if let Some(number) = last(parts_at(whole, Key::Turnout), Sought::TurnoutEnd { end }) {
         return Some(Section::Turnout(number));
     }
-    let number = last_joint(parts_at(whole, Key::Joint), end)?;
+    let number = last(parts_at(whole, Key::Joint), Sought::JointEnd { end })?;
     Some(Section::Joint(number))
 }
 
@@ -183,7 +180,8 @@ fn last_like(whole: &Table, section: Section, key: Key, kind: Key) -> Option<usi
     ensures { result ≡ last_with (value_in key (part_at section (table_view whole.now))) key kind
         (table_view whole.now) }
 {
-    last_with(parts_at(whole, kind), key, value_in(whole, section, key)?)
+    let wanted = value_in(whole, section, key)?;
+    last(parts_at(whole, kind), Sought::Value { key, wanted })
 }
 
 /// The last part with the same name, sensor, decoder or end.
