@@ -1,5 +1,5 @@
 //! The track, and how a train runs on it.
-ghost use Rattle.std.specs.Prelude.{◌≡◌, ◌+◌, ◌<◌, ◌≤◌, IsTrue, length, IfSome, map, None, Some};
+ghost use Rattle.std.specs.Prelude.{◌≡◌, ◌==◌, ◌+◌, ◌<◌, ◌≤◌, IsTrue, length, IfSome, if◌then◌else◌, map, None, Some};
 ghost use Rattle.std.specs.List.{list_all, list_any};
 ghost use Rattle.motion.specs.Velocity.{is_drive};
 ghost use Rattle.railway.specs.Blocks.{length_of, no_blocks};
@@ -20,6 +20,17 @@ use layout_core::{Running, World};
 use motion::{Drive, Leg};
 use station_core::Power;
 use std::marker::Model;
+
+/// Where a way along the track ends.
+#[derive(Clone, Copy)]
+struct Followed {
+    /// The last place on it.
+    place: Place,
+    /// How much of it is left where the track ends, in femtometres.
+    left: u64,
+    /// The blocks on it.
+    blocks: BlockSet,
+}
 
 /// The track: blocks, and what joins their ends.
 ///
@@ -267,18 +278,51 @@ impl Track {
         }
     }
 
+    /// Goes `way` femtometres ahead, or as far as the track leads.
+    fn follow(&self, place: Place, way: u64) -> Followed
+        requires { IsTrue (is_on_track self.now.blocks place) }
+        ensures way { way_on self.now place way
+            ≡ (if result.left == 0 then Some result.place else None) }
+        ensures last { last_on self.now place way ≡ result.place }
+        ensures covered { covered self.now place way no_blocks ≡ result.blocks }
+        ensures on_track { IsTrue (is_on_track self.now.blocks result.place) }
+    {
+        let _blocks = self.blocks.as_slice();
+        let mut blocks = BlockSet::empty().with(place.block);
+        let mut place = place;
+        let mut left = way;
+        while left > 0 {
+            match self.go_on(place, left) {
+                Some(next) => (place, left) = next,
+                None => {
+                    return Followed {
+                        place,
+                        left,
+                        blocks,
+                    };
+                }
+            }
+            blocks = blocks.with(place.block);
+        }
+        Followed {
+            place,
+            left,
+            blocks,
+        }
+    }
+
     /// Returns the place `way` femtometres ahead, or `None` if the track ends before.
     pub(crate) fn way_on(&self, place: Place, way: u64) -> Option<Place>
         requires { IsTrue (is_on_track self.now.blocks place) }
         ensures way { result ≡ way_on self.now place way }
         ensures on_track { IfSome result (λ there. IsTrue (is_on_track self.now.blocks there)) }
     {
-        let mut place = place;
-        let mut left = way;
-        while left > 0 {
-            (place, left) = self.go_on(place, left)?;
+        let followed = self.follow(place, way);
+        if followed.left == 0 {
+            Some(followed.place)
+        } else {
+            None
         }
-        Some(place)
     }
 
     /// Returns the place `way` femtometres ahead, or the last one if the track ends before.
@@ -287,34 +331,7 @@ impl Track {
         ensures last { result ≡ last_on self.now place way }
         ensures on_track { IsTrue (is_on_track self.now.blocks result) }
     {
-        let mut place = place;
-        let mut left = way;
-        while left > 0 {
-            match self.go_on(place, left) {
-                Some(next) => (place, left) = next,
-                None => return place,
-            }
-        }
-        place
-    }
-
-    /// Returns which blocks there are on the way to the place `way` femtometres ahead.
-    fn covered(&self, place: Place, way: u64) -> BlockSet
-        requires { IsTrue (is_on_track self.now.blocks place) }
-        ensures { result ≡ covered self.now place way no_blocks }
-    {
-        let _blocks = self.blocks.as_slice();
-        let mut marks = BlockSet::empty().with(place.block);
-        let mut place = place;
-        let mut left = way;
-        while left > 0 {
-            match self.go_on(place, left) {
-                Some(next) => (place, left) = next,
-                None => return marks,
-            }
-            marks = marks.with(place.block);
-        }
-        marks
+        self.follow(place, way).place
     }
 
     /// Returns the train, which then knows the blocks from its rear to its front.
@@ -323,7 +340,7 @@ impl Track {
         ensures { result ≡ marked self.now train.now }
     {
         TrainState {
-            under: self.covered(train.rear, train.span()),
+            under: self.follow(train.rear, train.span()).blocks,
             ..*train
         }
     }
