@@ -151,31 +151,8 @@ fn push_show(words: Words<'_>, commands: &mut Vec<Command>) -> Result<(), Why>
     push_command(commands, Command::Show)
 }
 
-/// Appends the commands of a line, by its first word.
+/// Appends the commands of a line, by its first word. A line that begins with `#` has none.
 #[tactic(auto, using(crate::proofs::FirstWord::command_steps))]
-fn push_commands(
-    mut words: Words<'_>,
-    lines: u8,
-    nodes: u8,
-    commands: &mut Vec<Command>,
-) -> Result<(), Why>
-    requires { nodes ≤ 64 }
-    ensures { Adds commands.old.items commands.new.items result
-        (command_of lines nodes (words_of words.entry.0.now)) }
-{
-    if words.take_word("line") {
-        push_line(words, lines, commands)
-    } else if words.take_word("turn") {
-        push_turns(words, nodes, commands)
-    } else if words.take_word("show") {
-        push_show(words, commands)
-    } else if words.is_empty() {
-        Ok(())
-    } else {
-        Err(Why::BadWord)
-    }
-}
-
 fn push_line_commands(
     line: &[u8],
     lines: u8,
@@ -186,10 +163,20 @@ fn push_line_commands(
     ensures { Adds commands.old.items commands.new.items result
         (line_commands lines nodes line.now) }
 {
+    let mut words = Words(line);
     if line.starts_with(b"#".as_slice()) {
-        return Ok(());
+        Ok(())
+    } else if words.take_word("line") {
+        push_line(words, lines, commands)
+    } else if words.take_word("turn") {
+        push_turns(words, nodes, commands)
+    } else if words.take_word("show") {
+        push_show(words, commands)
+    } else if words.is_empty() {
+        Ok(())
+    } else {
+        Err(Why::BadWord)
     }
-    push_commands(Words(line), lines, nodes, commands)
 }
 
 fn fault_at(why: Why, line: u64) -> ScriptFault
