@@ -73,7 +73,8 @@ pub fn monitor_from<I: Input, O: Output>(
     print_hex(alloc, text.as_slice(), output)
 }
 
-/// Prints each message in the bytes of a hex text, through a buffer.
+/// Prints each message in the bytes of a hex text, through a buffer. A text with a fault prints
+/// nothing.
 fn print_hex<O: Output>(alloc: Global, text: &[u8], output: &mut O) -> Result<(), RunFault>
     requires { O.failed output.old ≡ false }
     ensures printed { OnOk result
@@ -83,24 +84,10 @@ fn print_hex<O: Output>(alloc: Global, text: &[u8], output: &mut O) -> Result<()
     ensures untouched { IfErr result
         (λ e. e ≢ RunFault.NoMemory → e ≢ RunFault.Output → output.new ≡ output.old) }
 {
-    let mut buffered = Buffered::new(output);
-    let done = monitor_text(alloc, text, &mut buffered);
-    flush_after(done, &mut buffered)
-}
-
-/// Prints each message in the bytes of a hex text.
-fn monitor_text<O: Sink>(alloc: Global, text: &[u8], output: &mut O) -> Result<(), RunFault>
-    requires { O.failed output.old ≡ false }
-    ensures printed { OnOk result
-        (PrintsMessages text.now (O.held output.old) (O.held output.new)) }
-    ensures fault { IfErr result (FailsHex text.now) }
-    ensures unwritten { O.failed output.new ≡ ended_by is_unwritten result }
-    ensures same { O.loan output.new ≡ O.loan output.old }
-    // A text with a fault prints nothing.
-    ensures untouched { IfErr result (λ e. e ≢ RunFault.Output → output.new ≡ output.old) }
-{
     let bytes = read_hex(alloc, text)?;
-    Ok(print_messages(bytes.as_slice(), output)?)
+    let mut buffered = Buffered::new(output);
+    let done = print_messages(bytes.as_slice(), &mut buffered).map_err(RunFault::from);
+    flush_after(done, &mut buffered)
 }
 
 /// Prints each message that ends in these bytes.
