@@ -1,5 +1,6 @@
 -- The line of a turn: its number, and the bytes of its packet.
 use Rattle.std.proofs.Common.{◌≡◌, ℕ, suc, ◌+◌, ◌-◌, ◌*◌, ◌/◌, ◌%◌, ◌<◌, ◌≤◌, ◌^◌, ◌==◌, Bool, true, false, List, [], ◌∷◌, ◌++◌, length, length-append, length-drop, take, drop, Option, Some, None, position, refl, ap, sym, subst, ◌∙◌, arith, ne_eqb, ltb-true, append_assoc, ap₂, inl, inr, ◌⊎◌, ◌&&◌, nat_lt, codes, IsTrue, if◌then◌else◌}
+use Rattle.std.specs.Prelude.{Result, Ok}
 use Rattle.std.specs.List.{list_all, position_or_len}
 use Rattle.std.specs.Char.{digit_value}
 use Rattle.std.specs.Fmt.{decimal}
@@ -12,7 +13,8 @@ use Rattle.std.proofs.lemmas.List.Folds.{list_all-append}
 use Rattle.dcc_packet.specs.Packet.{IsPacket, has_packet_length, is_checked}
 use Rattle.text.specs.Hex.{hex_char, hex_word, hex_words}
 use Rattle.show_text.specs.Lines.{off_text, track_text}
-use Rattle.trace.specs.Traffic.{Parses, is_of_turn}
+use Rattle.trace.specs.Traffic.{IsOfTurn, Parses, Prints, is_gap, is_of_turn}
+use Rattle.trace.specs.declared.turn.Turn.{Turn}
 
 not_space : (digit : ℕ) → digit_value digit < 10 → (digit == 32) ≡ false
 not_space digit small = elim (cases_eq digit 32) [
@@ -135,33 +137,32 @@ abbrev pub Behind : Option (List ℕ) → List ℕ → Type 0
 Behind (Some packet) rest = IsPacket packet × (is_checked packet ≡ true) × (rest ≡ hex_words packet)
 Behind None rest = rest ≡ codes " off"
 
--- a line of a turn with this packet
-pub record IsTurn (line : List ℕ) (item : Option (List ℕ)) : Type 0 where
-  pub turn : ℕ
+-- a line of the turn with this number, with this packet
+pub record IsTurn (line : List ℕ) (number : ℕ) (packet : Option (List ℕ)) : Type 0 where
   pub rest : List ℕ
-  pub small : turn < 2 ^ 64
-  pub line_is : line ≡ codes "track " ++ decimal turn ++ 32 ∷ rest
-  pub rest_after : Behind item (32 ∷ rest)
+  pub line_is : line ≡ codes "track " ++ decimal number ++ 32 ∷ rest
+  pub rest_after : Behind packet (32 ∷ rest)
 
-pub is_turn : (line : List ℕ) (item : Option (List ℕ)) → Parses line item → is_of_turn line ≡ true → IsTurn line item
-is_turn line (Some []) parses as_turn = absurd (let many = few [] parses.2 in omega (arith, many.0))
-is_turn line (Some (b ∷ bs)) parses as_turn = record { turn = parses.0; rest = hex_char (b / 16) ∷ hex_char (b % 16) ∷ hex_words bs; small = parses.1; line_is = parses.4; rest_after = (parses.2, parses.3, refl) }
-is_turn line None (inl other) as_turn = absurd (let both : true ≡ false = sym as_turn ∙ other in cc)
-is_turn line None (inr off) as_turn = record { turn = off.0; rest = codes "off"; small = off.1; line_is = off.2; rest_after = refl }
+pub is_turn : (line : List ℕ) (number : ℕ) (packet : Option (List ℕ)) → Prints line number packet → IsTurn line number packet
+is_turn line number (Some []) prints = absurd (let many = few [] prints.0 in omega (arith, many.0))
+is_turn line number (Some (b ∷ bs)) prints = record { rest = hex_char (b / 16) ∷ hex_char (b % 16) ∷ hex_words bs; line_is = prints.2; rest_after = (prints.0, prints.1, refl) }
+is_turn line number None prints = record { rest = codes "off"; line_is = prints; rest_after = refl }
 
--- the part split off such a line
-pub record IsCut (line : List ℕ) (item : Option (List ℕ)) (turn : ℕ) (rest : List ℕ) : Type 0 where
-  pub line_is : line ≡ codes "track " ++ decimal turn ++ rest
-  pub rest_after : Behind item rest
+-- the number and the rest that are split off such a line
+pub record IsCut (line : List ℕ) (number : ℕ) (packet : Option (List ℕ)) (cut : ℕ) (rest : List ℕ) : Type 0 where
+  pub same : cut ≡ number
+  pub line_is : line ≡ codes "track " ++ decimal cut ++ rest
+  pub rest_after : Behind packet rest
 
-pub is_cut : (line : List ℕ) (item : Option (List ℕ)) (turn : ℕ) (rest : List ℕ) → Parses line item → is_of_turn line ≡ true
-    → ((t : ℕ) (r : List ℕ) → t < 2 ^ 64 → line ≡ codes "track " ++ decimal t ++ 32 ∷ r → (turn ≡ t) × (rest ≡ 32 ∷ r)) → IsCut line item turn rest
-is_cut line item turn rest parses as_turn cut =
-    let is : IsTurn line item = is_turn line item parses as_turn in
-    let same = cut is.turn is.rest is.small is.line_is in
+pub is_cut : (line : List ℕ) (number : ℕ) (packet : Option (List ℕ)) (cut : ℕ) (rest : List ℕ) → number < 2 ^ 64 → Prints line number packet
+    → ((t : ℕ) (r : List ℕ) → t < 2 ^ 64 → line ≡ codes "track " ++ decimal t ++ 32 ∷ r → (cut ≡ t) × (rest ≡ 32 ∷ r)) → IsCut line number packet cut rest
+is_cut line number packet cut rest small prints cuts =
+    let is : IsTurn line number packet = is_turn line number packet prints in
+    let same = cuts number is.rest small is.line_is in
     record {
+      same = same.0;
       line_is = is.line_is ∙ sym (ap₂ (λ (t : ℕ) (r : List ℕ). codes "track " ++ decimal t ++ r) same.0 same.1);
-      rest_after = subst (Behind item) (sym same.1) is.rest_after;
+      rest_after = subst (Behind packet) (sym same.1) is.rest_after;
     }
 
 length-hex_words : (bs : List ℕ) → length (hex_words bs) ≡ 3 * length bs
@@ -169,33 +170,55 @@ length-hex_words [] = refl
 length-hex_words (b ∷ bs) = omega (arith, length-hex_words bs)
 
 -- the line of a turn that sent nothing has no packet
-pub tells_off : (line : List ℕ) (item : Option (List ℕ)) (turn : ℕ) (rest : List ℕ) → IsCut line item turn rest → line ≡ off_text turn → None ≡ item
-tells_off line None turn rest is off = refl
-tells_off line (Some packet) turn rest is off = absurd (
-    let same : codes "track " ++ (decimal turn ++ rest) ≡ codes "track " ++ (decimal turn ++ codes " off") = sym is.line_is ∙ off in
-    let longer : length (decimal turn ++ rest) ≡ length (decimal turn ++ codes " off") = ap (λ bs. length (drop 6 bs)) same in
-    let left : length (decimal turn ++ rest) ≡ length (decimal turn) + length rest = length-append (decimal turn) rest in
-    let right : length (decimal turn ++ codes " off") ≡ length (decimal turn) + 4 = length-append (decimal turn) (codes " off") in
+pub tells_off : (line : List ℕ) (number : ℕ) (packet : Option (List ℕ)) (cut : ℕ) (rest : List ℕ) → IsCut line number packet cut rest → line ≡ off_text cut → None ≡ packet
+tells_off line number None cut rest is off = refl
+tells_off line number (Some packet) cut rest is off = absurd (
+    let same : codes "track " ++ (decimal cut ++ rest) ≡ codes "track " ++ (decimal cut ++ codes " off") = sym is.line_is ∙ off in
+    let longer : length (decimal cut ++ rest) ≡ length (decimal cut ++ codes " off") = ap (λ bs. length (drop 6 bs)) same in
+    let left : length (decimal cut ++ rest) ≡ length (decimal cut) + length rest = length-append (decimal cut) rest in
+    let right : length (decimal cut ++ codes " off") ≡ length (decimal cut) + 4 = length-append (decimal cut) (codes " off") in
     let words : length rest ≡ 3 * length packet = ap length is.rest_after.2 ∙ length-hex_words packet in
     let some : 3 ≤ length packet = (few packet is.rest_after.0).0 in
     omega (arith, longer, left, right, words, some))
 
 -- and any other has the packet that is read
-pub tells_packet : (line : List ℕ) (item : Option (List ℕ)) (turn : ℕ) (rest packet : List ℕ) → IsCut line item turn rest → (line ≡ off_text turn → ⊥)
+pub tells_packet : (line : List ℕ) (number : ℕ) (item : Option (List ℕ)) (cut : ℕ) (rest packet : List ℕ) → IsCut line number item cut rest → (line ≡ off_text cut → ⊥)
     → ((p : List ℕ) → IsPacket p → rest ≡ hex_words p → Some packet ≡ Some p) → Some packet ≡ item
-tells_packet line None turn rest packet is on read = absurd (on (is.line_is ∙ ap (λ (r : List ℕ). codes "track " ++ decimal turn ++ r) is.rest_after))
-tells_packet line (Some p) turn rest packet is on read = read p is.rest_after.0 is.rest_after.2
+tells_packet line number None cut rest packet is on read = absurd (on (is.line_is ∙ ap (λ (r : List ℕ). codes "track " ++ decimal cut ++ r) is.rest_after))
+tells_packet line number (Some p) cut rest packet is on read = read p is.rest_after.0 is.rest_after.2
 
 -- unless none is
-pub tells_nothing : (line : List ℕ) (item : Option (List ℕ)) (turn : ℕ) (rest : List ℕ) → IsCut line item turn rest → (line ≡ off_text turn → ⊥)
-    → ((p : List ℕ) → IsPacket p → is_checked p ≡ true → rest ≡ hex_words p → line ≡ track_text turn p → ⊥) → ⊥
-tells_nothing line None turn rest is on read = on (is.line_is ∙ ap (λ (r : List ℕ). codes "track " ++ decimal turn ++ r) is.rest_after)
-tells_nothing line (Some p) turn rest is on read = read p is.rest_after.0 is.rest_after.1 is.rest_after.2 (is.line_is ∙ ap (λ (r : List ℕ). codes "track " ++ decimal turn ++ r) is.rest_after.2)
+pub tells_nothing : (line : List ℕ) (number : ℕ) (item : Option (List ℕ)) (cut : ℕ) (rest : List ℕ) → IsCut line number item cut rest → (line ≡ off_text cut → ⊥)
+    → ((p : List ℕ) → IsPacket p → is_checked p ≡ true → rest ≡ hex_words p → line ≡ track_text cut p → ⊥) → ⊥
+tells_nothing line number None cut rest is on read = on (is.line_is ∙ ap (λ (r : List ℕ). codes "track " ++ decimal cut ++ r) is.rest_after)
+tells_nothing line number (Some p) cut rest is on read = read p is.rest_after.0 is.rest_after.1 is.rest_after.2 (is.line_is ∙ ap (λ (r : List ℕ). codes "track " ++ decimal cut ++ r) is.rest_after.2)
+
+abbrev turn_with : ℕ → Option (List ℕ) → Turn
+turn_with number packet = record { number = number; packet = packet }
+
+pub same_turn : (number : ℕ) (packet : Option (List ℕ)) (turn : Turn) → number ≡ turn.number → packet ≡ turn.packet → turn_with number packet ≡ turn
+same_turn number packet turn same_number same_packet = ap₂ turn_with same_number same_packet
+
+-- Of the lines of turns, none says that lines were lost, and each has the first word.
+
+printed : (line : List ℕ) (number : ℕ) (packet : Option (List ℕ)) → Prints line number packet → (is_gap line ≡ false) × (is_of_turn line ≡ true)
+printed line number None prints = (ap is_gap prints, ap is_of_turn prints)
+printed line number (Some packet) prints = (ap is_gap prints.2, ap is_of_turn prints.2)
+
+pub no_gap : (line : List ℕ) (item : Option Turn) → Parses line item → is_gap line ≡ false
+no_gap line None parses = parses.0
+no_gap line (Some turn) parses = (printed line turn.number turn.packet parses.1).0
 
 -- a line with another first word has none
-pub no_turn : (line : List ℕ) (item : Option (List ℕ)) → Parses line item → is_of_turn line ≡ false → None ≡ item
+pub no_turn : (line : List ℕ) (item : Option Turn) → Parses line item → is_of_turn line ≡ false → None ≡ item
 no_turn line None parses other = refl
-no_turn line (Some packet) parses other =
-    let as_turn : is_of_turn (track_text parses.0 packet) ≡ true = refl in
-    let both : true ≡ false = sym as_turn ∙ ap is_of_turn (sym parses.4) ∙ other in
+no_turn line (Some turn) parses other =
+    let as_turn : is_of_turn line ≡ true = (printed line turn.number turn.packet parses.1).1 in
+    let both : true ≡ false = sym as_turn ∙ other in
     cc
+
+-- a line with it has the one that is read
+pub one_turn : {E : Type 0} (line : List ℕ) (item : Option Turn) (result : Result Turn E) → is_of_turn line ≡ true → ((turn : Turn) → IsOfTurn line turn → result ≡ Ok turn) → Parses line item
+    → (turn : Turn) × (item ≡ Some turn) × (result ≡ Ok turn)
+one_turn line None result as_turn exact parses = absurd (let both : true ≡ false = sym as_turn ∙ parses.1 in cc)
+one_turn line (Some turn) result as_turn exact parses = (turn, refl, exact turn parses)

@@ -1,11 +1,11 @@
 //! What `station` prints, read back, and programs that draw it.
 //!
-//! [`packet_in`] and [`node_in`] read one line. A program implements [`Drawing`] (what one line says, and what is drawn of
+//! [`turn_in`] and [`node_in`] read one line. A program implements [`Drawing`] (what one line says, and what is drawn of
 //! all of them), and [`execute`] reads the input whole, parses each line and writes the drawing; a run that fails reports
 //! the reason. Its tests are those of `track_signal` and `timeline`.
 //!
 //! ```text
-//! if let Ok(Some(packet)) = packet_in(b"track 1 FF 00 FF") { .. }
+//! if let Ok(Some(turn)) = turn_in(b"track 1 FF 00 FF") { .. }
 //! execute(&TrackSignal, alloc, "-", &mut input, &mut output, &mut faults)
 //! ```
 #![tactic(auto)]
@@ -18,13 +18,15 @@ mod reading;
 mod reported_state;
 mod run;
 mod standard;
+mod turn;
 mod words;
 
 pub use drawing::{BadLine, Drawing};
 pub use fault::DrawFault;
-pub use line::{NoTurn, is_of_turn, packet_in};
+pub use line::{NoTurn, is_gap, is_of_turn, turn_in, turn_of, turns_since};
 pub use node::{is_of_node, last_of, node_in};
 pub use reading::LONGEST_TEXT;
 pub use reported_state::{Name, ReportedState, Seen, Switches};
 pub use run::execute;
 pub use standard::draw_standard;
+pub use turn::Turn;

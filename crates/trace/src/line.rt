@@ -1,10 +1,12 @@
 //! The lines of turns in the output of `station`.
-ghost use Rattle.std.specs.Prelude.{ℕ, ◌≡◌, ◌==◌, ◌<◌, ◌^◌, ◌∷◌, ◌++◌, ◌/◌, ◌%◌, ◌↔◌, List, Option, Some, Ok, IfOk, IfSome, IsTrue, MatchOption, codes, length, position};
+ghost use Rattle.std.specs.Prelude.{ℕ, ◌≡◌, ◌==◌, ◌<◌, ◌≤◌, ◌^◌, ◌∷◌, ◌++◌, ◌/◌, ◌%◌, ◌↔◌, List, Option, Some, Ok, IfOk, IfSome, IsTrue, MatchOption, codes, length, position};
 ghost use Rattle.std.specs.Fmt.{decimal};
 ghost use Rattle.dcc_packet.specs.Packet.{IsPacket};
 ghost use Rattle.text.specs.Hex.{hex_char, hex_word, hex_words};
-ghost use Rattle.trace.specs.Traffic.{Parses, is_of_turn};
+ghost use Rattle.trace.specs.Traffic.{IsOfTurn, Parses, is_gap, is_of_turn, turns_since};
+ghost use Rattle.trace.specs.declared.turn.Turn.{Turn};
 
+use crate::turn::Turn;
 use arrayvec::ArrayVec;
 use dcc_packet::Packet;
 use show_text::{Line, off_line, track_line};
@@ -77,28 +79,73 @@ fn is_text(line: &[u8], text: &Line) -> bool
     line == text.as_str().as_bytes()
 }
 
-/// Returns the packet of a line, or `None` if the line is not of a turn or the turn sent nothing.
+/// Returns the turn of a line.
 ///
-/// The packet is printed again and compared, so that exactly the lines that `station` prints are
+/// The turn is printed again and compared, so that exactly the lines that `station` prints are
 /// accepted.
-pub fn packet_in(line: &[u8]) -> Result<Option<Packet>, NoTurn>
-    ensures item { IfOk result (λ item. Parses line.now item) }
-    ensures exact { (item : Option (List ℕ)) → Parses line.now item → result ≡ Ok item }
+pub fn turn_of(line: &[u8]) -> Result<Turn, NoTurn>
+    ensures turn { IfOk result (IsOfTurn line.now) }
+    ensures exact { (turn : Turn) → IsOfTurn line.now turn → result ≡ Ok turn }
 {
-    if !is_of_turn(line) {
-        return Ok(None);
-    }
-    let Some((turn, rest)) = cut_turn(line) else {
+    let Some((number, rest)) = cut_turn(line) else {
         return Err(NoTurn);
     };
-    if is_text(line, &off_line(turn)) {
-        return Ok(None);
+    if is_text(line, &off_line(number)) {
+        return Ok(Turn {
+            number,
+            packet: None,
+        });
     }
     let Some(packet) = packet_of(rest) else {
         return Err(NoTurn);
     };
-    if !packet.is_checked() || !is_text(line, &track_line(turn, &packet)) {
+    if !packet.is_checked() || !is_text(line, &track_line(number, &packet)) {
         return Err(NoTurn);
     }
-    Ok(Some(packet))
+    Ok(Turn {
+        number,
+        packet: Some(packet),
+    })
+}
+
+/// Whether the line says that lines of the log of `lbserver` had no room.
+pub fn is_gap(line: &[u8]) -> bool
+    ensures { result ≡ is_gap line.now }
+{
+    line.starts_with(b"log: ".as_slice())
+}
+
+/// Returns the turn of a line, or `None` if its first word is not `track`.
+///
+/// A line that says that lines were left out for want of room has neither.
+pub fn turn_in(line: &[u8]) -> Result<Option<Turn>, NoTurn>
+    ensures item { IfOk result (λ item. Parses line.now item) }
+    ensures exact { (item : Option Turn) → Parses line.now item → result ≡ Ok item }
+{
+    if is_gap(line) {
+        return Err(NoTurn);
+    }
+    if !is_of_turn(line) {
+        return Ok(None);
+    }
+    Ok(Some(turn_of(line)?))
+}
+
+/// The most turns between two lines of turns.
+const LONGEST_GAP: u64 = 16_777_216;
+
+/// Returns how many turns later a turn is than the one with the number `last`; 0 if there was none.
+///
+/// `lbserver` does not print turns that sent the idle packet, or nothing. Turns that are numbered
+/// anew, or after a gap of more than 16,777,216 turns, follow at once.
+pub fn turns_since(last: u64, number: u64) -> u64
+    ensures value { result ≡ turns_since last number }
+    ensures least { 1 ≤ result }
+    ensures most { result ≤ 16777216 }
+{
+    if last > 0 && last < number && number - last <= LONGEST_GAP {
+        number - last
+    } else {
+        1
+    }
 }

@@ -3,7 +3,7 @@ ghost use Rattle.trace.specs.Drawn.{DrawsInput};
 
 use crate::drawing::Drawing;
 use crate::run::execute;
-use filter::{Filter, FilterText, run_filter};
+use filter::{Filter, FilterFlags, FilterText, run_filter};
 use input_text::{Input, Output};
 use std::alloc::Global;
 use std::io::Write;
@@ -25,7 +25,7 @@ impl<D: Drawing> Filter for DrawingFilter<'_, D> {
     fn execute<I: Input, O: Output, E: Write>(
         &self,
         alloc: Global,
-        _is_flagged: bool,
+        _flags: FilterFlags,
         source: &str,
         input: &mut I,
         output: &mut O,
