@@ -17,7 +17,7 @@ use std::io;
 use std::io::{ErrorKind, Write};
 use std::net::SocketAddr;
 use std::os::fd::RawFd;
-use web::{Page, PageReply};
+use web::Page;
 
 /// The ports of a server, and the streams of the accepted clients, by their index, 0 to 7.
 #[derive(Drop)]
@@ -52,18 +52,11 @@ impl Connections {
         })
     }
 
-    /// Serves a page to browsers on this listener, and accepts pages as clients.
-    pub(crate) fn serve_page(
-        &mut self,
-        alloc: Global,
-        listener: TcpListener,
-        page: &[u8],
-        names: Vec<String>,
-    ) -> io::Result<()> {
-        let reply = PageReply::new(alloc, page)?;
-        let mut listener = listener;
-        register_listener(&mut listener, self.poll.registry(), MAX_CLIENTS + 1)?;
-        self.http = Some(HttpServer::new(alloc, listener, reply, names));
+    /// Serves a page to browsers by this server, and accepts pages as clients.
+    pub(crate) fn serve_page(&mut self, http: HttpServer) -> io::Result<()> {
+        let mut http = http;
+        register_listener(http.listener_mut(), self.poll.registry(), MAX_CLIENTS + 1)?;
+        self.http = Some(http);
         Ok(())
     }
 

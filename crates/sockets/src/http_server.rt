@@ -77,6 +77,11 @@ impl HttpServer {
         &self.listener
     }
 
+    /// The listener, to register it.
+    pub(crate) fn listener_mut(&mut self) -> &mut TcpListener {
+        &mut self.listener
+    }
+
     /// Returns how long the next round may be delayed, in microseconds: 0 if there may be more to
     /// do, otherwise until the earliest deadline, if there is an exchange.
     pub(crate) fn time_left(&self, now: u64) -> Option<u64> {

@@ -2,6 +2,7 @@
 ghost use Rattle.std.specs.Prelude.{None};
 
 use crate::connections::Connections;
+use crate::http_server::HttpServer;
 use crate::stopwatch::Stopwatch;
 use bus_server::{IoOutcome, Transport};
 use mio::Poll;
@@ -12,6 +13,7 @@ use std::io;
 use std::net::SocketAddr;
 use std::os::fd::RawFd;
 use std::time::Clock;
+use web::PageReply;
 
 /// The ports of a server, the streams of the accepted clients, and a clock.
 ///
@@ -58,7 +60,9 @@ impl<'a, C: Clock> Sockets<'a, C> {
         page: &[u8],
         names: Vec<String>,
     ) -> io::Result<()> {
-        self.connections.serve_page(alloc, listener, page, names)
+        let reply = PageReply::new(alloc, page)?;
+        self.connections
+            .serve_page(HttpServer::new(alloc, listener, reply, names))
     }
 
     /// Ends a wait when a file descriptor becomes writable. A descriptor that cannot be registered
