@@ -118,8 +118,8 @@ impl CvMemory {
         None
     }
 
-    /// Whether the variable at an address differs from the file.
-    fn is_changed(&self, address: u16) -> bool
+    /// Whether the variable at an address, 0 to 1023, differs from the file.
+    pub fn is_changed(&self, address: u16) -> bool
         requires { address < 1024 }
         ensures { result ≡ is_changed self.now address }
     {

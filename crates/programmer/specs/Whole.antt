@@ -6,11 +6,14 @@ use Rattle.service_mode.specs.declared.packet.ServicePacket.{ServicePacket}
 use Rattle.service_mode.specs.declared.packet.ServicePacket.TheVariants.{Reset, Direct}
 use Rattle.programmer.specs.declared.load.Load.TheVariants.{Decoder}
 use Rattle.programmer.specs.declared.task.Task.{Task}
+use Rattle.programmer.specs.declared.task_result.Status.{Status}
+use Rattle.programmer.specs.declared.task_result.Status.TheVariants.{Done, NoWriteAcknowledge}
 use Rattle.programmer.specs.declared.task_result.TaskResult.{TaskResult}
 use Rattle.programmer.specs.declared.task_state.TaskState.{TaskState}
 use Rattle.programmer.specs.declared.task_state.Next.{Next}
 use Rattle.programmer.specs.declared.task_state.Next.TheVariants.{Continued, Finished}
-use Rattle.programmer.specs.Machine.{bit_question, packet_of, next_of}
+use Rattle.programmer.specs.Machine.{begun, bit_question, packet_of, next_of}
+use Rattle.programmer.specs.Requests.{result_of}
 
 -- the result of a task and the packets before it
 pub record TaskEnd : Type 0 where
@@ -54,3 +57,10 @@ off_question task = bit_question task.address task.value true ∷ bit_question t
 
 abbrev pub IsBitQuestion : Task → List Instruction → Type 0
 IsBitQuestion task questions = (questions ≡ on_question task) ⊎ (questions ≡ off_question task)
+
+-- a write sends this instruction once, and ends with the value that it writes
+abbrev pub WritesBy : Instruction → Task → (bits : ℕ → Bool) → Type 0
+WritesBy instruction task bits =
+    (status : Status) × ((status ≡ Done) ⊎ (status ≡ NoWriteAcknowledge))
+    × (end_of 126 (begun task) bits
+    ≡ Some (record { result = result_of task status task.value; sent = sequence instruction }))

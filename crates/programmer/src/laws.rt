@@ -5,10 +5,10 @@ ghost use Rattle.service_mode.specs.declared.instruction.Instruction.{Instructio
 ghost use Rattle.service_mode.specs.declared.instruction.Instruction.TheVariants.{WriteByte};
 ghost use Rattle.programmer.specs.declared.task.Task.{Task};
 ghost use Rattle.programmer.specs.declared.task_result.Status.{Status};
-ghost use Rattle.programmer.specs.declared.task_result.Status.TheVariants.{Done, NoReadAcknowledge, NoWriteAcknowledge};
+ghost use Rattle.programmer.specs.declared.task_result.Status.TheVariants.{Done, NoReadAcknowledge};
 ghost use Rattle.programmer.specs.Machine.{begun, bit_write};
 ghost use Rattle.programmer.specs.Requests.{address_of, is_bit, is_task, is_write, pstat, result_bytes, result_of, value_of};
-ghost use Rattle.programmer.specs.Whole.{IsBitQuestion, end_of, read_of, sequence};
+ghost use Rattle.programmer.specs.Whole.{IsBitQuestion, WritesBy, end_of, read_of, sequence};
 
 /// A result has the variable that the task names, the value and the status where a client looks for
 /// them.
@@ -36,12 +36,7 @@ pub fn tasks_end()
           sent = flat_map sequence (read_of task.address value);
         })) }
     ensures written { (task : Task) (bits : ℕ → Bool) → is_bit task ≡ false
-        → is_write task ≡ true
-        → (status : Status) × ((status ≡ Done) ⊎ (status ≡ NoWriteAcknowledge))
-        × (end_of 126 (begun task) bits ≡ Some (record {
-          result = result_of task status task.value;
-          sent = sequence (WriteByte task.address task.value);
-        })) }
+        → is_write task ≡ true → WritesBy (WriteByte task.address task.value) task bits }
     ensures read_bit { (task : Task) (bits : ℕ → Bool) → is_bit task ≡ true
         → is_write task ≡ false
         → (value : ℕ) × (status : Status) × (questions : List Instruction)
@@ -51,10 +46,5 @@ pub fn tasks_end()
           sent = flat_map sequence questions;
         })) }
     ensures written_bit { (task : Task) (bits : ℕ → Bool) → is_bit task ≡ true
-        → is_write task ≡ true
-        → (status : Status) × ((status ≡ Done) ⊎ (status ≡ NoWriteAcknowledge))
-        × (end_of 126 (begun task) bits ≡ Some (record {
-          result = result_of task status task.value;
-          sent = sequence (bit_write task.address task.value);
-        })) }
+        → is_write task ≡ true → WritesBy (bit_write task.address task.value) task bits }
 {}
