@@ -7,7 +7,7 @@ use decoder_cv::{CvPair, CvSet};
 use describe::service_words;
 use ln_frame::Msg;
 use programmer::{Status, TaskReply, TaskResult};
-use programming_track::{PacketEnds, ProgrammingTrack};
+use programming_track::{PacketEnds, ProgrammingBench, ProgrammingTrack};
 use service_mode::{Instruction, ServicePacket, read};
 use std::alloc::Global;
 use std::test::Fail;
@@ -350,6 +350,32 @@ fn long_address_is_written(rt: HostRuntime) -> Result<(), Fail> {
     );
     let settings = CvSet::new(values.0, values.1, values.2, values.3)?;
     assert!(rt; settings.address() == Address::Long(1234));
+    Ok(())
+}
+
+/// CV29 of the second decoder has position 1024 + 28, and keeps its value off the track.
+#[test]
+fn decoders_change_places(rt: HostRuntime) -> Result<(), Fail> {
+    let mut bench = ProgrammingBench::new(rt.alloc());
+    bench.add("yard", CvMemory::of_list(&[]))?;
+    bench.add("shunter", decoder())?;
+    assert!(rt; bench.mount("shunter".as_bytes()));
+    let write = message(&WRITE_CV29)?;
+    let accepted = bench.request(&write).ok_or("a reply")?;
+    assert!(rt; accepted == TaskReply::Accepted);
+    // At most 15 packets of 11,436 microseconds.
+    for _ in 0..20 {
+        bench.elapse(10_740);
+    }
+    assert_eq!(rt; bench.next_change(0), Some(1052));
+    assert!(rt; !bench.mount("express".as_bytes()));
+    assert!(rt; bench.mount("yard".as_bytes()));
+    bench.dismount();
+    assert_eq!(rt; bench.next_change(0), Some(1052));
+    assert_eq!(rt; bench.next_change(1053), None);
+    assert_eq!(rt; bench.name(1052), "shunter");
+    assert_eq!(rt; bench.number(1052), 29);
+    assert_eq!(rt; bench.value(1052), 6);
     Ok(())
 }
 

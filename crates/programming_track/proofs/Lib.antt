@@ -4,3 +4,4 @@ pub mod Times
 pub mod Lasting
 pub mod Short
 pub mod Few
+pub mod Benches

@@ -3,3 +3,4 @@ pub mod Track
 pub mod Time
 pub mod Completes
 pub mod Outcomes
+pub mod Bench

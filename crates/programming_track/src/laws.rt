@@ -7,6 +7,7 @@ ghost use Rattle.programmer.specs.declared.task_result.TaskResult.{TaskResult};
 ghost use Rattle.programmer.specs.declared.task_state.TaskState.{TaskState};
 ghost use Rattle.programmer.specs.Requests.{task_of};
 ghost use Rattle.programming_track.specs.declared.programming_track.ProgrammingTrack.{ProgrammingTrack};
+ghost use Rattle.programming_track.specs.Bench.{BenchState, IsBench, dismounted, mounted_as, values_of};
 ghost use Rattle.programming_track.specs.Completes.{Completes};
 ghost use Rattle.programming_track.specs.Outcomes.{begins_bit_read, begins_bit_write, begins_read, begins_task, begins_write, bit_read, bit_refused, bit_written, empty, read, read_failed, refused, reset, with_decoder, with_failures, without_decoder, write_failed, write_sent, written};
 ghost use Rattle.programming_track.specs.Tasks.{TaskRun, run_of};
@@ -105,3 +106,12 @@ pub fn ends_are_few()
 {
     half_bits::durations_are_bounded();
 }
+
+/// Putting decoders on the track and taking them off it changes no variable of any decoder.
+#[tactic(auto, using(crate::proofs::Benches::mounting_keeps, crate::proofs::Benches::dismounting_keeps))]
+pub fn decoders_keep_their_variables()
+    ensures on { (b : BenchState) (name : List ℕ) (index : ℕ) → IsBench b
+        → values_of (mounted_as name b) index ≡ values_of b index }
+    ensures off { (b : BenchState) (index : ℕ) → IsBench b
+        → values_of (dismounted b) index ≡ values_of b index }
+{}
