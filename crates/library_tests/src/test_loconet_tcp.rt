@@ -35,11 +35,12 @@ const INVALID: [(&[u8], Reason); 10] = [
 ];
 
 // Lines, and what they ask the states of.
-const STATES: [(&[u8], Things); 4] = [
+const STATES: [(&[u8], Things); 5] = [
     (b"NODES\r\n", Things::Nodes),
     (b"\nNODES\n", Things::Nodes),
     (b"TRAINS\r", Things::Trains),
     (b"TURNOUTS\n", Things::Turnouts),
+    (b"CVS\r\n", Things::Variables),
 ];
 
 // Lines that request turns, each with their number.
@@ -105,8 +106,32 @@ const NO_PLACES: [(&[u8], PlaceError); 10] = [
     (b"PLACE express back 1500 a b\n", PlaceError::NoEnd),
 ];
 
+// Lines that put a decoder on the programming track, each with its name; nothing for none.
+const MOUNTS: [(&[u8], &[u8]); 4] = [
+    (b"MOUNT shunter\r\n", b"shunter"),
+    (b"MOUNT\t express \n", b"express"),
+    (b"MOUNT nothing\n", b""),
+    (b"MOUNT Nothing\n", b"Nothing"),
+];
+
+// Lines that do not name one.
+const NO_MOUNTS: [&[u8]; 3] = [b"MOUNT\n", b"MOUNT \n", b"MOUNT shunter express\n"];
+
+// Lines that let something fail.
+const FAILURES: [(&[u8], Result<Option<Failure>, FailError>); 6] = [
+    (b"FAIL programming\r\n", Ok(Some(Failure::Programming))),
+    (b"FAIL  none \n", Ok(None)),
+    (b"FAIL\n", Err(FailError::UnknownFailure)),
+    (b"FAIL sensor\n", Err(FailError::UnknownFailure)),
+    (b"FAIL None\n", Err(FailError::UnknownFailure)),
+    (b"FAIL programming none\n", Err(FailError::UnknownFailure)),
+];
+
 // Texts without a request. The line of the last has not ended.
-const IDLE: [&[u8]; 17] = [
+const IDLE: [&[u8]; 20] = [
+    b"CVS 1\n",
+    b"MOUNTX shunter\n",
+    b"fail none\n",
     b"PLACEX express back 1500\n",
     b"place express back 1500\n",
     b"NODES 1\n",
@@ -200,6 +225,36 @@ fn reads_places(rt: HostRuntime) -> Result<(), Fail> {
     Ok(())
 }
 
+#[test]
+fn reads_mounts(rt: HostRuntime) {
+    for (text, name) in MOUNTS {
+        let mounts = match request_of(&rt, text) {
+            Some(Request::Device(DeviceRequest::Mount(Ok(Some(word))))) => word.as_slice() == name,
+            Some(Request::Device(DeviceRequest::Mount(Ok(None)))) => name.is_empty(),
+            _ => false,
+        };
+        assert!(rt; mounts, "{text:?}");
+    }
+    for text in NO_MOUNTS {
+        let is_refused = match request_of(&rt, text) {
+            Some(Request::Device(DeviceRequest::Mount(Err(error)))) => error == MountError::NoName,
+            _ => false,
+        };
+        assert!(rt; is_refused, "{text:?}");
+    }
+}
+
+#[test]
+fn reads_failures(rt: HostRuntime) {
+    for (text, failure) in FAILURES {
+        let fails = match request_of(&rt, text) {
+            Some(Request::Device(DeviceRequest::Fail(found))) => found == failure,
+            _ => false,
+        };
+        assert!(rt; fails, "{text:?}");
+    }
+}
+
 // The request of `SEND`, `blanks` blanks and `83 7C`, which are nine further characters.
 fn request_behind(rt: &impl Abort, reader: &mut RequestReader, blanks: u32) -> Option<Request> {
     assert!(rt; request_in(rt, reader, b"SEND").is_none());
@@ -241,6 +296,21 @@ fn refuses_long_lines(rt: HostRuntime) {
     // A long line that puts a train.
     let request = request_of_long(&rt, &mut reader, b"PLACE e b 1", b' ');
     assert!(rt; matches!(&request, Some(Request::Place(Err(PlaceError::TooLong)))));
+    // Long lines that arrange the programming track.
+    let request = request_of_long(&rt, &mut reader, b"MOUNT shunter", b' ');
+    assert!(rt;
+        matches!(
+            &request,
+            Some(Request::Device(DeviceRequest::Mount(Err(MountError::NoName))))
+        )
+    );
+    let request = request_of_long(&rt, &mut reader, b"FAIL none", b' ');
+    assert!(rt;
+        matches!(
+            &request,
+            Some(Request::Device(DeviceRequest::Fail(Err(FailError::UnknownFailure))))
+        )
+    );
     // A long line that begins with none of the words.
     assert!(rt; request_of_long(&rt, &mut reader, b"", b'S').is_none());
 }
@@ -277,4 +347,31 @@ fn writes_exact_lines(rt: HostRuntime) -> Result<(), Fail> {
         b"VERSION lbserver station\r\nERROR no place\r\nSENT OK\r\nSENT ERROR line too long\r\nSENT ERROR no pairs of hexadecimal digits\r\nSENT ERROR no whole message\r\nSENT ERROR wrong check byte\r\nTURNS OK\r\nTURNS ERROR real time\r\nTURNS ERROR no number from 1 to 10000\r\nPLACE OK\r\nPLACE ERROR no plan\r\nPLACE ERROR line too long\r\nPLACE ERROR no number of millimetres\r\nPLACE ERROR no end a or b\r\nPLACE ERROR no such train\r\nPLACE ERROR no such block\r\nPLACE ERROR the train does not fit there\r\n";
     assert_eq!(rt; text.as_slice(), wanted.as_slice());
     Ok(())
+}
+
+#[test]
+fn writes_exact_lines_of_the_programming_track(rt: HostRuntime) {
+    let mut text = Text::new();
+    push_device(&mut text, DeviceAnswer::Mount(Ok(())));
+    push_device(&mut text, DeviceAnswer::Mount(Err(MountError::NoTrack)));
+    push_device(&mut text, DeviceAnswer::Mount(Err(MountError::NoName)));
+    push_device(
+        &mut text,
+        DeviceAnswer::Mount(Err(MountError::UnknownDecoder)),
+    );
+    push_device(&mut text, DeviceAnswer::Fail(Ok(())));
+    push_device(&mut text, DeviceAnswer::Fail(Err(FailError::NoTrack)));
+    push_device(
+        &mut text,
+        DeviceAnswer::Fail(Err(FailError::UnknownFailure)),
+    );
+    push_states_ok(&mut text, Things::Variables);
+    let wanted =
+        b"MOUNT OK\r\nMOUNT ERROR no programming track\r\nMOUNT ERROR no name of a decoder\r\nMOUNT ERROR no such decoder\r\nFAIL OK\r\nFAIL ERROR no programming track\r\nFAIL ERROR neither programming nor none\r\nCVS OK\r\n";
+    assert_eq!(rt; text.as_slice(), wanted.as_slice());
+    let mut text = Text::new();
+    push_change(&mut text, b"shunter", 29, 6);
+    push_change(&mut text, b"0123456789abcdef", 1024, 255);
+    let wanted = b"CV shunter [29, 6]\r\nCV 0123456789abcdef [1024, 255]\r\n";
+    assert_eq!(rt; text.as_slice(), wanted.as_slice());
 }

@@ -10,13 +10,16 @@ use Rattle.std.proofs.lemmas.Bool.{and_parts, not-true, lt-leb, lt-ltb, le-ltb, 
 use Rattle.std.proofs.lemmas.List.{append-nil, append_assoc, length-drop, length-take}
 use Rattle.std.proofs.lemmas.Slice.Eq.{bytes_eq-Decides}
 use Rattle.loconet_tcp.specs.declared.request.Request.{Request}
-use Rattle.loconet_tcp.specs.declared.request.Request.TheVariants.{Invalid, Turns, Place}
-use Rattle.loconet_tcp.specs.declared.request.Things.TheVariants.{Nodes, Trains, Turnouts}
+use Rattle.loconet_tcp.specs.declared.request.Request.TheVariants.{Invalid, Turns, Place, Device}
+use Rattle.loconet_tcp.specs.declared.request.DeviceRequest.TheVariants.{Mount, Fail}
+use Rattle.loconet_tcp.specs.declared.request.MountError.TheVariants.{NoName}
+use Rattle.loconet_tcp.specs.declared.request.FailError.TheVariants.{UnknownFailure}
+use Rattle.loconet_tcp.specs.declared.request.Things.TheVariants.{Nodes, Trains, Turnouts, Variables}
 use Rattle.loconet_tcp.specs.declared.request.PlaceError.TheVariants as place_error
 use Rattle.loconet_tcp.specs.declared.request.Reason.TheVariants.{TooLong}
 use Rattle.loconet_tcp.specs.Text.{is_end, is_open, onto_line, lines_of}
 use Rattle.text.specs.Words.{words_of, is_blank}
-use Rattle.loconet_tcp.specs.Requests.{request_of, parse_place, parse_send, ask_states, bytes_of, in_range, is_place, is_send, is_turns, things_of, turns_of}
+use Rattle.loconet_tcp.specs.Requests.{request_of, parse_fail, parse_mount, parse_place, parse_send, ask_states, bytes_of, in_range, is_fail, is_mount, is_place, is_send, is_turns, things_of, turns_of}
 use Rattle.text.specs.Decimal.{decimal_of}
 use Rattle.loconet_tcp.specs.Reading.{requests_in, requests_of, request_of_byte, kept_after, requests_along}
 
@@ -74,9 +77,11 @@ first-front (x ∷ xs) ys (w ∷ word) h =
     ∙ goes_on (is_blank x) x w (before_first is_blank (xs ++ ys)) (before_first is_blank xs) word (first-front xs ys word (omega arith))
     ∙ sym (ap (λ (line : List ℕ). bytes_eq line (w ∷ word)) (before-cons x xs))
 
--- the request of a line that is too long, by whether it is a `SEND`, a `TURNS` or a `PLACE` line
-abbrev asked_long : (send turns place : Bool) → Option Request
-asked_long send turns place = if send then Some (Invalid TooLong) else if turns then Some (Turns None) else if place then Some (Place (Err place_error.TooLong)) else None
+-- the request of a line that is too long, by whether it is a `SEND`, a `TURNS`, a `PLACE`, a `MOUNT` or a `FAIL` line
+abbrev asked_long : (send turns place mount fail : Bool) → Option Request
+asked_long send turns place mount fail =
+    if send then Some (Invalid TooLong) else if turns then Some (Turns None) else if place then Some (Place (Err place_error.TooLong))
+    else if mount then Some (Device (Mount (Err NoName))) else if fail then Some (Device (Fail (Err UnknownFailure))) else None
 
 -- the text after the first blank of a long line writes no number
 no_number : (some few digits : Bool) (n : ℕ) → few ≡ false → (if some && few && digits then Some n else None) ≡ None
@@ -107,34 +112,43 @@ no_things line h =
     let size : length (codes "TURNOUTS") ≡ 8 = refl in
     let five : length (codes "NODES") ≡ 5 = refl in
     let six : length (codes "TRAINS") ≡ 6 = refl in
-    ap (λ (is : Bool). if is then Some Nodes else if bytes_eq line (codes "TRAINS") then Some Trains else if bytes_eq line (codes "TURNOUTS") then Some Turnouts else None)
+    let three : length (codes "CVS") ≡ 3 = refl in
+    ap (λ (is : Bool). if is then Some Nodes else if bytes_eq line (codes "TRAINS") then Some Trains else if bytes_eq line (codes "TURNOUTS") then Some Turnouts else if bytes_eq line (codes "CVS") then Some Variables else None)
     (longer line (codes "NODES") (omega (arith, five, h)))
-    ∙ ap (λ (is : Bool). if is then Some Trains else if bytes_eq line (codes "TURNOUTS") then Some Turnouts else None) (longer line (codes "TRAINS") (omega (arith, six, h)))
-    ∙ ap (λ (is : Bool). if is then Some Turnouts else None) (longer line (codes "TURNOUTS") (omega (arith, size, h)))
+    ∙ ap (λ (is : Bool). if is then Some Trains else if bytes_eq line (codes "TURNOUTS") then Some Turnouts else if bytes_eq line (codes "CVS") then Some Variables else None)
+    (longer line (codes "TRAINS") (omega (arith, six, h)))
+    ∙ ap (λ (is : Bool). if is then Some Turnouts else if bytes_eq line (codes "CVS") then Some Variables else None) (longer line (codes "TURNOUTS") (omega (arith, size, h)))
+    ∙ ap (λ (is : Bool). if is then Some Variables else None) (longer line (codes "CVS") (omega (arith, three, h)))
 
 -- the request of a line that is no `SEND` line, by whether it is too long
-abbrev other_request : (line : List ℕ) → (long turns place : Bool) → Option Request
-other_request line long turns place =
+abbrev other_request : (line : List ℕ) → (long turns place mount fail : Bool) → Option Request
+other_request line long turns place mount fail =
     if turns then Some (Turns (turns_of (after_first is_blank line)))
     else if place then Some (Place (if long then Err place_error.TooLong else parse_place (words_of (after_first is_blank line))))
+    else if mount then Some (Device (Mount (parse_mount (if long then [] else words_of (after_first is_blank line)))))
+    else if fail then Some (Device (Fail (parse_fail (if long then [] else words_of (after_first is_blank line)))))
     else ask_states (things_of line)
 
-request-turns : (line : List ℕ) (turns place : Bool) → 400 < length line → is_turns line ≡ turns
-    → other_request line true turns place ≡ asked_long false turns place
-request-turns line true place h is = ap (λ (count : Option ℕ). Some (Turns count)) (turns-too_long line h is)
-request-turns line false true h is = refl
-request-turns line false false h is = ap ask_states (no_things line h)
+request-turns : (line : List ℕ) (turns place mount fail : Bool) → 400 < length line → is_turns line ≡ turns
+    → other_request line true turns place mount fail ≡ asked_long false turns place mount fail
+request-turns line true place mount fail h is = ap (λ (count : Option ℕ). Some (Turns count)) (turns-too_long line h is)
+request-turns line false true mount fail h is = refl
+request-turns line false false true fail h is = refl
+request-turns line false false false true h is = refl
+request-turns line false false false false h is = ap ask_states (no_things line h)
 
-request-too_long : (line : List ℕ) → 400 < length line → request_of line ≡ asked_long (is_send line) (is_turns line) (is_place line)
+request-too_long : (line : List ℕ) → 400 < length line → request_of line ≡ asked_long (is_send line) (is_turns line) (is_place line) (is_mount line) (is_fail line)
 request-too_long line h =
-    ap (λ (long : Bool). if is_send line then Some (if long then Invalid TooLong else parse_send (bytes_of (words_of (after_first is_blank line)))) else other_request line long (is_turns line) (is_place line)) (lt-ltb 400 (length line) h)
-    ∙ ap (λ (other : Option Request). if is_send line then Some (Invalid TooLong) else other) (request-turns line (is_turns line) (is_place line) h refl)
+    ap (λ (long : Bool). if is_send line then Some (if long then Invalid TooLong else parse_send (bytes_of (words_of (after_first is_blank line)))) else other_request line long (is_turns line) (is_place line) (is_mount line) (is_fail line)) (lt-ltb 400 (length line) h)
+    ∙ ap (λ (other : Option Request). if is_send line then Some (Invalid TooLong) else other) (request-turns line (is_turns line) (is_place line) (is_mount line) (is_fail line) h refl)
 
 request-long : (xs ys : List ℕ) → length xs ≡ 401 → request_of (xs ++ ys) ≡ request_of xs
 request-long xs ys h =
-    request-too_long (xs ++ ys) (omega (arith, length-append xs ys))
-    ∙ ap₂ (λ (send turns : Bool). asked_long send turns (is_place (xs ++ ys))) (first-front xs ys (codes "SEND") (omega arith)) (first-front xs ys (codes "TURNS") (omega arith))
-    ∙ ap (asked_long (is_send xs) (is_turns xs)) (first-front xs ys (codes "PLACE") (omega arith))
+    let all : List ℕ = xs ++ ys in
+    request-too_long all (omega (arith, length-append xs ys))
+    ∙ ap₂ (λ (send turns : Bool). asked_long send turns (is_place all) (is_mount all) (is_fail all)) (first-front xs ys (codes "SEND") (omega arith)) (first-front xs ys (codes "TURNS") (omega arith))
+    ∙ ap₂ (λ (place mount : Bool). asked_long (is_send xs) (is_turns xs) place mount (is_fail all)) (first-front xs ys (codes "PLACE") (omega arith)) (first-front xs ys (codes "MOUNT") (omega arith))
+    ∙ ap (asked_long (is_send xs) (is_turns xs) (is_place xs) (is_mount xs)) (first-front xs ys (codes "FAIL") (omega arith))
     ∙ sym (request-too_long xs (omega arith))
 
 -- The effect of each kind of byte.

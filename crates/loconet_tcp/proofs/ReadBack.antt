@@ -3,16 +3,17 @@ use Rattle.std.proofs.Common.{◌≡◌, ℕ, ◌+◌, ◌*◌, ◌/◌, ◌%◌
 use Rattle.std.specs.Prelude.{codes}
 use Rattle.std.specs.List.{slice_split, onto_first}
 use Rattle.std.specs.Option.{is_some}
-use Rattle.std.proofs.lemmas.Bool.{and_parts, le-ltb}
+use Rattle.std.proofs.lemmas.Bool.{le-ltb}
 use Rattle.std.proofs.lemmas.Bool.Decides.{nat_tests}
 use Rattle.std.proofs.lemmas.List.Splits.{slice_split-cons_no}
-use Rattle.ln_frame.specs.Message.{message_len, are_data, is_len, has_form, IsWhole}
+use Rattle.ln_frame.specs.Message.{IsWhole}
 use Rattle.text.specs.Hex.{hex_char, digit_of, both, pair_of, hex_words}
 use Rattle.loconet_tcp.specs.declared.request.Request.{Request}
 use Rattle.loconet_tcp.specs.declared.request.Request.TheVariants.{Send, Invalid}
 use Rattle.loconet_tcp.specs.declared.request.Reason.TheVariants.{TooLong}
 use Rattle.text.specs.Words.{is_blank, is_word, words_of}
 use Rattle.loconet_tcp.specs.Requests.{led_by, leading_bytes, are_pairs, bytes_of, parse_send, request_of}
+use Rattle.loconet_tcp.proofs.Whole.{length-hex_words, length-whole}
 
 -- A digit is read as the value that it was written for, and is no blank.
 
@@ -92,22 +93,6 @@ pub before-back : (bytes text : List ℕ) → ((i : ℕ) → get_or bytes i 0 < 
 unfolding words_of
 before-back bytes text h =
     ap leading_bytes (ap (filter is_word) (parts-before bytes text h) ∙ words-before bytes (slice_split is_blank text)) ∙ leading_bytes-before bytes (words_of text) h
-
--- The text is within the length limit.
-
-length-hex_words : (bytes : List ℕ) → length (hex_words bytes) ≡ 3 * length bytes
-length-hex_words [] = refl
-length-hex_words (b ∷ bytes) = let more = length-hex_words bytes in omega arith
-
-most : (op s n : ℕ) → is_len (message_len op s) n ≡ true → n ≤ 127
-most op s n h = grind (arith, nat_tests)
-
-length-whole : (message : List ℕ) → IsWhole message → length message ≤ 127
-length-whole [] w = cc
-length-whole (op ∷ []) w = cc
-length-whole (op ∷ s ∷ m) w =
-    let form = and_parts (has_form (op ∷ s ∷ m)) _ w in
-    most op s (length (op ∷ s ∷ m)) (and_parts (is_len (message_len op s) (length (op ∷ s ∷ m))) (are_data (s ∷ m)) form.0).0
 
 sends : (message : List ℕ) → IsWhole message → parse_send (Some message) ≡ Send message
 sends message w = rw w refl

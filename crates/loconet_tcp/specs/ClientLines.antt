@@ -1,9 +1,17 @@
 -- The lines sent to a client, in LocoNet over TCP. The words after SENT ERROR, VERSION and ERROR,
--- and the lines that begin with TURNS, PLACE, NODE, TRAIN or TURNOUT, are this project's own.
+-- and the lines that begin with TURNS, PLACE, MOUNT, FAIL, NODE, TRAIN, TURNOUT or CV, are this
+-- project's own.
 use Rattle.std.specs.Prelude.{ℕ, List, [], ◌∷◌, ◌++◌, codes, Result, Ok, Err}
+use Rattle.std.specs.Fmt.{decimal}
 use Rattle.text.specs.Hex.{hex_words}
+use Rattle.loconet_tcp.specs.declared.request.DeviceAnswer.{DeviceAnswer}
+use Rattle.loconet_tcp.specs.declared.request.DeviceAnswer.TheVariants as device
+use Rattle.loconet_tcp.specs.declared.request.MountError.{MountError}
+use Rattle.loconet_tcp.specs.declared.request.MountError.TheVariants as mount_error
+use Rattle.loconet_tcp.specs.declared.request.FailError.{FailError}
+use Rattle.loconet_tcp.specs.declared.request.FailError.TheVariants as fail_error
 use Rattle.loconet_tcp.specs.declared.request.Things.{Things}
-use Rattle.loconet_tcp.specs.declared.request.Things.TheVariants.{Nodes, Trains, Turnouts}
+use Rattle.loconet_tcp.specs.declared.request.Things.TheVariants.{Nodes, Trains, Turnouts, Variables}
 use Rattle.loconet_tcp.specs.declared.request.Reason.{Reason}
 use Rattle.loconet_tcp.specs.declared.request.PlaceError.{PlaceError}
 use Rattle.loconet_tcp.specs.declared.request.PlaceError.TheVariants as place_error
@@ -60,11 +68,39 @@ abbrev pub place_text : {Done : Type 0} → Result Done PlaceError → List ℕ
 place_text (Ok done) = codes "PLACE OK" ++ line_end
 place_text (Err error) = codes "PLACE ERROR " ++ place_error_text error ++ line_end
 
+abbrev pub mount_error_text : MountError → List ℕ
+mount_error_text mount_error.NoTrack = codes "no programming track"
+mount_error_text mount_error.NoName = codes "no name of a decoder"
+mount_error_text mount_error.UnknownDecoder = codes "no such decoder"
+
+-- the decoder, or none, stands on the programming track, or nothing changed, for this reason
+abbrev pub mount_text : {Done : Type 0} → Result Done MountError → List ℕ
+mount_text (Ok done) = codes "MOUNT OK" ++ line_end
+mount_text (Err error) = codes "MOUNT ERROR " ++ mount_error_text error ++ line_end
+
+abbrev pub fail_error_text : FailError → List ℕ
+fail_error_text fail_error.NoTrack = codes "no programming track"
+fail_error_text fail_error.UnknownFailure = codes "neither programming nor none"
+
+-- what was to fail fails from now on, or nothing does, or nothing changed, for this reason
+abbrev pub fail_text : {Done : Type 0} → Result Done FailError → List ℕ
+fail_text (Ok done) = codes "FAIL OK" ++ line_end
+fail_text (Err error) = codes "FAIL ERROR " ++ fail_error_text error ++ line_end
+
+abbrev pub device_text : DeviceAnswer → List ℕ
+device_text (device.Mount answer) = mount_text answer
+device_text (device.Fail answer) = fail_text answer
+
+-- a variable of a decoder that differs from the file, as the cvs of a roster list it
+abbrev pub change_line : (name : List ℕ) → (number value : ℕ) → List ℕ
+change_line name number value =
+    codes "CV " ++ name ++ codes " [" ++ decimal number ++ codes ", " ++ decimal value ++ codes "]"
+
 -- how a decoder stands, by its line
 abbrev pub node_text : (line : List ℕ) → List ℕ
 node_text line = codes "NODE " ++ line ++ line_end
 
--- how a train or a turnout stands, by its line
+-- how a train, a turnout or a variable stands, by its line
 abbrev pub state_text : (line : List ℕ) → List ℕ
 state_text line = line ++ line_end
 
@@ -73,6 +109,7 @@ abbrev pub states_ok_text : Things → List ℕ
 states_ok_text Nodes = codes "NODES OK" ++ line_end
 states_ok_text Trains = codes "TRAINS OK" ++ line_end
 states_ok_text Turnouts = codes "TURNOUTS OK" ++ line_end
+states_ok_text Variables = codes "CVS OK" ++ line_end
 
 -- the name of the server
 abbrev pub version_text : List ℕ

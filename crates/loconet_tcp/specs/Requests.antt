@@ -1,6 +1,7 @@
 -- The request of a client's line, in LocoNet over TCP. The protocol leaves open the longest line,
 -- the case of the digits, the tab as a blank and the replies to invalid lines: these are rules of
--- this project. So are the words TURNS, NODES, TRAINS, TURNOUTS and PLACE, which other servers pass over.
+-- this project. So are the words TURNS, NODES, TRAINS, TURNOUTS, CVS, PLACE, MOUNT and FAIL, which other
+-- servers pass over.
 use Rattle.std.specs.Prelude.{ℕ, Bool, ◌&&◌, if◌then◌else◌, nat_le, nat_lt, List, [], ◌∷◌, length, take, Option, Some, None, Result, Ok, Err, codes}
 use Rattle.std.specs.List.{list_all, before_first, after_first}
 use Rattle.std.specs.Option.{is_some}
@@ -9,9 +10,17 @@ use Rattle.text.specs.Words.{is_blank, words_of}
 use Rattle.text.specs.Hex.{pair_of}
 use Rattle.ln_frame.specs.Message.{has_form, is_whole}
 use Rattle.loconet_tcp.specs.declared.request.Request.{Request}
-use Rattle.loconet_tcp.specs.declared.request.Request.TheVariants.{Send, Invalid, Turns, States, Place}
+use Rattle.loconet_tcp.specs.declared.request.Request.TheVariants.{Send, Invalid, Turns, States, Place, Device}
 use Rattle.loconet_tcp.specs.declared.request.Things.{Things}
-use Rattle.loconet_tcp.specs.declared.request.Things.TheVariants.{Nodes, Trains, Turnouts}
+use Rattle.loconet_tcp.specs.declared.request.Things.TheVariants.{Nodes, Trains, Turnouts, Variables}
+use Rattle.loconet_tcp.specs.declared.request.DeviceRequest.TheVariants.{Mount, Fail}
+use Rattle.loconet_tcp.specs.declared.request.MountError.{MountError}
+use Rattle.loconet_tcp.specs.declared.request.MountError.TheVariants.{NoName}
+use Rattle.loconet_tcp.specs.declared.request.Failure.{Failure}
+use Rattle.loconet_tcp.specs.declared.request.Failure.TheVariants.{Programming}
+use Rattle.loconet_tcp.specs.declared.request.FailError.{FailError}
+use Rattle.loconet_tcp.specs.declared.request.FailError.TheVariants.{UnknownFailure}
+use Rattle.arrayvec.specs.ArrayVec.{ArrayVec}
 use Rattle.loconet_tcp.specs.declared.request.Facing.{Facing}
 use Rattle.loconet_tcp.specs.declared.request.Facing.TheVariants.{A, B}
 use Rattle.loconet_tcp.specs.declared.request.PlaceError.{PlaceError}
@@ -58,7 +67,8 @@ is_turns line = bytes_eq (before_first is_blank line) (codes "TURNS")
 abbrev pub things_of : List ℕ → Option Things
 things_of line =
     if bytes_eq line (codes "NODES") then Some Nodes else if bytes_eq line (codes "TRAINS") then Some Trains
-    else if bytes_eq line (codes "TURNOUTS") then Some Turnouts else None
+    else if bytes_eq line (codes "TURNOUTS") then Some Turnouts
+    else if bytes_eq line (codes "CVS") then Some Variables else None
 
 abbrev pub ask_states : Option Things → Option Request
 ask_states None = None
@@ -99,6 +109,39 @@ parse_place (train ∷ block ∷ front ∷ words) =
     placement_of train block (decimal_of front) (facing_of words)
 parse_place other = Err place_error.NoNumber
 
+-- it is MOUNT, or FAIL
+abbrev pub is_mount : List ℕ → Bool
+is_mount line = bytes_eq (before_first is_blank line) (codes "MOUNT")
+
+abbrev pub is_fail : List ℕ → Bool
+is_fail line = bytes_eq (before_first is_blank line) (codes "FAIL")
+
+-- the words after the first; none of a line that is too long
+abbrev pub words_within : List ℕ → List (List ℕ)
+words_within line = if nat_lt 400 (length line) then [] else words_of (after_first is_blank line)
+
+-- the decoder that a word names, or none
+abbrev pub decoder_in : List ℕ → Option (ArrayVec ℕ)
+decoder_in word = if bytes_eq word (codes "nothing") then None else Some (record { items = take 33 word })
+
+-- the decoder that the words after MOUNT put on the programming track: there is one word
+abbrev pub parse_mount : List (List ℕ) → Result (Option (ArrayVec ℕ)) MountError
+parse_mount [] = Err NoName
+parse_mount (word ∷ []) = Ok (decoder_in word)
+parse_mount (word ∷ other ∷ words) = Err NoName
+
+-- what a word lets fail
+abbrev pub failure_named : List ℕ → Result (Option Failure) FailError
+failure_named word =
+    if bytes_eq word (codes "programming") then Ok (Some Programming)
+    else if bytes_eq word (codes "none") then Ok None else Err UnknownFailure
+
+-- what the words after FAIL let fail: there is one word
+abbrev pub parse_fail : List (List ℕ) → Result (Option Failure) FailError
+parse_fail [] = Err UnknownFailure
+parse_fail (word ∷ []) = failure_named word
+parse_fail (word ∷ other ∷ words) = Err UnknownFailure
+
 -- a number of turns that can be requested
 abbrev pub in_range : Option ℕ → Option ℕ
 in_range None = None
@@ -111,8 +154,9 @@ turns_of text = in_range (decimal_of text)
 -- A line that begins with the word SEND requests to send the bytes of the words after it, if the
 -- line has at most 400 characters. One that begins with TURNS and a blank requests the number of
 -- turns that the rest of the line writes (own). One that begins with PLACE requests to put a train
--- where the words after it say, if the line has at most 400 characters (own). The lines NODES, TRAINS
--- and TURNOUTS ask how these stand (own). Every other line makes no request.
+-- where the words after it say, if the line has at most 400 characters (own). One that begins with
+-- MOUNT or FAIL arranges the devices beside the station (own). The lines NODES, TRAINS, TURNOUTS and
+-- CVS ask how these stand (own). Every other line makes no request.
 abbrev pub request_of : List ℕ → Option Request
 request_of line =
     if is_send line then Some (if nat_lt 400 (length line) then Invalid TooLong
@@ -120,4 +164,6 @@ request_of line =
     else if is_turns line then Some (Turns (turns_of (after_first is_blank line)))
     else if is_place line then Some (Place (if nat_lt 400 (length line) then Err place_error.TooLong
     else parse_place (words_of (after_first is_blank line))))
+    else if is_mount line then Some (Device (Mount (parse_mount (words_within line))))
+    else if is_fail line then Some (Device (Fail (parse_fail (words_within line))))
     else ask_states (things_of line)

@@ -1,12 +1,12 @@
 //! The lines sent to a client. Each ends with a carriage return and a line feed.
 ghost use Rattle.std.specs.Prelude.{◌≡◌, ◌+◌, ◌*◌, ◌<◌, ◌≤◌, ◌++◌, codes, length, Err};
 ghost use Rattle.arrayvec.specs.ArrayVec.{array_vec_len};
-ghost use Rattle.loconet_tcp.specs.ClientLines.{line_end, receive_text, sent_ok_text, reason_text, sent_error_text, place_error_text, place_text, turns_error_text, turns_ok_text, turns_text, node_text, states_ok_text, state_text, version_text, server_full_text};
+ghost use Rattle.loconet_tcp.specs.ClientLines.{line_end, receive_text, sent_ok_text, reason_text, sent_error_text, place_error_text, place_text, change_line, device_text, fail_error_text, fail_text, mount_error_text, mount_text, turns_error_text, turns_ok_text, turns_text, node_text, states_ok_text, state_text, version_text, server_full_text};
 
-use crate::request::{PlaceError, Reason, Things, TurnsError};
+use crate::request::{DeviceAnswer, FailError, MountError, PlaceError, Reason, Things, TurnsError};
 use arrayvec::ArrayVec;
 use ln_frame::Msg;
-use text::{push_bytes, push_hex_words};
+use text::{decimal_digits, push_bytes, push_hex_words};
 
 /// Lines for one client, at most 800 bytes together.
 pub type Text = ArrayVec<u8, 800>;
@@ -102,6 +102,64 @@ fn push_place_error(text: &mut Text, error: PlaceError)
     push_bytes(text, b"\r\n");
 }
 
+/// Appends `MOUNT OK` or `FAIL OK`: what the client requested of the devices beside the station is
+/// done; or `MOUNT ERROR` or `FAIL ERROR` and the reason in plain words. At most 43 bytes in all.
+pub fn push_device(text: &mut Text, answer: DeviceAnswer)
+    requires { array_vec_len text.old + 43 ≤ 800 }
+    ensures text { text.new.items ≡ text.old.items ++ device_text answer }
+    ensures most { array_vec_len text.new ≤ array_vec_len text.old + 43 }
+{
+    match answer {
+        DeviceAnswer::Mount(Ok(())) => push_bytes(text, b"MOUNT OK\r\n"),
+        DeviceAnswer::Mount(Err(error)) => push_mount_error(text, error),
+        DeviceAnswer::Fail(Ok(())) => push_bytes(text, b"FAIL OK\r\n"),
+        DeviceAnswer::Fail(Err(error)) => push_fail_error(text, error),
+    }
+}
+
+/// Appends `MOUNT ERROR` and the reason.
+fn push_mount_error(text: &mut Text, error: MountError)
+    requires { array_vec_len text.old + 43 ≤ 800 }
+    ensures text { text.new.items
+        ≡ text.old.items ++ (codes "MOUNT ERROR " ++ mount_error_text error ++ line_end) }
+    ensures most { array_vec_len text.new ≤ array_vec_len text.old + 43 }
+{
+    push_bytes(text, b"MOUNT ERROR ");
+    push_bytes(text, words_of_mount(error));
+    push_bytes(text, b"\r\n");
+}
+
+/// Appends `FAIL ERROR` and the reason.
+fn push_fail_error(text: &mut Text, error: FailError)
+    requires { array_vec_len text.old + 43 ≤ 800 }
+    ensures text { text.new.items
+        ≡ text.old.items ++ (codes "FAIL ERROR " ++ fail_error_text error ++ line_end) }
+    ensures most { array_vec_len text.new ≤ array_vec_len text.old + 43 }
+{
+    push_bytes(text, b"FAIL ERROR ");
+    push_bytes(text, words_of_fail(error));
+    push_bytes(text, b"\r\n");
+}
+
+/// Appends `CV`, the name of a decoder, at most 16 bytes, and the number of a variable and its value
+/// as the `cvs` of a roster list them, at most 60 bytes in all.
+pub fn push_change(text: &mut Text, name: &[u8], number: u16, value: u8)
+    requires room { array_vec_len text.old + 60 ≤ 800 }
+    requires name { length name.now ≤ 16 }
+    ensures text { text.new.items
+        ≡ text.old.items ++ state_text (change_line name.now number value) }
+    ensures short { length (change_line name.now number value) ≤ 58 }
+    ensures most { array_vec_len text.new ≤ array_vec_len text.old + 60 }
+{
+    push_bytes(text, b"CV ");
+    push_bytes(text, name);
+    push_bytes(text, b" [");
+    push_bytes(text, decimal_digits(u64::from(number)).as_slice());
+    push_bytes(text, b", ");
+    push_bytes(text, decimal_digits(u64::from(value)).as_slice());
+    push_bytes(text, b"]\r\n");
+}
+
 /// Appends `NODE` and the line of a decoder, 7 bytes longer than the line.
 pub fn push_node(text: &mut Text, line: &[u8])
     requires { array_vec_len text.old + length line.now + 7 ≤ 800 }
@@ -123,7 +181,8 @@ pub fn push_state(text: &mut Text, line: &[u8])
     push_bytes(text, b"\r\n");
 }
 
-/// Appends `NODES OK`, `TRAINS OK` or `TURNOUTS OK`, at most 14 bytes: the lines of all were sent.
+/// Appends `NODES OK`, `TRAINS OK`, `TURNOUTS OK` or `CVS OK`, at most 14 bytes: the lines of all were
+/// sent.
 pub fn push_states_ok(text: &mut Text, things: Things)
     requires { array_vec_len text.old + 14 ≤ 800 }
     ensures text { text.new.items ≡ text.old.items ++ states_ok_text things }
@@ -133,6 +192,7 @@ pub fn push_states_ok(text: &mut Text, things: Things)
         Things::Nodes => push_bytes(text, b"NODES OK\r\n"),
         Things::Trains => push_bytes(text, b"TRAINS OK\r\n"),
         Things::Turnouts => push_bytes(text, b"TURNOUTS OK\r\n"),
+        Things::Variables => push_bytes(text, b"CVS OK\r\n"),
     }
 }
 
@@ -191,5 +251,28 @@ fn words_of_place(error: PlaceError) -> &'static [u8]
         PlaceError::UnknownTrain => b"no such train",
         PlaceError::UnknownBlock => b"no such block",
         PlaceError::OffTrack => b"the train does not fit there",
+    }
+}
+
+/// The reason in plain words, at most 20 bytes.
+fn words_of_mount(error: MountError) -> &'static [u8]
+    ensures words { result.now ≡ mount_error_text error }
+    ensures most { length result.now ≤ 20 }
+{
+    match error {
+        MountError::NoTrack => b"no programming track",
+        MountError::NoName => b"no name of a decoder",
+        MountError::UnknownDecoder => b"no such decoder",
+    }
+}
+
+/// The reason in plain words, at most 28 bytes.
+fn words_of_fail(error: FailError) -> &'static [u8]
+    ensures words { result.now ≡ fail_error_text error }
+    ensures most { length result.now ≤ 28 }
+{
+    match error {
+        FailError::NoTrack => b"no programming track",
+        FailError::UnknownFailure => b"neither programming nor none",
     }
 }

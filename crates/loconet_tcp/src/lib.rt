@@ -11,6 +11,7 @@
 //!         Some(Request::Turns(count)) => { /* run them */ }
 //!         Some(Request::States(things)) => { /* tell how they stand */ }
 //!         Some(Request::Place(placement)) => { /* put a train there */ }
+//!         Some(Request::Device(request)) => { /* put a decoder on the programming track */ }
 //!         None => {}
 //!     }
 //! }
@@ -26,12 +27,14 @@ mod reader;
 mod request;
 
 pub use client_lines::{
-    Text, push_node, push_place, push_receive, push_sent_error, push_sent_ok, push_server_full,
-    push_state, push_states_ok, push_turns, push_turns_ok, push_version,
+    Text, push_change, push_device, push_node, push_place, push_receive, push_sent_error,
+    push_sent_ok, push_server_full, push_state, push_states_ok, push_turns, push_turns_ok,
+    push_version,
 };
 pub use laws::{any_cut, received_is_sendable};
 pub use parsing::{Bytes, LONGEST_KEPT, LONGEST_LINE, bytes_of, leading_bytes};
 pub use reader::RequestReader;
 pub use request::{
-    Facing, LONGEST_WORD, PlaceError, Placement, Reason, Request, Things, TurnsError, Word,
+    DeviceAnswer, DeviceRequest, Facing, FailError, Failure, LONGEST_WORD, MountError, PlaceError,
+    Placement, Reason, Request, Things, TurnsError, Word,
 };

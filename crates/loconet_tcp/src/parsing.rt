@@ -1,9 +1,12 @@
 //! Parsing a line.
 ghost use Rattle.std.specs.Prelude.{◌≡◌, ◌≤◌, [], if◌then◌else◌, length, nat_lt, take, None, Some, Err, MatchOption};
 ghost use Rattle.text.specs.Words.{with_piece, words_of};
-ghost use Rattle.loconet_tcp.specs.Requests.{are_pairs, bytes_of, end_named, facing_of, leading_bytes, parse_place, parse_send, placement_of, request_of, things_of, turns_of};
+ghost use Rattle.loconet_tcp.specs.Requests.{are_pairs, bytes_of, decoder_in, end_named, facing_of, failure_named, leading_bytes, parse_fail, parse_mount, parse_place, parse_send, placement_of, request_of, things_of, turns_of};
 
-use crate::request::{Facing, LONGEST_WORD, PlaceError, Placement, Reason, Request, Things, Word};
+use crate::request::{
+    DeviceRequest, Facing, FailError, Failure, LONGEST_WORD, MountError, PlaceError, Placement,
+    Reason, Request, Things, Word,
+};
 use arrayvec::ArrayVec;
 use ln_frame::Msg;
 use text::{Words, cut_piece, push_bytes, read_decimal, read_hex_pair};
@@ -33,6 +36,14 @@ pub(crate) fn parse_line(line: &[u8]) -> Option<Request>
     if first == b"PLACE".as_slice() {
         return Some(Request::Place(parse_place_line(line.len(), rest)));
     }
+    if first == b"MOUNT".as_slice() {
+        let words = words_within(line.len(), rest);
+        return Some(Request::Device(DeviceRequest::Mount(parse_mount(words))));
+    }
+    if first == b"FAIL".as_slice() {
+        let words = words_within(line.len(), rest);
+        return Some(Request::Device(DeviceRequest::Fail(parse_fail(words))));
+    }
     if first != b"SEND".as_slice() {
         return Some(Request::States(things_of(line)?));
     }
@@ -52,8 +63,72 @@ fn things_of(line: &[u8]) -> Option<Things>
         Some(Things::Trains)
     } else if line == b"TURNOUTS".as_slice() {
         Some(Things::Turnouts)
+    } else if line == b"CVS".as_slice() {
+        Some(Things::Variables)
     } else {
         None
+    }
+}
+
+/// Returns the words after the first of a line of this length; none of a line that is too long.
+#[tactic(auto, using(crate::proofs::Words::no_words))]
+fn words_within(len: usize, words: &[u8]) -> &[u8]
+    ensures { words_of result.now ≡ (if nat_lt 400 len then [] else words_of words.now) }
+{
+    if len > LONGEST_LINE { &[] } else { words }
+}
+
+/// Returns the decoder that the words after `MOUNT` put on the programming track, or that none is.
+fn parse_mount(words: &[u8]) -> Result<Option<Word>, MountError>
+    ensures { result ≡ parse_mount (words_of words.now) }
+{
+    let (word, rest) = next_word(words);
+    let (other, _rest) = next_word(rest);
+    if word.is_empty() {
+        Err(MountError::NoName)
+    } else if other.is_empty() {
+        Ok(decoder_in(word))
+    } else {
+        Err(MountError::NoName)
+    }
+}
+
+/// Returns the name of a decoder, or `None` for `nothing`.
+fn decoder_in(word: &[u8]) -> Option<Word>
+    ensures { result ≡ decoder_in word.now }
+{
+    if word == b"nothing".as_slice() {
+        None
+    } else {
+        Some(kept_word(word))
+    }
+}
+
+/// Returns what the words after `FAIL` let fail, or that nothing does.
+fn parse_fail(words: &[u8]) -> Result<Option<Failure>, FailError>
+    ensures { result ≡ parse_fail (words_of words.now) }
+{
+    let (word, rest) = next_word(words);
+    let (other, _rest) = next_word(rest);
+    if word.is_empty() {
+        Err(FailError::UnknownFailure)
+    } else if other.is_empty() {
+        failure_named(word)
+    } else {
+        Err(FailError::UnknownFailure)
+    }
+}
+
+/// Returns what a word lets fail, or `None` for `none`.
+fn failure_named(word: &[u8]) -> Result<Option<Failure>, FailError>
+    ensures { result ≡ failure_named word.now }
+{
+    if word == b"programming".as_slice() {
+        Ok(Some(Failure::Programming))
+    } else if word == b"none".as_slice() {
+        Ok(None)
+    } else {
+        Err(FailError::UnknownFailure)
     }
 }
 

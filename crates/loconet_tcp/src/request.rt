@@ -3,8 +3,8 @@
 use arrayvec::ArrayVec;
 use ln_frame::Msg;
 
-/// The request of a line that begins with the word `SEND`, `TURNS` or `PLACE`, or of the line
-/// `NODES`, `TRAINS` or `TURNOUTS`.
+/// The request of a line that begins with the word `SEND`, `TURNS`, `PLACE`, `MOUNT` or `FAIL`, or of
+/// the line `NODES`, `TRAINS`, `TURNOUTS` or `CVS`.
 #[derive(Drop)]
 pub enum Request {
     /// Send this message.
@@ -17,6 +17,34 @@ pub enum Request {
     States(Things),
     /// Put a train on the track; or why the line does not say where.
     Place(Result<Placement, PlaceError>),
+    /// Arrange the devices beside the station.
+    Device(DeviceRequest),
+}
+
+/// What a client asks of the devices beside the station.
+#[derive(Drop)]
+pub enum DeviceRequest {
+    /// Put the decoder of this name on the programming track, or none; or why the line does not say
+    /// which.
+    Mount(Result<Option<Word>, MountError>),
+    /// Let this fail from now on, or nothing; or why the line does not say what.
+    Fail(Result<Option<Failure>, FailError>),
+}
+
+/// What became of a request of the devices beside the station.
+#[derive(Clone, Copy, Debug, PartialEq, Eq)]
+pub enum DeviceAnswer {
+    /// The decoder, or none, stands on the programming track; or why nothing changed.
+    Mount(Result<(), MountError>),
+    /// It fails, or nothing does; or why nothing changed.
+    Fail(Result<(), FailError>),
+}
+
+/// What can fail on request.
+#[derive(Clone, Copy, Debug, PartialEq, Eq)]
+pub enum Failure {
+    /// Acknowledgements on the programming track: the decoder obeys, and draws no current.
+    Programming,
 }
 
 /// What a client can ask the states of.
@@ -28,13 +56,15 @@ pub enum Things {
     Trains,
     /// The turnouts of the plan.
     Turnouts,
+    /// The variables of the decoders of the programming track that differ from its file.
+    Variables,
 }
 
 /// The most bytes that are kept of a name: one more than the longest has, so that a longer word is
 /// no name.
 pub const LONGEST_WORD: usize = 33;
 
-/// A word that names a train or a block.
+/// A word that names a train, a block or a decoder.
 pub type Word = ArrayVec<u8, LONGEST_WORD>;
 
 /// Where a train is to be put, by the words of a line.
@@ -96,4 +126,25 @@ pub enum PlaceError {
     UnknownBlock,
     /// The train does not fit into the block there.
     OffTrack,
+}
+
+/// Why no decoder is put on the programming track. The first reason that applies is reported.
+#[derive(Clone, Copy, Debug, PartialEq, Eq)]
+pub enum MountError {
+    /// There is no programming track.
+    NoTrack,
+    /// What follows `MOUNT` is not one word, or the line has more than 400 characters.
+    NoName,
+    /// No decoder of the file has this name.
+    UnknownDecoder,
+}
+
+/// Why nothing fails on request. The first reason that applies is reported.
+#[derive(Clone, Copy, Debug, PartialEq, Eq)]
+pub enum FailError {
+    /// There is no programming track.
+    NoTrack,
+    /// What follows `FAIL` is neither `programming` nor `none`, or the line has more than 400
+    /// characters.
+    UnknownFailure,
 }
