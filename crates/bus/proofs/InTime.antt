@@ -4,7 +4,7 @@ use Rattle.std.specs.List.{list_all}
 use Rattle.std.proofs.lemmas.Bool.{and_parts, and_from}
 use Rattle.std.proofs.lemmas.List.Elements.{All-append, All-cons, All-nil}
 use Rattle.loconet_tcp.specs.declared.request.Request.{Request}
-use Rattle.loconet_tcp.specs.declared.request.Request.TheVariants.{Send, Invalid, Turns, States, Place}
+use Rattle.loconet_tcp.specs.declared.request.Request.TheVariants.{Send, Invalid, Turns, States, Place, Device}
 use Rattle.slot_table.specs.Entry.{Entry}
 use Rattle.station_core.specs.ThrottleView.{ThrottleView, known_after_all}
 use Rattle.station_core.specs.Moments.{slots_refreshed, turns_in}
@@ -84,6 +84,7 @@ asked_turns bus client (Some (Send message)) = given_turns client (for_station b
 asked_turns bus client (Some (Turns count)) = refl
 asked_turns bus client (Some (States things)) = refl
 asked_turns bus client (Some (Place placement)) = refl
+asked_turns bus client (Some (Device request)) = refl
 
 passing_turns : (missed : ℕ) (packet : Option (List ℕ)) (ends : Bool) → turns_in (calls_in (if ends then turn_of missed else [])) ≡ length (durations_in (if ends then TurnBegan packet else Nothing))
 passing_turns missed packet true = refl
@@ -122,6 +123,7 @@ asked_short bus client (Some (Send message)) = All-nil IsShort
 asked_short bus client (Some (Turns count)) = All-nil IsShort
 asked_short bus client (Some (States things)) = All-nil IsShort
 asked_short bus client (Some (Place placement)) = All-nil IsShort
+asked_short bus client (Some (Device request)) = All-nil IsShort
 
 turn_short : TurnsAreBounded → (bus : BusState) → All IsShort (durations_in (TurnBegan (packet_of_turn bus.station)))
 turn_short laws bus = All-cons IsShort (duration (packet_of_turn bus.station)) [] (laws.longest bus.station) (All-nil IsShort)

@@ -8,7 +8,7 @@ use Rattle.std.proofs.lemmas.List.{length-set, get_or-set_same, get_or-set_other
 use Rattle.ln_frame.specs.Message.{is_whole}
 use Rattle.service_mode.specs.Spelling.{is_legal_packet}
 use Rattle.loconet_tcp.specs.declared.request.Request.{Request}
-use Rattle.loconet_tcp.specs.declared.request.Request.TheVariants.{Send, Invalid, Turns, States, Place}
+use Rattle.loconet_tcp.specs.declared.request.Request.TheVariants.{Send, Invalid, Turns, States, Place, Device}
 use Rattle.loconet_tcp.specs.Reading.{request_of_byte, requests_along, requests_of, kept_after}
 use Rattle.station_core.specs.Station.{packet_of_turn}
 use Rattle.bus.specs.declared.event.Event.{Event}
@@ -41,6 +41,7 @@ on_own bus c i (Some (Send message)) e = rw e refl
 on_own bus c i (Some (Turns count)) e = refl
 on_own bus c i (Some (States things)) e = refl
 on_own bus c i (Some (Place placement)) e = refl
+on_own bus c i (Some (Device request)) e = refl
 
 on_other : (bus : BusState) (c i : ℕ) (request : Option Request) → (c == i) ≡ false → message_on i (outcome_of_request bus c request) ≡ []
 on_other bus c i None e = refl
@@ -49,6 +50,7 @@ on_other bus c i (Some (Send message)) e = rw e refl
 on_other bus c i (Some (Turns count)) e = refl
 on_other bus c i (Some (States things)) e = refl
 on_other bus c i (Some (Place placement)) e = refl
+on_other bus c i (Some (Device request)) e = refl
 
 sends-more : (request : Option Request) (requests : List Request) → messages_to_send (option_to_list request ++ requests) ≡ messages_to_send (option_to_list request) ++ messages_to_send requests
 sends-more None requests = refl
@@ -57,6 +59,7 @@ sends-more (Some (Send message)) requests = refl
 sends-more (Some (Turns count)) requests = refl
 sends-more (Some (States things)) requests = refl
 sends-more (Some (Place placement)) requests = refl
+sends-more (Some (Device request)) requests = refl
 
 -- ---- time puts nothing on a line, and changes no client
 

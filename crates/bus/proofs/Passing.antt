@@ -4,7 +4,7 @@ use Rattle.std.specs.Prelude.{IsTrue}
 use Rattle.std.specs.List.{list_all, slice_index_or}
 use Rattle.std.proofs.lemmas.Bool.{and_parts, leb-true, leb-false}
 use Rattle.loconet_tcp.specs.declared.request.Request.{Request}
-use Rattle.loconet_tcp.specs.declared.request.Request.TheVariants.{Send, Invalid, Turns, States, Place}
+use Rattle.loconet_tcp.specs.declared.request.Request.TheVariants.{Send, Invalid, Turns, States, Place, Device}
 use Rattle.station_core.specs.Station.{packet_of_turn}
 use Rattle.bus.specs.declared.event.Event.{Event}
 use Rattle.bus.specs.declared.event.Event.TheVariants.{Connects, Receives, Disconnects, Reports, Programs, Elapses, Turn}
@@ -41,6 +41,7 @@ asked_lasting bus client (Some (Send message)) = refl
 asked_lasting bus client (Some (Turns count)) = refl
 asked_lasting bus client (Some (States things)) = refl
 asked_lasting bus client (Some (Place placement)) = refl
+asked_lasting bus client (Some (Device request)) = refl
 
 no_time : (remaining : ℕ) (turns : List ℕ) → 0 < remaining → turns ≡ [] → IsTimeAccount remaining 0 turns remaining
 no_time remaining turns some none = subst (λ (t : List ℕ). IsTimeAccount remaining 0 t remaining) (sym none) (nothing remaining some)

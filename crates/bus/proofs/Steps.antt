@@ -1,20 +1,11 @@
 -- What each event preserves of a bus, and its effect on the layout.
-use Rattle.std.proofs.Common.{◌≡◌, ℕ, ◌+◌, ◌-◌, ◌<◌, ◌≤◌, Bool, true, false, List, [], length, Option, Some, None, refl, ap, sym, subst, ◌∙◌, arith, inl, inr, if◌then◌else◌, nat_lt, replicate}
-use Rattle.std.specs.Prelude.{Err, IfSome, Result, slice_set}
-use Rattle.std.specs.List.{after_first}
+use Rattle.std.proofs.Common.{◌≡◌, ℕ, ◌+◌, ◌-◌, ◌<◌, ◌≤◌, Bool, true, false, List, [], Option, Some, None, refl, ap, sym, subst, ◌∙◌, arith, inl, inr, if◌then◌else◌, replicate}
+use Rattle.std.specs.Prelude.{IfSome, slice_set}
 use Rattle.std.proofs.lemmas.Bool.{cases_lt, ltb-true, leb-true, le-leb, lt-leb}
 use Rattle.std.proofs.lemmas.List.{length-set}
-use Rattle.ln_frame.specs.Message.{IsWhole, has_form, is_whole}
+use Rattle.ln_frame.specs.Message.{IsWhole}
 use Rattle.loconet_tcp.specs.declared.request.Request.{Request}
-use Rattle.loconet_tcp.specs.declared.request.PlaceError.{PlaceError}
-use Rattle.loconet_tcp.specs.declared.request.PlaceError.TheVariants as place_error
-use Rattle.loconet_tcp.specs.declared.request.Placement.{Placement}
-use Rattle.loconet_tcp.specs.declared.request.Things.{Things}
-use Rattle.loconet_tcp.specs.declared.request.Request.TheVariants.{Send, Invalid, Turns, States, Place}
-use Rattle.loconet_tcp.specs.declared.request.Reason.TheVariants.{TooLong, NoMessage, WrongCheck}
-use Rattle.text.specs.Words.{is_blank, words_of}
-use Rattle.loconet_tcp.specs.Requests.{parse_place, parse_send, request_of, ask_states, bytes_of, is_place, is_send, is_turns, things_of, turns_of}
-use Rattle.loconet_tcp.specs.Text.{is_end}
+use Rattle.loconet_tcp.specs.declared.request.Request.TheVariants.{Send, Invalid, Turns, States, Place, Device}
 use Rattle.station_core.specs.Station.{after_message}
 use Rattle.station_core.specs.Seen.{Seen}
 use Rattle.layout_core.specs.declared.event.Event.{Event as LayoutEvent}
@@ -27,68 +18,27 @@ use Rattle.bus.specs.Invariant.{IsInvariant}
 use Rattle.bus.specs.Layout.{message_events, layout_event, turn_of}
 use Rattle.bus.proofs.Whole.{whole_after}
 
--- A request to send holds a whole message, and the station receives it or nothing.
+-- The station receives a whole message of a request, or nothing.
 
-abbrev pub IsWholeAsk : Option Request → Type 0
-IsWholeAsk None = Unit {0}
-IsWholeAsk (Some (Invalid reason)) = Unit {0}
-IsWholeAsk (Some (Send message)) = IsWhole message
-IsWholeAsk (Some (Turns count)) = Unit {0}
-IsWholeAsk (Some (States things)) = Unit {0}
-IsWholeAsk (Some (Place placement)) = Unit {0}
+abbrev SendsWhole : Option Request → Type 0
+SendsWhole request = (message : List ℕ) → request ≡ Some (Send message) → IsWhole message
 
-whole_by : (whole form : Bool) (bytes : List ℕ) → is_whole bytes ≡ whole → IsWholeAsk (Some (if whole then Send bytes else if form then Invalid WrongCheck else Invalid NoMessage))
-whole_by true form bytes e = e
-whole_by false true bytes e = tt
-whole_by false false bytes e = tt
-
-whole_sends : (said : Option (List ℕ)) → IsWholeAsk (Some (parse_send said))
-whole_sends None = tt
-whole_sends (Some bytes) = whole_by (is_whole bytes) (has_form bytes) bytes refl
-
-whole_states : (things : Option Things) → IsWholeAsk (ask_states things)
-whole_states None = tt
-whole_states (Some things) = tt
-
-whole_other : (turns place : Bool) (count : Option ℕ) (placement : Result Placement PlaceError) (things : Option Things)
-    → IsWholeAsk (if turns then Some (Turns count) else if place then Some (Place placement) else ask_states things)
-whole_other true place count placement things = tt
-whole_other false true count placement things = tt
-whole_other false false count placement things = whole_states things
-
-whole_when : (sends long : Bool) (said : Option (List ℕ)) (other : Option Request) → IsWholeAsk other → IsWholeAsk (if sends then Some (if long then Invalid TooLong else parse_send said) else other)
-whole_when false long said other whole = whole
-whole_when true true said other whole = tt
-whole_when true false said other whole = whole_sends said
-
--- what is requested by a line that is no `SEND` line
-abbrev placed_at : (line : List ℕ) → Result Placement PlaceError
-placed_at line = if nat_lt 400 (length line) then Err place_error.TooLong else parse_place (words_of (after_first is_blank line))
-
-abbrev other_request : (line : List ℕ) → Option Request
-other_request line =
-    if is_turns line then Some (Turns (turns_of (after_first is_blank line))) else if is_place line then Some (Place (placed_at line)) else ask_states (things_of line)
-
-whole_at_end : (ends : Bool) (request : Option Request) → IsWholeAsk request → IsWholeAsk (if ends then request else None)
-whole_at_end true request whole = whole
-whole_at_end false request whole = tt
+whole_request : StationMoves → (kept : Option (List ℕ)) (byte : ℕ) → SendsWhole (request_at kept byte)
+whole_request laws None byte = λ message is. cc
+whole_request laws (Some kept) byte = laws.requested kept byte
 
 whole_unless : (answered : Bool) (message : List ℕ) → IsWhole message → IfSome (if answered then None else Some message) IsWhole
 whole_unless true message whole = tt
 whole_unless false message whole = whole
 
-pub whole_ask : (kept : Option (List ℕ)) (byte : ℕ) → IsWholeAsk (request_at kept byte)
-whole_ask None byte = tt
-whole_ask (Some kept) byte = whole_at_end (is_end byte) (request_of kept) (whole_when (is_send kept) (nat_lt 400 (length kept)) (bytes_of (words_of (after_first is_blank kept))) (other_request kept)
-    (whole_other (is_turns kept) (is_place kept) (turns_of (after_first is_blank kept)) (placed_at kept) (things_of kept)))
-
-whole_given : (bus : BusState) (request : Option Request) → IsWholeAsk request → IfSome (for_station bus request) IsWhole
+whole_given : (bus : BusState) (request : Option Request) → SendsWhole request → IfSome (for_station bus request) IsWhole
 whole_given bus None whole = tt
 whole_given bus (Some (Invalid reason)) whole = tt
 whole_given bus (Some (Turns count)) whole = tt
 whole_given bus (Some (States things)) whole = tt
 whole_given bus (Some (Place placement)) whole = tt
-whole_given bus (Some (Send message)) whole = whole_unless (is_for_devices bus.options message) message whole
+whole_given bus (Some (Device request)) whole = tt
+whole_given bus (Some (Send message)) whole = whole_unless (is_for_devices bus.options message) message (whole message refl)
 
 -- A time in which the current turn ends, and one in which it does not.
 
@@ -156,7 +106,7 @@ plays laws bus (Connects client) h legal = refl
 plays laws bus (Disconnects client) h legal = refl
 plays laws bus (Receives client byte) h legal =
     let request : Option Request = request_at (client_of bus client) byte in
-    asked_station laws bus.station client (for_station bus request) h.idle (ltb-true client 8 legal) (whole_given bus request (whole_ask (client_of bus client) byte))
+    asked_station laws bus.station client (for_station bus request) h.idle (ltb-true client 8 legal) (whole_given bus request (whole_request laws (client_of bus client) byte))
 plays laws bus (Reports message) h legal = refl
 plays laws bus (Programs packet) h legal = refl
 plays laws bus (Turn missed) h legal = laws.turn bus.station

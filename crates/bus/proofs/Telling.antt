@@ -7,11 +7,12 @@ use Rattle.std.proofs.lemmas.Bool.{and_parts}
 use Rattle.std.proofs.lemmas.Grind.{flat_map-append}
 use Rattle.std.proofs.lemmas.List.Folds.{list_all-append}
 use Rattle.loconet_tcp.specs.declared.request.Reason.{Reason}
+use Rattle.loconet_tcp.specs.declared.request.DeviceAnswer.{DeviceAnswer}
 use Rattle.loconet_tcp.specs.declared.request.PlaceError.{PlaceError}
 use Rattle.loconet_tcp.specs.declared.request.TurnsError.{TurnsError}
-use Rattle.loconet_tcp.specs.ClientLines.{receive_text, sent_error_text, sent_ok_text, place_text, turns_text, version_text}
+use Rattle.loconet_tcp.specs.ClientLines.{device_text, receive_text, sent_error_text, sent_ok_text, place_text, turns_text, version_text}
 use Rattle.bus.specs.declared.outcome.Outcome.{Outcome}
-use Rattle.bus.specs.declared.outcome.Outcome.TheVariants.{Nothing, Connected, Disconnected, Rejected, Reported, Sent, TurnBegan, TurnsRequested, StatesRequested, PlaceRequested, Placed, Programmed}
+use Rattle.bus.specs.declared.outcome.Outcome.TheVariants.{Nothing, Connected, Disconnected, Rejected, Reported, Sent, TurnBegan, TurnsRequested, StatesRequested, PlaceRequested, DeviceRequested, Placed, DeviceAnswered, Programmed}
 use Rattle.bus.specs.Outcome.{messages_in, reply_text, text_for}
 use Rattle.bus.specs.Since.{makes_request, text_since, is_connecting, is_disconnecting, requests_nothing, is_nonempty, has_connected, changes_connection, since_connected, stays_connected, traffic}
 
@@ -138,6 +139,10 @@ no_place : {Done : Type 0} → (own : Bool) (answer : Result Done PlaceError) �
 no_place true answer q = cc
 no_place false answer q = refl
 
+no_device : (own : Bool) (answer : DeviceAnswer) → not own ≡ true → (if own then device_text answer else []) ≡ []
+no_device true answer q = cc
+no_device false answer q = refl
+
 no_ok : (own : Bool) (message : List ℕ) (reply : Option (List ℕ)) → not own ≡ true
     → (receive_text message ++ (if own then sent_ok_text else []) ++ reply_text reply) ≡ flat_map receive_text (message ∷ option_to_list reply)
 no_ok true message reply q = cc
@@ -155,7 +160,9 @@ listens i (TurnBegan packet) m q = refl
 listens i (TurnsRequested client turns) m q = no_answer (client == i) turns q
 listens i (StatesRequested client things) m q = refl
 listens i (PlaceRequested client placement) m q = refl
+listens i (DeviceRequested client request) m q = refl
 listens i (Placed client answer) m q = no_place (client == i) answer q
+listens i (DeviceAnswered client answer) m q = no_device (client == i) answer q
 
 pub bystander : (i : ℕ) (outcomes : List Outcome) → stays_connected i outcomes ≡ true → requests_nothing i outcomes ≡ true → flat_map (text_for i) outcomes ≡ flat_map receive_text (traffic outcomes)
 bystander i [] stay quiet = refl

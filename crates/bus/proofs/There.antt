@@ -5,7 +5,7 @@ use Rattle.std.specs.List.{list_all, slice_index_or}
 use Rattle.std.proofs.lemmas.Bool.{and_parts, cases_lt, ltb-true, eqb-true}
 use Rattle.std.proofs.lemmas.List.{length-set, get_or-replicate, get_or_past}
 use Rattle.loconet_tcp.specs.declared.request.Request.{Request}
-use Rattle.loconet_tcp.specs.declared.request.Request.TheVariants.{Send, Invalid, Turns, States, Place}
+use Rattle.loconet_tcp.specs.declared.request.Request.TheVariants.{Send, Invalid, Turns, States, Place, Device}
 use Rattle.station_core.specs.Station.{packet_of_turn}
 use Rattle.bus.specs.declared.event.Event.{Event}
 use Rattle.bus.specs.declared.options.BusOptions.{BusOptions}
@@ -55,6 +55,7 @@ asked_stays i c bus (Some (Send message)) = refl
 asked_stays i c bus (Some (Turns count)) = refl
 asked_stays i c bus (Some (States things)) = refl
 asked_stays i c bus (Some (Place placement)) = refl
+asked_stays i c bus (Some (Device request)) = refl
 
 time_stays : (i : ℕ) (ends : Bool) (packet : Option (List ℕ)) → changes_connection i (if ends then TurnBegan packet else Nothing) ≡ false
 time_stays i true packet = refl

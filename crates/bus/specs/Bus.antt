@@ -9,7 +9,7 @@ use Rattle.ln_ops.specs.Sensor.{is_interrogation}
 use Rattle.programmer.specs.Requests.{is_for_programmer}
 use Rattle.service_mode.specs.Spelling.{bytes_of, is_legal_packet}
 use Rattle.loconet_tcp.specs.declared.request.Request.{Request}
-use Rattle.loconet_tcp.specs.declared.request.Request.TheVariants.{Send, Invalid, Turns, States, Place}
+use Rattle.loconet_tcp.specs.declared.request.Request.TheVariants.{Send, Invalid, Turns, States, Place, Device}
 use Rattle.loconet_tcp.specs.declared.request.TurnsError.{TurnsError}
 use Rattle.loconet_tcp.specs.declared.request.TurnsError.TheVariants.{NoNumber, RealTime}
 use Rattle.loconet_tcp.specs.Reading.{request_of_byte, kept_after}
@@ -19,7 +19,7 @@ use Rattle.bus.specs.declared.event.Event.{Event}
 use Rattle.bus.specs.declared.options.BusOptions.{BusOptions}
 use Rattle.bus.specs.declared.event.Event.TheVariants.{Connects, Receives, Disconnects, Reports, Programs, Elapses, Turn}
 use Rattle.bus.specs.declared.outcome.Outcome.{Outcome}
-use Rattle.bus.specs.declared.outcome.Outcome.TheVariants.{Nothing, Connected, Disconnected, Rejected, Reported, Programmed, Sent, TurnBegan, TurnsRequested, StatesRequested, PlaceRequested}
+use Rattle.bus.specs.declared.outcome.Outcome.TheVariants.{Nothing, Connected, Disconnected, Rejected, Reported, Programmed, Sent, TurnBegan, TurnsRequested, StatesRequested, PlaceRequested, DeviceRequested}
 
 -- the part of a bus that clients and time change: the station, the bytes kept of each client's
 -- text, or None for no client, and the microseconds left of the current turn; and what there is
@@ -89,6 +89,7 @@ for_station bus (Some (Invalid reason)) = None
 for_station bus (Some (Turns count)) = None
 for_station bus (Some (States things)) = None
 for_station bus (Some (Place placement)) = None
+for_station bus (Some (Device request)) = None
 
 -- A message is carried out whole; a rejected request has no effect.
 abbrev pub station_after : BusState → Option Request → Seen
@@ -111,6 +112,7 @@ outcome_of_request bus client (Some (Send message)) = Sent client message (reply
 outcome_of_request bus client (Some (Turns count)) = TurnsRequested client (granted bus.options.is_stepped count)
 outcome_of_request bus client (Some (States things)) = StatesRequested client things
 outcome_of_request bus client (Some (Place placement)) = PlaceRequested client placement
+outcome_of_request bus client (Some (Device request)) = DeviceRequested client request
 
 -- the duration of a turn: that of its packet, and without power that of an idle packet
 abbrev pub duration : Option (List ℕ) → ℕ

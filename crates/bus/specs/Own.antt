@@ -3,7 +3,7 @@ use Rattle.std.specs.Prelude.{ℕ, Bool, true, ◌==◌, if◌then◌else◌, no
 use Rattle.std.specs.List.{flat_map, list_all}
 use Rattle.std.specs.Option.{option_to_list}
 use Rattle.loconet_tcp.specs.declared.request.Request.{Request}
-use Rattle.loconet_tcp.specs.declared.request.Request.TheVariants.{Send, Invalid, Turns, States, Place}
+use Rattle.loconet_tcp.specs.declared.request.Request.TheVariants.{Send, Invalid, Turns, States, Place, Device}
 use Rattle.bus.specs.declared.event.Event.{Event}
 use Rattle.bus.specs.declared.event.Event.TheVariants.{Connects, Receives, Disconnects, Reports, Programs, Elapses, Turn}
 use Rattle.bus.specs.declared.outcome.Outcome.{Outcome}
@@ -39,6 +39,7 @@ messages_to_send (Invalid reason ∷ requests) = messages_to_send requests
 messages_to_send (Turns count ∷ requests) = messages_to_send requests
 messages_to_send (States things ∷ requests) = messages_to_send requests
 messages_to_send (Place placement ∷ requests) = messages_to_send requests
+messages_to_send (Device request ∷ requests) = messages_to_send requests
 
 -- the client neither connects nor disconnects
 abbrev pub is_unaffected : (client : ℕ) → Event → Bool

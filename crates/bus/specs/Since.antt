@@ -2,7 +2,7 @@
 use Rattle.std.specs.Prelude.{ℕ, Bool, true, false, ◌&&◌, ◌||◌, ◌==◌, if◌then◌else◌, not, List, [], ◌∷◌}
 use Rattle.std.specs.List.{flat_map, list_all}
 use Rattle.bus.specs.declared.outcome.Outcome.{Outcome}
-use Rattle.bus.specs.declared.outcome.Outcome.TheVariants.{Connected, Disconnected, Rejected, Sent, TurnsRequested, StatesRequested, PlaceRequested, Placed}
+use Rattle.bus.specs.declared.outcome.Outcome.TheVariants.{Connected, Disconnected, Rejected, Sent, TurnsRequested, StatesRequested, PlaceRequested, DeviceRequested, Placed, DeviceAnswered}
 use Rattle.bus.specs.Outcome.{messages_in, text_for}
 
 abbrev pub is_connecting : (client : ℕ) → Outcome → Bool
@@ -38,14 +38,17 @@ has_connected i outcomes = is_nonempty (since_connected i outcomes)
 abbrev pub text_since : (client : ℕ) → List Outcome → List ℕ
 text_since i outcomes = flat_map (text_for i) (since_connected i outcomes)
 
--- the client requests to send, or turns, or how the decoders stand, or to put a train
+-- the client requests to send, or turns, or how the decoders stand, or to put a train, or something of the
+-- devices beside the station
 abbrev pub makes_request : (client : ℕ) → Outcome → Bool
 makes_request i (Rejected client reason) = client == i
 makes_request i (Sent client message reply) = client == i
 makes_request i (TurnsRequested client turns) = client == i
 makes_request i (StatesRequested client things) = client == i
 makes_request i (PlaceRequested client placement) = client == i
+makes_request i (DeviceRequested client request) = client == i
 makes_request i (Placed client answer) = client == i
+makes_request i (DeviceAnswered client answer) = client == i
 makes_request i other = false
 
 -- it makes no request

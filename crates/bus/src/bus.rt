@@ -154,6 +154,7 @@ impl Bus {
             },
             Some(Request::States(things)) => Outcome::StatesRequested { client, things },
             Some(Request::Place(placement)) => Outcome::PlaceRequested { client, placement },
+            Some(Request::Device(request)) => Outcome::DeviceRequested { client, request },
         }
     }
 

@@ -36,12 +36,13 @@ pub fn turns_are_bounded()
     half_bits::laws::durations_are_bounded();
 }
 
-/// The effect of bytes, whole messages and turns on a station.
+/// The effect of bytes, whole messages and turns on a station, and that clients send whole messages.
 pub(crate) fn station_moves()
     ensures { StationMoves }
 {
     station_core::laws::calls_are_moves();
     whole_message();
+    loconet_tcp::laws::requested_message_is_whole();
 }
 
 /// The effect of events on a bus: its invariant holds, and its station is that of the layout's

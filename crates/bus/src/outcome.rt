@@ -6,8 +6,8 @@ ghost use Rattle.bus.specs.Outcome.{text_for};
 use dcc_packet::Packet;
 use ln_frame::Msg;
 use loconet_tcp::{
-    PlaceError, Placement, Reason, Text, Things, TurnsError, push_place, push_receive,
-    push_sent_error, push_sent_ok, push_turns, push_version,
+    DeviceAnswer, DeviceRequest, PlaceError, Placement, Reason, Text, Things, TurnsError,
+    push_device, push_place, push_receive, push_sent_error, push_sent_ok, push_turns, push_version,
 };
 
 /// The outcome of an event on a bus. Clients are numbered from 0 to 7.
@@ -49,8 +49,9 @@ pub enum Outcome {
         client: u8,
         turns: Result<u16, TurnsError>,
     },
-    /// A client asked how the decoders, the trains or the turnouts stand. The answer is not of the
-    /// bus, which knows no names; clients receive nothing of this event.
+    /// A client asked how the decoders, the trains, the turnouts or the variables of the programming
+    /// track stand. The answer is not of the bus, which knows no names; clients receive nothing of this
+    /// event.
     StatesRequested {
         client: u8,
         things: Things,
@@ -66,6 +67,18 @@ pub enum Outcome {
     Placed {
         client: u8,
         answer: Result<(), PlaceError>,
+    },
+    /// A client requested something of the devices beside the station, or its line did not say what.
+    /// A bus has no devices; clients receive nothing of this event.
+    DeviceRequested {
+        client: u8,
+        request: DeviceRequest,
+    },
+    /// What a client requested of the devices was done, or was not; the client alone receives the
+    /// answer.
+    DeviceAnswered {
+        client: u8,
+        answer: DeviceAnswer,
     },
     /// A turn began and sent this packet, or none while the track power is off. Clients receive
     /// nothing.
@@ -97,6 +110,10 @@ impl Outcome {
                 client: asker,
                 answer,
             } if *asker == client => push_place(text, answer),
+            Outcome::DeviceAnswered {
+                client: asker,
+                answer,
+            } if *asker == client => push_device(text, *answer),
             Outcome::Sent {
                 client: sender,
                 message,
