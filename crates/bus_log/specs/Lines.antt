@@ -1,5 +1,5 @@
 -- The log of a bus, line by line, in the words of docs/CLIENTS.md, *What is printed*.
-use Rattle.std.specs.Prelude.{ℕ, ◌+◌, Bool, true, false, ◌&&◌, not, if◌then◌else◌, nat_lt, List, [], ◌∷◌, ◌++◌, Option, Some, None, codes}
+use Rattle.std.specs.Prelude.{ℕ, ◌+◌, ◌/◌, ◌%◌, ◌==◌, slice_index, length, Bool, true, false, ◌&&◌, not, if◌then◌else◌, nat_lt, List, [], ◌∷◌, ◌++◌, Option, Some, None, codes}
 use Rattle.std.specs.Fmt.{decimal}
 use Rattle.std.specs.Str.{bytes_eq}
 use Rattle.dcc_packet.specs.Sent.{idle_bytes}
@@ -13,7 +13,7 @@ use Rattle.roster.specs.Entry.{Entry}
 use Rattle.show_text.specs.Lines.{track_text}
 use Rattle.describe.specs.Messages.{message_words}
 use Rattle.bus.specs.declared.outcome.Outcome.{Outcome}
-use Rattle.bus.specs.declared.outcome.Outcome.TheVariants.{Nothing, Connected, Disconnected, Rejected, Reported, Programmed, Sent, TurnBegan, TurnsRequested, StatesRequested, PlaceRequested, Placed}
+use Rattle.bus.specs.declared.outcome.Outcome.TheVariants.{Nothing, Connected, Disconnected, Rejected, Reported, Programmed, Sent, TurnBegan, TurnsRequested, StatesRequested, PlaceRequested, DeviceRequested, Placed, DeviceAnswered}
 use Rattle.text.specs.Hex.{hex_words}
 
 -- The state of a printer: the turns, the state of each decoder when it was last printed, or at the
@@ -89,11 +89,27 @@ abbrev pub is_read : Op → Op → Bool
 is_read (SlotRead slot) (SlotData fields) = true
 is_read op reply = false
 
+-- a task on the main track, in operations mode: EF 0E 7C PCMD .., bit 2 of PCMD
+abbrev pub is_operations : List ℕ → Bool
+is_operations bytes =
+    length bytes == 14 && slice_index bytes 0 == 0xEF && slice_index bytes 2 == 0x7C && slice_index bytes 3 / 4 % 2 == 1
+
+-- the programmer has no such mode: B4 6F 7F
+abbrev pub is_not_implemented : List ℕ → Bool
+is_not_implemented bytes =
+    length bytes == 4 && slice_index bytes 0 == 0xB4 && slice_index bytes 1 == 0x6F && slice_index bytes 2 == 0x7F
+
+-- the reply to a message, and whether it refuses operations mode
+abbrev pub reply_line : (message reply : List ℕ) → List ℕ
+reply_line message reply =
+    if is_operations message && is_not_implemented reply
+    then sent_line reply ++ codes ", operations mode is not implemented" else sent_line reply
+
 -- a message of a client and the reply to it; none for a read of a slot
 abbrev pub exchange_lines : (message : List ℕ) → (reply : Option (List ℕ)) → List (List ℕ)
 exchange_lines message None = unanswered_line message ∷ []
 exchange_lines message (Some reply) =
-    if is_read (op_of message) (op_of reply) then [] else sent_line message ∷ sent_line reply ∷ []
+    if is_read (op_of message) (op_of reply) then [] else sent_line message ∷ reply_line message reply ∷ []
 
 -- The lines of an outcome: clients that connect and disconnect, each message and then its reply
 -- (none for a read of a slot), each report of a device, the packet of a turn, and the decoders that
@@ -106,7 +122,9 @@ lines_of track entries before (Rejected client reason) decoder_states = []
 lines_of track entries before (TurnsRequested client turns) decoder_states = []
 lines_of track entries before (StatesRequested client things) decoder_states = []
 lines_of track entries before (PlaceRequested client placement) decoder_states = []
+lines_of track entries before (DeviceRequested client request) decoder_states = []
 lines_of track entries before (Placed client answer) decoder_states = []
+lines_of track entries before (DeviceAnswered client answer) decoder_states = []
 lines_of track entries before (Sent client message reply) decoder_states = exchange_lines message reply
 lines_of track entries before (Reported message) decoder_states = sent_line message ∷ []
 lines_of track entries before (Programmed packet) decoder_states = programming_lines track before.turns packet

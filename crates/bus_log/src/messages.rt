@@ -1,5 +1,5 @@
 //! The line of a message.
-ghost use Rattle.std.specs.Prelude.{◌≡◌, ◌+◌, ◌*◌, ◌≤◌, ◌++◌, ◌∷◌, [], length};
+ghost use Rattle.std.specs.Prelude.{◌≡◌, ◌+◌, ◌*◌, ◌≤◌, ◌++◌, ◌∷◌, [], codes, length};
 ghost use Rattle.arrayvec.specs.ArrayVec.{array_vec_len};
 ghost use Rattle.bus_log.specs.Lines.{ignored_line, sent_line, set_off};
 ghost use Rattle.bus_log.specs.LogQueues.{after_lines};
@@ -28,6 +28,16 @@ pub(crate) fn print_ignored(log: &mut LogQueue, message: &Msg)
 {
     log.print(message_line(message).as_slice());
     log.print(b", ignored\n");
+}
+
+/// Prints a reply that refuses operations mode, its explanation, and that it does.
+pub(crate) fn print_not_implemented(log: &mut LogQueue, reply: &Msg)
+    ensures { log.new
+        ≡ after_lines log.old
+        ((sent_line reply.now ++ codes ", operations mode is not implemented") ∷ []) }
+{
+    log.print(message_line(reply).as_slice());
+    log.print(b", operations mode is not implemented\n");
 }
 
 /// Returns `message`, the bytes of a message in upper-case hexadecimal digits, two spaces and its

@@ -109,7 +109,9 @@ impl<'a> Printer<'a> {
             | Outcome::TurnsRequested { .. }
             | Outcome::StatesRequested { .. }
             | Outcome::PlaceRequested { .. }
-            | Outcome::Placed { .. } => {}
+            | Outcome::Placed { .. }
+            | Outcome::DeviceRequested { .. }
+            | Outcome::DeviceAnswered { .. } => {}
             Outcome::Connected { client } => print_client(&mut self.log, *client, " joins"),
             Outcome::Disconnected { client } => print_client(&mut self.log, *client, " leaves"),
             Outcome::Sent { message, reply, .. } => print_exchange(&mut self.log, message, reply),
