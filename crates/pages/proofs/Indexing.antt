@@ -9,7 +9,7 @@ use Rattle.railway.specs.Railway.{RailwayState}
 use Rattle.roster.specs.Entry.{Entry, spec_of as entry_spec}
 use Rattle.pages.specs.declared.items.ItemState.{ItemState}
 use Rattle.pages.specs.declared.items.ItemState.TheVariants.{Part}
-use Rattle.pages.specs.Items.{block_message, decoder_messages, item_messages, item_states, joint_message, message_of_train, node_message, parts_of, plan_messages, plan_states, state_of_decoder, state_of_train, turnout_message}
+use Rattle.pages.specs.Items.{block_message, decoder_messages, item_messages, item_states, joint_message, message_of_train, node_message, parts_of, plan_messages, plan_states, state_of_decoder, state_of_train, state_of_turnout, turnout_message}
 
 -- the messages of decoders, and those behind them
 as-many : (entries : List Entry) (nodes : List Node) → map spec_of nodes ≡ map entry_spec entries → length nodes ≡ length entries
@@ -50,12 +50,22 @@ state-behind f (x ∷ xs) ys (suc i) s over is =
     let same : suc i - length (x ∷ xs) ≡ i - length xs = omega arith in state-behind f xs ys i s (omega (arith, over)) (is ∙ ap (λ (n : ℕ). slice_get ys n) same)
 
 -- the number of items
-pub length-plan_states : (railway : RailwayState) → length (plan_states railway) ≡ parts_of railway.network + length railway.trains
+pub length-plan_states : (railway : RailwayState) → length (plan_states railway) ≡ parts_of railway.network + length railway.network.turnouts + length railway.trains
 length-plan_states railway =
-    length-append (replicate (parts_of railway.network) Part) (map (state_of_train railway.network) railway.trains)
-    ∙ ap₂ ◌+◌ (length-replicate (parts_of railway.network) Part) (length-map railway.trains (state_of_train railway.network))
+    let network = railway.network in
+    let turnouts = map state_of_turnout network.turnouts in
+    let trains = map (state_of_train network) railway.trains in
+    omega (
+      arith,
+      length-append (replicate (parts_of network) Part) (turnouts ++ trains),
+      length-append turnouts trains,
+      length-replicate (parts_of network) Part,
+      length-map network.turnouts state_of_turnout,
+      length-map railway.trains (state_of_train network),
+    )
 
-pub length-item_states : (nodes : List Node) (railway : RailwayState) → length (item_states nodes (Some railway)) ≡ length nodes + (parts_of railway.network + length railway.trains)
+pub length-item_states : (nodes : List Node) (railway : RailwayState)
+    → length (item_states nodes (Some railway)) ≡ length nodes + (parts_of railway.network + length railway.network.turnouts + length railway.trains)
 length-item_states nodes railway =
     length-append (map state_of_decoder nodes) (plan_states railway)
     ∙ ap₂ ◌+◌ (length-map nodes state_of_decoder) (length-plan_states railway)
@@ -65,7 +75,7 @@ length-no_plan nodes =
     let sum = length-append (map state_of_decoder nodes) [] in
     omega (arith, sum, length-map nodes state_of_decoder)
 
-length-plan_messages : (entries : List Entry) (railway : RailwayState) → length (plan_messages entries railway) ≡ parts_of railway.network + length railway.trains
+length-plan_messages : (entries : List Entry) (railway : RailwayState) → length (plan_messages entries railway) ≡ parts_of railway.network + length railway.network.turnouts + length railway.trains
 length-plan_messages entries railway =
     let network = railway.network in
     let trains = map (message_of_train entries network) railway.trains in

@@ -1,5 +1,5 @@
 -- The text of the bus with the words of its messages: in pieces, and behind one message.
-use Rattle.std.proofs.Common.{◌≡◌, ℕ, ◌+◌, ◌*◌, ◌/◌, ◌%◌, ◌<◌, ◌≤◌, ◌==◌, ◌&&◌, Bool, true, false, List, [], ◌∷◌, ◌++◌, suc, length, take, append_assoc, length-append, slice_index, not, refl, ap, sym, ◌∙◌, arith, Option, Some}
+use Rattle.std.proofs.Common.{◌≡◌, ℕ, ◌+◌, ◌/◌, ◌%◌, ◌<◌, ◌≤◌, ◌==◌, ◌&&◌, Bool, true, false, List, [], ◌∷◌, ◌++◌, suc, length, take, append_assoc, length-append, slice_index, not, refl, ap, sym, ◌∙◌, arith, Option, Some}
 use Rattle.std.specs.Prelude.{if◌then◌else◌, codes}
 use Rattle.std.specs.List.{list_all}
 use Rattle.std.proofs.lemmas.Bool.{and_parts, lt-ltb, not-true}
@@ -7,7 +7,7 @@ use Rattle.std.proofs.lemmas.Bool.Decides.{nat_tests}
 use Rattle.std.proofs.lemmas.List.{append-nil, take_more}
 use Rattle.text.specs.Hex.{hex_char, hex_words}
 use Rattle.text.specs.Words.{words_of}
-use Rattle.ln_frame.specs.Message.{IsWhole, are_data, has_form, is_len, message_len}
+use Rattle.ln_frame.specs.Message.{IsWhole}
 use Rattle.loconet_tcp.specs.ClientLines.{line_end, receive_text}
 use Rattle.loconet_tcp.specs.Requests.{bytes_of}
 use Rattle.pages.specs.PageText.{line_after, line_along, page_text, received, with_words, words_line}
@@ -77,23 +77,13 @@ hex-plain (b ∷ bytes) h =
     let low : b % 16 < 16 = omega arith in
     rw (digit-plain (b / 16) high) (rw (digit-plain (b % 16) low) (hex-plain bytes (λ i. h (suc i))))
 
-length-hex_words : (bytes : List ℕ) → length (hex_words bytes) ≡ 3 * length bytes
-length-hex_words [] = refl
-length-hex_words (b ∷ bytes) = let more = length-hex_words bytes in omega arith
-
-most : (op s n : ℕ) → is_len (message_len op s) n ≡ true → n ≤ 127
-most op s n h = grind (arith, nat_tests)
-
-length-whole : (message : List ℕ) → IsWhole message → length message ≤ 127
-length-whole [] w = cc
-length-whole (op ∷ []) w = cc
-length-whole (op ∷ s ∷ m) w =
-    let form = and_parts (has_form (op ∷ s ∷ m)) _ w in
-    most op s (length (op ∷ s ∷ m)) (and_parts (is_len (message_len op s) (length (op ∷ s ∷ m))) (are_data (s ∷ m)) form.0).0
-
 -- its line without the line end
 abbrev line_of : List ℕ → List ℕ
 line_of message = codes "RECEIVE" ++ hex_words message
+
+-- that the line of a whole message is short
+abbrev pub AreShort : Type 0
+AreShort = (message : List ℕ) → IsWhole message → length (receive_text message) ≤ 390
 
 -- that bytes as `RECEIVE` writes them are read back
 abbrev pub AreReadBack : Type 0
@@ -104,13 +94,13 @@ unfolding words_of
 received-back read [] w h = cc
 received-back read (b ∷ bytes) w h = read (b ∷ bytes) h
 
-pub words-behind : AreReadBack → (message : List ℕ) → IsWhole message → ((i : ℕ) → slice_index message i < 256)
+pub words-behind : AreReadBack → AreShort → (message : List ℕ) → IsWhole message → ((i : ℕ) → slice_index message i < 256)
     → page_text [] (receive_text message) ≡ receive_text message ++ words_line (Some message)
-words-behind read message w h =
+words-behind read short message w h =
     let line = line_of message in
     let words = words_line (Some message) in
     let plain : is_plain line ≡ true = hex-plain message h in
-    let size : length {A = ℕ} [] + length line ≤ 400 = omega (arith, length-hex_words message, length-whole message w) in
+    let size : length {A = ℕ} [] + length line ≤ 400 = omega (arith, short message w, length-append (hex_words message) line_end) in
     let along : line_along [] line ≡ line = along-plain [] line plain size in
     let behind : page_text line line_end ≡ line_end ++ words =
     ap (λ (found : Option (List ℕ)). 13 ∷ 10 ∷ (words_line found ++ [])) (received-back read message w h)

@@ -7,7 +7,7 @@ ghost use Rattle.layout_core.specs.DecoderStates.{decoder_state_of};
 ghost use Rattle.layout_core.specs.Nodes.{spec_of};
 ghost use Rattle.roster.specs.Decoders.{decoder_name, entries_of, specs_of};
 ghost use Rattle.roster.specs.Entry.{Entry};
-ghost use Rattle.pages.specs.Items.{block_message, item_messages, item_states, joint_message, line_at, max_items, node_message, parts_of, plan_messages, plan_states, same_item_state, turnout_message};
+ghost use Rattle.pages.specs.Items.{block_message, item_messages, item_states, joint_message, line_at, max_items, node_message, parts_of, plan_messages, plan_states, same_item_state, state_of_turnout, turnout_message};
 ghost use Rattle.railway_text.specs.TrainPlace.{place_of, train_line};
 
 use crate::words::{Message, push_end, push_point};
@@ -17,7 +17,7 @@ use railway::{
     Block, End, Joint, MAX_BLOCKS, MAX_JOINTS, MAX_TRAINS, MAX_TURNOUTS, Railway, TrainState,
     TurnoutState,
 };
-use railway_text::TrainPlace;
+use railway_text::{TrainPlace, side_of};
 use roster::{Roster, decoder_name};
 use show_text::Line;
 use text::push_number;
@@ -29,8 +29,10 @@ pub(crate) const MAX_ITEMS: usize = MAX_NODES + MAX_BLOCKS + MAX_JOINTS + MAX_TU
 #[derive(Clone, Copy)]
 pub enum ItemState {
     Decoder(DecoderState),
-    /// A block, a joint or a turnout of the plan, which do not change.
+    /// A block or a joint of the plan, which do not change.
     Part,
+    /// A turnout: whether it moves, and whether it lies thrown, or did last.
+    Turnout { is_moving: bool, is_thrown: bool },
     Train(TrainPlace),
 }
 
@@ -42,6 +44,16 @@ impl ItemState {
         match (self, other) {
             (ItemState::Decoder(one), ItemState::Decoder(other)) => one.is_same(other),
             (ItemState::Part, ItemState::Part) => true,
+            (
+                ItemState::Turnout {
+                    is_moving: one_moving,
+                    is_thrown: one_thrown,
+                },
+                ItemState::Turnout {
+                    is_moving,
+                    is_thrown,
+                },
+            ) => one_moving == is_moving && one_thrown == is_thrown,
             (ItemState::Train(one), ItemState::Train(other)) => one.is(*other),
             _ => false,
         }
@@ -54,17 +66,25 @@ pub(crate) fn items(world: &World, railway: Option<&Railway>) -> usize
     ensures most { result ≤ max_items }
 {
     match railway {
-        Some(railway) => world.nodes() + parts(railway) + railway.trains().len(),
+        Some(railway) => world.nodes() + plan_items(railway),
         None => world.nodes(),
     }
 }
 
-/// Returns the number of blocks, joints and turnouts.
+/// Returns the number of blocks, joints, turnouts and trains.
+fn plan_items(railway: &Railway) -> usize
+    ensures count { result ≡ length (plan_states railway.now) }
+    ensures most { result ≤ 320 }
+{
+    parts(railway) + railway.turnouts().len() + railway.trains().len()
+}
+
+/// Returns the number of blocks and joints.
 fn parts(railway: &Railway) -> usize
     ensures count { result ≡ parts_of railway.now.network }
-    ensures most { result ≤ 256 }
+    ensures most { result ≤ 192 }
 {
-    railway.blocks().len() + railway.joints().len() + railway.turnouts().len()
+    railway.blocks().len() + railway.joints().len()
 }
 
 /// Returns the present state of an item, or `None` if there are no more.
@@ -90,12 +110,27 @@ fn plan_state(railway: &Railway, i: usize) -> Option<ItemState>
         return Some(ItemState::Part);
     }
     let i = i - parts;
+    let turnouts = railway.turnouts();
+    if i < turnouts.len() {
+        return Some(state_of_turnout(&turnouts[i]));
+    }
+    let i = i - turnouts.len();
     match railway.trains().get(i) {
         Some(train) => {
             let speed = railway.speed(i);
             Some(ItemState::Train(TrainPlace::of(railway.blocks(), train, speed)))
         }
         None => None,
+    }
+}
+
+/// Returns the state of a turnout.
+fn state_of_turnout(state: &TurnoutState) -> ItemState
+    ensures { result ≡ state_of_turnout state.now }
+{
+    ItemState::Turnout {
+        is_moving: state.is_moving(),
+        is_thrown: state.is_thrown,
     }
 }
 
@@ -224,7 +259,8 @@ fn joint_message(blocks: &[Block], joint: &Joint) -> Message
     message
 }
 
-/// Returns `TURNOUT`, its number, and its common, closed and thrown end.
+/// Returns `TURNOUT`, its number, its common, closed and thrown end, and how it lies.
+#[tactic(auto, unfolding(crate::specs::Items::turnout_message))]
 fn turnout_message(blocks: &[Block], state: &TurnoutState) -> Message
     ensures { result.bytes ≡ turnout_message blocks.now state.now }
 {
@@ -238,5 +274,7 @@ fn turnout_message(blocks: &[Block], state: &TurnoutState) -> Message
     push_end(&mut message, blocks, turnout.closed);
     message.push_str(" ");
     push_end(&mut message, blocks, turnout.thrown);
+    message.push_str(" ");
+    message.push_str(side_of(state));
     message
 }

@@ -7,7 +7,7 @@ ghost use Rattle.pages.specs.PageText.{line_after, line_along, page_text, receiv
 
 use arrayvec::ArrayVec;
 use describe::message_words;
-use loconet_tcp::laws::written_bytes_are_read;
+use loconet_tcp::laws::{received_lines_are_short, written_bytes_are_read};
 use loconet_tcp::{Bytes, LONGEST_LINE, bytes_of};
 use std::marker::Model;
 use text::cut_piece;
@@ -191,5 +191,6 @@ pub fn words_follow_messages()
     ensures held { (line front back : List ℕ)
         → line_along line (front ++ back) ≡ line_along (line_along line front) back }
 {
+    received_lines_are_short();
     written_bytes_are_read();
 }
