@@ -7,7 +7,7 @@ use Rattle.std.proofs.lemmas.List.{get_or-set_other}
 use Rattle.bus.specs.declared.event.Event.{Event}
 use Rattle.bus_server.specs.Observations.{Observation}
 use Rattle.bus.specs.declared.outcome.Outcome.{Outcome}
-use Rattle.bus.specs.declared.outcome.Outcome.TheVariants.{Nothing, Connected, Disconnected, Rejected, Reported, Sent, Programmed, TurnBegan, TurnsRequested, StatesRequested, PlaceRequested, Placed}
+use Rattle.bus.specs.declared.outcome.Outcome.TheVariants.{Nothing, Connected, Disconnected, Rejected, Reported, Sent, Programmed, TurnBegan, TurnsRequested, StatesRequested, PlaceRequested, DeviceRequested, Placed, DeviceAnswered}
 use Rattle.bus.specs.Outcome.{text_for}
 use Rattle.bus_server.specs.SendQueue.{enqueued}
 use Rattle.bus_server.specs.TransportEvents.{Polled, ServerClosed, Accepted, WriteBlocked, PeerClosed, NonePending, TransportEvent, Written, ReadBlocked, Received, Refused}
@@ -72,7 +72,9 @@ front_told i account (Reported message) queues fits q h = all_told i account (Re
 front_told i account (TurnsRequested client turns) queues fits q h = all_told i account (TurnsRequested client turns) queues fits q h
 front_told i account (StatesRequested client things) queues fits q h = fits q h ∙ sym (append-nil account.text)
 front_told i account (PlaceRequested client placement) queues fits q h = fits q h ∙ sym (append-nil account.text)
+front_told i account (DeviceRequested client request) queues fits q h = fits q h ∙ sym (append-nil account.text)
 front_told i account (Placed client answer) queues fits q h = all_told i account (Placed client answer) queues fits q h
+front_told i account (DeviceAnswered client answer) queues fits q h = all_told i account (DeviceAnswered client answer) queues fits q h
 front_told i account (Disconnected client) queues fits q h = elim (cases_eq i client) [
   | inl same ↦ no_some q (sym (subst (λ (n : ℕ). slice_index_or (slice_set queues client None) n None ≡ None) (sym same) (none_set queues client)) ∙ h)
   | inr differs ↦ fits q (sym (get_or-set_other queues client i None None differs) ∙ h) ∙ sym (append-nil account.text)

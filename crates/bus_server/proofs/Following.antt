@@ -6,7 +6,7 @@ use Rattle.std.proofs.lemmas.Bool.{and_parts, cases_eq}
 use Rattle.std.proofs.lemmas.Bool.Decides.{nat_tests}
 use Rattle.std.proofs.lemmas.List.{get_or-set_same, get_or-set_other, length-set}
 use Rattle.bus.specs.declared.outcome.Outcome.{Outcome}
-use Rattle.bus.specs.declared.outcome.Outcome.TheVariants.{Connected, Disconnected, StatesRequested, Nothing, Placed, PlaceRequested, Rejected, Reported, Sent, Programmed, TurnBegan, TurnsRequested}
+use Rattle.bus.specs.declared.outcome.Outcome.TheVariants.{Connected, Disconnected, StatesRequested, Nothing, Placed, DeviceAnswered, PlaceRequested, DeviceRequested, Rejected, Reported, Sent, Programmed, TurnBegan, TurnsRequested}
 use Rattle.layout_core.specs.declared.node.Node.{Node}
 use Rattle.railway.specs.Railway.{RailwayState}
 use Rattle.bus.specs.declared.event.Event.{Event}
@@ -21,7 +21,7 @@ use Rattle.bus_server.specs.ServerState.{Applies, AppliesAll, Handled, IsWithRep
 use Rattle.bus_server.specs.SendQueues.{names_client}
 use Rattle.bus_server.specs.TrackDue.{after_answer, departed, due_after, due_to, follow_message, is_due, is_message, is_request, less, none_due}
 use Rattle.bus_server.specs.Observations.{Observation, Observed}
-use Rattle.programming_track.specs.declared.programming_track.ProgrammingTrack.{ProgrammingTrack}
+use Rattle.programming_track.specs.Bench.{BenchState}
 use Rattle.bus_server.specs.Placement.{answered}
 use Rattle.bus_server.specs.Programming.{programmed}
 use Rattle.bus_server.specs.Repeats.{BeginsInTurns, TurnsFollow, is_from_client, is_sent, left_after}
@@ -298,9 +298,11 @@ is_sending (TurnBegan packet) = false
 is_sending (TurnsRequested client count) = false
 is_sending (StatesRequested client things) = false
 is_sending (PlaceRequested client placement) = false
+is_sending (DeviceRequested client request) = false
 is_sending (Placed client answer) = false
+is_sending (DeviceAnswered client answer) = false
 
-sending_sent : (programming : Option ProgrammingTrack) (names : List (List ℕ)) (railway now : Option RailwayState) (nodes : List Node) (outcome : Outcome)
+sending_sent : (programming : Option BenchState) (names : List (List ℕ)) (railway now : Option RailwayState) (nodes : List Node) (outcome : Outcome)
     → is_sent (Observed (programmed programming (answered names railway outcome)) nodes now) ≡ is_sending outcome
 sending_sent programming names railway now nodes (Sent client message reply) = refl
 sending_sent programming names railway now nodes Nothing = refl
@@ -313,7 +315,9 @@ sending_sent programming names railway now nodes (TurnBegan packet) = refl
 sending_sent programming names railway now nodes (TurnsRequested client count) = refl
 sending_sent programming names railway now nodes (StatesRequested client things) = refl
 sending_sent programming names railway now nodes (PlaceRequested client placement) = refl
+sending_sent programming names railway now nodes (DeviceRequested client request) = refl
 sending_sent programming names railway now nodes (Placed client answer) = refl
+sending_sent programming names railway now nodes (DeviceAnswered client answer) = refl
 
 -- What is due after it: nothing was left before.
 sent_owes : (turns : ℕ) (outcome : Outcome) (owed : List TurnsDue) → length owed ≡ 8 → names_client outcome ≡ true → Owes (if is_sending outcome then turns else 0) (due_after outcome (AfterMessages turns) owed)
@@ -332,7 +336,9 @@ sent_owes turns (TurnBegan packet) owed eight names = inl refl
 sent_owes turns (TurnsRequested client count) owed eight names = inl refl
 sent_owes turns (StatesRequested client things) owed eight names = inl refl
 sent_owes turns (PlaceRequested client placement) owed eight names = inl refl
+sent_owes turns (DeviceRequested client request) owed eight names = inl refl
 sent_owes turns (Placed client answer) owed eight names = inl refl
+sent_owes turns (DeviceAnswered client answer) owed eight names = inl refl
 
 due_length : (turns : ℕ) (outcome : Outcome) (owed : List TurnsDue) → length (due_after outcome (AfterMessages turns) owed) ≡ length owed
 due_length turns (Sent client message reply) owed = length-set owed client (record { left = turns; cause = Message })
@@ -347,7 +353,9 @@ due_length turns (TurnsRequested client (Ok count)) owed = length-set owed clien
 due_length turns (TurnsRequested client (Err error)) owed = refl
 due_length turns (StatesRequested client things) owed = refl
 due_length turns (PlaceRequested client placement) owed = refl
+due_length turns (DeviceRequested client request) owed = refl
 due_length turns (Placed client answer) owed = refl
+due_length turns (DeviceAnswered client answer) owed = refl
 
 receives_first : (turns left client byte : ℕ) (old : ServerState) → left ≡ 0 → Follows turns left old → LeadsFirst turns left (Receives client byte) old
 receives_first turns left client byte old none f observed mid h =

@@ -13,28 +13,28 @@ use Rattle.railway.specs.Railway.{RailwayState, shown_speed}
 use Rattle.railway_text.specs.TrainPlace.{place_of, train_line}
 use Rattle.railway_text.specs.Turnouts.{turnout_line}
 use Rattle.loconet_tcp.specs.declared.request.Things.{Things}
-use Rattle.loconet_tcp.specs.declared.request.Things.TheVariants.{Nodes, Trains, Turnouts}
-use Rattle.loconet_tcp.specs.ClientLines.{line_end, node_text, state_text, states_ok_text, turns_ok_text, version_text}
+use Rattle.loconet_tcp.specs.declared.request.Things.TheVariants.{Nodes, Trains, Turnouts, Variables}
+use Rattle.loconet_tcp.specs.ClientLines.{change_line, line_end, node_text, state_text, states_ok_text, turns_ok_text, version_text}
 use Rattle.bus.specs.Outcome.{text_for}
 use Rattle.bus.specs.declared.outcome.Outcome.{Outcome}
-use Rattle.bus.specs.declared.outcome.Outcome.TheVariants.{Connected, Nothing, Placed, Rejected, Reported, Sent, TurnBegan, TurnsRequested}
+use Rattle.bus.specs.declared.outcome.Outcome.TheVariants.{Connected, Nothing, Placed, DeviceAnswered, Rejected, Reported, Sent, TurnBegan, TurnsRequested}
 use Rattle.loconet_tcp.specs.declared.request.Request.{Request}
-use Rattle.loconet_tcp.specs.declared.request.Request.TheVariants.{Invalid, States, Place, Send, Turns}
+use Rattle.loconet_tcp.specs.declared.request.Request.TheVariants.{Invalid, States, Place, Device, Send, Turns}
 use Rattle.bus.specs.Bus.{BusState, after_event, client_of, granted, pending_text_at, reply_to, request_at}
 use Rattle.bus.specs.Course.{is_time}
 use Rattle.bus.specs.declared.event.Event.{Event}
 use Rattle.bus.specs.declared.event.Event.TheVariants.{Connects, Disconnects, Elapses, Receives, Reports, Programs, Turn}
 use Rattle.bus_server.specs.declared.under_way.UnderWay.{UnderWay}
-use Rattle.bus_server.specs.Answers.{line_of_train, line_of_turnout, lines_of, next_line, node_lines, train_lines, turnouts_of}
+use Rattle.bus_server.specs.Answers.{line_at, line_of_change, line_of_train, line_of_turnout, lines_of, next_line, node_lines, train_lines, turnouts_of, variable_line}
 use Rattle.bus_server.specs.ServerState.{answer_to, Applies, AppliesAll, Handled, IsWithReports, LoggedEvent, RunsEvent, RunsEventWithReports, RunsEvents, ServerState, events_of, has_overflowed, is_connected, is_crowded, outcome_in, transport_events, with_backlog, round_start}
 use Rattle.bus_server.specs.SendQueues.{SendQueues, enqueued_all, enqueued_from, queues_after}
 use Rattle.bus_server.specs.TrackDue.{due_to, have_passed, turns_answer}
 use Rattle.bus_server.specs.KeepUp.{IsAtRest, IsUpToDate, KeepsUp, is_blocked, is_closed}
 use Rattle.bus_server.specs.Observations.{Observation}
 use Rattle.service_mode.specs.declared.packet.ServicePacket.{ServicePacket}
-use Rattle.programming_track.specs.declared.programming_track.ProgrammingTrack.{ProgrammingTrack}
+use Rattle.programming_track.specs.Bench.{BenchState, name_at, next_change, number_at, value_at}
 use Rattle.bus_server.specs.Placement.{answered, place_answer}
-use Rattle.bus_server.specs.Programming.{programmed, reply_by}
+use Rattle.bus_server.specs.Programming.{device_answer, programmed, reply_by}
 use Rattle.bus_server.specs.SendQueue.{enqueued, is_more_than_half, queued}
 use Rattle.bus_server.specs.Rounds.{IsReadOn, IsRound, IsUnread, Reads, ReadsOn, ServesClient, ServesClients, is_read, is_reading, is_write_blocked, nth_client}
 use Rattle.bus_server.specs.declared.pace.Pace.{Pace}
@@ -47,7 +47,7 @@ use Rattle.bus_server.proofs.Going.{log-append}
 use Rattle.bus_server.proofs.Keeping.{enqueued_there, joined_one, none_of_both, none_set, only_joins, only_leaves, left_is_not_late, put_keeps, row_before, row_behind, set_at}
 use Rattle.bus_server.proofs.Placing.{length-enqueued}
 use Rattle.bus_server.proofs.Rounding.{accepts_apply, accepts_unread, early_applies, early_unread}
-use Rattle.bus_server.proofs.Sizes.{HasFew, HasFewBlocks, Limits, answered_request, text_size, event_few, message_size, none_due, owed, request_most, request_sound}
+use Rattle.bus_server.proofs.Sizes.{HasFew, HasFewBlocks, Limits, answered_request, text_size, event_few, message_size, none_due, owed, request_most}
 
 -- What is queued for a client, and with it what is still due, which is at most as many bytes; nothing has overflowed.
 
@@ -151,6 +151,8 @@ request_within client reader n (Some (Turns count)) old new queues connected few
     enqueues_within client n (n + 3579) (TurnsRequested reader (granted old.bus.options.is_stepped count)) old new queues connected few (omega (arith, most, few.0, h.1)) room h
 request_within client reader n (Some (Place placement)) old new queues connected few most room h =
     enqueues_within client n (n + 3579) (Placed reader (place_answer old.names old.railway placement)) old new queues connected few (omega (arith, most, few.0, h.1)) room h
+request_within client reader n (Some (Device request)) old new queues connected few most room h =
+    enqueues_within client n (n + 3579) (DeviceAnswered reader (device_answer old.programming request)) old new queues connected few (omega (arith, most, few.0, h.1)) room h
 request_within client reader n (Some (States things)) old new queues connected few most room h = same_within client n (n + 3579) old new queues connected few (omega (arith, few.0, h.1)) h
 
 receives_within : Limits → (client reader byte n : ℕ) (observed : Observation) (old new : ServerState) → RunsEvent (Receives reader byte) observed old new → n + 3579 ≤ 65536 → Within client n old → Within client (n + 3579) new
@@ -158,7 +160,7 @@ receives_within same client reader byte n observed old new runs room h =
     request_within client reader n (request_at (client_of old.bus reader) byte) old new runs.queues
     (ap (λ (bus : BusState). is_some (slice_index_or bus.clients client None)) runs.bus ∙ connected_still old.bus.clients reader client byte)
     (event_few same (Receives reader byte) observed old new refl runs h.3.1)
-    (request_most old reader client (request_at (client_of old.bus reader) byte) (request_sound (client_of old.bus reader) byte)) room h
+    (request_most same.lines old reader client (client_of old.bus reader) byte) room h
 
 -- Devices report.
 
@@ -200,7 +202,7 @@ first_event event (one ∷ more) old new are runs = (one.observed, runs.0, more,
 
 -- A step of the track.
 
-turn_queues : (programming : Option ProgrammingTrack) (names : List (List ℕ)) (railway : Option RailwayState) (ends : Bool) (packet : Option (List ℕ)) (queues : SendQueues)
+turn_queues : (programming : Option BenchState) (names : List (List ℕ)) (railway : Option RailwayState) (ends : Bool) (packet : Option (List ℕ)) (queues : SendQueues)
     → queues_after (programmed programming (answered names railway (if ends then TurnBegan packet else Nothing))) queues ≡ queues
 turn_queues programming names railway true packet queues = refl
 turn_queues programming names railway false packet queues = refl
@@ -691,16 +693,26 @@ trains_most names (Some railway) i =
     each_most (line_of_train names railway.network) (states_ok_text Trains) railway.trains i
     (λ train. short_most (train_line (slice_index_or names train.decoder []) railway.network.blocks (place_of railway.network.blocks train (shown_speed railway.network train)))) (omega arith)
 
-things_most : (names : List (List ℕ)) (nodes : List Node) (railway : Option RailwayState) (things : Things) (i : ℕ)
-    → length (slice_index_or (lines_of names nodes railway things) i (states_ok_text things)) ≤ 647
-things_most names nodes railway Nodes i = lines_most names nodes i
-things_most names nodes railway Trains i = trains_most names railway i
-things_most names nodes railway Turnouts i =
-    each_most line_of_turnout (states_ok_text Turnouts) (turnouts_of railway) i (λ state. short_most (turnout_line state)) (omega arith)
+change_most : (bench : BenchState) (found : Option ℕ) → length (line_of_change bench found) ≤ 647
+change_most bench None = omega arith
+change_most bench (Some position) = short_most (change_line (name_at bench position) (number_at position) (value_at bench position))
 
-next_most : (names : List (List ℕ)) (nodes : List Node) (railway : Option RailwayState) (answer : Option UnderWay) → length (next_line (lines_of names nodes railway) answer) ≤ 647
-next_most names nodes railway None = omega arith
-next_most names nodes railway (Some answer) = things_most names nodes railway answer.things answer.lines
+variable_most : (bench : Option BenchState) (from : ℕ) → length (variable_line bench from) ≤ 647
+variable_most None from = omega arith
+variable_most (Some bench) from = change_most bench (next_change bench from)
+
+things_most : (names : List (List ℕ)) (nodes : List Node) (railway : Option RailwayState) (bench : Option BenchState) (things : Things) (i : ℕ)
+    → length (line_at (lines_of names nodes railway) bench things i) ≤ 647
+things_most names nodes railway bench Nodes i = lines_most names nodes i
+things_most names nodes railway bench Trains i = trains_most names railway i
+things_most names nodes railway bench Turnouts i =
+    each_most line_of_turnout (states_ok_text Turnouts) (turnouts_of railway) i (λ state. short_most (turnout_line state)) (omega arith)
+things_most names nodes railway bench Variables i = variable_most bench i
+
+next_most : (names : List (List ℕ)) (nodes : List Node) (railway : Option RailwayState) (bench : Option BenchState) (answer : Option UnderWay)
+    → length (next_line (lines_of names nodes railway) bench answer) ≤ 647
+next_most names nodes railway bench None = omega arith
+next_most names nodes railway bench (Some answer) = things_most names nodes railway bench answer.things answer.next
 
 turns_answer_most : (is_over : Bool) → length (if is_over then turns_ok_text else []) ≤ 10
 turns_answer_most true = omega arith
@@ -708,10 +720,10 @@ turns_answer_most false = omega arith
 
 starts_within : (client : ℕ) (old : ServerState) → Within client 57878 old → Within client 58535 (round_start old)
 starts_within client old h =
-    let line = next_line (lines_of old.names old.nodes old.railway) (slice_index_or old.answers client None) in
+    let line = next_line (lines_of old.names old.nodes old.railway) old.programming (slice_index_or old.answers client None) in
     let owed = due_to old.turns_due client in
     let answer : length (answer_to old client) ≤ 657 =
-    omega (arith, next_most old.names old.nodes old.railway (slice_index_or old.answers client None), turns_answer_most (have_passed owed), length-append line (turns_answer owed)) in
+    omega (arith, next_most old.names old.nodes old.railway old.programming (slice_index_or old.answers client None), turns_answer_most (have_passed owed), length-append line (turns_answer owed)) in
     texts_within client 57878 58535 (answer_to old) old (round_start old) refl refl h.3 (omega (arith, answer, h.1)) (omega arith) h
 
 rounds_keep : Limits → (client most : ℕ) (rounds : List Round) (old new : ServerState) → client < 8 → RunsRounds most rounds old new → KeepsUp client (transport_log rounds) → Within client 57878 old

@@ -18,7 +18,7 @@ use Rattle.bus.specs.Outcome.{messages_in}
 use Rattle.bus.specs.declared.outcome.Outcome.{Outcome}
 use Rattle.bus.specs.declared.outcome.Outcome.TheVariants.{Nothing, Sent, TurnBegan}
 use Rattle.loconet_tcp.specs.declared.request.Request.{Request}
-use Rattle.loconet_tcp.specs.declared.request.Request.TheVariants.{Invalid, States, Place, Send, Turns}
+use Rattle.loconet_tcp.specs.declared.request.Request.TheVariants.{Invalid, States, Place, Device, Send, Turns}
 use Rattle.railway.specs.declared.block.Block.{Block}
 use Rattle.railway.specs.Blocks.{default_block}
 use Rattle.railway.specs.Course.{Happening, after, after_all, reports_of, reports_of_all}
@@ -32,7 +32,7 @@ use Rattle.programmer.specs.declared.task_result.TaskResult.{TaskResult}
 use Rattle.programmer.specs.Machine.{reply_of}
 use Rattle.programmer.specs.Requests.{request_in}
 use Rattle.programming_track.specs.declared.packet_end.PacketEnd.{PacketEnd}
-use Rattle.programming_track.specs.declared.programming_track.ProgrammingTrack.{ProgrammingTrack}
+use Rattle.programming_track.specs.Bench.{BenchState}
 use Rattle.bus.specs.declared.event.Event.{Event}
 use Rattle.bus.specs.declared.event.Event.TheVariants.{Connects, Receives, Disconnects, Reports, Programs, Elapses, Turn}
 use Rattle.bus.specs.Bus.{BusState, client_of, for_station, outcome_of, outcome_of_request, request_at}
@@ -105,7 +105,7 @@ none-of_ends (one ∷ ends) =
     sensors-append (of_result one.result) (of_ends ends)
     ∙ ap₂ (λ (these those : List SensorReport). these ++ those) (none-of_result one.result) (none-of_ends ends)
 
-sensors-elapsed : (railway : Option RailwayState) (programming : Option ProgrammingTrack) (micros : ℕ) (power : Power) (nodes : List Node)
+sensors-elapsed : (railway : Option RailwayState) (programming : Option BenchState) (micros : ℕ) (power : Power) (nodes : List Node)
     → sensors_in (reports_of_time railway programming micros power nodes) ≡ reports_elapsed railway micros power nodes
 sensors-elapsed railway programming micros power nodes =
     let reports : List SensorReport = reports_elapsed railway micros power nodes in
@@ -132,7 +132,7 @@ happens_known laws block sensor level happening railway new beside unreported wh
       ∙ laws.after railway (happening ∷ []) block sensor whole is.0 is.1,
 )
 
-elapsed_known : SensorLaws → (block sensor micros : ℕ) (level : Bool) (programming : Option ProgrammingTrack) (power : Power) (nodes : List Node) (old new : ServerState) → old.unreported ≡ [] → new.railway ≡ railway_elapsed old.railway micros power nodes
+elapsed_known : SensorLaws → (block sensor micros : ℕ) (level : Bool) (programming : Option BenchState) (power : Power) (nodes : List Node) (old new : ServerState) → old.unreported ≡ [] → new.railway ≡ railway_elapsed old.railway micros power nodes
     → new.unreported ≡ reports_of_time old.railway programming micros power nodes → IsKnown block sensor level old → IsKnown block sensor level new
 elapsed_known laws block sensor micros level programming power nodes old new none trains unreported h =
     happens_known laws block sensor level (TimeElapses micros power nodes) h.0 new
@@ -153,6 +153,7 @@ request_known laws names block sensor level bus client None railway new beside m
 request_known laws names block sensor level bus client (Some (Invalid reason)) railway new beside made whole is known = (railway, beside, whole, is, ap (λ (d : List DeviceReport). level_after (sensors_in d) sensor level) made ∙ known)
 request_known laws names block sensor level bus client (Some (Turns count)) railway new beside made whole is known = (railway, beside, whole, is, ap (λ (d : List DeviceReport). level_after (sensors_in d) sensor level) made ∙ known)
 request_known laws names block sensor level bus client (Some (States things)) railway new beside made whole is known = (railway, beside, whole, is, ap (λ (d : List DeviceReport). level_after (sensors_in d) sensor level) made ∙ known)
+request_known laws names block sensor level bus client (Some (Device request)) railway new beside made whole is known = (railway, beside, whole, is, ap (λ (d : List DeviceReport). level_after (sensors_in d) sensor level) made ∙ known)
 request_known laws names block sensor level bus client (Some (Place (Err error))) railway new beside made whole is known = (railway, beside, whole, is, ap (λ (d : List DeviceReport). level_after (sensors_in d) sensor level) made ∙ known)
 request_known laws names block sensor level bus client (Some (Send message)) railway new beside made whole is known =
     (railway, beside, whole, is, ap (λ (d : List DeviceReport). level_after (sensors_in d) sensor level) made ∙ asked_level laws (begins_interrogation message) level block sensor railway whole is known)
@@ -168,6 +169,7 @@ asked_known laws names block sensor level bus client (Some (Invalid reason)) rai
 asked_known laws names block sensor level bus client (Some (Turns count)) railway new beside made whole is asks = cc
 asked_known laws names block sensor level bus client (Some (States things)) railway new beside made whole is asks = cc
 asked_known laws names block sensor level bus client (Some (Place placement)) railway new beside made whole is asks = cc
+asked_known laws names block sensor level bus client (Some (Device request)) railway new beside made whole is asks = cc
 asked_known laws names block sensor level bus client (Some (Send message)) railway new beside made whole is asks = (
   railway,
   beside,
@@ -191,9 +193,9 @@ no_own_reply (Some Busy) reply = refl
 no_own_reply (Some NotImplemented) reply = refl
 no_own_reply (Some (Data ended)) reply = refl
 
-no_reply_by : (programming : Option ProgrammingTrack) (message : List ℕ) (reply : Option Reply) → reports_read (option_to_list (reply_by programming message (option_map reply_bytes reply))) ≡ []
+no_reply_by : (programming : Option BenchState) (message : List ℕ) (reply : Option Reply) → reports_read (option_to_list (reply_by programming message (option_map reply_bytes reply))) ≡ []
 no_reply_by None message reply = no_reply reply
-no_reply_by (Some track) message reply = no_own_reply (reply_of track.programmer (request_in message)) reply
+no_reply_by (Some bench) message reply = no_own_reply (reply_of bench.track.programmer (request_in message)) reply
 
 none_read : (report : Option SensorReport) → not (is_some report) ≡ true → option_to_list report ≡ []
 none_read None h = refl
@@ -203,12 +205,12 @@ none_read (Some report) h = cc
 abbrev TellsNothing : (sensor : ℕ) → (level : Bool) → Outcome → Type 0
 TellsNothing sensor level outcome = level_by (messages_in outcome) sensor level ≡ level
 
-sent_tells : (programming : Option ProgrammingTrack) (sensor : ℕ) (level : Bool) (client : ℕ) (message : List ℕ) (reply : Option Reply) → not (is_some (report_of message)) ≡ true
+sent_tells : (programming : Option BenchState) (sensor : ℕ) (level : Bool) (client : ℕ) (message : List ℕ) (reply : Option Reply) → not (is_some (report_of message)) ≡ true
     → TellsNothing sensor level (Sent client message (reply_by programming message (option_map reply_bytes reply)))
 sent_tells programming sensor level client message reply h =
     ap₂ (λ (a b : List SensorReport). level_after (a ++ b) sensor level) (none_read (report_of message) h) (no_reply_by programming message reply)
 
-request_tells : (programming : Option ProgrammingTrack) (names : List (List ℕ)) (beside : Option RailwayState) (bus : BusState) (sensor : ℕ) (level : Bool) (client : ℕ) (request : Option Request) (nodes : List Node) (railway : Option RailwayState)
+request_tells : (programming : Option BenchState) (names : List (List ℕ)) (beside : Option RailwayState) (bus : BusState) (sensor : ℕ) (level : Bool) (client : ℕ) (request : Option Request) (nodes : List Node) (railway : Option RailwayState)
     → is_no_claim (Observed (programmed programming (answered names beside (outcome_of_request bus client request))) nodes railway) ≡ true
     → TellsNothing sensor level (programmed programming (answered names beside (outcome_of_request bus client request)))
 request_tells programming names beside bus sensor level client None nodes railway h = refl
@@ -216,10 +218,11 @@ request_tells programming names beside bus sensor level client (Some (Invalid re
 request_tells programming names beside bus sensor level client (Some (Turns count)) nodes railway h = refl
 request_tells programming names beside bus sensor level client (Some (States things)) nodes railway h = refl
 request_tells programming names beside bus sensor level client (Some (Place placement)) nodes railway h = refl
+request_tells programming names beside bus sensor level client (Some (Device request)) nodes railway h = refl
 request_tells programming names beside bus sensor level client (Some (Send message)) nodes railway h = sent_tells programming sensor level client message (answer_to_message bus.station (for_station bus (Some (Send message)))) h
 
 -- time tells nothing
-time_tells : (programming : Option ProgrammingTrack) (names : List (List ℕ)) (beside : Option RailwayState) (ends : Bool) (packet : Option (List ℕ)) (sensor : ℕ) (level : Bool) → TellsNothing sensor level (programmed programming (answered names beside (if ends then TurnBegan packet else Nothing)))
+time_tells : (programming : Option BenchState) (names : List (List ℕ)) (beside : Option RailwayState) (ends : Bool) (packet : Option (List ℕ)) (sensor : ℕ) (level : Bool) → TellsNothing sensor level (programmed programming (answered names beside (if ends then TurnBegan packet else Nothing)))
 time_tells programming names beside true packet sensor level = refl
 time_tells programming names beside false packet sensor level = refl
 

@@ -16,6 +16,7 @@ pub mod Placing
 pub mod Repeating
 pub mod Rounding
 pub mod Sizes
+pub mod SoFar
 pub mod Stepping
 pub mod Stopping
 pub mod Taking

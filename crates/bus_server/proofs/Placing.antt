@@ -6,16 +6,16 @@ use Rattle.std.proofs.lemmas.Bool.{and_from}
 use Rattle.std.proofs.lemmas.Bool.Decides.{nat_tests}
 use Rattle.std.proofs.lemmas.List.{length-append, length-drop, length-set}
 use Rattle.loconet_tcp.specs.declared.request.Request.{Request}
-use Rattle.loconet_tcp.specs.declared.request.Request.TheVariants.{Send, Invalid, Turns, States, Place}
+use Rattle.loconet_tcp.specs.declared.request.Request.TheVariants.{Send, Invalid, Turns, States, Place, Device}
 use Rattle.station_core.specs.Station.{packet_of_turn}
 use Rattle.bus.specs.declared.event.Event.{Event}
 use Rattle.bus.specs.declared.event.Event.TheVariants.{Connects, Receives, Disconnects, Reports, Programs, Elapses, Turn}
 use Rattle.bus.specs.declared.outcome.Outcome.{Outcome}
-use Rattle.bus.specs.declared.outcome.Outcome.TheVariants.{Nothing, Connected, Disconnected, Rejected, Reported, Sent, Programmed, TurnBegan, TurnsRequested, StatesRequested, PlaceRequested, Placed}
+use Rattle.bus.specs.declared.outcome.Outcome.TheVariants.{Nothing, Connected, Disconnected, Rejected, Reported, Sent, Programmed, TurnBegan, TurnsRequested, StatesRequested, PlaceRequested, DeviceRequested, Placed, DeviceAnswered}
 use Rattle.bus.specs.Bus.{BusState, request_at, client_of, is_event, outcome_of_request, outcome_of}
 use Rattle.bus.specs.Outcome.{text_for}
 use Rattle.railway.specs.Railway.{RailwayState}
-use Rattle.programming_track.specs.declared.programming_track.ProgrammingTrack.{ProgrammingTrack}
+use Rattle.programming_track.specs.Bench.{BenchState}
 use Rattle.bus_server.specs.Placement.{answered}
 use Rattle.bus_server.specs.Programming.{programmed}
 use Rattle.bus_server.specs.SendQueue.{is_within_capacity, enqueued, queued}
@@ -29,6 +29,7 @@ asked_placed bus client (Some (Send message)) below = below
 asked_placed bus client (Some (Turns count)) below = below
 asked_placed bus client (Some (States things)) below = below
 asked_placed bus client (Some (Place placement)) below = below
+asked_placed bus client (Some (Device request)) below = below
 
 passing_placed : (packet : Option (List ℕ)) (ends : Bool) → names_client (if ends then TurnBegan packet else Nothing) ≡ true
 passing_placed packet true = refl
@@ -57,11 +58,13 @@ names-answered names railway (Reported message) = refl
 names-answered names railway (TurnsRequested client turns) = refl
 names-answered names railway (StatesRequested client things) = refl
 names-answered names railway (PlaceRequested client placement) = refl
+names-answered names railway (DeviceRequested client request) = refl
 names-answered names railway (Placed client answer) = refl
+names-answered names railway (DeviceAnswered client answer) = refl
 
 -- and so does the reply of the programmer
 
-pub names-programmed : (programming : Option ProgrammingTrack) (outcome : Outcome) → names_client (programmed programming outcome) ≡ names_client outcome
+pub names-programmed : (programming : Option BenchState) (outcome : Outcome) → names_client (programmed programming outcome) ≡ names_client outcome
 names-programmed programming Nothing = refl
 names-programmed programming (Programmed packet) = refl
 names-programmed programming (TurnBegan packet) = refl
@@ -73,7 +76,9 @@ names-programmed programming (Reported message) = refl
 names-programmed programming (TurnsRequested client turns) = refl
 names-programmed programming (StatesRequested client things) = refl
 names-programmed programming (PlaceRequested client placement) = refl
+names-programmed programming (DeviceRequested client request) = refl
 names-programmed programming (Placed client answer) = refl
+names-programmed programming (DeviceAnswered client answer) = refl
 
 pub length-enqueued : (place : ℕ) (text : ℕ → List ℕ) (queues : SendQueues) → length (enqueued_from place text queues) ≡ length queues
 length-enqueued place text [] = refl
@@ -94,7 +99,9 @@ length-after (Reported message) queues = length-outcome (Reported message) queue
 length-after (TurnsRequested client turns) queues = length-outcome (TurnsRequested client turns) queues
 length-after (StatesRequested client things) queues = refl
 length-after (PlaceRequested client placement) queues = refl
+length-after (DeviceRequested client request) queues = refl
 length-after (Placed client answer) queues = length-outcome (Placed client answer) queues
+length-after (DeviceAnswered client answer) queues = length-outcome (DeviceAnswered client answer) queues
 
 -- What waits has room.
 
@@ -126,7 +133,9 @@ within_capacity-after (Reported message) queues within_capacity = within_capacit
 within_capacity-after (TurnsRequested client turns) queues within_capacity = within_capacity-outcome (TurnsRequested client turns) queues
 within_capacity-after (StatesRequested client things) queues within_capacity = within_capacity
 within_capacity-after (PlaceRequested client placement) queues within_capacity = within_capacity
+within_capacity-after (DeviceRequested client request) queues within_capacity = within_capacity
 within_capacity-after (Placed client answer) queues within_capacity = within_capacity-outcome (Placed client answer) queues
+within_capacity-after (DeviceAnswered client answer) queues within_capacity = within_capacity-outcome (DeviceAnswered client answer) queues
 
 pub within_capacity-dropped : (count : ℕ) (send_queue : Option (List ℕ)) → is_within_capacity send_queue ≡ true → is_within_capacity (Some (drop count (queued send_queue))) ≡ true
 within_capacity-dropped count send_queue within_capacity = let less : length (drop count (queued send_queue)) ≡ length (queued send_queue) - count = length-drop count (queued send_queue) in grind (arith, nat_tests, less, within_capacity)

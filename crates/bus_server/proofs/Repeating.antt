@@ -5,7 +5,7 @@ use Rattle.std.specs.List.{flat_map}
 use Rattle.layout_core.specs.declared.node.Node.{Node}
 use Rattle.layout_core.specs.World.{HaveHeard}
 use Rattle.railway.specs.Railway.{RailwayState}
-use Rattle.programming_track.specs.declared.programming_track.ProgrammingTrack.{ProgrammingTrack}
+use Rattle.programming_track.specs.Bench.{BenchState}
 use Rattle.bus_server.specs.declared.device_report.DeviceReport.{DeviceReport}
 use Rattle.bus_server.specs.DeviceReports.{IsNext, event_of}
 use Rattle.bus.specs.declared.event.Event.{Event}
@@ -32,7 +32,7 @@ pub record Core : Type 0 where
   pub nodes : List Node
   pub names : List (List ℕ)
   pub railway : Option RailwayState
-  pub programming : Option ProgrammingTrack
+  pub programming : Option BenchState
   pub unreported : List DeviceReport
   pub losses : Losses
 
@@ -211,7 +211,7 @@ effect_same event seen those old a b h k losses =
     ap₂ (λ (nodes : List Node) (railway : Option RailwayState). record b { losses = a.losses; unreported = a.unreported; programming = a.programming; railway = railway; nodes = nodes }) nodes railway in
     let third : record b { losses = a.losses; unreported = a.unreported; programming = a.programming } ≡ record b { programming = a.programming } =
     ap₂ (λ (losses : Losses) (unreported : List DeviceReport). record b { losses = losses; unreported = unreported; programming = a.programming }) losses unreported in
-    let fourth : record b { programming = a.programming } ≡ b = ap (λ (programming : Option ProgrammingTrack). record b { programming = programming }) programming in (
+    let fourth : record b { programming = a.programming } ≡ b = ap (λ (programming : Option BenchState). record b { programming = programming }) programming in (
       h.saw ∙ ap₂ (λ (nodes : List Node) (railway : Option RailwayState). Observed (programmed old.programming (answered old.names old.railway (outcome_of old.bus event))) nodes railway) nodes railway ∙ sym k.saw,
       first ∙ second ∙ third ∙ fourth,
     )
@@ -307,7 +307,7 @@ pub alike_core : (old old' : ServerState) → IsAlike old old' → core old' ≡
 alike_core old old' h =
     ap₂ (λ (bus : BusState) (nodes : List Node). record (core old') { bus = bus; nodes = nodes }) h.bus h.nodes
     ∙ ap₂ (λ (names : List (List ℕ)) (railway : Option RailwayState). record (core old') { bus = old.bus; nodes = old.nodes; names = names; railway = railway }) h.names h.railway
-    ∙ ap₂ (λ (programming : Option ProgrammingTrack) (unreported : List DeviceReport). record (core old) { programming = programming; unreported = unreported; losses = old'.losses }) h.programming h.unreported
+    ∙ ap₂ (λ (programming : Option BenchState) (unreported : List DeviceReport). record (core old) { programming = programming; unreported = unreported; losses = old'.losses }) h.programming h.unreported
     ∙ ap (λ (losses : Losses). record (core old) { losses = losses }) h.losses
 
 core_alike : (new new' : ServerState) → core new ≡ core new' → IsAlike new new'

@@ -1,13 +1,9 @@
 -- How long the text of a request is, and of what is due at once.
 use Rattle.std.proofs.Common.{◌≡◌, ℕ, ◌+◌, ◌*◌, ◌≤◌, Bool, true, false, if◌then◌else◌, List, [], ◌∷◌, ◌++◌, length, Option, Some, None, refl, ap, subst, sym, arith}
-use Rattle.std.specs.Prelude.{◌==◌, Err, IfSome, Ok, Result, nat_lt}
-use Rattle.std.specs.List.{after_first}
+use Rattle.std.specs.Prelude.{◌==◌, Err, IfSome, Ok, Result}
 use Rattle.std.specs.Option.{option_map}
-use Rattle.std.proofs.lemmas.Bool.{and_parts, leb-true}
-use Rattle.std.proofs.lemmas.Bool.Decides.{nat_tests}
+use Rattle.std.proofs.lemmas.Bool.{leb-true}
 use Rattle.std.proofs.lemmas.List.{length-append}
-use Rattle.text.specs.Words.{is_blank, words_of}
-use Rattle.ln_frame.specs.Message.{IsWhole, are_data, has_form, is_len, is_whole, message_len}
 use Rattle.ln_ops.specs.Reply.{reply_bytes}
 use Rattle.ln_ops.specs.Sensor.{begins_interrogation, report_bytes}
 use Rattle.ln_ops.specs.declared.reply.Reply.{Reply}
@@ -22,22 +18,24 @@ use Rattle.railway.specs.Course.Happening.{Elapses as TimeElapses}
 use Rattle.railway.specs.Railway.{RailwayState, elapsed}
 use Rattle.railway.specs.Reports.{change_of, changes, changes_from, full_from, is_occupied, level_of, onto}
 use Rattle.text.specs.Hex.{hex_words}
-use Rattle.loconet_tcp.specs.ClientLines.{line_end, place_text, receive_text, sent_error_text, sent_ok_text, turns_text}
-use Rattle.loconet_tcp.specs.Requests.{ask_states, bytes_of, is_place, is_send, is_turns, parse_place, parse_send, request_of, things_of, turns_of}
-use Rattle.loconet_tcp.specs.Text.{is_end}
+use Rattle.loconet_tcp.specs.ClientLines.{device_text, line_end, place_text, receive_text, sent_error_text, sent_ok_text, turns_text}
+use Rattle.loconet_tcp.specs.Reading.{request_of_byte}
 use Rattle.bus.specs.Outcome.{reply_text, text_for}
 use Rattle.bus.specs.declared.outcome.Outcome.{Outcome}
 use Rattle.bus.specs.declared.outcome.Outcome.TheVariants.{PlaceRequested}
 use Rattle.loconet_tcp.specs.declared.request.Reason.{Reason}
 use Rattle.loconet_tcp.specs.declared.request.Reason.TheVariants.{NoMessage, NotHex, TooLong, WrongCheck}
+use Rattle.loconet_tcp.specs.declared.request.DeviceAnswer.{DeviceAnswer}
+use Rattle.loconet_tcp.specs.declared.request.DeviceAnswer.TheVariants as device
+use Rattle.loconet_tcp.specs.declared.request.FailError.TheVariants as fail_error
+use Rattle.loconet_tcp.specs.declared.request.MountError.TheVariants as mount_error
 use Rattle.loconet_tcp.specs.declared.request.PlaceError.{PlaceError}
 use Rattle.loconet_tcp.specs.declared.request.PlaceError.TheVariants as place_error
 use Rattle.loconet_tcp.specs.declared.request.Placement.{Placement}
 use Rattle.loconet_tcp.specs.declared.request.TurnsError.{TurnsError}
 use Rattle.loconet_tcp.specs.declared.request.TurnsError.TheVariants.{NoNumber, RealTime}
 use Rattle.loconet_tcp.specs.declared.request.Request.{Request}
-use Rattle.loconet_tcp.specs.declared.request.Things.{Things}
-use Rattle.loconet_tcp.specs.declared.request.Request.TheVariants.{Invalid, States, Place, Send, Turns}
+use Rattle.loconet_tcp.specs.declared.request.Request.TheVariants.{Invalid, States, Place, Device, Send, Turns}
 use Rattle.bus.specs.declared.event.Event.{Event}
 use Rattle.bus.specs.declared.event.Event.TheVariants.{Connects, Disconnects, Elapses, Receives, Reports, Programs, Turn}
 use Rattle.bus.specs.Bus.{BusState, client_of, granted, is_event, outcome_of_request, reply_to, request_at}
@@ -51,76 +49,21 @@ use Rattle.programmer.specs.Replies.{reply_bytes as task_reply_bytes}
 use Rattle.programmer.specs.Requests.{request_in, result_bytes}
 use Rattle.programming_track.specs.declared.packet_end.PacketEnd.{PacketEnd}
 use Rattle.programming_track.specs.declared.programming_track.ProgrammingTrack.{ProgrammingTrack}
+use Rattle.programming_track.specs.Bench.{BenchState}
 use Rattle.programming_track.specs.Time.{ends_within}
 use Rattle.bus.specs.Below.{TurnsAreBounded}
 use Rattle.bus_server.specs.declared.device_report.DeviceReport.{DeviceReport}
 use Rattle.bus_server.specs.declared.device_report.DeviceReport.TheVariants.{Sensor, Packet, Ended}
 use Rattle.bus_server.specs.DeviceReports.{of_ends, of_result, of_sensors, event_of}
 use Rattle.bus_server.specs.Placement.{answered, place_answer, places}
-use Rattle.bus_server.specs.Programming.{ends_elapsed, programmed, reply_by, reply_or}
+use Rattle.bus_server.specs.Programming.{device_answer, ends_elapsed, programmed, reply_by, reply_or}
 use Rattle.bus_server.specs.Sensors.{reports_of_time, full_report, is_report, next_turn, railway_after, railway_elapsed, railway_placed, reports_after, reports_due, reports_elapsed, running_in, power_of}
 
--- What is sent is a whole message, of at most 127 bytes.
+-- The text of a request is at most 789 bytes.
 
 length-words : (bytes : List ℕ) → length (hex_words bytes) ≡ 3 * length bytes
 length-words [] = refl
 length-words (b ∷ bytes) = let more = length-words bytes in omega arith
-
-most_bytes : (op s n : ℕ) → is_len (message_len op s) n ≡ true → n ≤ 127
-most_bytes op s n h = grind (arith, nat_tests)
-
-most_whole : (message : List ℕ) → IsWhole message → length message ≤ 127
-most_whole [] w = cc
-most_whole (op ∷ []) w = cc
-most_whole (op ∷ s ∷ m) w =
-    let form = and_parts (has_form (op ∷ s ∷ m)) _ w in
-    most_bytes op s (length (op ∷ s ∷ m)) (and_parts (is_len (message_len op s) (length (op ∷ s ∷ m))) (are_data (s ∷ m)) form.0).0
-
-abbrev IsSound : Option Request → Type 0
-IsSound (Some (Send message)) = IsWhole message
-IsSound other = Unit {0}
-
-whole_by : (whole form : Bool) (bytes : List ℕ) → is_whole bytes ≡ whole → IsSound (Some (if whole then Send bytes else if form then Invalid WrongCheck else Invalid NoMessage))
-whole_by true form bytes e = e
-whole_by false true bytes e = tt
-whole_by false false bytes e = tt
-
-whole_sends : (bytes : Option (List ℕ)) → IsSound (Some (parse_send bytes))
-whole_sends None = tt
-whole_sends (Some bytes) = whole_by (is_whole bytes) (has_form bytes) bytes refl
-
-from_states : (things : Option Things) → IsSound (ask_states things)
-from_states None = tt
-from_states (Some things) = tt
-
-from_other_line : (turns place : Bool) (count : Option ℕ) (placement : Result Placement PlaceError) (things : Option Things)
-    → IsSound (if turns then Some (Turns count) else if place then Some (Place placement) else ask_states things)
-from_other_line true place count placement things = tt
-from_other_line false true count placement things = tt
-from_other_line false false count placement things = from_states things
-
-from_line : (sends long : Bool) (bytes : Option (List ℕ)) (other : Option Request) → IsSound other → IsSound (if sends then Some (if long then Invalid TooLong else parse_send bytes) else other)
-from_line false long bytes other h = h
-from_line true true bytes other h = tt
-from_line true false bytes other h = whole_sends bytes
-
-at_end : (kept : List ℕ) (ends : Bool) → IsSound (if ends then request_of kept else None)
-at_end kept false = tt
-at_end kept true =
-    let rest : List ℕ = after_first is_blank kept in
-    let placement : Result Placement PlaceError = if nat_lt 400 (length kept) then Err place_error.TooLong else parse_place (words_of rest) in
-    from_line (is_send kept) (nat_lt 400 (length kept)) (bytes_of (words_of rest))
-    (if is_turns kept then Some (Turns (turns_of rest)) else if is_place kept then Some (Place placement) else ask_states (things_of kept))
-    (from_other_line (is_turns kept) (is_place kept) (turns_of rest) placement (things_of kept))
-
-pub request_sound : (kept : Option (List ℕ)) (byte : ℕ) → IsSound (request_at kept byte)
-request_sound None byte = tt
-request_sound (Some kept) byte = at_end kept (is_end byte)
-
--- The text of a request is at most 789 bytes.
-
-receive_most : (message : List ℕ) → IsWhole message → length (receive_text message) ≤ 390
-receive_most message whole = omega (arith, length-words message, most_whole message whole, length-append (hex_words message) line_end)
 
 reply_most : (reply : Option Reply) → length (reply_text (option_map reply_bytes reply)) ≤ 390
 reply_most None = omega arith
@@ -146,9 +89,9 @@ own_most (Some (Data ended)) reply =
     let size : length (result_bytes ended) ≡ 14 = refl in
     omega (arith, size, length-words (result_bytes ended), length-append (hex_words (result_bytes ended)) line_end)
 
-reply_by_most : (programming : Option ProgrammingTrack) (message : List ℕ) (reply : Option Reply) → length (reply_text (reply_by programming message (option_map reply_bytes reply))) ≤ 390
+reply_by_most : (programming : Option BenchState) (message : List ℕ) (reply : Option Reply) → length (reply_text (reply_by programming message (option_map reply_bytes reply))) ≤ 390
 reply_by_most None message reply = reply_most reply
-reply_by_most (Some track) message reply = own_most (reply_of track.programmer (request_in message)) reply
+reply_by_most (Some bench) message reply = own_most (reply_of bench.track.programmer (request_in message)) reply
 
 ok_most : (sender : Bool) → length (if sender then sent_ok_text else []) ≤ 9
 ok_most true = omega arith
@@ -178,6 +121,16 @@ place_most true (Err place_error.UnknownTrain) = omega arith
 place_most true (Err place_error.UnknownBlock) = omega arith
 place_most true (Err place_error.OffTrack) = omega arith
 
+device_most : (asker : Bool) (answer : DeviceAnswer) → length (if asker then device_text answer else []) ≤ 789
+device_most false answer = omega arith
+device_most true (device.Mount (Ok done)) = omega arith
+device_most true (device.Mount (Err mount_error.NoTrack)) = omega arith
+device_most true (device.Mount (Err mount_error.NoName)) = omega arith
+device_most true (device.Mount (Err mount_error.UnknownDecoder)) = omega arith
+device_most true (device.Fail (Ok done)) = omega arith
+device_most true (device.Fail (Err fail_error.NoTrack)) = omega arith
+device_most true (device.Fail (Err fail_error.UnknownFailure)) = omega arith
+
 three_most : (a b c : List ℕ) → length a ≤ 390 → length b ≤ 9 → length c ≤ 390 → length (a ++ b ++ c) ≤ 789
 three_most a b c h k l = omega (arith, h, k, l, length-append (a ++ b) c, length-append a b)
 
@@ -185,14 +138,29 @@ three_most a b c h k l = omega (arith, h, k, l, length-append (a ++ b) c, length
 abbrev pub answered_request : ServerState → (client : ℕ) → Option Request → Outcome
 answered_request state client request = programmed state.programming (answered state.names state.railway (outcome_of_request state.bus client request))
 
-pub request_most : (state : ServerState) (client i : ℕ) (request : Option Request) → IsSound request → length (text_for i (answered_request state client request)) ≤ 789
-request_most state client i None h = omega arith
-request_most state client i (Some (Invalid reason)) h = error_most (client == i) reason
-request_most state client i (Some (Turns count)) h = turns_most (client == i) (granted state.bus.options.is_stepped count)
-request_most state client i (Some (States things)) h = omega arith
-request_most state client i (Some (Place placement)) h = place_most (client == i) (place_answer state.names state.railway placement)
-request_most state client i (Some (Send message)) h =
-    three_most (receive_text message) (if client == i then sent_ok_text else []) (reply_text (reply_by state.programming message (reply_to state.bus (Some (Send message))))) (receive_most message h) (ok_most (client == i)) (reply_by_most state.programming message _)
+-- the lines of a message that a client requests to send are short
+abbrev pub AreShortLines : Type 0
+AreShortLines = (kept : List ℕ) (byte : ℕ) (message : List ℕ) → request_of_byte kept byte ≡ Some (Send message) → length (receive_text message) ≤ 390
+
+abbrev HasShortLine : Option Request → Type 0
+HasShortLine request = (message : List ℕ) → request ≡ Some (Send message) → length (receive_text message) ≤ 390
+
+short_line : AreShortLines → (kept : Option (List ℕ)) (byte : ℕ) → HasShortLine (request_at kept byte)
+short_line lines None byte = λ message is. cc
+short_line lines (Some kept) byte = lines kept byte
+
+requested_text : (state : ServerState) (client i : ℕ) (request : Option Request) → HasShortLine request → length (text_for i (answered_request state client request)) ≤ 789
+requested_text state client i None h = omega arith
+requested_text state client i (Some (Invalid reason)) h = error_most (client == i) reason
+requested_text state client i (Some (Turns count)) h = turns_most (client == i) (granted state.bus.options.is_stepped count)
+requested_text state client i (Some (States things)) h = omega arith
+requested_text state client i (Some (Place placement)) h = place_most (client == i) (place_answer state.names state.railway placement)
+requested_text state client i (Some (Device request)) h = device_most (client == i) (device_answer state.programming request)
+requested_text state client i (Some (Send message)) h =
+    three_most (receive_text message) (if client == i then sent_ok_text else []) (reply_text (reply_by state.programming message (reply_to state.bus (Some (Send message))))) (h message refl) (ok_most (client == i)) (reply_by_most state.programming message _)
+
+pub request_most : AreShortLines → (state : ServerState) (client i : ℕ) (kept : Option (List ℕ)) (byte : ℕ) → length (text_for i (answered_request state client (request_at kept byte))) ≤ 789
+request_most lines state client i kept byte = requested_text state client i (request_at kept byte) (short_line lines kept byte)
 
 -- A report of a sensor is a line of 21 bytes, a result one of 51, and a packet none: the bytes that what
 -- is due adds to the text of a client.
@@ -294,19 +262,21 @@ requested_most names bus client (Some (Send message)) railway few = asked_most (
 requested_most names bus client (Some (Turns count)) railway few = omega arith
 requested_most names bus client (Some (States things)) railway few = omega arith
 requested_most names bus client (Some (Place placement)) railway few = placed_most names client placement railway few
+requested_most names bus client (Some (Device request)) railway few = omega arith
 
--- what a railway promises, that its blocks stay whatever happens; a station, how long its turns are; and
--- a programming track, that few packets end in a time
+-- what a railway promises, that its blocks stay whatever happens; a station, how long its turns are; a
+-- programming track, that few packets end in a time; and the text of clients, how long a line is
 pub record Limits : Type 0 where
+  pub lines : AreShortLines
   pub blocks : (railway : RailwayState) (happening : Happening) → (after railway happening).network.blocks ≡ railway.network.blocks
   pub turns : TurnsAreBounded
   pub ends : (micros : ℕ) (track : ProgrammingTrack) → 5820 * length (ends_within micros track) ≤ micros + 5820
 
-ends_most : Limits → (programming : Option ProgrammingTrack) (micros : ℕ) → micros ≤ 10740 → length (ends_elapsed programming micros) ≤ 2
+ends_most : Limits → (programming : Option BenchState) (micros : ℕ) → micros ≤ 10740 → length (ends_elapsed programming micros) ≤ 2
 ends_most laws None micros short = omega arith
-ends_most laws (Some track) micros short = omega (arith, laws.ends micros track, short)
+ends_most laws (Some bench) micros short = omega (arith, laws.ends micros bench.track, short)
 
-time_most : Limits → (railway : Option RailwayState) (programming : Option ProgrammingTrack) (micros : ℕ) (power : Power) (nodes : List Node) → HasFewBlocks railway → micros ≤ 10740
+time_most : Limits → (railway : Option RailwayState) (programming : Option BenchState) (micros : ℕ) (power : Power) (nodes : List Node) → HasFewBlocks railway → micros ≤ 10740
     → owed (reports_of_time railway programming micros power nodes) ≤ 2790
 time_most laws railway programming micros power nodes few short =
     let reports : List SensorReport = reports_elapsed railway micros power nodes in
@@ -316,7 +286,7 @@ time_most laws railway programming micros power nodes few short =
 next_most : Limits → (bus : BusState) → next_turn bus ≤ 10740
 next_most laws bus = let longest = laws.turns.longest bus.station in omega (arith, longest)
 
-made_most : Limits → (names : List (List ℕ)) (bus : BusState) (nodes : List Node) (event : Event) (railway : Option RailwayState) (programming : Option ProgrammingTrack) → is_event event ≡ true → HasFewBlocks railway
+made_most : Limits → (names : List (List ℕ)) (bus : BusState) (nodes : List Node) (event : Event) (railway : Option RailwayState) (programming : Option BenchState) → is_event event ≡ true → HasFewBlocks railway
     → owed (reports_after names bus nodes event railway programming) ≤ 2790
 made_most laws names bus nodes (Connects client) railway programming legal few = omega arith
 made_most laws names bus nodes (Receives client byte) railway programming legal few = requested_most names bus client (request_at (client_of bus client) byte) railway few
@@ -340,6 +310,7 @@ few_placed same names bus client (Some (Invalid reason)) railway few = few
 few_placed same names bus client (Some (Send message)) railway few = few
 few_placed same names bus client (Some (Turns count)) railway few = few
 few_placed same names bus client (Some (States things)) railway few = few
+few_placed same names bus client (Some (Device request)) railway few = few
 few_placed same names bus client (Some (Place (Err error))) None few = few
 few_placed same names bus client (Some (Place (Err error))) (Some railway) few = few
 few_placed same names bus client (Some (Place (Ok placement))) None few = few

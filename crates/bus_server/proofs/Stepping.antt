@@ -4,7 +4,7 @@ use Rattle.std.proofs.Common.{◌≡◌, ℕ, ◌≤◌, Bool, true, false, if�
 use Rattle.refresh_ring.specs.declared.pick.Power.{Power}
 use Rattle.station_core.specs.Station.{packet_of_turn}
 use Rattle.railway.specs.Railway.{RailwayState}
-use Rattle.programming_track.specs.declared.programming_track.ProgrammingTrack.{ProgrammingTrack}
+use Rattle.programming_track.specs.Bench.{BenchState}
 use Rattle.bus_server.specs.declared.device_report.DeviceReport.{DeviceReport}
 use Rattle.bus_server.specs.declared.device_report.DeviceReport.TheVariants.{Sensor, Packet, Ended}
 use Rattle.bus_server.specs.DeviceReports.{event_of, is_legal_report}
@@ -24,7 +24,7 @@ use Rattle.bus_server.specs.Sensors.{IsDue, IsWithinTurn, reports_of_time, is_re
 use Rattle.bus_server.specs.Hub.{RunsOnBus, with_trains_run}
 
 -- the bus runs an event once what decoders miss is drawn and trains have run
-runs : (event : Event) (observed : Observation) (losses : Losses) (railway : Option RailwayState) (programming : Option ProgrammingTrack) (unreported : List DeviceReport) (old new : ServerState)
+runs : (event : Event) (observed : Observation) (losses : Losses) (railway : Option RailwayState) (programming : Option BenchState) (unreported : List DeviceReport) (old new : ServerState)
     → RunsOnBus event observed (record old { losses = losses; railway = railway; programming = programming; unreported = unreported }) new
     → IsWithinTurn event old.bus → IsDrawn event old.bus (length old.nodes) old.losses losses
     → programmed programming (answered old.names railway (outcome_of old.bus event)) ≡ outcome_in old event
@@ -82,11 +82,11 @@ time_placed : (names : List (List ℕ)) (ends : Bool) (packet : Option (List ℕ
 time_placed names true packet railway = refl
 time_placed names false packet railway = refl
 
-time_requested : (ends : Bool) (packet : Option (List ℕ)) (programming : Option ProgrammingTrack) → programming_requested (time_outcome ends packet) programming ≡ programming
+time_requested : (ends : Bool) (packet : Option (List ℕ)) (programming : Option BenchState) → programming_requested (time_outcome ends packet) programming ≡ programming
 time_requested true packet programming = refl
 time_requested false packet programming = refl
 
-time_told : (names : List (List ℕ)) (ends : Bool) (packet : Option (List ℕ)) (old new : Option RailwayState) (before after : Option ProgrammingTrack)
+time_told : (names : List (List ℕ)) (ends : Bool) (packet : Option (List ℕ)) (old new : Option RailwayState) (before after : Option BenchState)
     → programmed after (answered names new (time_outcome ends packet)) ≡ programmed before (answered names old (time_outcome ends packet))
 time_told names true packet old new before after = refl
 time_told names false packet old new before after = refl
@@ -97,7 +97,7 @@ pub elapse_runs : (micros missed : ℕ) (observed : Observation) (losses : Losse
     → RunsOnBus (Elapses micros missed) observed ready new → RunsEvent (Elapses micros missed) observed old new
 elapse_runs micros missed observed losses old drawn ready new piece none draws is_drawn is_run h =
     let trains : Option RailwayState = railway_elapsed old.railway micros (power_of old.bus) old.nodes in
-    let track : Option ProgrammingTrack = programming_elapsed old.programming micros in
+    let track : Option BenchState = programming_elapsed old.programming micros in
     let reports : List DeviceReport = reports_of_time old.railway old.programming micros (power_of old.bus) old.nodes in
     let on_bus : RunsOnBus (Elapses micros missed) observed (record old { losses = losses; railway = trains; programming = track; unreported = reports }) new =
     subst (λ (s : ServerState). RunsOnBus (Elapses micros missed) observed s new) (is_run ∙ ap (with_trains_run micros) is_drawn) h in
@@ -132,7 +132,7 @@ turn_runs micros missed outcome losses old drawn begun new lasts none draws is_d
       unreported = (
         none,
         ap₂ (λ (railway : Option RailwayState) (power : Power). reports_of_time railway begun.programming micros power begun.nodes) ran power
-            ∙ ap₂ (λ (programming : Option ProgrammingTrack) (n : ℕ). reports_of_time old.railway programming n (power_of old.bus) begun.nodes) track length_is,
+            ∙ ap₂ (λ (programming : Option BenchState) (n : ℕ). reports_of_time old.railway programming n (power_of old.bus) begun.nodes) track length_is,
       );
       queues = on_bus.queues;
       names = on_bus.names;

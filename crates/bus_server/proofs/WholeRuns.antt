@@ -20,11 +20,11 @@ use Rattle.bus_server.proofs.Going.{grows_more, grows_none}
 pub runs_none : (most : ℕ) (now : RunSnapshot) → RunsLogged most [] now now
 runs_none most now = ((grows_none now.log, grows_none now.readings, grows_none now.observed, grows_none now.shown), refl)
 
-rounds_more : (most : ℕ) (first second : List Round) (old mid new : ServerState) → RunsRounds most first old mid → RunsRounds most second mid new → RunsRounds most (first ++ second) old new
+pub rounds_more : (most : ℕ) (first second : List Round) (old mid new : ServerState) → RunsRounds most first old mid → RunsRounds most second mid new → RunsRounds most (first ++ second) old new
 rounds_more most [] second old mid new same rest = subst (λ (s : ServerState). RunsRounds most second s new) same rest
 rounds_more most (round ∷ first) second old mid new h rest = (h.0, h.1, h.2, rounds_more most first second h.1 mid new h.3 rest)
 
-logs_more : {A : Type 0} (of : Round → List A) (a b c : Option (List A)) (first second : List Round) → Extends a b (flat_map of first) → Extends b c (flat_map of second) → Extends a c (flat_map of (first ++ second))
+pub logs_more : {A : Type 0} (of : Round → List A) (a b c : Option (List A)) (first second : List Round) → Extends a b (flat_map of first) → Extends b c (flat_map of second) → Extends a c (flat_map of (first ++ second))
 logs_more {A = A} of a b c first second h k =
     subst (λ (more : List A). Extends a c more) (sym (flat_map-append of first second)) (grows_more a b c (flat_map of first) (flat_map of second) h k)
 

@@ -21,6 +21,7 @@ pub mod SendQueues
 pub mod Sensors
 pub mod ServerState
 pub mod Snapshots
+pub mod SoFar
 pub mod StoppedRuns
 pub mod Track
 pub mod TrackDue

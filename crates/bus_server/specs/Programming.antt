@@ -1,29 +1,75 @@
--- The programming track beside a bus.
-use Rattle.std.specs.Prelude.{ℕ, List, [], Option, Some, None, option_map}
+-- The programming track beside a bus, and the decoders that clients put on it.
+use Rattle.std.specs.Prelude.{ℕ, if◌then◌else◌, is_some, List, [], Option, Some, None, Result, Ok, Err, option_map}
+use Rattle.arrayvec.specs.ArrayVec.{ArrayVec}
+use Rattle.loconet_tcp.specs.declared.request.DeviceAnswer.{DeviceAnswer}
+use Rattle.loconet_tcp.specs.declared.request.DeviceAnswer.TheVariants as answer
+use Rattle.loconet_tcp.specs.declared.request.DeviceRequest.{DeviceRequest}
+use Rattle.loconet_tcp.specs.declared.request.DeviceRequest.TheVariants.{Mount, Fail}
+use Rattle.loconet_tcp.specs.declared.request.FailError.{FailError}
+use Rattle.loconet_tcp.specs.declared.request.FailError.TheVariants as fail_error
+use Rattle.loconet_tcp.specs.declared.request.Failure.{Failure}
+use Rattle.loconet_tcp.specs.declared.request.MountError.{MountError}
+use Rattle.loconet_tcp.specs.declared.request.MountError.TheVariants as mount_error
 use Rattle.programmer.specs.declared.reply.TaskReply.{TaskReply}
 use Rattle.programmer.specs.Machine.{reply_of}
 use Rattle.programmer.specs.Replies.{reply_bytes}
 use Rattle.programmer.specs.Requests.{request_in}
 use Rattle.programming_track.specs.declared.packet_end.PacketEnd.{PacketEnd}
-use Rattle.programming_track.specs.declared.programming_track.ProgrammingTrack.{ProgrammingTrack}
-use Rattle.programming_track.specs.Time.{elapsed_by, ends_within}
-use Rattle.programming_track.specs.Track.{requested}
+use Rattle.programming_track.specs.Bench.{BenchState, bench_elapsed, bench_requested, dismounted, has_decoder, mounted_as, with_failing}
+use Rattle.programming_track.specs.Time.{ends_within}
 use Rattle.bus.specs.declared.outcome.Outcome.{Outcome}
-use Rattle.bus.specs.declared.outcome.Outcome.TheVariants.{Sent}
+use Rattle.bus.specs.declared.outcome.Outcome.TheVariants.{DeviceAnswered, DeviceRequested, Sent}
 
 -- the programming track, if there is one, after so many microseconds
-abbrev pub programming_elapsed : Option ProgrammingTrack → (micros : ℕ) → Option ProgrammingTrack
-programming_elapsed programming micros = option_map (elapsed_by micros) programming
+abbrev pub programming_elapsed : Option BenchState → (micros : ℕ) → Option BenchState
+programming_elapsed programming micros = option_map (bench_elapsed micros) programming
 
 -- the packets that end in them
-abbrev pub ends_elapsed : Option ProgrammingTrack → (micros : ℕ) → List PacketEnd
+abbrev pub ends_elapsed : Option BenchState → (micros : ℕ) → List PacketEnd
 ends_elapsed None micros = []
-ends_elapsed (Some track) micros = ends_within micros track
+ends_elapsed (Some bench) micros = ends_within micros bench.track
 
--- the programming track after an outcome: a message may be for slot 124
-abbrev pub programming_requested : Outcome → Option ProgrammingTrack → Option ProgrammingTrack
+-- Another decoder stands on the track, or none, unless the line does not say which.
+abbrev pub mounted : Result (Option (ArrayVec ℕ)) MountError → BenchState → BenchState
+mounted (Err error) bench = bench
+mounted (Ok None) bench = dismounted bench
+mounted (Ok (Some name)) bench = mounted_as name.items bench
+
+-- Acknowledgments fail from now on, or nothing does, unless the line does not say what.
+abbrev pub failing : Result (Option Failure) FailError → BenchState → BenchState
+failing (Err error) bench = bench
+failing (Ok failure) bench = with_failing (is_some failure) bench
+
+abbrev pub arranged : DeviceRequest → BenchState → BenchState
+arranged (Mount decoder) bench = mounted decoder bench
+arranged (Fail failure) bench = failing failure bench
+
+-- the answer to a client: it is done, or why it is not
+abbrev pub mount_answer : Option BenchState → Result (Option (ArrayVec ℕ)) MountError
+    → Result (Unit {0}) MountError
+mount_answer None decoder = Err mount_error.NoTrack
+mount_answer (Some bench) (Err error) = Err error
+mount_answer (Some bench) (Ok None) = Ok tt
+mount_answer (Some bench) (Ok (Some name)) =
+    if has_decoder bench name.items then Ok tt else Err mount_error.UnknownDecoder
+
+abbrev pub fail_answer : Option BenchState → Result (Option Failure) FailError
+    → Result (Unit {0}) FailError
+fail_answer None failure = Err fail_error.NoTrack
+fail_answer (Some bench) (Err error) = Err error
+fail_answer (Some bench) (Ok failure) = Ok tt
+
+abbrev pub device_answer : Option BenchState → DeviceRequest → DeviceAnswer
+device_answer programming (Mount decoder) = answer.Mount (mount_answer programming decoder)
+device_answer programming (Fail failure) = answer.Fail (fail_answer programming failure)
+
+-- The programming track after an outcome: a message may be for slot 124, and a client may arrange the
+-- track.
+abbrev pub programming_requested : Outcome → Option BenchState → Option BenchState
 programming_requested (Sent client message reply) programming =
-    option_map (λ track. requested track message) programming
+    option_map (λ bench. bench_requested bench message) programming
+programming_requested (DeviceRequested client request) programming =
+    option_map (arranged request) programming
 programming_requested other programming = programming
 
 -- the reply to a message: the programmer's, if it is for slot 124, else that of the station
@@ -31,14 +77,16 @@ abbrev pub reply_or : Option TaskReply → (station : Option (List ℕ)) → Opt
 reply_or None station = station
 reply_or (Some own) station = Some (reply_bytes own)
 
-abbrev pub reply_by : Option ProgrammingTrack → (message : List ℕ) → (station : Option (List ℕ))
+abbrev pub reply_by : Option BenchState → (message : List ℕ) → (station : Option (List ℕ))
     → Option (List ℕ)
 reply_by None message station = station
-reply_by (Some track) message station =
-    reply_or (reply_of track.programmer (request_in message)) station
+reply_by (Some bench) message station =
+    reply_or (reply_of bench.track.programmer (request_in message)) station
 
--- an outcome with that reply
-abbrev pub programmed : Option ProgrammingTrack → Outcome → Outcome
+-- an outcome with that reply, or with the answer where a client arranges the track
+abbrev pub programmed : Option BenchState → Outcome → Outcome
 programmed programming (Sent client message reply) =
     Sent client message (reply_by programming message reply)
+programmed programming (DeviceRequested client request) =
+    DeviceAnswered client (device_answer programming request)
 programmed programming other = other

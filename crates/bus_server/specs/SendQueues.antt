@@ -2,7 +2,7 @@
 use Rattle.std.specs.Prelude.{ℕ, ◌+◌, Bool, true, nat_lt, List, [], ◌∷◌, Option, Some, None, slice_set}
 use Rattle.bus_server.specs.SendQueue.{enqueued}
 use Rattle.bus.specs.declared.outcome.Outcome.{Outcome}
-use Rattle.bus.specs.declared.outcome.Outcome.TheVariants.{Nothing, Connected, Disconnected, Rejected, Reported, Sent, Programmed, TurnBegan, TurnsRequested, StatesRequested, PlaceRequested, Placed}
+use Rattle.bus.specs.declared.outcome.Outcome.TheVariants.{Nothing, Connected, Disconnected, Rejected, Reported, Sent, Programmed, TurnBegan, TurnsRequested, StatesRequested, PlaceRequested, DeviceRequested, Placed, DeviceAnswered}
 use Rattle.bus.specs.Outcome.{text_for}
 
 -- the queue of each client; None where it is closed
@@ -30,7 +30,9 @@ queues_after (Reported message) queues = enqueued_all (Reported message) queues
 queues_after (TurnsRequested client turns) queues = enqueued_all (TurnsRequested client turns) queues
 queues_after (StatesRequested client things) queues = queues
 queues_after (PlaceRequested client placement) queues = queues
+queues_after (DeviceRequested client request) queues = queues
 queues_after (Placed client answer) queues = enqueued_all (Placed client answer) queues
+queues_after (DeviceAnswered client answer) queues = enqueued_all (DeviceAnswered client answer) queues
 
 -- a client that it names is one of the eight
 abbrev pub names_client : Outcome → Bool
@@ -45,4 +47,6 @@ names_client (Reported message) = true
 names_client (TurnsRequested client turns) = nat_lt client 8
 names_client (StatesRequested client things) = nat_lt client 8
 names_client (PlaceRequested client placement) = nat_lt client 8
+names_client (DeviceRequested client request) = nat_lt client 8
 names_client (Placed client answer) = nat_lt client 8
+names_client (DeviceAnswered client answer) = nat_lt client 8

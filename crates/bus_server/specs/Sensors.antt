@@ -4,7 +4,7 @@ use Rattle.refresh_ring.specs.declared.pick.Power.{Power}
 use Rattle.layout_core.specs.declared.node.Node.{Node}
 use Rattle.ln_ops.specs.Sensor.{begins_interrogation}
 use Rattle.ln_ops.specs.declared.sensor.SensorReport.{SensorReport}
-use Rattle.programming_track.specs.declared.programming_track.ProgrammingTrack.{ProgrammingTrack}
+use Rattle.programming_track.specs.Bench.{BenchState}
 use Rattle.bus.specs.declared.outcome.Outcome.{Outcome}
 use Rattle.bus.specs.declared.outcome.Outcome.TheVariants.{PlaceRequested, Sent}
 use Rattle.railway.specs.Course.{after, reports_of}
@@ -84,7 +84,7 @@ railway_after names bus nodes (Receives client byte) railway =
 railway_after names bus nodes other railway = railway
 
 -- The programming track after an event: its packets take time, with or without power of the track.
-abbrev pub programming_after : BusState → Event → Option ProgrammingTrack → Option ProgrammingTrack
+abbrev pub programming_after : BusState → Event → Option BenchState → Option BenchState
 programming_after bus (Elapses micros missed) programming = programming_elapsed programming micros
 programming_after bus (Turn missed) programming = programming_elapsed programming (next_turn bus)
 programming_after bus (Receives client byte) programming =
@@ -92,7 +92,7 @@ programming_after bus (Receives client byte) programming =
 programming_after bus other programming = programming
 
 -- what is reported of a time: the changes of the sensors, and then of the programming track
-abbrev pub reports_of_time : Option RailwayState → Option ProgrammingTrack → (micros : ℕ) → Power
+abbrev pub reports_of_time : Option RailwayState → Option BenchState → (micros : ℕ) → Power
     → List Node → List DeviceReport
 reports_of_time railway programming micros power nodes =
     of_sensors (reports_elapsed railway micros power nodes)
@@ -100,7 +100,7 @@ reports_of_time railway programming micros power nodes =
 
 -- What an event makes due: what is reported of its time, and what its outcome makes due.
 abbrev pub reports_after : (names : List (List ℕ)) → BusState → List Node → Event
-    → Option RailwayState → Option ProgrammingTrack → List DeviceReport
+    → Option RailwayState → Option BenchState → List DeviceReport
 reports_after names bus nodes (Connects client) railway programming = []
 reports_after names bus nodes (Disconnects client) railway programming = []
 reports_after names bus nodes (Reports message) railway programming = []

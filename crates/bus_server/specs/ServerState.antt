@@ -6,7 +6,7 @@ use Rattle.layout_core.specs.declared.node.Node.{Node}
 use Rattle.layout_core.specs.Nodes.{node_of}
 use Rattle.layout_core.specs.World.{HaveHeard}
 use Rattle.railway.specs.Railway.{RailwayState}
-use Rattle.programming_track.specs.declared.programming_track.ProgrammingTrack.{ProgrammingTrack}
+use Rattle.programming_track.specs.Bench.{BenchState}
 use Rattle.bus_server.specs.declared.device_report.DeviceReport.{DeviceReport}
 use Rattle.bus_server.specs.declared.losses.Losses.{Losses}
 use Rattle.bus_server.specs.Losses.{IsDraw}
@@ -39,7 +39,7 @@ pub record ServerState : Type 0 where
   pub nodes : List Node
   pub names : List (List ℕ)
   pub railway : Option RailwayState
-  pub programming : Option ProgrammingTrack
+  pub programming : Option BenchState
   pub unreported : List DeviceReport
   pub queues : SendQueues
   pub answers : Answers
@@ -52,7 +52,7 @@ pub record ServerState : Type 0 where
   pub has_backlog : Bool
 
 -- a new server: new decoders, and no clients
-abbrev pub initial_state : List NodeSpec → (names : List (List ℕ)) → Option RailwayState → Option ProgrammingTrack → Pace → Losses → ServerState
+abbrev pub initial_state : List NodeSpec → (names : List (List ℕ)) → Option RailwayState → Option BenchState → Pace → Losses → ServerState
 initial_state nodes names railway programming pace losses = record {
   bus = first_bus (record { is_stepped = follows_messages pace; has_sensors = is_some railway; has_programmer = is_some programming });
   nodes = map node_of nodes;
@@ -87,8 +87,8 @@ IsDrawn (Elapses micros missed) bus nodes old new = MatchBool (nat_le bus.remain
 IsDrawn (Turn missed) bus nodes old new = IsDraw nodes missed old new
 IsDrawn other bus nodes old new = new ≡ old
 
--- the outcome of an event, with the answer where a client puts a train on the track, and the reply of
--- the programmer
+-- the outcome of an event, with the answer where a client puts a train on the track or arranges the
+-- programming track, and the reply of the programmer
 abbrev pub outcome_in : ServerState → Event → Outcome
 outcome_in state event = programmed state.programming (answered state.names state.railway (outcome_of state.bus event))
 
@@ -194,13 +194,13 @@ without_backlog state = record state { has_backlog = false }
 -- what each client receives next: a line of the answer under way to it, and that its turns have passed
 abbrev pub answer_to : ServerState → (client : ℕ) → List ℕ
 answer_to state client =
-    next_line (lines_of state.names state.nodes state.railway) (slice_index_or state.answers client None) ++ turns_answer (due_to state.turns_due client)
+    next_line (lines_of state.names state.nodes state.railway) state.programming (slice_index_or state.answers client None) ++ turns_answer (due_to state.turns_due client)
 
 -- it is enqueued
 abbrev pub with_answers : ServerState → ServerState
 with_answers state = record state {
   queues = enqueued_from 0 (answer_to state) state.queues;
-  answers = map (after_line (count_of state.names state.railway)) state.answers;
+  answers = map (after_line (count_of state.names state.railway) state.programming) state.answers;
   turns_due = map after_answer state.turns_due;
 }
 

@@ -4,6 +4,8 @@ ghost use Rattle.input_text.specs.Write.{failed_after};
 ghost use Rattle.layout_core.specs.Nodes.{spec_of};
 ghost use Rattle.bus.specs.Log.{Extends};
 ghost use Rattle.bus_server.specs.AfterRound.{Shown};
+ghost use Rattle.bus_server.specs.Running.{RunSnapshot};
+ghost use Rattle.bus_server.specs.SoFar.{IsSoFar};
 
 use crate::observer::Observer;
 use crate::transport::Transport;
@@ -21,8 +23,11 @@ pub trait AfterRound<W: Transport, P: Observer> {
     /// What each call so far was given, in order, if it is known.
     ghost shown: { Self → Option (List Shown) };
 
+    /// The moment at which the run began that it follows, if that is known.
+    ghost begun: { Self → Option RunSnapshot };
+
     /// Does it, for a layout and the railway beside it, if there is one. Nothing is read or written
-    /// for the bus, and nothing is observed.
+    /// for the bus, and nothing is observed. It may rely on the whole run so far.
     fn after_round(
         &mut self,
         transport: &mut W,
@@ -31,6 +36,9 @@ pub trait AfterRound<W: Transport, P: Observer> {
         railway: Option<&Railway>,
     ) -> Result<(), Self::Fault>
         requires observes { map spec_of world.now.nodes ≡ P.decoder_specs observer.old }
+        requires so_far { IsSoFar (begun self.old) (W.log transport.old) (P.observed observer.old)
+            (record { nodes = world.now.nodes; railway = option_copied railway }) }
+        ensures begun { begun self.new ≡ begun self.old }
         ensures decoder_specs { P.decoder_specs observer.new ≡ P.decoder_specs observer.old }
         ensures log { Extends (W.log transport.old) (W.log transport.new) [] }
         ensures observed { Extends (P.observed observer.old) (P.observed observer.new) [] }

@@ -1,5 +1,6 @@
-//! The answers to clients that ask how the decoders, the trains or the turnouts stand.
-ghost use Rattle.std.specs.Prelude.{◌≡◌, ◌<◌, ◌≤◌, [], ℕ, List, IsTrue, None, Some, is_some, length, map, option_copied, replicate, slice_set};
+//! The answers to clients that ask how the decoders, the trains, the turnouts or the variables of the
+//! programming track stand.
+ghost use Rattle.std.specs.Prelude.{◌≡◌, ◌<◌, ◌≤◌, ◌+◌, ◌++◌, [], ℕ, List, IsTrue, None, Some, is_some, length, map, option_copied, replicate, slice_set};
 ghost use Rattle.std.specs.List.{list_any, slice_index_or};
 ghost use Rattle.arrayvec.specs.ArrayVec.{array_vec_len};
 ghost use Rattle.decoder_node.specs.declared.node.NodeSpec.{NodeSpec as NodeSpecValue};
@@ -7,10 +8,11 @@ ghost use Rattle.layout_core.specs.declared.node.Node.{Node};
 ghost use Rattle.layout_core.specs.DecoderStates.{decoder_line, decoder_state_of};
 ghost use Rattle.layout_core.specs.Nodes.{spec_of};
 ghost use Rattle.loconet_tcp.specs.ClientLines.{states_ok_text};
+ghost use Rattle.programming_track.specs.Bench.{next_change};
 ghost use Rattle.railway.specs.declared.joint.TurnoutState.{TurnoutState};
 ghost use Rattle.railway.specs.declared.train.TrainState.{TrainState};
 ghost use Rattle.railway_text.specs.Turnouts.{turnout_line};
-ghost use Rattle.bus_server.specs.Answers.{after_line, answers_after, count_of, lines_of, next_line, node_lines, text_of_train, train_lines, turnout_lines};
+ghost use Rattle.bus_server.specs.Answers.{after_change, after_line, after_state, after_variable, answers_after, count_of, line_of_change, lines_of, next_line, node_lines, text_of_train, train_lines, turnout_lines, variable_line};
 ghost use Rattle.bus_server.specs.SendQueues.{names_client};
 ghost use Rattle.bus_server.specs.NamedNodes.{names_of, specs_of};
 
@@ -20,13 +22,14 @@ use crate::under_way::UnderWay;
 use bus::{MAX_CLIENTS, Outcome};
 use decoder_node::{NodeList, NodeSpec};
 use layout_core::World;
-use loconet_tcp::{Text, Things, push_node, push_state, push_states_ok};
+use loconet_tcp::{Text, Things, push_change, push_node, push_state, push_states_ok};
+use programming_track::ProgrammingBench;
 use railway::Railway;
 use railway_text::{StateLine, TrainPlace, turnout_line};
 use show_text::Line;
 
-/// The answers to clients that ask how the decoders, the trains or the turnouts stand: a line for
-/// each of them, and then that all were sent.
+/// The answers to clients that ask how the decoders, the trains, the turnouts or the variables of the
+/// programming track stand: a line for each of them, and then that all were sent.
 #[derive(Drop)]
 pub(crate) struct Answers {
     pub(crate) nodes: NamedNodes,
@@ -64,7 +67,7 @@ impl Answers {
             Outcome::StatesRequested { client, things } => {
                 self.under_way[usize::from(*client)] = Some(UnderWay {
                     things: *things,
-                    lines: 0,
+                    next: 0,
                 });
             }
             Outcome::Disconnected { client } => self.under_way[usize::from(*client)] = None,
@@ -73,61 +76,84 @@ impl Answers {
     }
 
     /// Returns the line that a client, 0 to 7, receives next; nothing where no answer is under way.
-    pub(crate) fn next_line(&self, client: u8, world: &World, railway: Option<&Railway>) -> Text
+    pub(crate) fn next_line(
+        &self,
+        client: u8,
+        world: &World,
+        railway: Option<&Railway>,
+        programming: Option<&ProgrammingBench>,
+    ) -> Text
         requires client { client < 8 }
         requires specs { specs_of self.now.nodes.items ≡ map spec_of world.now.nodes }
         ensures line { result.items
             ≡ next_line (lines_of (names_of self.now.nodes.items) world.now.nodes
-            (option_copied railway.entry)) (slice_index_or self.now.under_way client None) }
+            (option_copied railway.entry)) (option_copied programming.entry)
+            (slice_index_or self.now.under_way client None) }
         ensures most { array_vec_len result ≤ 647 }
     {
         match &self.under_way[usize::from(client)] {
-            Some(answer) => self.line(answer, world, railway),
+            Some(answer) => self.line(answer, world, railway, programming),
             None => Text::new(),
         }
     }
 
     /// Notes that each client has received its next line.
-    pub(crate) fn advance(&mut self, railway: Option<&Railway>)
+    pub(crate) fn advance(
+        &mut self,
+        railway: Option<&Railway>,
+        programming: Option<&ProgrammingBench>,
+    )
         ensures under_way { self.new.under_way
             ≡ map (after_line (count_of (names_of self.old.nodes.items)
-            (option_copied railway.entry))) self.old.under_way }
+            (option_copied railway.entry)) (option_copied programming.entry))
+            self.old.under_way }
         ensures nodes { self.new.nodes ≡ self.old.nodes }
     {
         for client in 0..CLIENTS {
-            self.advance_one(client, railway);
+            self.advance_one(client, railway, programming);
         }
     }
 
     /// Notes that a client has received its next line.
-    fn advance_one(&mut self, client: u8, railway: Option<&Railway>)
+    fn advance_one(
+        &mut self,
+        client: u8,
+        railway: Option<&Railway>,
+        programming: Option<&ProgrammingBench>,
+    )
         requires { client < 8 }
         ensures under_way { self.new.under_way
             ≡ slice_set self.old.under_way client
             (after_line (count_of (names_of self.old.nodes.items) (option_copied railway.entry))
+            (option_copied programming.entry)
             (slice_index_or self.old.under_way client None)) }
         ensures nodes { self.new.nodes ≡ self.old.nodes }
     {
         let index = usize::from(client);
         self.under_way[index] = match self.under_way[index] {
-            Some(answer) => self.after_line(answer, railway),
+            Some(answer) => self.after_line(answer, railway, programming),
             None => None,
         };
     }
 
     /// Returns an answer after its next line; `None` after its last.
-    fn after_line(&self, answer: UnderWay, railway: Option<&Railway>) -> Option<UnderWay>
+    fn after_line(
+        &self,
+        answer: UnderWay,
+        railway: Option<&Railway>,
+        programming: Option<&ProgrammingBench>,
+    ) -> Option<UnderWay>
         ensures { result
             ≡ after_line (count_of (names_of self.now.nodes.items) (option_copied railway.entry))
-            (Some answer) }
+            (option_copied programming.entry) (Some answer) }
     {
-        if usize::from(answer.lines) >= self.count(answer.things, railway) {
-            return None;
+        let count = self.count(answer.things, railway);
+        match answer.things {
+            Things::Variables => after_variable(answer.next, programming),
+            Things::Nodes | Things::Trains | Things::Turnouts => {
+                after_state(count, answer.things, answer.next)
+            }
         }
-        Some(UnderWay {
-            things: answer.things,
-            lines: answer.lines + 1,
-        })
     }
 
     /// Returns how many there are of these things, at most 64.
@@ -146,22 +172,29 @@ impl Answers {
                 Some(railway) => railway.turnouts().len(),
                 None => 0,
             },
+            Things::Variables => 0,
         }
     }
 
     /// Returns the next line of an answer.
-    fn line(&self, answer: &UnderWay, world: &World, railway: Option<&Railway>) -> Text
+    fn line(
+        &self,
+        answer: &UnderWay,
+        world: &World,
+        railway: Option<&Railway>,
+        programming: Option<&ProgrammingBench>,
+    ) -> Text
         requires specs { specs_of self.now.nodes.items ≡ map spec_of world.now.nodes }
         ensures line { result.items
             ≡ next_line (lines_of (names_of self.now.nodes.items) world.now.nodes
-            (option_copied railway.entry)) (Some answer.now) }
+            (option_copied railway.entry)) (option_copied programming.entry) (Some answer.now) }
         ensures most { array_vec_len result ≤ 647 }
     {
-        let i = usize::from(answer.lines);
         match answer.things {
-            Things::Nodes => self.node(i, world),
-            Things::Trains => self.train(i, railway),
-            Things::Turnouts => turnout(i, railway),
+            Things::Nodes => self.node(answer.next, world),
+            Things::Trains => self.train(answer.next, railway),
+            Things::Turnouts => turnout(answer.next, railway),
+            Things::Variables => variable(answer.next, programming),
         }
     }
 
@@ -285,6 +318,62 @@ fn line_of_turnout(i: usize, railway: &Railway) -> StateLine
         ≡ turnout_line (slice_index_or railway.now.network.turnouts i none) }
 {
     turnout_line(&railway.turnouts()[i])
+}
+
+/// Returns the line of the next variable from a position on that differs from the file; `CVS OK` if
+/// none does.
+fn variable(from: usize, programming: Option<&ProgrammingBench>) -> Text
+    ensures line { result.items ≡ variable_line (option_copied programming.entry) from }
+    ensures most { array_vec_len result ≤ 647 }
+{
+    let mut text = Text::new();
+    match programming {
+        Some(bench) => push_variable(&mut text, from, bench),
+        None => push_states_ok(&mut text, Things::Variables),
+    }
+    text
+}
+
+/// Appends the line of the next variable from a position on that differs from the file; `CVS OK` if
+/// none does.
+fn push_variable(text: &mut Text, from: usize, bench: &ProgrammingBench)
+    requires { array_vec_len text.old + 60 ≤ 800 }
+    ensures line { text.new.items
+        ≡ text.old.items ++ line_of_change bench.now (next_change bench.now from) }
+    ensures most { array_vec_len text.new ≤ array_vec_len text.old + 60 }
+{
+    match bench.next_change(from) {
+        Some(position) => {
+            let name = bench.name(position).as_bytes();
+            push_change(text, name, bench.number(position), bench.value(position));
+        }
+        None => push_states_ok(text, Things::Variables),
+    }
+}
+
+/// Returns an answer about things of this number after its next line; `None` after its last.
+fn after_state(count: usize, things: Things, next: usize) -> Option<UnderWay>
+    requires { count ≤ 64 }
+    ensures { result ≡ after_state count things next }
+{
+    if next >= count {
+        return None;
+    }
+    Some(UnderWay {
+        things,
+        next: next + 1,
+    })
+}
+
+/// Returns an answer about variables after its next line; `None` after its last.
+fn after_variable(from: usize, programming: Option<&ProgrammingBench>) -> Option<UnderWay>
+    ensures { result ≡ after_variable (option_copied programming.entry) from }
+{
+    let position = programming?.next_change(from)?;
+    Some(UnderWay {
+        things: Things::Variables,
+        next: position + 1,
+    })
 }
 
 /// The decoders without their names.

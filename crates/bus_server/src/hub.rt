@@ -22,7 +22,7 @@ use crate::transport::{IoOutcome, Transport};
 use bus::{Bus, BusOptions, Event, Outcome};
 use layout_core::World;
 use loconet_tcp::{Text, push_turns_ok};
-use programming_track::ProgrammingTrack;
+use programming_track::ProgrammingBench;
 use railway::Railway;
 use std::alloc::{AllocError, Global};
 
@@ -77,7 +77,7 @@ impl Hub {
         alloc: Global,
         nodes: NamedNodes,
         railway: Option<Railway>,
-        programming: Option<ProgrammingTrack>,
+        programming: Option<ProgrammingBench>,
         pace: Pace,
         losses: Losses,
     ) -> Result<Hub, AllocError>
@@ -240,9 +240,12 @@ impl Hub {
             &self.answers,
             &self.track_due,
             self.bus.world(),
-            self.sensors.railway.as_ref(),
+            &self.sensors,
         );
-        self.answers.advance(self.sensors.railway.as_ref());
+        self.answers.advance(
+            self.sensors.railway.as_ref(),
+            self.sensors.programming.as_ref(),
+        );
         self.track_due.advance();
     }
 
@@ -360,7 +363,8 @@ fn enqueue(queues: &mut SendQueues, outcome: &Outcome)
         | Outcome::TurnBegan { .. }
         | Outcome::Programmed { .. }
         | Outcome::StatesRequested { .. }
-        | Outcome::PlaceRequested { .. } => {}
+        | Outcome::PlaceRequested { .. }
+        | Outcome::DeviceRequested { .. } => {}
         Outcome::Disconnected { client } => queues[usize::from(*client)].close(),
         Outcome::Connected { client } => {
             queues[usize::from(*client)].open();
@@ -370,7 +374,8 @@ fn enqueue(queues: &mut SendQueues, outcome: &Outcome)
         | Outcome::Sent { .. }
         | Outcome::Reported { .. }
         | Outcome::TurnsRequested { .. }
-        | Outcome::Placed { .. } => enqueue_all(queues, outcome),
+        | Outcome::Placed { .. }
+        | Outcome::DeviceAnswered { .. } => enqueue_all(queues, outcome),
     }
 }
 
@@ -392,17 +397,18 @@ fn enqueue_lines(
     answers: &Answers,
     track_due: &TrackDue,
     world: &World,
-    railway: Option<&Railway>,
+    sensors: &Sensors,
 )
     requires { specs_of answers.now.nodes.items ≡ map spec_of world.now.nodes }
     ensures { queues.new
         ≡ enqueued_from 0 (λ client.
         next_line (lines_of (names_of answers.now.nodes.items) world.now.nodes
-        (option_copied railway.entry)) (slice_index_or answers.now.under_way client None)
+        sensors.now.railway) sensors.now.programming
+        (slice_index_or answers.now.under_way client None)
         ++ turns_answer (due_to track_due.now.turns client)) queues.old }
 {
     for client in 0..CLIENTS {
-        let text = answer_to(client, answers, track_due, world, railway);
+        let text = answer_to(client, answers, track_due, world, sensors);
         queues[usize::from(client)].enqueue(text.as_slice());
     }
 }
@@ -414,16 +420,19 @@ fn answer_to(
     answers: &Answers,
     track_due: &TrackDue,
     world: &World,
-    railway: Option<&Railway>,
+    sensors: &Sensors,
 ) -> Text
     requires client { client < 8 }
     requires specs { specs_of answers.now.nodes.items ≡ map spec_of world.now.nodes }
     ensures { result.items
         ≡ next_line (lines_of (names_of answers.now.nodes.items) world.now.nodes
-        (option_copied railway.entry)) (slice_index_or answers.now.under_way client None)
+        sensors.now.railway) sensors.now.programming
+        (slice_index_or answers.now.under_way client None)
         ++ turns_answer (due_to track_due.now.turns client) }
 {
-    let mut text = answers.next_line(client, world, railway);
+    let railway = sensors.railway.as_ref();
+    let programming = sensors.programming.as_ref();
+    let mut text = answers.next_line(client, world, railway, programming);
     if track_due.have_passed(client) {
         push_turns_ok(&mut text);
     }

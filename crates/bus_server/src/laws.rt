@@ -33,6 +33,8 @@ pub fn stays_connected()
     railway::laws::railways_are_kept();
     bus::laws::turns_are_bounded();
     programming_track::laws::ends_are_few();
+    loconet_tcp::laws::requested_message_is_whole();
+    loconet_tcp::laws::received_lines_are_short();
 }
 
 /// What a client knows of a sensor by the messages that it receives is whether its block is occupied:

@@ -10,6 +10,7 @@
 
 mod after_round;
 mod answers;
+mod arranging;
 mod device_report;
 mod device_reports;
 mod hub;
@@ -36,7 +37,7 @@ pub use bus::MAX_CLIENTS;
 pub use named_node::{Name, NamedNode, NamedNodes};
 pub use observer::Observer;
 pub use pace::Pace;
-pub use programming_track::ProgrammingTrack;
+pub use programming_track::ProgrammingBench;
 pub use railway::Railway;
 pub use running::Stop;
 pub use server::Server;

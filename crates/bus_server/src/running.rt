@@ -10,6 +10,7 @@ ghost use Rattle.bus_server.specs.Running.{IsRun, Round, RunsLogged, skipped, ru
 ghost use Rattle.bus_server.specs.Track.{IsTimeDue, RunsTrack, with_time_due};
 
 use crate::after_round::AfterRound;
+use crate::laws::rounds_are_a_run;
 use crate::observer::Observer;
 use crate::pace::Pace;
 use crate::server::Server;
@@ -33,6 +34,7 @@ pub enum Stop<T, C, O, A> {
 }
 
 impl Server {
+    ghost use Rattle.bus_server.specs.SoFar.{ComesTo, IsBeginning};
     ghost use Rattle.bus_server.specs.StoppedRuns.{IsStoppedRun, after_round_failed, fails, StopsLogged, StopsOnTrack};
 
     /// Serves until `most` clients have disconnected since the server was new, or for 2 ^ 64 - 1 rounds.
@@ -50,6 +52,10 @@ impl Server {
     ) -> Result<(), Stop<W::Fault, C::Fault, P::Fault, A::Fault>>
         requires observes { ObservesLayout (P.decoder_specs observer.old) self.old.hub }
         requires reported { HasReported self.old.hub }
+        requires begun { IsBeginning (A.begun after_round.old)
+            (run_snapshot (W.log transport.old) (C.readings clock.old) (P.observed observer.old)
+            (A.shown after_round.old) self.old.hub) }
+        ensures begun { A.begun after_round.new ≡ A.begun after_round.old }
         ensures observes { ObservesLayout (P.decoder_specs observer.new) self.new.hub }
         ensures reported { OnOk result (HasReported self.new.hub) }
         ensures run { OnOk result
@@ -91,6 +97,10 @@ impl Server {
         requires observes { ObservesLayout (P.decoder_specs observer.old) self.old.hub }
         requires reported { HasReported self.old.hub }
         requires fewer { self.old.hub.disconnected < most }
+        requires so_far { ComesTo most (A.begun after_round.old)
+            (run_snapshot (W.log transport.old) (C.readings clock.old) (P.observed observer.old)
+            (A.shown after_round.old) self.old.hub) }
+        ensures begun { A.begun after_round.new ≡ A.begun after_round.old }
         ensures observes { ObservesLayout (P.decoder_specs observer.new) self.new.hub }
         ensures reported { OnOk result (HasReported self.new.hub) }
         ensures round { OnOk result
@@ -110,6 +120,7 @@ impl Server {
         ensures after_round { A.failed after_round.new
             ≡ after_round_failed result (A.failed after_round.old) }
     {
+        rounds_are_a_run();
         if let Err(fault) = transport.wait(self.longest_wait()) {
             return Err(Stop::Transport(fault));
         }

@@ -3,14 +3,15 @@ ghost use Rattle.std.specs.Prelude.{◌≡◌, ◌≤◌, ℕ, [], IsTrue, if◌
 ghost use Rattle.std.specs.List.{list_all};
 ghost use Rattle.ln_ops.specs.Sensor.{begins_interrogation};
 ghost use Rattle.programming_track.specs.Time.{is_legal_end};
-ghost use Rattle.programming_track.specs.Track.{requested};
+ghost use Rattle.programming_track.specs.Bench.{bench_requested};
 ghost use Rattle.railway.specs.Reports.{is_report};
 ghost use Rattle.bus.specs.declared.outcome.Outcome.TheVariants.{PlaceRequested};
 ghost use Rattle.bus_server.specs.NamedNodes.{names_of};
 ghost use Rattle.bus_server.specs.Placement.{answered, place_answer};
-ghost use Rattle.bus_server.specs.Programming.{ends_elapsed, programmed, programming_elapsed, programming_requested, reply_by};
+ghost use Rattle.bus_server.specs.Programming.{arranged, device_answer, ends_elapsed, programmed, programming_elapsed, programming_requested, reply_by};
 ghost use Rattle.bus_server.specs.Sensors.{reports_of_time, full_report, railway_elapsed, railway_placed, reports_due, reports_elapsed};
 
+use crate::arranging::arrange;
 use crate::device_reports::DeviceReports;
 use crate::named_node::NamedNodes;
 use crate::placement::place;
@@ -18,8 +19,8 @@ use bus::Outcome;
 use layout_core::World;
 use ln_frame::Msg;
 use ln_ops::begins_interrogation;
-use loconet_tcp::{PlaceError, Placement};
-use programming_track::{PacketEnds, ProgrammingTrack};
+use loconet_tcp::{DeviceAnswer, DeviceRequest, PlaceError, Placement};
+use programming_track::{PacketEnds, ProgrammingBench};
 use railway::{Railway, Reports};
 
 /// The devices beside the station, trains with their sensors and a programming track, if there are
@@ -27,7 +28,7 @@ use railway::{Railway, Reports};
 #[derive(Drop)]
 pub(crate) struct Sensors {
     pub(crate) railway: Option<Railway>,
-    pub(crate) programming: Option<ProgrammingTrack>,
+    pub(crate) programming: Option<ProgrammingBench>,
     pub(crate) unreported: DeviceReports,
 }
 
@@ -35,7 +36,7 @@ impl Sensors {
     ghost use Rattle.bus_server.specs.DeviceReports.{queue_of, of_sensors};
 
     /// The devices beside a station. Nothing is due.
-    pub(crate) fn new(railway: Option<Railway>, programming: Option<ProgrammingTrack>) -> Sensors
+    pub(crate) fn new(railway: Option<Railway>, programming: Option<ProgrammingBench>) -> Sensors
         ensures railway { result.railway ≡ railway }
         ensures programming { result.programming ≡ programming }
         ensures unreported { queue_of result.unreported ≡ [] }
@@ -66,8 +67,9 @@ impl Sensors {
     }
 
     /// Does what an outcome of the bus asks of the devices: a report of each sensor, to put a train on
-    /// the track, or something of the programmer. What sensors report of it is due. Returns the
-    /// outcome, with the answer where a client asks to put a train, and the programmer's reply.
+    /// the track, to arrange the programming track, or something of the programmer. What sensors report
+    /// of it is due. Returns the outcome, with the answer to a client that asks to put a train or to
+    /// arrange, and the programmer's reply.
     pub(crate) fn answer(&mut self, outcome: Outcome, nodes: &NamedNodes) -> Outcome
         ensures railway { self.new.railway
             ≡ railway_placed (names_of nodes.now.items) outcome self.old.railway }
@@ -98,8 +100,23 @@ impl Sensors {
                     reply,
                 }
             }
+            Outcome::DeviceRequested { client, request } => Outcome::DeviceAnswered {
+                client,
+                answer: self.arrange(&request),
+            },
             outcome => outcome,
         }
+    }
+
+    /// Arranges the programming track as a client asks for. Returns the answer.
+    fn arrange(&mut self, request: &DeviceRequest) -> DeviceAnswer
+        ensures railway { self.new.railway ≡ self.old.railway }
+        ensures programming { self.new.programming
+            ≡ option_map (arranged request.now) self.old.programming }
+        ensures unreported { queue_of self.new.unreported ≡ queue_of self.old.unreported }
+        ensures answer { result ≡ device_answer self.old.programming request.now }
+    {
+        arrange(&mut self.programming, request)
     }
 
     /// Makes a report of each sensor due, if a message asks for it.
@@ -120,14 +137,14 @@ impl Sensors {
     fn reply(&mut self, message: &Msg, station: Option<Msg>) -> Option<Msg>
         ensures railway { self.new.railway ≡ self.old.railway }
         ensures programming { self.new.programming
-            ≡ option_map (λ track. requested track message.now) self.old.programming }
+            ≡ option_map (λ bench. bench_requested bench message.now) self.old.programming }
         ensures unreported { queue_of self.new.unreported ≡ queue_of self.old.unreported }
         ensures reply { result ≡ reply_by self.old.programming message.now station }
     {
-        let Some(track) = &mut self.programming else {
+        let Some(bench) = &mut self.programming else {
             return station;
         };
-        match track.request(message) {
+        match bench.request(message) {
             Some(own) => Some(own.message()),
             None => station,
         }
@@ -178,14 +195,14 @@ fn run_trains(railway: &mut Option<Railway>, micros: u32, world: &World) -> Repo
 }
 
 /// Sends the packets of the programming track, if there is one. Returns those that ended.
-fn send_packets(programming: &mut Option<ProgrammingTrack>, micros: u32) -> PacketEnds
+fn send_packets(programming: &mut Option<ProgrammingBench>, micros: u32) -> PacketEnds
     requires short { micros ≤ 10740 }
     ensures programming { programming.new ≡ programming_elapsed programming.old micros }
     ensures ends { result.items ≡ ends_elapsed programming.old micros }
     ensures legal { list_all is_legal_end result.items ≡ true }
 {
     match programming {
-        Some(track) => track.elapse(micros),
+        Some(bench) => bench.elapse(micros),
         None => PacketEnds::new(),
     }
 }

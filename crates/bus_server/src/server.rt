@@ -24,7 +24,7 @@ use crate::pace::Pace;
 use crate::transport::{IoOutcome, Transport};
 use bus::{Event, Outcome};
 use layout_core::World;
-use programming_track::ProgrammingTrack;
+use programming_track::ProgrammingBench;
 use railway::Railway;
 use std::alloc::{AllocError, Global};
 
@@ -51,7 +51,7 @@ impl Server {
         alloc: Global,
         nodes: NamedNodes,
         railway: Option<Railway>,
-        programming: Option<ProgrammingTrack>,
+        programming: Option<ProgrammingBench>,
         pace: Pace,
         losses: Losses,
     ) -> Result<Server, AllocError>

@@ -31,6 +31,7 @@ observation_of (seen.Reported message) = Observed (outcome.Reported message.item
 observation_of (seen.TurnsRequested client turns) = Observed (outcome.TurnsRequested client turns) [] None
 observation_of (seen.StatesRequested client things) = Observed (outcome.StatesRequested client things) [] None
 observation_of (seen.Placed client answer) = Observed (outcome.Placed client answer) [] None
+observation_of (seen.DeviceAnswered client answer) = Observed (outcome.DeviceAnswered client answer) [] None
 observation_of (seen.TurnBegan packet) = Observed (outcome.TurnBegan (option_map (λ p. p.items) packet)) [] None
 observation_of (seen.Overflowed client) = Overflowed client
 observation_of (seen.Skipped micros) = Skipped micros

@@ -38,6 +38,17 @@ pub(super) const EXPRESS: Train = Train {
     },
 };
 
+/// A turnout that moves at once, with its ends where it is closed and thrown.
+fn turnout(switch: u16, common: BlockEnd, [closed, thrown]: [BlockEnd; 2]) -> Turnout {
+    Turnout {
+        switch,
+        common,
+        closed,
+        thrown,
+        time: 0,
+    }
+}
+
 /// The blocks west, main, siding, east and back, with sensors 1 to 5. Turnout 1 leads from the west
 /// to main or, thrown, to the siding; turnout 2 from the east.
 pub(super) fn oval() -> Result<Plan, Fail> {
@@ -47,20 +58,12 @@ pub(super) fn oval() -> Result<Plan, Fail> {
     let _ = plan.blocks.try_push(block("siding", 3)?);
     let _ = plan.blocks.try_push(block("east", 4)?);
     let _ = plan.blocks.try_push(block("back", 5)?);
-    let _ = plan.turnouts.try_push(Turnout {
-        switch: 1,
-        common: end_b(0),
-        closed: end_a(1),
-        thrown: end_a(2),
-        time: 0,
-    });
-    let _ = plan.turnouts.try_push(Turnout {
-        switch: 2,
-        common: end_a(3),
-        closed: end_b(1),
-        thrown: end_b(2),
-        time: 0,
-    });
+    let _ = plan
+        .turnouts
+        .try_push(turnout(1, end_b(0), [end_a(1), end_a(2)]));
+    let _ = plan
+        .turnouts
+        .try_push(turnout(2, end_a(3), [end_b(1), end_b(2)]));
     let _ = plan.joints.try_push(Joint {
         one: end_b(3),
         two: end_a(4),

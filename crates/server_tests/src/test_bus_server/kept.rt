@@ -1,5 +1,5 @@
 //! What the logs of a run hold.
-use loconet_tcp::{PlaceError, Reason, Things, TurnsError};
+use loconet_tcp::{DeviceAnswer, PlaceError, Reason, Things, TurnsError};
 
 /// One call of a transport, and what it returned: what `TransportEvent` is in contracts, but a read is one entry.
 #[derive(Drop)]
@@ -28,6 +28,7 @@ pub enum Seen {
     TurnsRequested(u8, Result<u16, TurnsError>),
     StatesRequested(u8, Things),
     Placed(u8, Result<(), PlaceError>),
+    DeviceAnswered(u8, DeviceAnswer),
     TurnBegan(Option<Vec<u8>>),
     Overflowed(u8),
     Skipped(u64),

@@ -237,9 +237,12 @@ fn seen_of<R: Place>(rt: &R, outcome: &Outcome) -> Seen
         Outcome::Reported { message } => Seen::Reported(bytes_of(rt, message)),
         Outcome::TurnsRequested { client, turns } => Seen::TurnsRequested(*client, *turns),
         Outcome::StatesRequested { client, things } => Seen::StatesRequested(*client, *things),
-        Outcome::PlaceRequested { .. } => panic!(rt; "a server answers it"),
+        Outcome::PlaceRequested { .. } | Outcome::DeviceRequested { .. } => {
+            panic!(rt; "a server answers it")
+        }
         Outcome::Programmed { .. } => panic!(rt; "a programming track"),
         Outcome::Placed { client, answer } => Seen::Placed(*client, *answer),
+        Outcome::DeviceAnswered { client, answer } => Seen::DeviceAnswered(*client, *answer),
         Outcome::TurnBegan { packet } => Seen::TurnBegan(packet_of(rt, packet)),
     }
 }
@@ -278,6 +281,8 @@ impl<W: Transport, P: Observer> AfterRound<W, P> for NoPages {
     ghost failed = { λ _. false };
 
     ghost shown = { λ _. None };
+
+    ghost begun = { λ _. None };
 
     fn after_round(
         &mut self,

@@ -94,50 +94,58 @@ pub(crate) fn text_to<R: Place>(rt: &R, entries: &[Entry], client: u8) -> Vec<u8
     text
 }
 
-/// The longest time of each wait.
-pub(crate) fn longest_times<R: Place>(rt: &R, entries: &[Entry]) -> Vec<Option<u32>> {
-    let mut longest_times = Vec::new(rt.alloc());
-    for entry in entries {
-        if let Entry::Polled(longest) = entry {
-            longest_times.push(*longest).expect(rt, "memory");
+/// What `pick` returns of each of these, in order.
+fn picked<R: Place, T, U: Drop, F: Fn(&T) -> Option<U>>(rt: &R, items: &[T], pick: F) -> Vec<U>
+    requires { F.IsAlwaysCallable pick }
+{
+    let mut found = Vec::new(rt.alloc());
+    for item in items {
+        if let Some(one) = pick(item) {
+            found.push(one).expect(rt, "memory");
         }
     }
-    longest_times
+    found
+}
+
+/// The longest time of each wait.
+pub(crate) fn longest_times<R: Place>(rt: &R, entries: &[Entry]) -> Vec<Option<u32>> {
+    picked(rt, entries, |entry| match entry {
+        Entry::Polled(longest) => Some(*longest),
+        _ => None,
+    })
 }
 
 /// What was done with each pending client: its index, or `None` where it was refused.
 pub(crate) fn accepted<R: Place>(rt: &R, entries: &[Entry]) -> Vec<Option<u8>> {
-    let mut accepted = Vec::new(rt.alloc());
-    for entry in entries {
-        match entry {
-            Entry::Accepted(client) => accepted.push(Some(*client)).expect(rt, "memory"),
-            Entry::Refused => accepted.push(None).expect(rt, "memory"),
-            _ => {}
-        }
-    }
-    accepted
+    picked(rt, entries, |entry| match entry {
+        Entry::Accepted(client) => Some(Some(*client)),
+        Entry::Refused => Some(None),
+        _ => None,
+    })
 }
 
 /// The clients that the server closed.
 pub(crate) fn closed<R: Place>(rt: &R, entries: &[Entry]) -> Vec<u8> {
-    let mut closed = Vec::new(rt.alloc());
-    for entry in entries {
-        if let Entry::ServerClosed(client) = entry {
-            closed.push(*client).expect(rt, "memory");
-        }
-    }
-    closed
+    picked(rt, entries, |entry| match entry {
+        Entry::ServerClosed(client) => Some(*client),
+        _ => None,
+    })
 }
 
 /// The clients whose queue has overflowed.
 pub(crate) fn overflows<R: Place>(rt: &R, observed: &[Seen]) -> Vec<u8> {
-    let mut overflows = Vec::new(rt.alloc());
-    for seen in observed {
-        if let Seen::Overflowed(client) = seen {
-            overflows.push(*client).expect(rt, "memory");
-        }
-    }
-    overflows
+    picked(rt, observed, |seen| match seen {
+        Seen::Overflowed(client) => Some(*client),
+        _ => None,
+    })
+}
+
+/// The times that were skipped.
+pub(crate) fn skips<R: Place>(rt: &R, observed: &[Seen]) -> Vec<u64> {
+    picked(rt, observed, |seen| match seen {
+        Seen::Skipped(micros) => Some(*micros),
+        _ => None,
+    })
 }
 
 /// How many messages were sent before the first queue overflowed.
@@ -163,17 +171,6 @@ pub(crate) fn disconnects_by_overflow(observed: &[Seen], client: u8) -> bool {
         overflowed = matches!(seen, Seen::Overflowed(who) if *who == client);
     }
     false
-}
-
-/// The times that were skipped.
-pub(crate) fn skips<R: Place>(rt: &R, observed: &[Seen]) -> Vec<u64> {
-    let mut skips = Vec::new(rt.alloc());
-    for seen in observed {
-        if let Seen::Skipped(micros) = seen {
-            skips.push(*micros).expect(rt, "memory");
-        }
-    }
-    skips
 }
 
 /// How many turns began.

@@ -4,5 +4,10 @@ use Rattle.bus_server.proofs.laws.stays_connected.Goals as goal
 
 pub returns : goal.returns
 returns c =
-    let laws : Limits = record { blocks = c.railways_are_kept.ensures.blocks; turns = c.turns_are_bounded.ensures; ends = c.ends_are_few.ensures } in
+    let laws : Limits = record {
+      lines = λ kept byte message sends. c.received_lines_are_short.ensures message (c.requested_message_is_whole.ensures kept byte message sends);
+      blocks = c.railways_are_kept.ensures.blocks;
+      turns = c.turns_are_bounded.ensures;
+      ends = c.ends_are_few.ensures;
+    } in
     stays_connected laws

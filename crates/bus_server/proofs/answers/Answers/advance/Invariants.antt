@@ -8,7 +8,7 @@ abbrev pub invariant-loop-client : goal.invariant-loop-client
 invariant-loop-client l =
     let count = count_of (names_of l.fn.self.nodes.items) (option_copied l.railway) in
     record {
-      under_way : take l.client l.self.under_way ++ map (after_line count) (drop l.client l.self.under_way) ≡ map (after_line count) l.fn.self.under_way;
+      under_way : take l.client l.self.under_way ++ map (after_line count (option_copied l.programming)) (drop l.client l.self.under_way) ≡ map (after_line count (option_copied l.programming)) l.fn.self.under_way;
       nodes : l.self.nodes ≡ l.fn.self.nodes;
       eight : length l.self.under_way ≡ 8;
     }

@@ -1,13 +1,14 @@
 use Rattle.std.proofs.Common.{Bool, ap, ◌∙◌, ◌≡◌, ◌-◌, ◌^◌, [], ◌∷◌, ◌++◌, arith, inl, inr, length, length-append, refl}
 use Rattle.bus_server.specs.Running.{run_snapshot}
 use Rattle.bus_server.proofs.Courses.{Laws}
+use Rattle.bus_server.proofs.SoFar.{comes_to}
 use Rattle.bus_server.proofs.WholeRuns.{run_ends, runs_none, runs_then}
 use Rattle.bus_server.proofs.Stopping.{failed_on, passed_on, run_stops}
 use Rattle.bus_server.specs.StoppedRuns.{IsStoppedRun, fails}
 use Rattle.bus_server.proofs.server.Server.run.Goals as goal
 
 pub loop-round-init : goal.loop-round-init
-loop-round-init g c = record { observes = c.requires.observes; reported = c.requires.reported; after_round = refl; rounds = ([], refl, runs_none c.args.most (run_snapshot (g.W.Transport.log c.args.transport.now) (g.C.TimeSource.readings c.args.clock.now) (g.P.Observer.observed c.args.observer.now) (g.A.AfterRound.shown c.args.after_round.now) c.args.self.now.hub)) }
+loop-round-init g c = record { observes = c.requires.observes; reported = c.requires.reported; begun = refl; after_round = refl; rounds = ([], refl, runs_none c.args.most (run_snapshot (g.W.Transport.log c.args.transport.now) (g.C.TimeSource.readings c.args.clock.now) (g.P.Observer.observed c.args.observer.now) (g.A.AfterRound.shown c.args.after_round.now) c.args.self.now.hub)) }
 
 pub loop-round-preserved : goal.loop-round-preserved
 loop-round-preserved g c =
@@ -16,6 +17,7 @@ loop-round-preserved g c =
     record {
       observes = c.run_round.ensures.observes;
       reported = c.in_ok-run_round.ensures.reported;
+      begun = c.run_round.ensures.begun ∙ c.loop-round.invariant.begun;
       after_round = c.in_ok-run_round.ensures.after_round ∙ c.loop-round.invariant.after_round;
       rounds = (
         so_far.0 ++ one.0 ∷ [],
@@ -23,6 +25,12 @@ loop-round-preserved g c =
         runs_then c.args.most so_far.0 (one.0 ∷ []) (run_snapshot (g.W.Transport.log c.args.transport.now) (g.C.TimeSource.readings c.args.clock.now) (g.P.Observer.observed c.args.observer.now) (g.A.AfterRound.shown c.args.after_round.now) c.args.self.now.hub) (run_snapshot (g.W.Transport.log c.loop-round.transport) (g.C.TimeSource.readings c.loop-round.clock) (g.P.Observer.observed c.loop-round.observer) (g.A.AfterRound.shown c.loop-round.after_round) c.loop-round.self.hub) (run_snapshot (g.W.Transport.log c.run_round.new.transport) (g.C.TimeSource.readings c.run_round.new.clock) (g.P.Observer.observed c.run_round.new.observer) (g.A.AfterRound.shown c.run_round.new.after_round) c.run_round.new.self.hub) so_far.2 one.1,
       );
     }
+
+pub run_round-requires-clause-so_far : goal.run_round-requires-clause-so_far
+run_round-requires-clause-so_far g c =
+    let so_far = c.loop-round.invariant.rounds in
+    comes_to c.args.most (g.A.AfterRound.begun c.args.after_round.now) (g.A.AfterRound.begun c.loop-round.after_round) so_far.0 (run_snapshot (g.W.Transport.log c.args.transport.now) (g.C.TimeSource.readings c.args.clock.now) (g.P.Observer.observed c.args.observer.now) (g.A.AfterRound.shown c.args.after_round.now) c.args.self.now.hub) (run_snapshot (g.W.Transport.log c.loop-round.transport) (g.C.TimeSource.readings c.loop-round.clock) (g.P.Observer.observed c.loop-round.observer) (g.A.AfterRound.shown c.loop-round.after_round) c.loop-round.self.hub)
+    c.loop-round.invariant.begun c.requires.begun so_far.2 c.invariant_holds.ensures.kept c.invariant_holds.ensures.desk
 
 pub returns-then-self-most-clause-run : goal.returns-then-self-most-clause-run
 returns-then-self-most-clause-run g c =

@@ -7,6 +7,7 @@ use Rattle.bus_server.specs.Running.{Round, skipped, run_snapshot, shown}
 use Rattle.bus_server.specs.ServerState.{ServerState, answer_to, longest_wait, transport_events, observations_in, observations_of}
 use Rattle.bus_server.specs.TransportEvents.{Polled, TransportEvent}
 use Rattle.bus_server.proofs.Going.{grows_more, grows_none, shown_of}
+use Rattle.bus_server.proofs.SoFar.{is_so_far, lent_is}
 use Rattle.bus_server.proofs.Stopping.{failed_on, one_grown, passed_on, stops_on_track}
 use Rattle.bus_server.specs.Observations.{Observation}
 use Rattle.bus_server.specs.Rounds.{IsRound}
@@ -43,6 +44,29 @@ returns-in-Ok-clause-round g c =
         (c.requires.fewer, end, ((refl, refl), state_of c.round.new.self.hub, is_round, ran.4, refl), refl),
       ),
     )
+
+-- the run so far, with this round
+pub after_round-requires-clause-so_far : goal.after_round-requires-clause-so_far
+after_round-requires-clause-so_far g c =
+    let log = g.W.Transport.log in
+    let observed = g.P.Observer.observed in
+    let longest = longest_wait (state_of c.args.self.now.hub) in
+    let polled = subst (λ (wait : Option ℕ). Extends (log c.args.transport.now) (log c.wait.new.self) (Polled wait ∷ [])) c.longest_wait.ensures c.in_default.ensures in
+    let served = c.in_default-round.ensures.served in
+    let is_round = subst (λ (start : ServerState). IsRound served.0 start (state_of c.round.new.self.hub)) c.start_round.ensures.state served.3 in
+    let ran = c.in_ok-run_track.ensures.runs in
+    let later = flat_map skipped ran.0 ++ observations_of ran.1 in
+    let end = state_of c.run_track.new.self.hub in
+    let before = run_snapshot (log c.args.transport.now) (g.C.TimeSource.readings c.args.clock.now) (observed c.args.observer.now) (g.A.AfterRound.shown c.args.after_round.now) c.args.self.now.hub in
+    let round : Round = record { longest = longest; answers = answer_to (state_of c.args.self.now.hub); handled = served.0; readings = ran.0; elapsing = ran.1; shown = shown end ∷ [] } in
+    is_so_far c.rounds_are_a_run.ensures c.args.most (g.A.AfterRound.begun c.args.after_round.now) round before end (log c.round.new.transport) (observed c.run_track.new.observer)
+    (record { nodes = c.world.result.now.nodes; railway = option_copied c.railway.result }) c.requires.so_far c.requires.fewer
+    ((refl, refl), state_of c.round.new.self.hub, is_round, ran.4, refl)
+    (subst (λ (more : List TransportEvent). Extends (log c.args.transport.now) (log c.round.new.transport) more) (sym (append-nil (Polled longest ∷ transport_events served.0)))
+    (grows_more (log c.args.transport.now) (log c.wait.new.self) (log c.round.new.transport) (Polled longest ∷ []) (transport_events served.0) polled served.1))
+    (subst (λ (more : List Observation). Extends (observed c.args.observer.now) (observed c.run_track.new.observer) more) (sym (append-nil (observations_in served.0 ++ later)))
+    (grows_more (observed c.args.observer.now) (observed c.round.new.observer) (observed c.run_track.new.observer) (observations_in served.0) later served.2 ran.3))
+    (lent_is c.world.result.now c.run_track.new.self.hub.bus.world (option_copied c.railway.result) c.run_track.new.self.hub.sensors.railway c.world.ensures c.railway.ensures)
 
 pub returns-in-Err-clause-stopped : goal.returns-in-Err-clause-stopped
 returns-in-Err-clause-stopped g c =
